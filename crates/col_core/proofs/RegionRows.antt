@@ -12,7 +12,7 @@ use Rattle.skeen_core.specs.declared.Outcome.TheVariants.{Final}
 use Rattle.col_core.specs.declared.Event.{Event}
 use Rattle.col_core.specs.declared.Event.TheVariants.{Single, Propose, Settle, Give, Carry}
 use Rattle.col_core.specs.declared.Entry.{Entry}
-use Rattle.col_core.specs.Rows.{BegunRow, FitsRow, FitsRows, IsMarkOf, IsKept, Histories, AreLawfulRows}
+use Rattle.col_core.specs.Rows.{BegunRow, FitsRow, FitsRows, IsMarkOf, IsKept, RegionHistories, AreLawfulRows}
 use Rattle.col_core.specs.Cuts.{Dated}
 use Rattle.col_core.specs.Copies.{IsTrueCopy}
 use Rattle.col_core.specs.Computed.{dated}
@@ -36,7 +36,7 @@ e2 = entry 1 (Settle (id 0 0) (Final 1)) 0
 abbrev f0 : Entry
 f0 = entry 1 (Propose (id 0 0) 0 zeros) 1
 
-abbrev histories : Histories
+abbrev histories : RegionHistories
 histories zero = e0 ∷ e1 ∷ e2 ∷ []
 histories (suc zero) = f0 ∷ e2 ∷ []
 histories (suc (suc c)) = []

@@ -1,0 +1,4 @@
+pub mod Callers
+pub mod Columns
+pub mod Explains
+pub mod Lawful

@@ -1,0 +1,46 @@
+-- What holds of the numbers in a script: each names something, and the shape keeps its limits.
+use Rattle.std.specs.Prelude.{◌≡◌, ℕ, ◌<◌, ◌≤◌, ◌^◌, List, length}
+use Rattle.std.specs.List.{All}
+use Rattle.log_node.specs.declared.node.Shape.{Shape}
+use Rattle.log_node.specs.Sets.{members}
+use Rattle.script_text.specs.declared.script.What.{What}
+use Rattle.script_text.specs.declared.script.What.TheVariants as whats
+use Rattle.script_text.specs.declared.script.Command.{Command}
+use Rattle.script_text.specs.declared.script.Script.{Script}
+
+-- 1 to 4 regions, 1 to 16 colours and 1 to 16 clients, each of which is in a region
+pub record IsShape (shape : Shape) : Type 0 where
+  pub a_region : 0 < shape.regions
+  pub few_regions : shape.regions ≤ 4
+  pub a_colour : 0 < shape.colours
+  pub few_colours : shape.colours ≤ 16
+  pub a_client : 0 < length shape.homes
+  pub few_clients : length shape.homes ≤ 16
+  pub homes : All (λ home. home < shape.regions) shape.homes
+
+-- the colours and regions that a command names are the script's
+abbrev pub IsWithin : Shape → What → Type 0
+IsWithin shape (whats.Append colours text) = (0 < length (members colours)) × All (λ c. c < shape.colours) (members colours)
+IsWithin shape (whats.Stop steps colours text) = (1 < length (members colours)) × All (λ c. c < shape.colours) (members colours)
+IsWithin shape (whats.Sync colour) = colour < shape.colours
+IsWithin shape (whats.Scan colours) = (0 < length (members colours)) × All (λ c. c < shape.colours) (members colours)
+IsWithin shape (whats.Pull region colour) = (region < shape.regions) × (colour < shape.colours)
+IsWithin shape (whats.Trim colour) = colour < shape.colours
+IsWithin shape (whats.Put object key value) = Unit {0}
+IsWithin shape (whats.Get object key) = Unit {0}
+IsWithin shape (whats.Del object key) = Unit {0}
+IsWithin shape (whats.PutAll object pairs) = Unit {0}
+IsWithin shape (whats.GetAll object keys) = Unit {0}
+IsWithin shape (whats.Read object keys) = Unit {0}
+IsWithin shape (whats.Commit object pairs) = Unit {0}
+IsWithin shape (whats.Enq object value) = Unit {0}
+IsWithin shape (whats.Deq object) = Unit {0}
+
+pub record IsFitting (script : Script) : Type 0 where
+  pub shape : IsShape script.shape
+  pub regions : length script.regions ≡ script.shape.regions
+  pub colours : length script.colours ≡ script.shape.colours
+  pub clients : length script.clients ≡ length script.shape.homes
+  pub callers : All (λ (c : Command). c.client < length script.shape.homes) script.commands
+  pub commands : All (λ (c : Command). IsWithin script.shape c.what) script.commands
+  pub few : length script.commands < 2 ^ 15
