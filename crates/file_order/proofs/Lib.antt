@@ -1,1 +1,5 @@
 pub mod OwnLines
+pub mod Updates
+pub mod Lists
+pub mod Runs
+pub mod Entering
