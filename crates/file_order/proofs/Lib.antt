@@ -3,3 +3,4 @@ pub mod Updates
 pub mod Lists
 pub mod Runs
 pub mod Entering
+pub mod Clients

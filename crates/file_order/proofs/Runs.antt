@@ -41,17 +41,21 @@ pub record IsColumn (own : ℕ) (nodes : ℕ → List Node) (column : ColumnStat
 abbrev pub part_of : Kept → ClientState
 part_of kept = record { floor = kept.floor; starts = kept.starts; ids = kept.ids }
 
--- a client whose replies are explained so far, and what it keeps
-pub record IsClient (script : Script) (columns : Columns) (nodes : ℕ → List Node) (client : ℕ) (commands : List Command) (mine : ClientState) (replies : List ReplyLine) : Type 0 where
-  pub kept : Kept
+-- a client whose replies are explained so far, and that keeps this
+pub record Keeps (script : Script) (columns : Columns) (nodes : ℕ → List Node) (client : ℕ) (commands : List Command) (replies : List ReplyLine) (kept : Kept) : Type 0 where
   pub explained : Explained (log_of columns nodes) (caller_of script client) commands replies kept
-  pub mine_is : mine ≡ part_of kept
   pub seen : (region colour : ℕ) → kept.seen region colour ≤ length (columns region colour).history
   pub known : (colour : ℕ) → kept.known colour ≤ length (columns (slice_index script.shape.homes client) colour).nodes
   pub named : (region colour : ℕ) → places_of client (columns region colour).history ≡ kept.named region colour
   pub nodes_are : length (nodes client) ≡ kept.ids
   pub from : (colour : ℕ) → (k : ℕ) × (k ≤ length (columns (slice_index script.shape.homes client) colour).nodes) × (kept.starts colour ≡ own_counts (slice_index script.shape.homes client) k)
   pub bounded : kept.floor ≤ last_stamp
+
+-- what the client keeps has as its part what the meaning keeps
+pub record IsClient (script : Script) (columns : Columns) (nodes : ℕ → List Node) (client : ℕ) (commands : List Command) (mine : ClientState) (replies : List ReplyLine) : Type 0 where
+  pub kept : Kept
+  pub keeps : Keeps script columns nodes client commands replies kept
+  pub mine_is : mine ≡ part_of kept
 
 pub record IsRun (script : Script) (commands : List Command) (state : State) : Type 0 where
   pub columns : (region colour : ℕ) → IsColumn region state.nodes (state.columns region colour)
