@@ -44,7 +44,7 @@ use Rattle.file_order.proofs.Lists.{got_end, place_more, place_other}
 use Rattle.file_order.proofs.Runs.{Columns, log_of, heads_of, IsShown, IsColumn, part_of, Keeps, IsClient}
 use Rattle.file_order.proofs.Entering as entering
 
-abbrev home : Script → ℕ → ℕ
+abbrev pub home : Script → ℕ → ℕ
 home script client = slice_index script.shape.homes client
 
 -- a reply line of a command
@@ -89,14 +89,14 @@ module _ (script : Script) (columns : Columns) (nodes : ℕ → List Node) (own 
   }
 
 -- the own chain's count in the vector
-own-at : (own n : ℕ) → own < 4 → at (own_counts own n) own ≡ n
+pub own-at : (own n : ℕ) → own < 4 → at (own_counts own n) own ≡ n
 own-at zero n h = refl
 own-at (suc zero) n h = refl
 own-at (suc (suc zero)) n h = refl
 own-at (suc (suc (suc zero))) n h = refl
 own-at (suc (suc (suc (suc k)))) n h = absurd (omega arith)
 
-zeros-at : (r : ℕ) → r < 4 → at zeros r ≡ 0
+pub zeros-at : (r : ℕ) → r < 4 → at zeros r ≡ 0
 zeros-at zero h = refl
 zeros-at (suc zero) h = refl
 zeros-at (suc (suc zero)) h = refl

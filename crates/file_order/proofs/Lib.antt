@@ -4,3 +4,4 @@ pub mod Lists
 pub mod Runs
 pub mod Entering
 pub mod Clients
+pub mod Syncing
