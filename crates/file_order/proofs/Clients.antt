@@ -53,10 +53,10 @@ line_of command answer nodes = record { line = command.line; word = word_of comm
 
 -- ANOTHER CLIENT'S NODE ENTERS
 module _ (script : Script) (columns : Columns) (nodes : ℕ → List Node) (own colour : ℕ) (id : Id) (floor : ℕ) (wants : Counts) (node : Node) where
-  abbrev columns_after : Columns
+  abbrev pub columns_after : Columns
   columns_after = entering.columns_after columns nodes own colour id floor wants node
 
-  abbrev nodes_after : ℕ → List Node
+  abbrev pub nodes_after : ℕ → List Node
   nodes_after = entering.nodes_after columns nodes own colour id floor wants node
 
   columns-all : (P : ℕ → ℕ → ColumnState → Type 0) → P own colour (entering.column_after columns nodes own colour id floor wants node) → ((r c : ℕ) → ((r ≡ own) × (c ≡ colour) → ⊥) → P r c (columns r c)) → (r c : ℕ) → P r c (columns_after r c)
@@ -105,41 +105,41 @@ zeros-at (suc (suc (suc (suc k)))) h = absurd (omega arith)
 
 -- A CLIENT'S OWN NODE ENTERS
 module _ (script : Script) (columns : Columns) (nodes : ℕ → List Node) (command : Command) (colour : ℕ) (colours : Colours) (text : List ℕ) (commands : List Command) (replies : List ReplyLine) (kept : Kept) where
-  abbrev u : ℕ
+  abbrev pub u : ℕ
   u = command.client
 
-  abbrev own : ℕ
+  abbrev pub own : ℕ
   own = home script u
 
-  abbrev id : Id
+  abbrev pub id : Id
   id = record { client = u; count = kept.ids }
 
-  abbrev wants : Counts
+  abbrev pub wants : Counts
   wants = kept.starts colour
 
   -- the node that the client's append makes
-  abbrev node : Node
+  abbrev pub node : Node
   node = record { id = id; region = own; colours = colours; text = text; floor = kept.floor; wants = map kept.starts (members colours); row = None }
 
-  abbrev column : ColumnState
+  abbrev pub column : ColumnState
   column = columns own colour
 
-  abbrev stamp : ℕ
+  abbrev pub stamp : ℕ
   stamp = next_stamp column.history kept.floor
 
-  abbrev columns' : Columns
+  abbrev pub columns' : Columns
   columns' = entering.columns_after columns nodes own colour id kept.floor wants node
 
-  abbrev nodes' : ℕ → List Node
+  abbrev pub nodes' : ℕ → List Node
   nodes' = entering.nodes_after columns nodes own colour id kept.floor wants node
 
-  abbrev column' : ColumnState
+  abbrev pub column' : ColumnState
   column' = entering.column_after columns nodes own colour id kept.floor wants node
 
-  abbrev kept' : Kept
+  abbrev pub kept' : Kept
   kept' = kept_after_single kept own colour (length column.history) stamp (length column.nodes)
 
-  abbrev point : PointPiece
+  abbrev pub point : PointPiece
   point = record { colour = colour; at = Event (length column.history); position = length column.nodes }
 
   node_is : members colours ≡ colour ∷ [] → node ≡ node_of (caller_of script u) kept colours text

@@ -5,3 +5,4 @@ pub mod Runs
 pub mod Entering
 pub mod Clients
 pub mod Syncing
+pub mod Leading

@@ -40,7 +40,7 @@ use Rattle.file_order.proofs.Runs.{Columns, log_of, heads_of, IsShown, IsColumn,
 use Rattle.file_order.proofs.Clients.{home, line_of, own-at, zeros-at}
 
 -- no clock is past the last stamp
-clock_bounded : (own : ℕ) {history : List Entry} {heads : List Head} → OwnHistory own history heads → clock history ≤ last_stamp
+pub clock_bounded : (own : ℕ) {history : List Entry} {heads : List Head} → OwnHistory own history heads → clock history ≤ last_stamp
 clock_bounded own none = omega arith
 clock_bounded own (more {history} {heads} by id floor wants before fresh room) =
     let e = clock-append history (Rattle.file_order.proofs.OwnLines.single by id floor wants (Rattle.col_core.specs.History.next_stamp history floor)) in
@@ -70,28 +70,28 @@ length-drop (suc k) [] h = absurd (omega arith)
 length-drop (suc k) (x ∷ xs) h = let e = length-drop k xs (omega arith) in omega arith
 
 module _ (script : Script) (columns : Columns) (nodes : ℕ → List Node) (command : Command) (colour : ℕ) (commands : List Command) (replies : List ReplyLine) (kept : Kept) where
-  abbrev u : ℕ
+  abbrev pub u : ℕ
   u = command.client
 
-  abbrev own : ℕ
+  abbrev pub own : ℕ
   own = home script u
 
-  abbrev column : ColumnState
+  abbrev pub column : ColumnState
   column = columns own colour
 
-  abbrev snapshot : Counts
+  abbrev pub snapshot : Counts
   snapshot = cut own (dated own column.history)
 
-  abbrev played : List PlacedNode
+  abbrev pub played : List PlacedNode
   played = drop (at (kept.starts colour) own) (take (at snapshot own) column.nodes)
 
-  abbrev log : Log
+  abbrev pub log : Log
   log = log_of columns nodes
 
-  abbrev caller : Caller
+  abbrev pub caller : Caller
   caller = caller_of script u
 
-  abbrev kept' : Kept
+  abbrev pub kept' : Kept
   kept' = kept_after_sync kept own colour (length column.history) snapshot (greatest_stamp played)
 
   abbrev sync : SyncPiece
