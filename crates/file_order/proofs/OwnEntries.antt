@@ -1,6 +1,6 @@
 -- Entries that are all final: one more above them all, their line and their queue.
 use Rattle.std.proofs.Common.{◌≡◌, ℕ, zero, suc, ◌<◌, List, [], ◌∷◌, ◌++◌, true, false, Some, refl, ap, ◌∙◌, arith, ne_eqb, le-ltb}
-use Rattle.std.specs.Prelude.{◌==◌, ◌&&◌, ◌||◌, not, nat_lt, map, slice_get}
+use Rattle.std.specs.Prelude.{◌==◌, ◌||◌, not, nat_lt, map, slice_get}
 use Rattle.std.specs.List.{filter, list_all}
 use Rattle.std.proofs.lemmas.Bool.{cond-true, cond-false, or_from, and_left}
 use Rattle.log_node.specs.declared.ids.Key.{Key}

@@ -1,18 +1,17 @@
 -- A column to which nodes of one colour were appended, and nothing else: its line, its cut, and how it is played.
-use Rattle.std.proofs.Common.{◌≡◌, ◌⊎◌, inl, inr, ℕ, zero, suc, ◌+◌, ◌-◌, ◌<◌, ◌≤◌, max, List, [], ◌∷◌, ◌++◌, length, take, map, Bool, true, false, cond, Some, refl, ap, sym, subst, ◌∙◌, arith, length-append, append-nil, eq-eqb, le_refl}
-use Rattle.std.specs.Prelude.{◌≢◌, slice_get, ◌==◌, ◌||◌, if◌then◌else◌}
-use Rattle.std.specs.List.{flat_map, range_with_len}
+use Rattle.std.proofs.Common.{◌≡◌, ℕ, zero, suc, ◌+◌, ◌<◌, ◌≤◌, max, List, [], ◌∷◌, ◌++◌, length, take, map, true, false, Some, refl, ap, sym, subst, ◌∙◌, arith, length-append, eq-eqb}
+use Rattle.std.specs.Prelude.{◌≢◌, slice_get, ◌==◌, ◌||◌}
+use Rattle.std.specs.List.{flat_map}
 use Rattle.std.proofs.lemmas.Bool.{and_from, or_left, or_right}
 use Rattle.std.proofs.lemmas.Grind.{flat_map-append}
 use Rattle.std.proofs.lemmas.List.{map-append, take-append-le, take_at}
 use Rattle.std.proofs.lemmas.List.Folds.{list_any-append}
 use Rattle.std.proofs.lemmas.Option.{none-some, same_Some, slice_get_within}
 use Rattle.log_node.specs.declared.ids.Id.{Id}
-use Rattle.log_node.specs.declared.ids.Key.{Key}
 use Rattle.log_node.specs.declared.ids.Counts.{Counts}
 use Rattle.log_node.specs.declared.node.Head.{Head}
 use Rattle.log_node.specs.Order.{same_id}
-use Rattle.log_node.specs.Vectors.{at, vector, zeros, IsWithin, least}
+use Rattle.log_node.specs.Vectors.{zeros, IsWithin, least}
 use Rattle.skeen_core.specs.Standings.{Standing, with_entry, line_of, queue_of}
 use Rattle.col_core.specs.declared.Event.TheVariants.{Single}
 use Rattle.col_core.specs.declared.Entry.{Entry}
@@ -20,7 +19,7 @@ use Rattle.col_core.specs.History.{clock, last_stamp, next_stamp, entry_key, ent
 use Rattle.col_core.specs.Cuts.{Dated, entries_of, needs_of, carried, chain, base_from, base, IsGreatestReachable}
 use Rattle.col_core.specs.Computed.{cut, dated}
 use Rattle.col_core.specs.Legal.{IsColumnHistory, IsLawfulEvent, MayEnter}
-use Rattle.col_core.specs.PlayOrder.{Place, IsPlayOrder}
+use Rattle.col_core.specs.PlayOrder.{IsPlayOrder}
 use Rattle.col_core.proofs.Appending.{entries-append, clock-append, dated-append}
 use Rattle.col_core.proofs.CutLaws.{cut-is_greatest}
 use Rattle.col_core.proofs.DatedLaws.{dated-is_dated}
@@ -43,7 +42,7 @@ pub data OwnHistory (own : ℕ) : List Entry → List Head → Type 0 where
   more : {history : List Entry} {heads : List Head} (by : ℕ) (id : Id) (floor : ℕ) (wants : Counts)
       → OwnHistory own history heads → has_entered id history ≡ false → max (clock history) floor < last_stamp
       → OwnHistory own (history ++ single by id floor wants (next_stamp history floor) ∷ [])
-        (heads ++ head_of (next_stamp history floor) id (least wants (cut own (dated own history))) ∷ [])
+      (heads ++ head_of (next_stamp history floor) id (least wants (cut own (dated own history))) ∷ [])
 
 pub record IsOwnLine (own : ℕ) (history : List Entry) (heads : List Head) : Type 0 where
   pub entries_are : entries history ≡ map (λ (h : Head). record { key = h.key; settled = true }) heads
@@ -60,7 +59,6 @@ pub record IsOwnLine (own : ℕ) (history : List Entry) (heads : List Head) : Ty
   pub base_is : (regions : ℕ) → base own regions (dated own history) ≡ zeros
   pub legal : (regions : ℕ) → IsColumnHistory own regions (dated own history)
   pub played : (from to : ℕ) → from ≤ to → to ≤ length heads → IsPlayOrder (chain own (dated own history)) (own_counts own from) (own_counts own to) (own_places own from to)
-
 
 -- what each event keeps
 record Grown (own : ℕ) (history : List Entry) (heads : List Head) : Type 0 where

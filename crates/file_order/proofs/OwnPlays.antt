@@ -1,13 +1,11 @@
 -- The play of a chain whose nodes need only nodes before them and whose stamps rise: in the order of the chain.
-use Rattle.std.proofs.Common.{◌≡◌, ◌≢◌, ◌⊎◌, inl, inr, ℕ, zero, suc, ◌+◌, ◌-◌, ◌<◌, ◌≤◌, List, [], ◌∷◌, map, cond, Bool, true, false, Some, refl, ap, sym, subst, ◌∙◌, arith, eq-eqb, ne_eqb, le-leb, leb-true, lt-ltb, le-ltb}
-use Rattle.std.specs.Prelude.{◌==◌, ◌&&◌, ◌||◌, nat_lt, nat_le, slice_get, if◌then◌else◌, IsTrue}
+use Rattle.std.proofs.Common.{◌≡◌, ◌≢◌, ◌⊎◌, inl, inr, ℕ, zero, suc, ◌+◌, ◌-◌, ◌<◌, ◌≤◌, List, map, cond, false, Some, refl, ap, sym, subst, ◌∙◌, arith, eq-eqb, ne_eqb, le-leb, lt-ltb, le-ltb}
+use Rattle.std.specs.Prelude.{slice_get, if◌then◌else◌}
 use Rattle.std.specs.List.{count_by, fold, range_with_len}
 use Rattle.std.proofs.lemmas.Bool.{cond-true, cond-false, and_from, and_left, and_right, or_from, lt-leb, cases_lt, cases_order, true≢false}
 use Rattle.std.proofs.lemmas.Option.{none-some, same_Some}
-use Rattle.log_node.specs.declared.ids.Counts.{Counts}
 use Rattle.log_node.specs.declared.node.Head.{Head}
-use Rattle.log_node.specs.Order.{key_below, same_key}
-use Rattle.log_node.specs.Vectors.{at, vector, IsWithin}
+use Rattle.log_node.specs.Vectors.{at, IsWithin}
 use Rattle.col_core.specs.Cuts.{Chains}
 use Rattle.col_core.specs.PlayOrder.{Place, same_place, is_between, Stands, WaitsFor, goes_first, IsPlayOrder}
 use Rattle.col_core.proofs.CutLaws.{within-at}
