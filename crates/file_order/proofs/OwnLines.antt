@@ -118,104 +118,112 @@ same_id-refl a = and_from (a.client == a.client) _ (eq-eqb a.client a.client ref
 stamp_left : (before stamp last : ℕ) → stamp ≡ before + 1 → before < last → stamp ≤ last
 stamp_left before stamp last is lt = omega (arith, is, lt)
 
--- the event with the cut before it
-abbrev dated_single : ℕ → List Entry → ℕ → Id → ℕ → Counts → ℕ → Dated
-dated_single own history by id floor wants stamp = record { entry = single by id floor wants stamp; cut_before = cut own (dated own history) }
-
--- the node that enters
-abbrev node_in : ℕ → List Entry → Id → Counts → ℕ → Head
-node_in own history id wants stamp = head_of stamp id (least wants (cut own (dated own history)))
-
 -- one node more
 module _ (own : ℕ) (in_range : own < 4) (history : List Entry) (heads : List Head) (g : Grown own history heads) (by : ℕ) (id : Id) (floor : ℕ) (wants : Counts)
     (fresh : has_entered id history ≡ false) (room : max (clock history) floor < last_stamp) (stamp : ℕ) (stamp_is : stamp ≡ next_stamp history floor) where
-  clock_is : clock (history ++ single by id floor wants stamp ∷ []) ≡ max (clock history) stamp
-  clock_is = clock-append history (single by id floor wants stamp)
+  -- the event, the history and the nodes with it, and the cut before it
+  abbrev event : Entry
+  event = single by id floor wants stamp
+
+  abbrev later : List Entry
+  later = history ++ event ∷ []
+
+  abbrev node : Head
+  node = head_of stamp id (least wants (cut own (dated own history)))
+
+  abbrev nodes : List Head
+  nodes = heads ++ node ∷ []
+
+  abbrev date : Dated
+  date = record { entry = event; cut_before = cut own (dated own history) }
+
+  clock_is : clock later ≡ max (clock history) stamp
+  clock_is = clock-append history event
 
   below_stamp : (i : ℕ) (a : Head) → slice_get heads i ≡ Some a → a.key.stamp < stamp
   below_stamp i a is = let le = g.stamps i a is in omega (arith, le, stamp_is)
 
-  dates : dated own (history ++ single by id floor wants stamp ∷ []) ≡ dated own history ++ dated_single own history by id floor wants stamp ∷ []
-  dates = dated-append own history (single by id floor wants stamp)
+  dates : dated own later ≡ dated own history ++ date ∷ []
+  dates = dated-append own history event
 
-  more_entries : entries (history ++ single by id floor wants stamp ∷ []) ≡ map settled_head (heads ++ node_in own history id wants stamp ∷ [])
+  more_entries : entries later ≡ map settled_head nodes
   more_entries =
       let e : Standing = record { key = entry_key stamp id; settled = true } in
-      entries-append history (single by id floor wants stamp)
-      ∙ (ap (with_entry e) g.entries_are ∙ (with_entry_last e heads below_stamp ∙ sym (map-append settled_head heads (node_in own history id wants stamp ∷ []))))
+      entries-append history event
+      ∙ (ap (with_entry e) g.entries_are ∙ (with_entry_last e heads below_stamp ∙ sym (map-append settled_head heads (node ∷ []))))
 
-  more_long : length (history ++ single by id floor wants stamp ∷ []) ≡ length (heads ++ node_in own history id wants stamp ∷ [])
+  more_long : length later ≡ length nodes
   more_long =
-      length-append history (single by id floor wants stamp ∷ [])
-      ∙ (ap (λ (n : ℕ). n + 1) g.as_long ∙ sym (length-append heads (node_in own history id wants stamp ∷ [])))
+      length-append history (event ∷ [])
+      ∙ (ap (λ (n : ℕ). n + 1) g.as_long ∙ sym (length-append heads (node ∷ [])))
 
-  more_stamps : (i : ℕ) (a : Head) → slice_get (heads ++ node_in own history id wants stamp ∷ []) i ≡ Some a
-      → a.key.stamp ≤ clock (history ++ single by id floor wants stamp ∷ [])
+  more_stamps : (i : ℕ) (a : Head) → slice_get nodes i ≡ Some a
+      → a.key.stamp ≤ clock later
   more_stamps =
-      of_last (λ (i : ℕ) (a : Head). a.key.stamp ≤ clock (history ++ single by id floor wants stamp ∷ [])) heads (node_in own history id wants stamp)
+      of_last (λ (i : ℕ) (a : Head). a.key.stamp ≤ clock later) heads node
       (λ i a is. let le = g.stamps i a is in omega (arith, le, clock_is)) (omega (arith, clock_is))
 
-  more_rising : (i j : ℕ) (a b : Head) → i < j → slice_get (heads ++ node_in own history id wants stamp ∷ []) i ≡ Some a
-      → slice_get (heads ++ node_in own history id wants stamp ∷ []) j ≡ Some b → a.key.stamp < b.key.stamp
+  more_rising : (i j : ℕ) (a b : Head) → i < j → slice_get nodes i ≡ Some a
+      → slice_get nodes j ≡ Some b → a.key.stamp < b.key.stamp
   more_rising i j a b lt at_i at_j =
-      of_last (λ (n : ℕ) (c : Head). i < n → a.key.stamp < c.key.stamp) heads (node_in own history id wants stamp)
+      of_last (λ (n : ℕ) (c : Head). i < n → a.key.stamp < c.key.stamp) heads node
       (λ n c at_n less.
-      of_last (λ (m : ℕ) (d : Head). m < n → d.key.stamp < c.key.stamp) heads (node_in own history id wants stamp)
+      of_last (λ (m : ℕ) (d : Head). m < n → d.key.stamp < c.key.stamp) heads node
       (λ m d at_m before. g.rising m n d c before at_m at_n) (λ past. let inside = slice_get_within heads n c at_n in absurd (let f : ⊥ = omega (arith, past, inside) in f)) i a at_i less)
       (λ less.
-      of_last (λ (m : ℕ) (d : Head). m < length heads → d.key.stamp < stamp) heads (node_in own history id wants stamp)
+      of_last (λ (m : ℕ) (d : Head). m < length heads → d.key.stamp < stamp) heads node
       (λ m d at_m before. below_stamp m d at_m) (λ past. absurd (let f : ⊥ = omega (arith, past) in f)) i a at_i less)
       j b at_j lt
 
-  more_entered : (i : ℕ) (a : Head) → slice_get (heads ++ node_in own history id wants stamp ∷ []) i ≡ Some a
-      → has_entered a.key.id (history ++ single by id floor wants stamp ∷ []) ≡ true
+  more_entered : (i : ℕ) (a : Head) → slice_get nodes i ≡ Some a
+      → has_entered a.key.id later ≡ true
   more_entered =
-      of_last (λ (i : ℕ) (a : Head). has_entered a.key.id (history ++ single by id floor wants stamp ∷ []) ≡ true) heads (node_in own history id wants stamp)
+      of_last (λ (i : ℕ) (a : Head). has_entered a.key.id later ≡ true) heads node
       (λ i a is. any a.key.id ∙ or_left (has_entered a.key.id history) _ (g.entered i a is))
       (any id ∙ or_right (has_entered id history) _ (or_left (same_id id id) false (same_id-refl id))) where
-        any : (x : Id) → has_entered x (history ++ single by id floor wants stamp ∷ []) ≡ (has_entered x history || has_entered x (single by id floor wants stamp ∷ []))
-        any x = list_any-append (λ (e : Entry). enters x e.event) history (single by id floor wants stamp ∷ [])
+        any : (x : Id) → has_entered x later ≡ (has_entered x history || has_entered x (event ∷ []))
+        any x = list_any-append (λ (e : Entry). enters x e.event) history (event ∷ [])
 
-  more_needs : (i : ℕ) (a : Head) → slice_get (heads ++ node_in own history id wants stamp ∷ []) i ≡ Some a
-      → needs_of (dated own (history ++ single by id floor wants stamp ∷ [])) a.key.id ≡ a.needs
+  more_needs : (i : ℕ) (a : Head) → slice_get nodes i ≡ Some a
+      → needs_of (dated own later) a.key.id ≡ a.needs
   more_needs =
-      of_last (λ (i : ℕ) (a : Head). needs_of (dated own (history ++ single by id floor wants stamp ∷ [])) a.key.id ≡ a.needs) heads (node_in own history id wants stamp)
+      of_last (λ (i : ℕ) (a : Head). needs_of (dated own later) a.key.id ≡ a.needs) heads node
       (λ i a is.
       ap (λ (ds : List Dated). needs_of ds a.key.id) dates
       ∙ (needs_stay (dated own history) d a.key.id (subst (λ (h : List Entry). has_entered a.key.id h ≡ true) (sym same) (g.entered i a is)) ∙ g.needs_are i a is))
       (ap (λ (ds : List Dated). needs_of ds id) dates
       ∙ needs_first (dated own history) d id (subst (λ (h : List Entry). has_entered id h ≡ false) (sym same) fresh) (same_id-refl id)) where
         d : Dated
-        d = dated_single own history by id floor wants stamp
+        d = date
 
         same : entries_of (dated own history) ≡ history
         same = (dated-is_dated own history).same
 
-  more_before : (i : ℕ) (a : Head) → slice_get (heads ++ node_in own history id wants stamp ∷ []) i ≡ Some a → IsWithin a.needs (own_counts own i)
+  more_before : (i : ℕ) (a : Head) → slice_get nodes i ≡ Some a → IsWithin a.needs (own_counts own i)
   more_before =
-      of_last (λ (i : ℕ) (a : Head). IsWithin a.needs (own_counts own i)) heads (node_in own history id wants stamp) g.needs_before
+      of_last (λ (i : ℕ) (a : Head). IsWithin a.needs (own_counts own i)) heads node g.needs_before
       (subst (IsWithin (least wants (cut own (dated own history)))) (line_from own in_range history heads g).cut_is (least_within wants (cut own (dated own history))))
 
-  none_more_carried : (region : ℕ) → flat_map (λ (d : Dated). carried region d.entry.event) (dated own (history ++ single by id floor wants stamp ∷ [])) ≡ []
+  none_more_carried : (region : ℕ) → flat_map (λ (d : Dated). carried region d.entry.event) (dated own later) ≡ []
   none_more_carried region =
       ap (flat_map (λ (d : Dated). carried region d.entry.event)) dates
-      ∙ (flat_map-append (λ (d : Dated). carried region d.entry.event) (dated own history) (dated_single own history by id floor wants stamp ∷ [])
+      ∙ (flat_map-append (λ (d : Dated). carried region d.entry.event) (dated own history) (date ∷ [])
       ∙ ap (λ (l : List Head). l ++ []) (g.none_carried region))
 
-  still_no_base : (regions region : ℕ) → base_from own regions region [] (dated own (history ++ single by id floor wants stamp ∷ [])) ≡ 0
+  still_no_base : (regions region : ℕ) → base_from own regions region [] (dated own later) ≡ 0
   still_no_base regions region =
       ap (base_from own regions region []) dates
-      ∙ base_stays_zero own regions region [] (dated own history) (dated_single own history by id floor wants stamp) (λ bs. refl) (g.no_base regions region)
+      ∙ base_stays_zero own regions region [] (dated own history) date (λ bs. refl) (g.no_base regions region)
 
   may_enter : MayEnter (entries_of (dated own history)) id floor stamp
   may_enter =
       subst (λ (h : List Entry). MayEnter h id floor stamp) (sym (dated-is_dated own history).same)
       (record { fresh = fresh; stamped = stamp_is; in_range = stamp_left (max (clock history) floor) stamp last_stamp stamp_is room })
 
-  more_legal : (regions : ℕ) → IsColumnHistory own regions (dated own (history ++ single by id floor wants stamp ∷ []))
+  more_legal : (regions : ℕ) → IsColumnHistory own regions (dated own later)
   more_legal regions =
       let ds = dated own history in
-      let new = dated_single own history by id floor wants stamp in
+      let new = date in
       subst (IsColumnHistory own regions) (sym dates)
       (of_last (λ (n : ℕ) (d : Dated). IsLawfulEvent own regions (take n (ds ++ new ∷ [])) d.entry.event d.entry.stamp) ds new
       (λ n d at_n.
@@ -223,7 +231,7 @@ module _ (own : ℕ) (in_range : own < 4) (history : List Entry) (heads : List H
       subst (λ (l : List Dated). IsLawfulEvent own regions l d.entry.event d.entry.stamp) (sym (take-append-le n ds (new ∷ []) (omega (arith, inside)))) (g.legal regions n d at_n))
       (subst (λ (l : List Dated). MayEnter (entries_of l) id floor stamp) (sym (take_at ds (new ∷ []) (length ds) refl)) may_enter))
 
-  grown_more : Grown own (history ++ single by id floor wants stamp ∷ []) (heads ++ node_in own history id wants stamp ∷ [])
+  grown_more : Grown own later nodes
   grown_more = record {
     entries_are = more_entries;
     as_long = more_long;
