@@ -15,10 +15,12 @@ settled_head h = record { key = h.key; settled = true }
 -- a key under a greater stamp is not below
 pub later_not_below : (a b : Key) → b.stamp < a.stamp → key_below a b ≡ false
 later_not_below a b h =
-    or_from (nat_lt a.stamp b.stamp) _ (le-ltb a.stamp b.stamp (omega (arith, h))) (and_left (a.stamp == b.stamp) _ (ne_eqb a.stamp b.stamp (λ e. omega (arith, e, h))))
+    or_from (nat_lt a.stamp b.stamp) _ (le-ltb a.stamp b.stamp (omega (arith, h)))
+    (and_left (a.stamp == b.stamp) _ (ne_eqb a.stamp b.stamp (λ e. omega (arith, e, h))))
 
 -- an entry under a greater stamp than all goes to the end
-pub with_entry_last : (e : Standing) (hs : List Head) → ((i : ℕ) (a : Head) → slice_get hs i ≡ Some a → a.key.stamp < e.key.stamp)
+pub with_entry_last : (e : Standing) (hs : List Head)
+    → ((i : ℕ) (a : Head) → slice_get hs i ≡ Some a → a.key.stamp < e.key.stamp)
     → with_entry e (map settled_head hs) ≡ map settled_head hs ++ e ∷ []
 with_entry_last e [] h = refl
 with_entry_last e (a ∷ hs) h =
@@ -26,21 +28,27 @@ with_entry_last e (a ∷ hs) h =
     ∙ ap (λ (l : List Standing). settled_head a ∷ l) (with_entry_last e hs (λ i b is. h (suc i) b is))
 
 -- where no entry is open, none is in the way
-none_open : (k : Key) (hs : List Head) → list_all (λ (f : Standing). f.settled || key_below k f.key) (map settled_head hs) ≡ true
+none_open : (k : Key) (hs : List Head)
+    → list_all (λ (f : Standing). f.settled || key_below k f.key) (map settled_head hs) ≡ true
 none_open k [] = refl
 none_open k (h ∷ hs) = none_open k hs
 
-module _ (es : List Standing) (free : (k : Key) → list_all (λ (f : Standing). f.settled || key_below k f.key) es ≡ true) where
-  all_delivered : (hs : List Head) → map (λ (e : Standing). e.key) (filter (is_delivered es) (map settled_head hs)) ≡ map (λ (h : Head). h.key) hs
+module _ (es : List Standing)
+    (free : (k : Key) → list_all (λ (f : Standing). f.settled || key_below k f.key) es ≡ true) where
+  -- so each is delivered
+  all_delivered : (hs : List Head)
+      → map (λ (e : Standing). e.key) (filter (is_delivered es) (map settled_head hs)) ≡ map (λ (h : Head). h.key) hs
   all_delivered [] = refl
   all_delivered (h ∷ hs) =
       ap (map (λ (e : Standing). e.key)) (cond-true (is_delivered es (settled_head h)) _ _ (free h.key))
       ∙ ap (λ (l : List Key). h.key ∷ l) (all_delivered hs)
 
+  -- and none waits in the queue
   none_waits : (hs : List Head) → filter (λ (e : Standing). not (is_delivered es e)) (map settled_head hs) ≡ []
   none_waits [] = refl
   none_waits (h ∷ hs) = cond-false (not (is_delivered es (settled_head h))) _ _ (ap not (free h.key)) ∙ none_waits hs
 
+-- the line of final entries, and their queue
 pub line_of-settled : (hs : List Head) → line_of (map settled_head hs) ≡ map (λ (h : Head). h.key) hs
 line_of-settled hs = all_delivered (map settled_head hs) (λ k. none_open k hs) hs
 

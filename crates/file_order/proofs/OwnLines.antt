@@ -30,6 +30,7 @@ use Rattle.file_order.proofs.OwnPlays.{own_order}
 pub use Rattle.file_order.proofs.OwnCuts.{own_counts}
 pub use Rattle.file_order.proofs.OwnPlays.{own_places}
 
+-- the event of a node of one colour, and its head
 abbrev pub single : ℕ → Id → ℕ → Counts → ℕ → Entry
 single by id floor wants stamp = record { by = by; event = Single id floor wants; stamp = stamp }
 
@@ -51,21 +52,24 @@ pub record IsOwnLine (own : ℕ) (history : List Entry) (heads : List Head) : Ty
   pub as_long : length history ≡ length heads
   -- no stamp is above the clock, and stamps rise
   pub stamps : (i : ℕ) (a : Head) → slice_get heads i ≡ Some a → a.key.stamp ≤ clock history
-  pub rising : (i j : ℕ) (a b : Head) → i < j → slice_get heads i ≡ Some a → slice_get heads j ≡ Some b → a.key.stamp < b.key.stamp
+  pub rising : (i j : ℕ) (a b : Head) → i < j → slice_get heads i ≡ Some a → slice_get heads j ≡ Some b
+      → a.key.stamp < b.key.stamp
   pub own_chain : chain own (dated own history) own ≡ heads
   pub other_chains : (region : ℕ) → region ≢ own → chain own (dated own history) region ≡ []
   pub cut_is : cut own (dated own history) ≡ own_counts own (length heads)
   pub greatest : IsGreatestReachable (chain own (dated own history)) (own_counts own (length heads))
   pub base_is : (regions : ℕ) → base own regions (dated own history) ≡ zeros
   pub legal : (regions : ℕ) → IsColumnHistory own regions (dated own history)
-  pub played : (from to : ℕ) → from ≤ to → to ≤ length heads → IsPlayOrder (chain own (dated own history)) (own_counts own from) (own_counts own to) (own_places own from to)
+  pub played : (from to : ℕ) → from ≤ to → to ≤ length heads
+      → IsPlayOrder (chain own (dated own history)) (own_counts own from) (own_counts own to) (own_places own from to)
 
 -- what each event keeps
 record Grown (own : ℕ) (history : List Entry) (heads : List Head) : Type 0 where
   entries_are : entries history ≡ map settled_head heads
   as_long : length history ≡ length heads
   stamps : (i : ℕ) (a : Head) → slice_get heads i ≡ Some a → a.key.stamp ≤ clock history
-  rising : (i j : ℕ) (a b : Head) → i < j → slice_get heads i ≡ Some a → slice_get heads j ≡ Some b → a.key.stamp < b.key.stamp
+  rising : (i j : ℕ) (a b : Head) → i < j → slice_get heads i ≡ Some a → slice_get heads j ≡ Some b
+      → a.key.stamp < b.key.stamp
   entered : (i : ℕ) (a : Head) → slice_get heads i ≡ Some a → has_entered a.key.id history ≡ true
   needs_are : (i : ℕ) (a : Head) → slice_get heads i ≡ Some a → needs_of (dated own history) a.key.id ≡ a.needs
   needs_before : (i : ℕ) (a : Head) → slice_get heads i ≡ Some a → IsWithin a.needs (own_counts own i)
@@ -75,6 +79,7 @@ record Grown (own : ℕ) (history : List Entry) (heads : List Head) : Type 0 whe
 
 -- the own line, by what was kept
 module _ (own : ℕ) (in_range : own < 4) (history : List Entry) (heads : List Head) (g : Grown own history heads) where
+  -- its keys, its chain, and the chains of others
   keys_are : line history ≡ map (λ (h : Head). h.key) heads
   keys_are = ap line_of g.entries_are ∙ line_of-settled heads
 
@@ -84,9 +89,11 @@ module _ (own : ℕ) (in_range : own < 4) (history : List Entry) (heads : List H
   others_are : (region : ℕ) → region ≢ own → chain own (dated own history) region ≡ []
   others_are region ne = other_chain_of own (dated own history) region ne (g.none_carried region)
 
+  -- its cut
   greatest_is : IsGreatestReachable (chain own (dated own history)) (own_counts own (length heads))
   greatest_is = own_greatest own (chain own (dated own history)) heads in_range own_is others_are g.needs_before
 
+  -- all of it
   line_from : IsOwnLine own history heads
   line_from = record {
     entries_are = g.entries_are;
@@ -99,28 +106,37 @@ module _ (own : ℕ) (in_range : own < 4) (history : List Entry) (heads : List H
     other_chains = others_are;
     cut_is = one_greatest (chain own (dated own history)) (cut-is_greatest own (dated own history)) greatest_is;
     greatest = greatest_is;
-    base_is = λ regions. same_vectors (λ region. base_from own regions region [] (dated own history)) (λ _. 0) (λ region h. g.no_base regions region);
+    base_is =
+        λ regions. same_vectors (λ region. base_from own regions region [] (dated own history)) (λ _. 0)
+        (λ region h. g.no_base regions region);
     legal = g.legal;
-    played = λ from to le past. own_order own in_range (chain own (dated own history)) heads own_is g.needs_before g.rising from to le;
+    played =
+        λ from to le past.
+        own_order own in_range (chain own (dated own history)) heads own_is g.needs_before g.rising from to le;
   }
 
 -- what holds of each item and of one more holds of each then
-of_last : {A : Type 0} (P : ℕ → A → Type 0) (items : List A) (last : A) → ((i : ℕ) (a : A) → slice_get items i ≡ Some a → P i a) → P (length items) last
+of_last : {A : Type 0} (P : ℕ → A → Type 0) (items : List A) (last : A)
+    → ((i : ℕ) (a : A) → slice_get items i ≡ Some a → P i a) → P (length items) last
     → (i : ℕ) (a : A) → slice_get (items ++ last ∷ []) i ≡ Some a → P i a
 of_last P [] last old new zero a is = subst (P 0) (same_Some last a is) new
 of_last P [] last old new (suc i) a is = absurd (none-some a is)
 of_last P (x ∷ xs) last old new zero a is = old zero a is
 of_last P (x ∷ xs) last old new (suc i) a is = of_last (λ k. P (suc k)) xs last (λ k b e. old (suc k) b e) new i a is
 
+-- an id is the same as itself
 same_id-refl : (a : Id) → same_id a a ≡ true
 same_id-refl a = and_from (a.client == a.client) _ (eq-eqb a.client a.client refl) (eq-eqb a.count a.count refl)
 
+-- a stamp that is left is in range
 stamp_left : (before stamp last : ℕ) → stamp ≡ before + 1 → before < last → stamp ≤ last
 stamp_left before stamp last is lt = omega (arith, is, lt)
 
 -- one node more
-module _ (own : ℕ) (in_range : own < 4) (history : List Entry) (heads : List Head) (g : Grown own history heads) (by : ℕ) (id : Id) (floor : ℕ) (wants : Counts)
-    (fresh : has_entered id history ≡ false) (room : max (clock history) floor < last_stamp) (stamp : ℕ) (stamp_is : stamp ≡ next_stamp history floor) where
+module _ (own : ℕ) (in_range : own < 4) (history : List Entry) (heads : List Head) (g : Grown own history heads)
+    (by : ℕ) (id : Id) (floor : ℕ) (wants : Counts)
+    (fresh : has_entered id history ≡ false) (room : max (clock history) floor < last_stamp)
+    (stamp : ℕ) (stamp_is : stamp ≡ next_stamp history floor) where
   -- the event, the history and the nodes with it, and the cut before it
   abbrev event : Entry
   event = single by id floor wants stamp
@@ -137,26 +153,32 @@ module _ (own : ℕ) (in_range : own < 4) (history : List Entry) (heads : List H
   abbrev date : Dated
   date = record { entry = event; cut_before = cut own (dated own history) }
 
+  -- the clock is the new stamp, and all stamps are below it
   clock_is : clock later ≡ max (clock history) stamp
   clock_is = clock-append history event
 
   below_stamp : (i : ℕ) (a : Head) → slice_get heads i ≡ Some a → a.key.stamp < stamp
   below_stamp i a is = let le = g.stamps i a is in omega (arith, le, stamp_is)
 
+  -- the dated history has one event more
   dates : dated own later ≡ dated own history ++ date ∷ []
   dates = dated-append own history event
 
+  -- the new entry goes to the end
   more_entries : entries later ≡ map settled_head nodes
   more_entries =
       let e : Standing = record { key = entry_key stamp id; settled = true } in
       entries-append history event
-      ∙ (ap (with_entry e) g.entries_are ∙ (with_entry_last e heads below_stamp ∙ sym (map-append settled_head heads (node ∷ []))))
+      ∙ (ap (with_entry e) g.entries_are
+      ∙ (with_entry_last e heads below_stamp ∙ sym (map-append settled_head heads (node ∷ []))))
 
+  -- an event for each node
   more_long : length later ≡ length nodes
   more_long =
       length-append history (event ∷ [])
       ∙ (ap (λ (n : ℕ). n + 1) g.as_long ∙ sym (length-append heads (node ∷ [])))
 
+  -- stamps stay within the clock, and rise
   more_stamps : (i : ℕ) (a : Head) → slice_get nodes i ≡ Some a
       → a.key.stamp ≤ clock later
   more_stamps =
@@ -169,12 +191,15 @@ module _ (own : ℕ) (in_range : own < 4) (history : List Entry) (heads : List H
       of_last (λ (n : ℕ) (c : Head). i < n → a.key.stamp < c.key.stamp) heads node
       (λ n c at_n less.
       of_last (λ (m : ℕ) (d : Head). m < n → d.key.stamp < c.key.stamp) heads node
-      (λ m d at_m before. g.rising m n d c before at_m at_n) (λ past. let inside = slice_get_within heads n c at_n in absurd (let f : ⊥ = omega (arith, past, inside) in f)) i a at_i less)
+      (λ m d at_m before. g.rising m n d c before at_m at_n)
+      (λ past. let inside = slice_get_within heads n c at_n in
+      absurd (let f : ⊥ = omega (arith, past, inside) in f)) i a at_i less)
       (λ less.
       of_last (λ (m : ℕ) (d : Head). m < length heads → d.key.stamp < stamp) heads node
       (λ m d at_m before. below_stamp m d at_m) (λ past. absurd (let f : ⊥ = omega (arith, past) in f)) i a at_i less)
       j b at_j lt
 
+  -- each node's id has entered, so its needs stay
   more_entered : (i : ℕ) (a : Head) → slice_get nodes i ≡ Some a
       → has_entered a.key.id later ≡ true
   more_entered =
@@ -190,20 +215,25 @@ module _ (own : ℕ) (in_range : own < 4) (history : List Entry) (heads : List H
       of_last (λ (i : ℕ) (a : Head). needs_of (dated own later) a.key.id ≡ a.needs) heads node
       (λ i a is.
       ap (λ (ds : List Dated). needs_of ds a.key.id) dates
-      ∙ (needs_stay (dated own history) d a.key.id (subst (λ (h : List Entry). has_entered a.key.id h ≡ true) (sym same) (g.entered i a is)) ∙ g.needs_are i a is))
+      ∙ (needs_stay (dated own history) d a.key.id
+      (subst (λ (h : List Entry). has_entered a.key.id h ≡ true) (sym same) (g.entered i a is)) ∙ g.needs_are i a is))
       (ap (λ (ds : List Dated). needs_of ds id) dates
-      ∙ needs_first (dated own history) d id (subst (λ (h : List Entry). has_entered id h ≡ false) (sym same) fresh) (same_id-refl id)) where
+      ∙ needs_first (dated own history) d id (subst (λ (h : List Entry). has_entered id h ≡ false) (sym same) fresh)
+      (same_id-refl id)) where
         d : Dated
         d = date
 
         same : entries_of (dated own history) ≡ history
         same = (dated-is_dated own history).same
 
+  -- the new node needs nothing past the cut before it, which is the own line till then
   more_before : (i : ℕ) (a : Head) → slice_get nodes i ≡ Some a → IsWithin a.needs (own_counts own i)
   more_before =
       of_last (λ (i : ℕ) (a : Head). IsWithin a.needs (own_counts own i)) heads node g.needs_before
-      (subst (IsWithin (least wants (cut own (dated own history)))) (line_from own in_range history heads g).cut_is (least_within wants (cut own (dated own history))))
+      (subst (IsWithin (least wants (cut own (dated own history)))) (line_from own in_range history heads g).cut_is
+      (least_within wants (cut own (dated own history))))
 
+  -- nothing is carried, and nothing is trimmed
   none_more_carried : (region : ℕ) → flat_map (λ (d : Dated). carried region d.entry.event) (dated own later) ≡ []
   none_more_carried region =
       ap (flat_map (λ (d : Dated). carried region d.entry.event)) dates
@@ -215,22 +245,31 @@ module _ (own : ℕ) (in_range : own < 4) (history : List Entry) (heads : List H
       ap (base_from own regions region []) dates
       ∙ base_stays_zero own regions region [] (dated own history) date (λ bs. refl) (g.no_base regions region)
 
+  -- the event is lawful
   may_enter : MayEnter (entries_of (dated own history)) id floor stamp
   may_enter =
       subst (λ (h : List Entry). MayEnter h id floor stamp) (sym (dated-is_dated own history).same)
-      (record { fresh = fresh; stamped = stamp_is; in_range = stamp_left (max (clock history) floor) stamp last_stamp stamp_is room })
+      (record {
+        fresh = fresh;
+        stamped = stamp_is;
+        in_range = stamp_left (max (clock history) floor) stamp last_stamp stamp_is room;
+      })
 
   more_legal : (regions : ℕ) → IsColumnHistory own regions (dated own later)
   more_legal regions =
       let ds = dated own history in
       let new = date in
       subst (IsColumnHistory own regions) (sym dates)
-      (of_last (λ (n : ℕ) (d : Dated). IsLawfulEvent own regions (take n (ds ++ new ∷ [])) d.entry.event d.entry.stamp) ds new
+      (of_last (λ (n : ℕ) (d : Dated). IsLawfulEvent own regions (take n (ds ++ new ∷ [])) d.entry.event d.entry.stamp)
+      ds new
       (λ n d at_n.
       let inside = slice_get_within ds n d at_n in
-      subst (λ (l : List Dated). IsLawfulEvent own regions l d.entry.event d.entry.stamp) (sym (take-append-le n ds (new ∷ []) (omega (arith, inside)))) (g.legal regions n d at_n))
-      (subst (λ (l : List Dated). MayEnter (entries_of l) id floor stamp) (sym (take_at ds (new ∷ []) (length ds) refl)) may_enter))
+      subst (λ (l : List Dated). IsLawfulEvent own regions l d.entry.event d.entry.stamp)
+      (sym (take-append-le n ds (new ∷ []) (omega (arith, inside)))) (g.legal regions n d at_n))
+      (subst (λ (l : List Dated). MayEnter (entries_of l) id floor stamp)
+      (sym (take_at ds (new ∷ []) (length ds) refl)) may_enter))
 
+  -- all of it is kept
   grown_more : Grown own later nodes
   grown_more = record {
     entries_are = more_entries;
@@ -245,6 +284,7 @@ module _ (own : ℕ) (in_range : own < 4) (history : List Entry) (heads : List H
     legal = more_legal;
   }
 
+-- before the first event
 grown_none : (own : ℕ) → Grown own [] []
 grown_none own = record {
   entries_are = refl;
@@ -259,10 +299,15 @@ grown_none own = record {
   legal = λ regions n d is. absurd (none-some d is);
 }
 
-all_grown : (own : ℕ) {history : List Entry} {heads : List Head} → own < 4 → OwnHistory own history heads → Grown own history heads
+-- by recursion on the events
+all_grown : (own : ℕ) {history : List Entry} {heads : List Head} → own < 4 → OwnHistory own history heads
+    → Grown own history heads
 all_grown own in_range none = grown_none own
 all_grown own in_range (more {history} {heads} by id floor wants before fresh room) =
-    grown_more own in_range history heads (all_grown own in_range before) by id floor wants fresh room (next_stamp history floor) refl
+    grown_more own in_range history heads (all_grown own in_range before) by id floor wants fresh room
+    (next_stamp history floor) refl
 
-pub own_line : (own : ℕ) {history : List Entry} {heads : List Head} → own < 4 → OwnHistory own history heads → IsOwnLine own history heads
+-- the column is its own line
+pub own_line : (own : ℕ) {history : List Entry} {heads : List Head} → own < 4 → OwnHistory own history heads
+    → IsOwnLine own history heads
 own_line own {history} {heads} in_range grown = line_from own in_range history heads (all_grown own in_range grown)
