@@ -1,3 +1,7 @@
+pub mod OwnEntries
+pub mod OwnChains
+pub mod OwnCuts
+pub mod OwnPlays
 pub mod OwnLines
 pub mod Updates
 pub mod Lists
