@@ -10,3 +10,6 @@ pub mod Entering
 pub mod Clients
 pub mod Syncing
 pub mod Leading
+pub mod Closing
+
+pub mod Lawfulness
