@@ -13,3 +13,4 @@ pub mod Leading
 pub mod Closing
 
 pub mod Lawfulness
+pub mod Exactness
