@@ -2,6 +2,7 @@
 use Rattle.std.specs.Prelude.{◌≡◌, ℕ, ◌<◌, ◌≤◌, ◌^◌, List, length}
 use Rattle.std.specs.List.{All}
 use Rattle.log_node.specs.declared.node.Shape.{Shape}
+use Rattle.log_node.specs.declared.ids.Colours.{Colours}
 use Rattle.log_node.specs.Sets.{members}
 use Rattle.script_text.specs.declared.script.What.{What}
 use Rattle.script_text.specs.declared.script.What.TheVariants as whats
@@ -18,23 +19,27 @@ pub record IsShape (shape : Shape) : Type 0 where
   pub few_clients : length shape.homes ≤ 16
   pub homes : All (λ home. home < shape.regions) shape.homes
 
--- the colours and regions that a command names are the script's
-abbrev pub IsWithin : Shape → What → Type 0
-IsWithin shape (whats.Append colours text) = (0 < length (members colours)) × All (λ c. c < shape.colours) (members colours)
-IsWithin shape (whats.Stop steps colours text) = (1 < length (members colours)) × All (λ c. c < shape.colours) (members colours)
-IsWithin shape (whats.Sync colour) = colour < shape.colours
-IsWithin shape (whats.Scan colours) = (0 < length (members colours)) × All (λ c. c < shape.colours) (members colours)
-IsWithin shape (whats.Pull region colour) = (region < shape.regions) × (colour < shape.colours)
-IsWithin shape (whats.Trim colour) = colour < shape.colours
-IsWithin shape (whats.Put object key value) = Unit {0}
-IsWithin shape (whats.Get object key) = Unit {0}
-IsWithin shape (whats.Del object key) = Unit {0}
-IsWithin shape (whats.PutAll object pairs) = Unit {0}
-IsWithin shape (whats.GetAll object keys) = Unit {0}
-IsWithin shape (whats.Read object keys) = Unit {0}
-IsWithin shape (whats.Commit object pairs) = Unit {0}
-IsWithin shape (whats.Enq object value) = Unit {0}
-IsWithin shape (whats.Deq object) = Unit {0}
+-- the colours of a set are below this number
+abbrev pub AreBelow : ℕ → Colours → Type 0
+AreBelow count colours = All (λ c. c < count) (members colours)
+
+-- the colours and regions that a command names are among so many
+abbrev pub IsWithin : ℕ → ℕ → What → Type 0
+IsWithin regions colours (whats.Append set text) = AreBelow colours set
+IsWithin regions colours (whats.Stop steps set text) = AreBelow colours set
+IsWithin regions colours (whats.Sync colour) = colour < colours
+IsWithin regions colours (whats.Scan set) = AreBelow colours set
+IsWithin regions colours (whats.Pull region colour) = (region < regions) × (colour < colours)
+IsWithin regions colours (whats.Trim colour) = colour < colours
+IsWithin regions colours (whats.Put object key value) = Unit {0}
+IsWithin regions colours (whats.Get object key) = Unit {0}
+IsWithin regions colours (whats.Del object key) = Unit {0}
+IsWithin regions colours (whats.PutAll object pairs) = Unit {0}
+IsWithin regions colours (whats.GetAll object keys) = Unit {0}
+IsWithin regions colours (whats.Read object keys) = Unit {0}
+IsWithin regions colours (whats.Commit object pairs) = Unit {0}
+IsWithin regions colours (whats.Enq object value) = Unit {0}
+IsWithin regions colours (whats.Deq object) = Unit {0}
 
 pub record IsFitting (script : Script) : Type 0 where
   pub shape : IsShape script.shape
@@ -42,5 +47,5 @@ pub record IsFitting (script : Script) : Type 0 where
   pub colours : length script.colours ≡ script.shape.colours
   pub clients : length script.clients ≡ length script.shape.homes
   pub callers : All (λ (c : Command). c.client < length script.shape.homes) script.commands
-  pub commands : All (λ (c : Command). IsWithin script.shape c.what) script.commands
+  pub commands : All (λ (c : Command). IsWithin script.shape.regions script.shape.colours c.what) script.commands
   pub few : length script.commands < 2 ^ 15

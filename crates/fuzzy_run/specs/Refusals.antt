@@ -1,0 +1,29 @@
+-- Why bytes are not done, and the line that says so.
+use Rattle.std.specs.Prelude.{◌≡◌, ℕ, List, [], ◌∷◌, ◌++◌, Option, Some, None, codes, not}
+use Rattle.std.specs.Fmt.{decimal}
+use Rattle.std.specs.List.{find}
+use Rattle.std.specs.Option.{option_map}
+use Rattle.script_text.specs.declared.script.Command.{Command}
+use Rattle.script_text.specs.declared.script.Script.{Script}
+use Rattle.script_text.specs.Words.{reason_text}
+use Rattle.script_text.specs.Grammar.{IsScript}
+use Rattle.script_text.specs.Faults.{IsRefused}
+use Rattle.file_order.specs.Meaning.{is_built}
+use Rattle.fuzzy_run.specs.declared.refusal.Cause.{Cause}
+use Rattle.fuzzy_run.specs.declared.refusal.Cause.TheVariants.{Faulty, NotBuilt}
+
+abbrev pub cause_text : Cause → List ℕ
+cause_text (Faulty why) = reason_text why
+cause_text NotBuilt = codes "not built"
+
+abbrev pub refusal_text : ℕ → Cause → List ℕ
+refusal_text line cause = codes "refused: line " ++ decimal line ++ codes ": " ++ cause_text cause ++ 10 ∷ []
+
+-- the line of the first command that is not done yet
+abbrev pub first_unbuilt : List Command → Option ℕ
+first_unbuilt commands = option_map (λ (c : Command). c.line) (find (λ (c : Command). not (is_built c.what)) commands)
+
+-- The bytes are no script, by this line and for this reason; or they are one with a command that is not done yet, first on this line.
+abbrev pub IsRefusedFor : List ℕ → ℕ → Cause → Type 0
+IsRefusedFor bytes line (Faulty why) = IsRefused bytes line why
+IsRefusedFor bytes line NotBuilt = (script : Script) × IsScript bytes script × (first_unbuilt script.commands ≡ Some line)

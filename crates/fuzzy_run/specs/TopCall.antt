@@ -1,0 +1,41 @@
+-- What the top call writes for the bytes that it reads.
+use Rattle.std.specs.Prelude.{◌≡◌, ◌⊎◌, ℕ, List, ◌++◌, Option, IfSome}
+use Rattle.std.specs.Io.KnownBytes.{Appends}
+use Rattle.script_text.specs.declared.script.Script.{Script}
+use Rattle.script_text.specs.Grammar.{IsScript}
+use Rattle.report_text.specs.declared.report.Report.{Report}
+use Rattle.report_text.specs.ReportText.{report_bytes}
+use Rattle.lawful_run.specs.Lawful.{LawfulRun}
+use Rattle.file_order.specs.Meaning.{IsStepReport, FoundMemory, step_report}
+use Rattle.fuzzy_run.specs.declared.refusal.Cause.{Cause}
+use Rattle.fuzzy_run.specs.Refusals.{IsRefusedFor, refusal_text}
+
+-- The report is that of a lawful run of the script, done in the order of the file; where no reply tells of want of memory,
+-- it is the one report that this means.
+pub record IsRunOf (script : Script) (report : Report) : Type 0 where
+  pub lawful : LawfulRun script report
+  pub in_order : IsStepReport script report
+  pub exact : FoundMemory report → report ≡ step_report script
+
+-- The bytes are a script, and the text is that of a report of its run.
+pub record IsRunText (bytes text : List ℕ) : Type 0 where
+  pub script : Script
+  pub report : Report
+  pub read : IsScript bytes script
+  pub run : IsRunOf script report
+  pub shown : text ≡ report_bytes report
+
+-- The bytes are not done, and the text is the line that says why.
+pub record IsRefusalText (bytes text : List ℕ) : Type 0 where
+  pub line : ℕ
+  pub cause : Cause
+  pub refused : IsRefusedFor bytes line cause
+  pub shown : text ≡ refusal_text line cause
+
+-- such a text of the bytes, where these are known, was written whole
+abbrev pub Writes : (List ℕ → List ℕ → Type 0) → Option (List ℕ) → Option (List ℕ) → Option (List ℕ) → Type 0
+Writes IsText left old new = IfSome left (λ bytes. (text : List ℕ) × IsText bytes text × Appends old new text)
+
+-- the beginning of such a text was written
+abbrev pub WritesFront : Option (List ℕ) → Option (List ℕ) → Option (List ℕ) → Type 0
+WritesFront left old new = IfSome left (λ bytes. (front rest : List ℕ) × (IsRunText bytes (front ++ rest) ⊎ IsRefusalText bytes (front ++ rest)) × Appends old new front)

@@ -1,0 +1,11 @@
+-- What the words of a command line ask for.
+use Rattle.std.specs.Prelude.{ℕ, List, [], ◌∷◌, Option, Some, None, codes, if◌then◌else◌}
+use Rattle.std.specs.Str.{bytes_eq}
+use Rattle.fuzzy_run.specs.declared.asked.Asked.{Asked}
+use Rattle.fuzzy_run.specs.declared.asked.Asked.TheVariants.{Step}
+
+-- the one word `step`
+abbrev pub asked_by : List (List ℕ) → Option Asked
+asked_by [] = None
+asked_by (word ∷ []) = if bytes_eq word (codes "step") then Some Step else None
+asked_by (word ∷ other ∷ words) = None

@@ -1,0 +1,21 @@
+// What the words of a command line ask for.
+ghost use Rattle.std.specs.Prelude.{◌≡◌, map};
+ghost use Rattle.std.specs.String.{string_bytes};
+ghost use Rattle.fuzzy_run.specs.Words.{asked_by};
+
+/// What the words of a command line ask for.
+#[derive(Clone, Copy, Debug, PartialEq, Eq)]
+pub enum Asked {
+    /// The script's commands, done in the order of the file.
+    Step,
+}
+
+/// What the words ask for, without the program's name.
+pub fn asked(words: &[String]) -> Option<Asked>
+    ensures { result ≡ asked_by (map string_bytes words.now) }
+{
+    match words {
+        [word] if word.as_str() == "step" => Some(Asked::Step),
+        _ => None,
+    }
+}

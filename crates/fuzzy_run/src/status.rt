@@ -1,0 +1,36 @@
+// How a run ends.
+ghost use Rattle.std.specs.Prelude.{◌≡◌};
+ghost use Rattle.fuzzy_run.specs.Statuses.{code_of};
+
+/// How a run ends; the program exits with its code.
+#[derive(Clone, Copy, Debug, PartialEq, Eq)]
+pub enum Status {
+    /// The source was read to its end, and the whole report was written.
+    Done,
+    /// The words are none that the program knows. Nothing was read or written.
+    BadWords,
+    /// The bytes are no script that can be done, and the line that says why was written.
+    Refused,
+    /// The source failed. Nothing was written.
+    ReadFault,
+    /// The sink failed. It got the beginning of the text.
+    WriteFault,
+    /// Memory was refused. Nothing was written.
+    NoMemory,
+}
+
+impl Status {
+    /// The exit code, 0 to 5.
+    pub fn code(self) -> u8
+        ensures { result ≡ code_of self }
+    {
+        match self {
+            Status::Done => 0,
+            Status::BadWords => 1,
+            Status::Refused => 2,
+            Status::ReadFault => 3,
+            Status::WriteFault => 4,
+            Status::NoMemory => 5,
+        }
+    }
+}
