@@ -18,7 +18,6 @@ none_pass p a (suc n) h = ap (λ b. cond b (a ∷ filter p (range_with_len (a + 
 
 -- a set of 16 bits has no member from 16 on
 pub members-low : (set : Colours) → set.0 < 2 ^ 16 → filter (has set) (range_with_len 0 16) ≡ members set
-unfolding members
 members-low set small = sym (ap (filter (has set)) (range-split 0 16 48) ∙ (filter-append (has set) (range_with_len 0 16) (range_with_len 16 48)
     ∙ (ap (λ l. filter (has set) (range_with_len 0 16) ++ l) (none_pass (has set) 16 48 (λ k l. ap (λ b. b == 1) (bit_at_above set.0 16 k small l))) ∙ append-nil (filter (has set) (range_with_len 0 16)))))
 

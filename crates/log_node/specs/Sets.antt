@@ -8,5 +8,5 @@ abbrev pub has : Colours → ℕ → Bool
 has set colour = bit_at set.0 colour == 1
 
 -- the members, the smallest first
-unfoldable pub members : Colours → List ℕ
+abbrev pub members : Colours → List ℕ
 members set = filter (has set) (range_with_len 0 64)
