@@ -1,0 +1,462 @@
+-- The numbers in a script name what there is.
+use Rattle.std.proofs.Common.{◌≡◌, ◌≢◌, ◌⊎◌, inl, inr, ℕ, zero, suc, ◌+◌, ◌^◌, ◌<◌, ◌≤◌, max, ◌==◌, cond, Bool, true, false, List, [], ◌∷◌, ◌++◌, length, map, Option, Some, None, refl, ap, sym, subst, ◌∙◌, arith, append-nil, append_assoc, length-append, eqb-true, leb-true, ltb-true, get_or}
+use Rattle.std.specs.Prelude.{IsTrue, ◌&&◌, nat_lt, nat_le, not, codes, bit_or}
+use Rattle.std.specs.Int.{bit_at}
+use Rattle.std.specs.List.{All, cons_option, filter, filter_map, fold, last_or, list_all, list_any, range_with_len, enumerate_from}
+use Rattle.std.proofs.lemmas.List.{map-append, length-map}
+use Rattle.std.proofs.lemmas.List.FromFn.{length-enumerate_from}
+use Rattle.std.proofs.lemmas.List.Elements.{All-nil, All-append, filter_map-append}
+use Rattle.std.proofs.lemmas.Nat.Bits.{bit_at_or, bit_at-zero, bit_at-pow_other}
+use Rattle.std.proofs.lemmas.Bool.Decides.{eqb_tells}
+use Rattle.log_node.specs.declared.ids.Colours.{Colours}
+use Rattle.log_node.specs.declared.node.Shape.{Shape}
+use Rattle.log_node.specs.Sets.{has, members}
+use Rattle.script_text.specs.declared.script.Kind.{Kind}
+use Rattle.script_text.specs.declared.script.Kind.TheVariants as kinds
+use Rattle.script_text.specs.declared.script.What.{What}
+use Rattle.script_text.specs.declared.script.What.TheVariants as whats
+use Rattle.script_text.specs.declared.script.Command.{Command}
+use Rattle.script_text.specs.declared.script.Script.{Script}
+use Rattle.script_text.specs.declared.item.Item.{Item}
+use Rattle.script_text.specs.declared.item.Item.TheVariants as items
+use Rattle.script_text.specs.declared.item.Stage.{Stage}
+use Rattle.script_text.specs.declared.item.Stage.TheVariants as stages
+use Rattle.script_text.specs.Pieces.{lines_of, fields_of, is_among, is_between}
+use Rattle.script_text.specs.Items.{stage_after, stage_of, header_words, may_come, is_begun, has_begun, regions_in, colours_in, clients_in, commands_in, last_said, region_names, colour_names, client_names, client_homes, commands, script_of, set_of}
+use Rattle.script_text.specs.Grammar.{kind_word, kept_lines, is_passed_over, may_follow, is_lawful_what, is_colour, is_region, are_colours, SpellsColours, SpellsStop, SpellsWhat, Says, Say, AreLines, IsScript}
+use Rattle.script_text.specs.Fitting.{IsShape, AreBelow, IsWithin, IsFitting}
+
+and-left : (a b : Bool) → (a && b) ≡ true → a ≡ true
+and-left true b e = refl
+and-left false b e = e
+
+and-right : (a b : Bool) → (a && b) ≡ true → b ≡ true
+and-right true b e = e
+and-right false b e = absurd (let f : ⊥ = cc in f)
+
+-- SETS: a member of the set of some colours is one of them
+set_below : (count : ℕ) (bits : ℕ) (order : List ℕ) → ((c : ℕ) → bit_at bits c ≡ 1 → c < count) → IsTrue (list_all (λ c. nat_lt c count) order) → (c : ℕ) → bit_at (fold (λ set k. bit_or set (2 ^ k)) bits order) c ≡ 1 → c < count
+set_below count bits [] below all c is = below c is
+set_below count bits (k ∷ ks) below all c is =
+    set_below count (bit_or bits (2 ^ k)) ks more (and-right (nat_lt k count) (list_all (λ c. nat_lt c count) ks) all) c is where
+      small : k < count
+      small = ltb-true _ _ (and-left (nat_lt k count) (list_all (λ c. nat_lt c count) ks) all)
+
+      more : (d : ℕ) → bit_at (bit_or bits (2 ^ k)) d ≡ 1 → d < count
+      more d one = elim (eqb_tells d k) [
+        | inl t ↦ (let e = t.1 in omega (arith, small))
+        | inr t ↦ (let e = sym (bit_at_or bits (2 ^ k) d) ∙ one in let z = bit_at-pow_other k d t.1 in below d (omega arith))
+      ]
+
+All-cons : {A : Type 0} (P : A → Type 0) (x : A) (xs : List A) → P x → All P xs → All P (x ∷ xs)
+All-cons P x xs one rest zero d lt = one
+All-cons P x xs one rest (suc k) d lt = rest k d (omega arith)
+
+filter-all : (P : ℕ → Type 0) (p : ℕ → Bool) (xs : List ℕ) → ((x : ℕ) → p x ≡ true → P x) → All P (filter p xs)
+filter-all P p [] h = All-nil P
+filter-all P p (x ∷ xs) h = choose (p x) refl (filter-all P p xs h) where
+  choose : (b : Bool) → p x ≡ b → All P (filter p xs) → All P (cond b (x ∷ filter p xs) (filter p xs))
+  choose true e rest = All-cons P x (filter p xs) (h x e) rest
+  choose false e rest = rest
+
+set-below : (count : ℕ) (order : List ℕ) → IsTrue (list_all (λ c. nat_lt c count) order) → AreBelow count (set_of order)
+set-below count order all = filter-all (λ c. c < count) (has (set_of order)) (range_with_len 0 64)
+    (λ c is. set_below count 0 order (λ d one. let z = bit_at-zero d in absurd (omega arith)) all c (eqb-true _ _ is))
+
+-- WHAT ONE MORE ITEM SAYS
+last-more : {A : Type 0} (o : Option A) (xs : List A) (x : A) → last_or o (xs ++ x ∷ []) ≡ Some x
+last-more o [] x = refl
+last-more o (y ∷ ys) x = last-more (Some y) ys x
+
+filter_map-more : {A B : Type 0} (h : A → Option B) (xs : List A) (x : A) → h x ≡ None → filter_map h (xs ++ x ∷ []) ≡ filter_map h xs
+filter_map-more h [] x e = none (h x) e where
+  none : {B : Type 0} (o : Option B) → o ≡ None → cons_option o [] ≡ []
+  none None f = refl
+  none (Some y) f = absurd (let g : ⊥ = cc in g)
+filter_map-more h (y ∷ ys) x e = ap (cons_option (h y)) (filter_map-more h ys x e)
+
+filter_map-said : {A B : Type 0} (h : A → Option B) (xs : List A) (x : A) (y : B) → h x ≡ Some y → filter_map h (xs ++ x ∷ []) ≡ filter_map h xs ++ y ∷ []
+filter_map-said h [] x y e = ap (λ o. cons_option o []) e
+filter_map-said {A} {B} h (z ∷ zs) x y e = ap (cons_option (h z)) (filter_map-said h zs x y e) ∙ out (h z) where
+  out : (o : Option B) → cons_option o (filter_map h zs ++ y ∷ []) ≡ cons_option o (filter_map h zs) ++ y ∷ []
+  out None = refl
+  out (Some w) = refl
+
+said-last : {X : Type 0} (d : X) (xs : List X) (x : X) → last_said d (xs ++ x ∷ []) ≡ x
+said-last d [] x = refl
+said-last d (y ∷ ys) x = said-last y ys x
+
+one-more : {A : Type 0} (P : A → Type 0) (xs : List A) (x : A) → All P xs → P x → All P (xs ++ x ∷ [])
+one-more P xs x all one = All-append P xs (x ∷ []) all (All-cons P x [] one (All-nil P))
+
+-- what the items say: the names of regions and colours, the clients' homes, and the commands
+abbrev RegionsSaid : Type 0
+RegionsSaid = List (List ℕ)
+
+-- what the stage tells of how much was said
+Early : Stage → ℕ → ℕ → List ℕ → List Command → Type 0
+Early stages.Nothing regions colours homes asked = (homes ≡ []) × (asked ≡ [])
+Early stages.Version regions colours homes asked = (homes ≡ []) × (asked ≡ [])
+Early stages.Regions regions colours homes asked = (0 < regions) × (homes ≡ []) × (asked ≡ [])
+Early stages.Colours regions colours homes asked = (0 < regions) × (0 < colours) × (homes ≡ []) × (asked ≡ [])
+Early stages.Rows regions colours homes asked = (0 < regions) × (0 < colours) × (homes ≡ []) × (asked ≡ [])
+Early stages.Clients regions colours homes asked = (0 < regions) × (0 < colours) × (0 < length homes) × (asked ≡ [])
+Early stages.Objects regions colours homes asked = (0 < regions) × (0 < colours) × (0 < length homes) × (asked ≡ [])
+Early stages.Commands regions colours homes asked = (0 < regions) × (0 < colours) × (0 < length homes)
+
+record Fits (regions colours : ℕ) (homes : List ℕ) (asked : List Command) (stage : Stage) : Type 0 where
+  few_regions : regions ≤ 4
+  few_colours : colours ≤ 16
+  few_clients : length homes ≤ 16
+  are_homes : All (λ home. home < regions) homes
+  callers : All (λ (c : Command). c.client < length homes) asked
+  within : All (λ (c : Command). IsWithin regions colours c.what) asked
+  early : Early stage regions colours homes asked
+
+Fit : List Item → Type 0
+Fit before = Fits (length (region_names before)) (length (colour_names before)) (client_homes before) (commands before) (stage_of before)
+
+-- nothing is said at first
+fit_nothing : Fit []
+unfolding Fit Early
+fit_nothing = record {
+  few_regions = omega arith;
+  few_colours = omega arith;
+  few_clients = omega arith;
+  are_homes = All-nil (λ home. home < 0);
+  callers = All-nil (λ (c : Command). c.client < 0);
+  within = All-nil (λ (c : Command). IsWithin 0 0 c.what);
+  early = (refl, refl);
+}
+
+-- where one more item changes what is said as told, the facts are of what is then said
+carried : (r r' c c' : ℕ) (h h' : List ℕ) (k k' : List Command) (s s' : Stage) → r ≡ r' → c ≡ c' → h ≡ h' → k ≡ k' → s ≡ s' → Fits r c h k s → Fits r' c' h' k' s'
+carried r r' c c' h h' k k' s s' er ec eh ek es f =
+    subst (λ (z : ℕ × ℕ × List ℕ × List Command × Stage). Fits z.0 z.1 z.2 z.3 z.4) (λ i. (er i, ec i, eh i, ek i, es i)) f
+
+module _ (before : List Item) (fit : Fits (length (region_names before)) (length (colour_names before)) (client_homes before) (commands before) (stage_of before)) where
+  R : ℕ
+  R = length (region_names before)
+
+  C : ℕ
+  C = length (colour_names before)
+
+  stage-more : (item : Item) → stage_of (before ++ item ∷ []) ≡ stage_after (Some item)
+  stage-more item = ap stage_after (last-more None before item)
+
+  same_regions : (item : Item) → regions_in item ≡ None → length (region_names before) ≡ length (region_names (before ++ item ∷ []))
+  same_regions item e = ap (λ (l : List (List (List ℕ))). length (last_said [] l)) (sym (filter_map-more regions_in before item e))
+
+  same_colours : (item : Item) → colours_in item ≡ None → length (colour_names before) ≡ length (colour_names (before ++ item ∷ []))
+  same_colours item e = ap (λ (l : List (List (List ℕ))). length (last_said [] l)) (sym (filter_map-more colours_in before item e))
+
+  same_homes : (item : Item) → clients_in item ≡ None → client_homes before ≡ client_homes (before ++ item ∷ [])
+  same_homes item e = ap (λ (l : List (List ℕ × ℕ)). map (λ c. c.1) l) (sym (filter_map-more clients_in before item e))
+
+  same_commands : (item : Item) → commands_in item ≡ None → commands before ≡ commands (before ++ item ∷ [])
+  same_commands item e = sym (filter_map-more commands_in before item e)
+
+  -- an item that says none of these
+  passed : (item : Item) (stage : Stage) → regions_in item ≡ None → colours_in item ≡ None → clients_in item ≡ None → commands_in item ≡ None → stage_after (Some item) ≡ stage
+      → Early stage (length (region_names before)) (length (colour_names before)) (client_homes before) (commands before) → Fit (before ++ item ∷ [])
+  unfolding Fit
+  passed item stage r c h k s early = carried _ _ _ _ _ _ _ _ _ _ (same_regions item r) (same_colours item c) (same_homes item h) (same_commands item k) (sym (stage-more item ∙ s))
+      (record { few_regions = fit.few_regions; few_colours = fit.few_colours; few_clients = fit.few_clients; are_homes = fit.are_homes; callers = fit.callers; within = fit.within; early = early })
+
+-- which stage a word may come at
+no : {A : Type 0} → false ≡ true → A
+no e = absurd (let f : ⊥ = cc in f)
+
+at_fuzzylog : (s : Stage) → is_among (header_words s) (codes "fuzzylog") ≡ true → s ≡ stages.Nothing
+at_fuzzylog stages.Nothing e = refl
+at_fuzzylog stages.Version e = no e
+at_fuzzylog stages.Regions e = no e
+at_fuzzylog stages.Colours e = no e
+at_fuzzylog stages.Rows e = no e
+at_fuzzylog stages.Clients e = no e
+at_fuzzylog stages.Objects e = no e
+at_fuzzylog stages.Commands e = no e
+
+at_regions : (s : Stage) → is_among (header_words s) (codes "regions") ≡ true → s ≡ stages.Version
+at_regions stages.Nothing e = no e
+at_regions stages.Version e = refl
+at_regions stages.Regions e = no e
+at_regions stages.Colours e = no e
+at_regions stages.Rows e = no e
+at_regions stages.Clients e = no e
+at_regions stages.Objects e = no e
+at_regions stages.Commands e = no e
+
+at_colours : (s : Stage) → is_among (header_words s) (codes "colours") ≡ true → s ≡ stages.Regions
+at_colours stages.Nothing e = no e
+at_colours stages.Version e = no e
+at_colours stages.Regions e = refl
+at_colours stages.Colours e = no e
+at_colours stages.Rows e = no e
+at_colours stages.Clients e = no e
+at_colours stages.Objects e = no e
+at_colours stages.Commands e = no e
+
+at_rows : (s : Stage) → is_among (header_words s) (codes "rows") ≡ true → s ≡ stages.Colours
+at_rows stages.Nothing e = no e
+at_rows stages.Version e = no e
+at_rows stages.Regions e = no e
+at_rows stages.Colours e = refl
+at_rows stages.Rows e = no e
+at_rows stages.Clients e = no e
+at_rows stages.Objects e = no e
+at_rows stages.Commands e = no e
+
+-- what is told of where clients are named
+at_client : (s : Stage) (r c : ℕ) (h : List ℕ) (k : List Command) → is_among (header_words s) (codes "client") ≡ true → Early s r c h k → (0 < r) × (0 < c) × (k ≡ [])
+unfolding Early
+at_client stages.Nothing r c h k e f = no e
+at_client stages.Version r c h k e f = no e
+at_client stages.Regions r c h k e f = no e
+at_client stages.Colours r c h k e f = (f.0, f.1, f.3)
+at_client stages.Rows r c h k e f = (f.0, f.1, f.3)
+at_client stages.Clients r c h k e f = (f.0, f.1, f.3)
+at_client stages.Objects r c h k e f = no e
+at_client stages.Commands r c h k e f = no e
+
+-- and of where objects are, and the header ends
+at_end : (word : List ℕ) → is_among (header_words stages.Nothing) word ≡ false → is_among (header_words stages.Version) word ≡ false → is_among (header_words stages.Regions) word ≡ false → is_among (header_words stages.Colours) word ≡ false → is_among (header_words stages.Rows) word ≡ false
+    → (s : Stage) (r c : ℕ) (h : List ℕ) (k : List Command) → is_among (header_words s) word ≡ true → Early s r c h k → (0 < r) × (0 < c) × (0 < length h) × (k ≡ [])
+unfolding Early
+at_end word n0 n1 n2 n3 n4 stages.Nothing r c h k e f = no (sym n0 ∙ e)
+at_end word n0 n1 n2 n3 n4 stages.Version r c h k e f = no (sym n1 ∙ e)
+at_end word n0 n1 n2 n3 n4 stages.Regions r c h k e f = no (sym n2 ∙ e)
+at_end word n0 n1 n2 n3 n4 stages.Colours r c h k e f = no (sym n3 ∙ e)
+at_end word n0 n1 n2 n3 n4 stages.Rows r c h k e f = no (sym n4 ∙ e)
+at_end word n0 n1 n2 n3 n4 stages.Clients r c h k e f = f
+at_end word n0 n1 n2 n3 n4 stages.Objects r c h k e f = f
+at_end word n0 n1 n2 n3 n4 stages.Commands r c h k e f = no e
+
+at_commands : (s : Stage) (r c : ℕ) (h : List ℕ) (k : List Command) → is_begun s ≡ true → Early s r c h k → (0 < r) × (0 < c) × (0 < length h)
+unfolding Early
+at_commands stages.Nothing r c h k e f = no e
+at_commands stages.Version r c h k e f = no e
+at_commands stages.Regions r c h k e f = no e
+at_commands stages.Colours r c h k e f = no e
+at_commands stages.Rows r c h k e f = no e
+at_commands stages.Clients r c h k e f = no e
+at_commands stages.Objects r c h k e f = no e
+at_commands stages.Commands r c h k e f = f
+
+-- WHAT A COMMAND NAMES
+within_set : (before : List Item) (field : List ℕ) (set : Colours) → SpellsColours before field set → AreBelow (length (colour_names before)) set
+within_set before field set s =
+    let three = s.lawful in
+    subst (λ (t : Colours). AreBelow (length (colour_names before)) t) (sym s.set) (set-below (length (colour_names before)) s.order (and-right _ _ three))
+
+is_within : (before : List Item) (client : ℕ) (args : List (List ℕ)) (what : What) → is_lawful_what before client what ≡ true → SpellsWhat before args what → IsWithin (length (region_names before)) (length (colour_names before)) what
+is_within before client args (whats.Append set text) ok s = within_set before s.0 set s.1
+is_within before client args (whats.Stop steps set text) ok s = within_set before s.1 set s.2.spelled
+is_within before client args (whats.Sync colour) ok s = ltb-true _ _ ok
+is_within before client args (whats.Scan set) ok s = within_set before s.0 set s.1
+is_within before client args (whats.Pull region colour) ok s = (ltb-true _ _ (and-left _ _ ok), ltb-true _ _ (and-right _ _ ok))
+is_within before client args (whats.Trim colour) ok s = ltb-true _ _ ok
+is_within before client args (whats.Put object key value) ok s = tt
+is_within before client args (whats.Get object key) ok s = tt
+is_within before client args (whats.Del object key) ok s = tt
+is_within before client args (whats.PutAll object pairs) ok s = tt
+is_within before client args (whats.GetAll object keys) ok s = tt
+is_within before client args (whats.Read object keys) ok s = tt
+is_within before client args (whats.Commit object pairs) ok s = tt
+is_within before client args (whats.Enq object value) ok s = tt
+is_within before client args (whats.Deq object) ok s = tt
+
+-- ONE MORE ITEM
+module _ (before : List Item) (fit : Fits (length (region_names before)) (length (colour_names before)) (client_homes before) (commands before) (stage_of before)) where
+  abbrev regions : ℕ
+  regions = length (region_names before)
+
+  abbrev colours : ℕ
+  colours = length (colour_names before)
+
+  abbrev homes : List ℕ
+  homes = client_homes before
+
+  abbrev asked : List Command
+  asked = commands before
+
+  -- what is told at a stage that is known
+  at_stage : (s : Stage) → stage_of before ≡ s → Early s regions colours homes asked
+  at_stage s e = subst (λ (t : Stage). Early t regions colours homes asked) e fit.early
+
+  more_version : may_come before (codes "fuzzylog") ≡ true → Fit (before ++ items.Version ∷ [])
+  unfolding Early
+  more_version ok = passed before fit items.Version stages.Version refl refl refl refl refl (at_stage stages.Nothing (at_fuzzylog (stage_of before) ok))
+
+  more_rows : (number : ℕ) → may_come before (codes "rows") ≡ true → Fit (before ++ items.Rows number ∷ [])
+  unfolding Early
+  more_rows number ok = passed before fit (items.Rows number) stages.Rows refl refl refl refl refl (at_stage stages.Colours (at_rows (stage_of before) ok))
+
+  more_begin : may_come before (codes "begin") ≡ true → Fit (before ++ items.Begin ∷ [])
+  unfolding Early
+  more_begin ok = let t = at_end (codes "begin") refl refl refl refl refl (stage_of before) regions colours homes asked ok fit.early in
+      passed before fit items.Begin stages.Commands refl refl refl refl refl (t.0, t.1, t.2)
+
+  more_object : (object : Rattle.script_text.specs.declared.script.Object.Object) → ((0 < regions) × (0 < colours) × (0 < length homes) × (asked ≡ [])) → Fit (before ++ items.Declared object ∷ [])
+  unfolding Early
+  more_object object t = passed before fit (items.Declared object) stages.Objects refl refl refl refl refl t
+
+  none_all : {A : Type 0} (P : A → Type 0) (xs : List A) → xs ≡ [] → All P xs
+  none_all P xs e = subst (λ l. All P l) (sym e) (All-nil P)
+
+  more_regions : (names : List (List ℕ)) → may_come before (codes "regions") ≡ true → is_between 1 4 (length names) ≡ true → Fit (before ++ items.Regions names ∷ [])
+  unfolding Fit Early
+  more_regions names ok few =
+      let early = at_stage stages.Version (at_regions (stage_of before) ok) in
+      let low : 1 ≤ length names = leb-true _ _ (and-left _ _ few) in
+      let high : length names ≤ 4 = leb-true _ _ (and-right _ _ few) in
+      carried (length names) _ _ _ _ _ _ _ stages.Regions _
+      (ap length (sym (ap (last_said []) (filter_map-said regions_in before (items.Regions names) names refl) ∙ said-last [] (filter_map regions_in before) names)))
+      (same_colours before fit (items.Regions names) refl) (same_homes before fit (items.Regions names) refl) (same_commands before fit (items.Regions names) refl) (sym (stage-more before fit (items.Regions names)))
+      (record {
+        few_regions = high;
+        few_colours = fit.few_colours;
+        few_clients = fit.few_clients;
+        are_homes = none_all (λ home. home < length names) homes early.0;
+        callers = fit.callers;
+        within = none_all (λ (c : Command). IsWithin (length names) colours c.what) asked early.1;
+        early = (low, early.0, early.1);
+      })
+
+  more_colours : (names : List (List ℕ)) → may_come before (codes "colours") ≡ true → is_between 1 16 (length names) ≡ true → Fit (before ++ items.Colours names ∷ [])
+  unfolding Fit Early
+  more_colours names ok few =
+      let early = at_stage stages.Regions (at_colours (stage_of before) ok) in
+      let low : 1 ≤ length names = leb-true _ _ (and-left _ _ few) in
+      let high : length names ≤ 16 = leb-true _ _ (and-right _ _ few) in
+      carried _ _ (length names) _ _ _ _ _ stages.Colours _ (same_regions before fit (items.Colours names) refl)
+      (ap length (sym (ap (last_said []) (filter_map-said colours_in before (items.Colours names) names refl) ∙ said-last [] (filter_map colours_in before) names)))
+      (same_homes before fit (items.Colours names) refl) (same_commands before fit (items.Colours names) refl) (sym (stage-more before fit (items.Colours names)))
+      (record {
+        few_regions = fit.few_regions;
+        few_colours = high;
+        few_clients = fit.few_clients;
+        are_homes = fit.are_homes;
+        callers = fit.callers;
+        within = none_all (λ (c : Command). IsWithin regions (length names) c.what) asked early.2;
+        early = (early.0, low, early.1, early.2);
+      })
+
+  as_many : length (client_names before) ≡ length homes
+  as_many = length-map (filter_map clients_in before) (λ (c : List ℕ × ℕ). c.0) ∙ sym (length-map (filter_map clients_in before) (λ (c : List ℕ × ℕ). c.1))
+
+  more_client : (name : List ℕ) (home : ℕ) → may_come before (codes "client") ≡ true → nat_lt (length (client_names before)) 16 ≡ true → is_region before home ≡ true → Fit (before ++ items.Client name home ∷ [])
+  unfolding Fit Early
+  more_client name home ok few its_home =
+      let early = at_client (stage_of before) regions colours homes asked ok fit.early in
+      let room = ltb-true _ _ few in
+      let many = length-append homes (home ∷ []) in
+      let e = as_many in
+      carried _ _ _ _ (homes ++ home ∷ []) _ _ _ stages.Clients _ (same_regions before fit (items.Client name home) refl) (same_colours before fit (items.Client name home) refl)
+      (sym (ap (λ (l : List (List ℕ × ℕ)). map (λ c. c.1) l) (filter_map-said clients_in before (items.Client name home) (name, home) refl) ∙ map-append (λ (c : List ℕ × ℕ). c.1) (filter_map clients_in before) ((name, home) ∷ [])))
+      (same_commands before fit (items.Client name home) refl) (sym (stage-more before fit (items.Client name home)))
+      (record {
+        few_regions = fit.few_regions;
+        few_colours = fit.few_colours;
+        few_clients = omega arith;
+        are_homes = one-more (λ home. home < regions) homes home fit.are_homes (ltb-true _ _ its_home);
+        callers = none_all (λ (c : Command). c.client < length (homes ++ home ∷ [])) asked early.2;
+        within = fit.within;
+        early = (early.0, early.1, omega arith, early.2);
+      })
+
+  more_command : (command : Command) (args : List (List ℕ)) → has_begun before ≡ true → nat_lt command.client (length (client_names before)) ≡ true → is_lawful_what before command.client command.what ≡ true → SpellsWhat before args command.what
+      → Fit (before ++ items.Asks command ∷ [])
+  unfolding Fit Early
+  more_command command args begun caller ok spelled =
+      let early = at_commands (stage_of before) regions colours homes asked begun fit.early in
+      let its = ltb-true _ _ caller in
+      let e = as_many in
+      carried _ _ _ _ _ _ (asked ++ command ∷ []) _ stages.Commands _ (same_regions before fit (items.Asks command) refl) (same_colours before fit (items.Asks command) refl) (same_homes before fit (items.Asks command) refl)
+      (sym (filter_map-said commands_in before (items.Asks command) command refl)) (sym (stage-more before fit (items.Asks command)))
+      (record {
+        few_regions = fit.few_regions;
+        few_colours = fit.few_colours;
+        few_clients = fit.few_clients;
+        are_homes = fit.are_homes;
+        callers = one-more (λ (c : Command). c.client < length homes) asked command fit.callers (omega arith);
+        within = one-more (λ (c : Command). IsWithin regions colours c.what) asked command fit.within (is_within before command.client args command.what ok spelled);
+        early = early;
+      })
+
+  more_item : (number : ℕ) (fields : List (List ℕ)) (item : Item) → Says before number fields item → may_follow before item ≡ true → Fit (before ++ item ∷ [])
+  more_item number fields items.Version says ok = more_version ok
+  more_item number fields (items.Regions names) says ok = more_regions names (and-left _ _ (and-left _ _ ok)) (and-right _ _ (and-left _ _ ok))
+  more_item number fields (items.Colours names) says ok = more_colours names (and-left _ _ (and-left _ _ ok)) (and-right _ _ (and-left _ _ ok))
+  more_item number fields (items.Rows rows) says ok = more_rows rows (and-left _ _ ok)
+  more_item number fields (items.Client name home) says ok = let abc = and-left _ _ ok in let ab = and-left _ _ abc in more_client name home (and-left _ _ ab) (and-right _ _ ab) (and-right _ _ ok)
+  more_item number fields (items.Declared object) says ok = more_object object (by_kind object.kind (and-left _ _ (and-left _ _ (and-left _ _ ok)))) where
+    by_kind : (kind : Kind) → may_come before (kind_word kind) ≡ true → (0 < regions) × (0 < colours) × (0 < length homes) × (asked ≡ [])
+    by_kind (kinds.Map _ _) come = at_end (codes "map") refl refl refl refl refl (stage_of before) regions colours homes asked come fit.early
+    by_kind (kinds.Tx _ _) come = at_end (codes "tx") refl refl refl refl refl (stage_of before) regions colours homes asked come fit.early
+    by_kind (kinds.Causal _) come = at_end (codes "causal") refl refl refl refl refl (stage_of before) regions colours homes asked come fit.early
+    by_kind (kinds.Queue _ _) come = at_end (codes "queue") refl refl refl refl refl (stage_of before) regions colours homes asked come fit.early
+  more_item number fields items.Begin says ok = more_begin ok
+  more_item number fields (items.Asks command) says ok =
+      let abc = and-left _ _ ok in let ab = and-left _ _ abc in more_command command says.1 (and-left _ _ ab) (and-right _ _ ab) (and-right _ _ ok) says.2
+
+-- the items of some lines, one after another
+all_fit : (before : List Item) (lines : List (ℕ × List ℕ)) (said : List Item) → Fit before → Say before lines said → Fit (before ++ said)
+unfolding Fit
+all_fit before [] [] fit say = subst (λ (l : List Item). Fit l) (sym (append-nil before)) fit
+all_fit before [] (item ∷ later) fit say = absurd say
+all_fit before (line ∷ lines) [] fit say = absurd say
+all_fit before (line ∷ lines) (item ∷ later) fit say =
+    subst (λ (l : List Item). Fit l) (append_assoc before (item ∷ []) later) (all_fit (before ++ item ∷ []) lines later (more_item before fit line.0 (fields_of line.1) item say.0 say.1) say.2)
+
+-- there are no more commands than lines
+commands_few : (said : List Item) → length (commands said) ≤ length said
+commands_few [] = omega arith
+commands_few (item ∷ later) = let r = commands_few later in of (commands_in item) r where
+  of : (o : Option Command) → length (commands later) ≤ length later → length (cons_option o (commands later)) ≤ length (item ∷ later)
+  of None r = omega arith
+  of (Some c) r = omega arith
+
+items_few : (before : List Item) (lines : List (ℕ × List ℕ)) (said : List Item) → Say before lines said → length said ≤ length lines
+items_few before [] [] say = omega arith
+items_few before [] (item ∷ later) say = absurd say
+items_few before (line ∷ lines) [] say = omega arith
+items_few before (line ∷ lines) (item ∷ later) say = let r = items_few (before ++ item ∷ []) lines later say.2 in omega arith
+
+kept_few : (p : ℕ × List ℕ → Bool) (lines : List (ℕ × List ℕ)) → length (filter p lines) ≤ length lines
+kept_few p [] = omega arith
+kept_few p (line ∷ lines) = let r = kept_few p lines in of (p line) r where
+  of : (b : Bool) → length (filter p lines) ≤ length lines → length (cond b (line ∷ filter p lines) (filter p lines)) ≤ length (line ∷ lines)
+  of true r = omega arith
+  of false r = omega arith
+
+fitting : (said : List Item) (lines : List (List ℕ)) → Fit said → has_begun said ≡ true → AreLines lines said → IsFitting (script_of said)
+unfolding Fit
+fitting said lines fit begun are =
+    let early = at_commands (stage_of said) (length (region_names said)) (length (colour_names said)) (client_homes said) (commands said) begun fit.early in
+    let asked = commands_few said in
+    let many = items_few [] (kept_lines (enumerate_from 1 lines)) said are.say in
+    let kept = kept_few (λ line. not (is_passed_over line)) (enumerate_from 1 lines) in
+    let numbered = length-enumerate_from 1 lines in
+    let few = are.few in record {
+      shape = record {
+        a_region = early.0;
+        few_regions = fit.few_regions;
+        a_colour = early.1;
+        few_colours = fit.few_colours;
+        a_client = early.2;
+        few_clients = fit.few_clients;
+        homes = fit.are_homes;
+      };
+      regions = refl;
+      colours = refl;
+      clients = length-map (filter_map clients_in said) (λ (c : List ℕ × ℕ). c.0) ∙ sym (length-map (filter_map clients_in said) (λ (c : List ℕ × ℕ). c.1));
+      callers = fit.callers;
+      commands = fit.within;
+      few = omega arith;
+    }
+
+-- what is read as a script has numbers that name what there is
+pub script_fits : (bytes : List ℕ) (script : Script) → IsScript bytes script → IsFitting script
+script_fits bytes script is = subst (λ (s : Script). IsFitting s) (sym is.same)
+    (fitting is.said (lines_of bytes) (all_fit [] (kept_lines (enumerate_from 1 (lines_of bytes))) is.said fit_nothing is.lines.say) is.begun is.lines)

@@ -1,0 +1,27 @@
+use Rattle.std.proofs.Common.{◌≡◌, ◌<◌, ◌∷◌, [], ◌++◌, length, get_or, take, drop, sym, ap, ◌∙◌, arith}
+use Rattle.std.proofs.lemmas.Result.{err_from_is_err_and}
+use Rattle.std.proofs.lemmas.List.{take_more}
+use Rattle.script_text.specs.Inside.{each_at, colour_at, colours_at, fields_in, Fails}
+use Rattle.script_text.proofs.EachLemmas.{each_more, each_ends, each_done, fields_get, fields_take, length-fields_in}
+use Rattle.script_text.proofs.names.colour_numbers.Goals as goal
+
+pub returns-in_err-colour : goal.returns-in_err-colour
+returns-in_err-colour c =
+    let all = fields_in c.args.fields.now in
+    let i = c.loop-place.place in
+    let p = err_from_is_err_and c.from_residual.result c.from_residual.ensures.1 in
+    let within : i < length all = omega (arith, length-fields_in c.args.fields.now) in
+    let failed = rw fields_take at c.in_err-colour.ensures in
+    rw (p.1, p.2) (each_ends (colour_at c.args.names.now) (take i all) all c.loop-place.colours i _ c.in_err-colour.field-0.0 (colours_at c.args.names.now all) within (fields_get c.args.fields.now i _ c.loop-place-test.true) failed c.loop-place.invariant)
+
+pub loop-place-preserved : goal.loop-place-preserved
+loop-place-preserved c =
+    let all = fields_in c.args.fields.now in
+    let i = c.loop-place.place in
+    let within : i < length all = omega (arith, length-fields_in c.args.fields.now) in
+    let read = rw fields_take at c.in_ok-colour.ensures in
+    let at_place = fields_get c.args.fields.now i _ c.loop-place-test.true in
+    rw (c.in_ok-push.ensures.ok, take_more all i [] within, at_place) (each_more (colour_at c.args.names.now) (take i all) all c.loop-place.colours i _ c.in_ok-colour.colour (colours_at c.args.names.now all) within at_place read c.loop-place.invariant)
+
+pub returns : goal.returns
+returns c = each_done (colour_at c.args.names.now) (take c.loop-place.place (fields_in c.args.fields.now)) (fields_in c.args.fields.now) c.loop-place.colours c.loop-place.place (colours_at c.args.names.now (fields_in c.args.fields.now)) (omega (arith, length-fields_in c.args.fields.now)) c.loop-place.invariant

@@ -1,0 +1,68 @@
+-- The pieces that stand in a script's bytes: lines, fields, names, keys, texts and numbers.
+use Rattle.std.specs.Prelude.{Bool, true, false, ℕ, zero, suc, ◌+◌, ◌*◌, ◌-◌, ◌==◌, nat_le, nat_lt, ◌&&◌, ◌||◌, List, [], ◌∷◌, length, Option, Some, None, if◌then◌else◌}
+use Rattle.std.specs.List.{list_any, list_all, fold, slice_split, onto_first}
+use Rattle.std.specs.Str.{bytes_eq}
+use Rattle.std.specs.Option.{option_map}
+
+-- the lines: each ends with a line feed or with the bytes
+abbrev pub lines_of : List ℕ → List (List ℕ)
+lines_of [] = []
+lines_of (b ∷ bs) = if b == 10 then [] ∷ lines_of bs else onto_first b (lines_of bs)
+
+-- the fields of a line, with one space between two
+abbrev pub fields_of : List ℕ → List (List ℕ)
+fields_of line = slice_split (λ b. b == 32) line
+
+-- the names between commas
+abbrev pub names_in : List ℕ → List (List ℕ)
+names_in cols = slice_split (λ b. b == 44) cols
+
+abbrev pub is_between : ℕ → ℕ → ℕ → Bool
+is_between low high n = nat_le low n && nat_le n high
+
+abbrev pub is_ascii_line : List ℕ → Bool
+is_ascii_line line = list_all (is_between 32 126) line
+
+abbrev pub is_letter : ℕ → Bool
+is_letter b = is_between 97 122 b
+
+abbrev pub is_digit : ℕ → Bool
+is_digit b = is_between 48 57 b
+
+abbrev pub is_letter_or_digit : ℕ → Bool
+is_letter_or_digit b = is_letter b || is_digit b
+
+-- 1 to 12 letters and digits, the first a letter
+abbrev pub is_name : List ℕ → Bool
+is_name [] = false
+is_name (b ∷ bs) = is_letter b && list_all is_letter_or_digit bs && nat_le (length bs) 11
+
+-- a key or a value of an object: 1 to 16 letters and digits
+abbrev pub is_key : List ℕ → Bool
+is_key bytes = is_between 1 16 (length bytes) && list_all is_letter_or_digit bytes
+
+-- 1 to 200 bytes, none a blank
+abbrev pub is_text : List ℕ → Bool
+is_text bytes = is_between 1 200 (length bytes) && list_all (is_between 33 126) bytes
+
+-- a number of at most so many digits: 0, or digits of which the first is none
+abbrev pub is_number : ℕ → List ℕ → Bool
+is_number most [] = false
+is_number most (b ∷ bs) = list_all is_digit (b ∷ bs) && (is_between 49 57 b || (length bs == 0)) && nat_lt (length bs) most
+
+abbrev pub number_value : List ℕ → ℕ
+number_value digits = fold (λ n b. 10 * n + (b - 48)) 0 digits
+
+abbrev pub is_among : List (List ℕ) → List ℕ → Bool
+is_among names name = list_any (bytes_eq name) names
+
+-- the number of a name, counted from 0
+abbrev pub number_of : List (List ℕ) → List ℕ → Option ℕ
+number_of [] name = None
+number_of (first ∷ names) name = if bytes_eq first name then Some 0 else option_map suc (number_of names name)
+
+-- the name of a number
+abbrev pub name_of : List (List ℕ) → ℕ → List ℕ
+name_of [] n = []
+name_of (first ∷ names) zero = first
+name_of (first ∷ names) (suc n) = name_of names n

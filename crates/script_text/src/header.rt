@@ -1,0 +1,139 @@
+// The header's lines.
+ghost use Rattle.std.specs.Prelude.{◌≡◌, [], ◌∷◌, codes};
+ghost use Rattle.script_text.specs.Pieces.{is_among};
+ghost use Rattle.script_text.specs.Items.{header_words};
+ghost use Rattle.script_text.specs.Inside.{Gives, IsSmall, fields_in, version_at, regions_at, colour_line_at, client_named_at, client_at, begin_at, headed_at, header_at};
+
+use crate::fault::Fault;
+use crate::item::{Item, Stage};
+use crate::known::Known;
+use crate::names::{new_name, new_names, number_at};
+use crate::script::Reason;
+use std::alloc::Global;
+
+#[tactic(auto, unfolding(crate::specs::Inside::version_at))]
+fn version_line(args: &[&[u8]]) -> Result<Item, Fault>
+    ensures { Gives result (version_at (fields_in args.now)) }
+{
+    match args {
+        [version] if *version == b"1".as_slice() => Ok(Item::Version),
+        _ => Err(Fault::Refused(Reason::BadVersion)),
+    }
+}
+
+#[tactic(auto, unfolding(crate::specs::Inside::regions_at))]
+fn regions_line(alloc: Global, args: &[&[u8]]) -> Result<Item, Fault>
+    ensures { Gives result (regions_at (fields_in args.now)) }
+{
+    if args.is_empty() || args.len() > 4 {
+        return Err(Fault::Refused(Reason::BadForm));
+    }
+    let names = new_names(alloc, args)?;
+    Ok(Item::Regions { names })
+}
+
+#[tactic(auto, unfolding(crate::specs::Inside::colour_line_at))]
+fn colours_line(alloc: Global, args: &[&[u8]]) -> Result<Item, Fault>
+    ensures { Gives result (colour_line_at (fields_in args.now)) }
+{
+    if args.is_empty() || args.len() > 16 {
+        return Err(Fault::Refused(Reason::BadForm));
+    }
+    let names = new_names(alloc, args)?;
+    Ok(Item::Colours { names })
+}
+
+#[tactic(auto, unfolding(crate::specs::Inside::client_named_at))]
+fn client_named(alloc: Global, known: &Known, field: &[u8], region: &[u8]) -> Result<Item, Fault>
+    requires { IsSmall known.now }
+    ensures { Gives result (client_named_at known.now field.now region.now) }
+{
+    let name = new_name(alloc, known.script.clients.as_slice(), field)?;
+    let regions = known.script.regions.as_slice();
+    let home = number_at(regions, region, Reason::UnknownRegion)?;
+    Ok(Item::Client { name, home })
+}
+
+#[tactic(auto, unfolding(crate::specs::Inside::client_at))]
+fn client_line(alloc: Global, known: &Known, args: &[&[u8]]) -> Result<Item, Fault>
+    requires { IsSmall known.now }
+    ensures { Gives result (client_at known.now (fields_in args.now)) }
+{
+    match args {
+        [field, region] => {
+            if known.script.clients.len() >= 16 {
+                return Err(Fault::Refused(Reason::BadForm));
+            }
+            client_named(alloc, known, field, region)
+        }
+        _ => Err(Fault::Refused(Reason::BadForm)),
+    }
+}
+
+#[tactic(auto, unfolding(crate::specs::Inside::begin_at))]
+fn begin_line(args: &[&[u8]]) -> Result<Item, Fault>
+    ensures { Gives result (begin_at (fields_in args.now)) }
+{
+    match args {
+        [] => Ok(Item::Begin),
+        [_, ..] => Err(Fault::Refused(Reason::BadForm)),
+    }
+}
+
+fn opens_object(word: &[u8]) -> bool
+    ensures { result ≡ is_among (codes "map" ∷ codes "tx" ∷ codes "causal" ∷ codes "queue" ∷ []) word.now }
+{
+    word == b"map".as_slice()
+        || word == b"tx".as_slice()
+        || word == b"causal".as_slice()
+        || word == b"queue".as_slice()
+}
+
+fn may_come(stage: Stage, word: &[u8]) -> bool
+    ensures { result ≡ is_among (header_words stage) word.now }
+{
+    match stage {
+        Stage::Nothing => word == b"fuzzylog".as_slice(),
+        Stage::Version => word == b"regions".as_slice(),
+        Stage::Regions => word == b"colours".as_slice(),
+        Stage::Colours => word == b"rows".as_slice() || word == b"client".as_slice(),
+        Stage::Rows => word == b"client".as_slice(),
+        Stage::Clients => word == b"client".as_slice()
+            || opens_object(word)
+            || word == b"begin".as_slice(),
+        Stage::Objects => opens_object(word) || word == b"begin".as_slice(),
+        Stage::Commands => false,
+    }
+}
+
+#[tactic(auto, unfolding(crate::specs::Inside::headed_at))]
+fn headed(alloc: Global, known: &Known, word: &[u8], args: &[&[u8]]) -> Result<Item, Fault>
+    requires { IsSmall known.now }
+    ensures { Gives result (headed_at known.now word.now (fields_in args.now)) }
+{
+    if word == b"fuzzylog".as_slice() {
+        version_line(args)
+    } else if word == b"regions".as_slice() {
+        regions_line(alloc, args)
+    } else if word == b"colours".as_slice() {
+        colours_line(alloc, args)
+    } else if word == b"client".as_slice() {
+        client_line(alloc, known, args)
+    } else if word == b"begin".as_slice() {
+        begin_line(args)
+    } else {
+        Err(Fault::Refused(Reason::BadForm))
+    }
+}
+
+/// What a header line says.
+#[tactic(auto, unfolding(crate::specs::Inside::header_at))]
+pub fn header_line(alloc: Global, known: &Known, word: &[u8], args: &[&[u8]]) -> Result<Item, Fault>
+    requires { IsSmall known.now }
+    ensures { Gives result (header_at known.now word.now (fields_in args.now)) }
+{
+    if !may_come(known.stage, word) {
+        return Err(Fault::Refused(Reason::BadHeader));
+    }
+    headed(alloc, known, word, args)
+}

@@ -1,0 +1,83 @@
+// What is kept of the lines so far.
+ghost use Rattle.std.specs.Prelude.{◌≡◌, [], OnOk};
+ghost use Rattle.script_text.specs.Inside.{known_of, known_after, IsSmall};
+
+use crate::item::{Item, Stage};
+use crate::script::{Script, What};
+use log_node::{ListOf, Shape};
+use std::alloc::{AllocError, Global};
+
+/// The script that the lines so far say, and what else later lines ask for.
+#[derive(Drop)]
+pub struct Known {
+    pub stage: Stage,
+    pub script: Script,
+    /// The clients whose last command has come.
+    pub stopped: ListOf<u8>,
+}
+
+impl Known {
+    pub fn new(alloc: Global) -> Known
+        ensures { result ≡ known_of [] }
+    {
+        Known {
+            stage: Stage::Nothing,
+            script: Script {
+                shape: Shape {
+                    regions: 0,
+                    colours: 0,
+                    homes: ListOf::new(alloc),
+                    rows: 4096,
+                },
+                regions: ListOf::new(alloc),
+                colours: ListOf::new(alloc),
+                clients: ListOf::new(alloc),
+                objects: ListOf::new(alloc),
+                commands: ListOf::new(alloc),
+            },
+            stopped: ListOf::new(alloc),
+        }
+    }
+
+    /// What is known after one more item.
+    pub fn take(&mut self, item: Item) -> Result<(), AllocError>
+        requires { IsSmall (known_after self.old item) }
+        ensures { OnOk result (self.new ≡ known_after self.old item) }
+    {
+        match item {
+            Item::Version => self.stage = Stage::Version,
+            Item::Regions { names } => {
+                self.stage = Stage::Regions;
+                self.script.shape.regions = names.len() as u8;
+                self.script.regions = names;
+            }
+            Item::Colours { names } => {
+                self.stage = Stage::Colours;
+                self.script.shape.colours = names.len() as u8;
+                self.script.colours = names;
+            }
+            Item::Rows { number } => {
+                self.stage = Stage::Rows;
+                self.script.shape.rows = number;
+            }
+            Item::Client { name, home } => {
+                self.stage = Stage::Clients;
+                self.script.clients.push(name)?;
+                self.script.shape.homes.push(home)?;
+            }
+            Item::Declared { object } => {
+                self.stage = Stage::Objects;
+                self.script.objects.push(object)?;
+            }
+            Item::Begin => self.stage = Stage::Commands,
+            Item::Asks { command } => {
+                self.stage = Stage::Commands;
+                if matches!(command.what, What::Stop { .. }) {
+                    self.stopped.push(command.client)?;
+                }
+                self.script.commands.push(command)?;
+            }
+        }
+        Ok(())
+    }
+}

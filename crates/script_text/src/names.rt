@@ -1,0 +1,114 @@
+// Names in a line: new ones, and those that the header has named.
+ghost use Rattle.std.specs.Prelude.{◌≡◌, ◌≤◌, ◌<◌, [], length, All};
+ghost use Rattle.script_text.specs.Pieces.{is_among};
+ghost use Rattle.script_text.specs.Items.{set_of};
+ghost use Rattle.script_text.specs.Inside.{Gives, fields_in, number_at, new_name_at, new_names_at, colour_at, colours_at, colour_set_at, text_at};
+
+use crate::fault::Fault;
+use crate::pieces::{is_among, is_name, is_text, number_of, parts_of};
+use crate::script::Reason;
+use log_node::{ColourList, Colours, ListOf, Names, Text};
+use std::alloc::Global;
+
+/// A name that is new among these.
+#[tactic(auto, unfolding(crate::specs::Inside::new_name_at))]
+pub fn new_name(alloc: Global, names: &[Text], field: &[u8]) -> Result<Text, Fault>
+    ensures { Gives result (new_name_at names.now field.now) }
+{
+    if !is_name(field) {
+        return Err(Fault::Refused(Reason::BadName));
+    }
+    if is_among(names, field) {
+        return Err(Fault::Refused(Reason::NameRepeated));
+    }
+    Ok(Text::copied(alloc, field)?)
+}
+
+/// New names, each apart from those before it.
+pub fn new_names(alloc: Global, fields: &[&[u8]]) -> Result<Names, Fault>
+    ensures { Gives result (new_names_at (fields_in fields.now)) }
+{
+    let mut names = ListOf::new(alloc);
+    for field in fields {
+        let name = new_name(alloc, names.as_slice(), field)?;
+        names.push(name)?;
+    }
+    Ok(names)
+}
+
+/// The number of a name among these, or else the reason.
+#[tactic(auto, unfolding(crate::specs::Inside::number_at))]
+pub fn number_at(names: &[Text], field: &[u8], why: Reason) -> Result<u8, Fault>
+    requires { length names.now ≤ 256 }
+    ensures { Gives result (number_at why names.now field.now) }
+{
+    match number_of(names, field) {
+        Some(number) => Ok(number),
+        None => Err(Fault::Refused(why)),
+    }
+}
+
+fn is_repeated(earlier: &[&[u8]], field: &[u8]) -> bool
+    ensures { result ≡ is_among (fields_in earlier.now) field.now }
+{
+    earlier.iter().any(|other| field == *other)
+}
+
+/// The number of a colour that none of the earlier fields names.
+#[tactic(auto, unfolding(crate::specs::Inside::colour_at))]
+fn colour_at(names: &[Text], earlier: &[&[u8]], field: &[u8]) -> Result<u8, Fault>
+    requires { length names.now ≤ 256 }
+    ensures { Gives result (colour_at names.now (fields_in earlier.now) field.now) }
+{
+    let colour = number_at(names, field, Reason::UnknownColour)?;
+    if is_repeated(earlier, field) {
+        return Err(Fault::Refused(Reason::ColourRepeated));
+    }
+    Ok(colour)
+}
+
+/// The numbers of distinct colours.
+pub fn colour_numbers(alloc: Global, names: &[Text], fields: &[&[u8]]) -> Result<ColourList, Fault>
+    requires { length names.now ≤ 256 }
+    ensures { Gives result (colours_at names.now (fields_in fields.now)) }
+{
+    let mut colours = ListOf::new(alloc);
+    for (place, field) in fields.iter().enumerate() {
+        let colour = colour_at(names, &fields[..place], field)?;
+        colours.push(colour)?;
+    }
+    Ok(colours)
+}
+
+fn set_of(colours: &[u8]) -> Colours
+    requires { All (λ c. c < 16) colours.now }
+    ensures { result ≡ set_of colours.now }
+{
+    let mut set = 0;
+    for colour in colours {
+        set |= 1 << *colour;
+    }
+    Colours(set)
+}
+
+/// The set of the colours whose names stand between commas.
+#[tactic(auto, unfolding(crate::specs::Inside::colour_set_at))]
+pub fn colour_set(alloc: Global, names: &[Text], cols: &[u8]) -> Result<Colours, Fault>
+    requires { length names.now ≤ 16 }
+    ensures { Gives result (colour_set_at names.now cols.now) }
+{
+    let fields = parts_of(alloc, cols, b',')?;
+    let colours = colour_numbers(alloc, names, &fields)?;
+    Ok(set_of(colours.as_slice()))
+}
+
+/// A node's text.
+#[tactic(auto, unfolding(crate::specs::Inside::text_at))]
+pub fn text_at(alloc: Global, field: &[u8]) -> Result<Text, Fault>
+    ensures { Gives result (text_at field.now) }
+{
+    if !is_text(field) {
+        return Err(Fault::Refused(Reason::TextLength));
+    }
+    Ok(Text::copied(alloc, field)?)
+}

@@ -1,0 +1,99 @@
+// The pieces of a script's bytes: lines, fields, and what a field may be.
+ghost use Rattle.std.specs.Prelude.{◌≡◌, ◌<◌, ◌≤◌, ◌==◌, ◌∷◌, length, map, IfOk};
+ghost use Rattle.std.specs.List.{slice_split, list_all};
+ghost use Rattle.script_text.specs.Pieces.{lines_of, is_between, is_ascii_line, is_letter_or_digit, is_name, is_key, is_text, is_among, number_of};
+
+use log_node::Text;
+use std::alloc::{AllocError, Global};
+
+/// The first line of the bytes, and the bytes after it.
+pub fn first_line(bytes: &[u8]) -> (&[u8], &[u8])
+    requires { 0 < length bytes.now }
+    ensures line { lines_of bytes.now ≡ result.0.now ∷ lines_of result.1.now }
+    ensures rest { length result.1.now < length bytes.now }
+{
+    for (end, b) in bytes.iter().enumerate() {
+        if *b == b'\n' {
+            return (&bytes[..end], &bytes[end + 1..]);
+        }
+    }
+    (bytes, &[])
+}
+
+/// The parts of the bytes, with one separator between two.
+pub fn parts_of<'a>(
+    alloc: Global,
+    bytes: &'a [u8],
+    separator: u8,
+) -> Result<Vec<&'a [u8]>, AllocError>
+    ensures { IfOk result (λ parts. map (λ part. part.now) parts.items
+        ≡ slice_split (λ b. b == separator) bytes.now) }
+{
+    bytes.split(|b| *b == separator).collect(alloc)
+}
+
+pub fn is_ascii_line(line: &[u8]) -> bool
+    ensures { result ≡ is_ascii_line line.now }
+{
+    line.iter().all(|b| matches!(*b, b' '..=b'~'))
+}
+
+fn are_letters_or_digits(bytes: &[u8]) -> bool
+    ensures { result ≡ list_all is_letter_or_digit bytes.now }
+{
+    bytes
+        .iter()
+        .all(|b| b.is_ascii_lowercase() || b.is_ascii_digit())
+}
+
+/// 1 to 12 letters and digits, the first a letter.
+pub fn is_name(field: &[u8]) -> bool
+    ensures { result ≡ is_name field.now }
+{
+    match field {
+        [] => false,
+        [first, others @ ..] => {
+            first.is_ascii_lowercase() && are_letters_or_digits(others) && others.len() <= 11
+        }
+    }
+}
+
+/// A key or a value of an object: 1 to 16 letters and digits.
+pub fn is_key(field: &[u8]) -> bool
+    ensures { result ≡ is_key field.now }
+{
+    1 <= field.len() && field.len() <= 16 && are_letters_or_digits(field)
+}
+
+fn are_visible(bytes: &[u8]) -> bool
+    ensures { result ≡ list_all (is_between 33 126) bytes.now }
+{
+    bytes.iter().all(|b| matches!(*b, b'!'..=b'~'))
+}
+
+/// 1 to 200 bytes, none a blank.
+pub fn is_text(field: &[u8]) -> bool
+    ensures { result ≡ is_text field.now }
+{
+    1 <= field.len() && field.len() <= 200 && are_visible(field)
+}
+
+/// The name is one of these.
+pub fn is_among(names: &[Text], name: &[u8]) -> bool
+    ensures { result ≡ is_among names.now name.now }
+{
+    names.iter().any(|other| name == other.as_bytes())
+}
+
+/// The number of a name among these.
+pub fn number_of(names: &[Text], name: &[u8]) -> Option<u8>
+    requires { length names.now ≤ 256 }
+    ensures { result ≡ number_of names.now name.now }
+{
+    for (number, other) in names.iter().enumerate() {
+        if other.as_bytes() == name {
+            return Some(number as u8);
+        }
+    }
+    None
+}
