@@ -1,6 +1,7 @@
 -- What the top call writes for the bytes that it reads.
-use Rattle.std.specs.Prelude.{◌≡◌, ◌⊎◌, ℕ, List, ◌++◌, Option, IfSome}
+use Rattle.std.specs.Prelude.{◌≡◌, ◌⊎◌, ℕ, List, ◌++◌, Option, Some, IfSome}
 use Rattle.std.specs.Io.KnownBytes.{Appends}
+use Rattle.fuzzy_io.specs.Causes.{AppendsFront}
 use Rattle.script_text.specs.declared.script.Script.{Script}
 use Rattle.script_text.specs.Grammar.{IsScript}
 use Rattle.report_text.specs.declared.report.Report.{Report}
@@ -8,7 +9,8 @@ use Rattle.report_text.specs.ReportText.{report_bytes}
 use Rattle.lawful_run.specs.Lawful.{LawfulRun}
 use Rattle.file_order.specs.Meaning.{IsStepReport, FoundMemory, step_report}
 use Rattle.fuzzy_run.specs.declared.refusal.Cause.{Cause}
-use Rattle.fuzzy_run.specs.Refusals.{IsRefusedFor, refusal_text}
+use Rattle.fuzzy_run.specs.declared.refusal.Cause.TheVariants.{NotBuilt}
+use Rattle.fuzzy_run.specs.Refusals.{IsRefusedFor, refusal_text, first_unbuilt}
 
 -- The report is that of a lawful run of the script, done in the order of the file; where no reply tells of want of memory,
 -- it is the one report that this means.
@@ -39,3 +41,13 @@ Writes IsText left old new = IfSome left (λ bytes. (text : List ℕ) × IsText 
 -- the beginning of such a text was written
 abbrev pub WritesFront : Option (List ℕ) → Option (List ℕ) → Option (List ℕ) → Type 0
 WritesFront left old new = IfSome left (λ bytes. (front rest : List ℕ) × (IsRunText bytes (front ++ rest) ⊎ IsRefusalText bytes (front ++ rest)) × Appends old new front)
+
+-- the text of a report of the script's run was written whole
+abbrev pub Shows : Script → Option (List ℕ) → Option (List ℕ) → Type 0
+Shows script old new = (report : Report) × IsRunOf script report × Appends old new (report_bytes report)
+
+-- the beginning of such a text was written, or of the line of the first command that is not done yet
+abbrev pub ShowsFront : Script → Option (List ℕ) → Option (List ℕ) → Type 0
+ShowsFront script old new =
+    ((report : Report) × IsRunOf script report × AppendsFront old new (report_bytes report))
+    ⊎ ((line : ℕ) × (first_unbuilt script.commands ≡ Some line) × AppendsFront old new (refusal_text line NotBuilt))

@@ -17,12 +17,20 @@ use std::process::ExitCode;
 /// What is printed where the words are none that the program knows.
 const USAGE: &str = "usage: fuzzy_run step";
 
-fn main(rt: HostRuntime) -> ExitCode {
-    let status = match env::args(&rt) {
-        Ok(words) => with_words(&rt, words),
+// Runs with the words of the command line over the standard streams.
+fn over_streams(rt: &HostRuntime) -> Status {
+    let words = match args(rt) {
+        Ok(words) => words,
         // A word that is no text is none that the program knows.
-        Err(_) => Status::BadWords,
+        Err(_) => return Status::BadWords,
     };
+    let mut source = ReadSource::open(rt.stdin());
+    let mut sink = WriteSink::open(rt.stdout());
+    run(rt.alloc(), rt, words.as_slice(), &mut source, &mut sink, &OpenGate)
+}
+
+fn main(rt: HostRuntime) -> ExitCode {
+    let status = over_streams(&rt);
     if status == Status::BadWords {
         let _ = eprintln!(rt; "{USAGE}");
     }

@@ -1,8 +1,9 @@
 // Why bytes were not done, and the line that says so.
 ghost use Rattle.std.specs.Prelude.{◌≡◌, IfOk, string_bytes};
-ghost use Rattle.fuzzy_run.specs.Refusals.{cause_text, refusal_text};
+ghost use Rattle.fuzzy_run.specs.Refusals.{cause_text, refusal_text, first_unbuilt};
 
-use script_text::Reason;
+use file_order::is_built;
+use script_text::{Command, Reason};
 use std::alloc::{AllocError, Global};
 use std::fmt;
 
@@ -33,4 +34,14 @@ pub fn refusal_line(alloc: Global, line: u32, cause: Cause) -> Result<String, Al
     ensures { IfOk result (λ text. string_bytes text ≡ refusal_text line cause) }
 {
     format!(in alloc; "refused: line {line}: {cause}\n")
+}
+
+/// The line of the first command that is not done yet, where there is one.
+pub fn first_unbuilt(commands: &[Command]) -> Option<u32>
+    ensures { result ≡ first_unbuilt commands.now }
+{
+    commands
+        .iter()
+        .find(|c| !is_built(&c.what))
+        .map(|c| c.line)
 }

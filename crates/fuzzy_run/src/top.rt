@@ -1,22 +1,107 @@
 // The top call: from the words of a command line and the bytes of a script to the bytes of a report.
-ghost use Rattle.std.specs.Prelude.{◌≡◌, ◌≢◌, ◌↔◌, ◌^◌, ◌≤◌, map, None, Some, string_bytes, length};
-ghost use Rattle.std.specs.Io.KnownBytes.{Keeps, IsAtEnd};
-ghost use Rattle.fuzzy_io.specs.Causes.{Rose, ConsumesUpTo};
+ghost use Rattle.std.specs.Prelude.{◌≡◌, ◌≢◌, ◌↔◌, ◌⊎◌, ◌++◌, ℕ, List, map, None, Some, string_bytes, OnOk, OnErr};
+ghost use Rattle.std.specs.Io.KnownBytes.{Appends, IsAtEnd};
+ghost use Rattle.fuzzy_io.specs.Causes.{Rose, ConsumesUpTo, AppendsFront};
+ghost use Rattle.script_text.specs.declared.script.Script.{Script};
 ghost use Rattle.script_text.specs.Fitting.{IsFitting};
+ghost use Rattle.report_text.specs.declared.report.Report.{Report};
+ghost use Rattle.report_text.specs.ReportText.{report_bytes};
 ghost use Rattle.fuzzy_run.specs.Words.{asked_by};
-ghost use Rattle.fuzzy_run.specs.Refusals.{first_unbuilt};
-ghost use Rattle.fuzzy_run.specs.TopCall.{IsRunText, IsRefusalText, Writes, WritesFront};
+ghost use Rattle.fuzzy_run.specs.Refusals.{first_unbuilt, refusal_text};
+ghost use Rattle.fuzzy_run.specs.TopCall.{IsRunOf, IsRunText, IsRefusalText, Writes, WritesFront, Shows, ShowsFront};
 
 use crate::asked::{Asked, asked};
-use crate::refusal::{Cause, refusal_line};
+use crate::refusal::{Cause, first_unbuilt, refusal_line};
 use crate::status::Status;
-use file_order::{is_built, step};
-use fuzzy_io::{Gate, ReadStop, Sink, Source, read_all, write_all};
+use file_order::step;
+use fuzzy_io::{Failed, Gate, ReadStop, Sink, Source, read_all, write_all};
 use report_text::print;
-use script_text::{MAX_BYTES, Script, ScriptFault, parse};
+use script_text::{Reason, Script, ScriptFault, parse};
 use std::alloc::Global;
 use std::sync::Wait;
 use std::thread::Threads;
+
+/// The most bytes of a script: 2 to the power of 20.
+const MAX_BYTES: usize = 1 << 20;
+
+// Writes the line that says why bytes are not done.
+fn refuse<K: Sink>(alloc: Global, sink: &mut K, line: u32, cause: Cause) -> Status
+    ensures refused { result ≡ Status.Refused → Appends (K.holds sink.old) (K.holds sink.new) (refusal_text line cause) }
+    ensures write_fault { result ≡ Status.WriteFault → Rose (K.faults sink.old) (K.faults sink.new) }
+    ensures front { result ≡ Status.WriteFault → AppendsFront (K.holds sink.old) (K.holds sink.new) (refusal_text line cause) }
+    ensures no_memory { result ≡ Status.NoMemory → sink.new ≡ sink.old }
+    ensures no_other { (result ≢ Status.Done) × (result ≢ Status.BadWords) × (result ≢ Status.ReadFault) }
+{
+    let text = match refusal_line(alloc, line, cause) {
+        Ok(text) => text,
+        Err(_) => return Status::NoMemory,
+    };
+    match write_all(sink, text.as_bytes()) {
+        Ok(()) => Status::Refused,
+        Err(Failed) => Status::WriteFault,
+    }
+}
+
+// Does the commands of a script, and writes the report; or the line of the first command that is not done yet.
+fn do_script<K: Sink>(alloc: Global, script: &Script, sink: &mut K) -> Status
+    requires { IsFitting script.now }
+    ensures done { result ≡ Status.Done → Shows script.now (K.holds sink.old) (K.holds sink.new) }
+    ensures refused { result ≡ Status.Refused → (line : ℕ) × (first_unbuilt script.now.commands ≡ Some line)
+        × Appends (K.holds sink.old) (K.holds sink.new) (refusal_text line Cause.NotBuilt) }
+    ensures write_fault { result ≡ Status.WriteFault → Rose (K.faults sink.old) (K.faults sink.new) }
+    ensures front { result ≡ Status.WriteFault → ShowsFront script.now (K.holds sink.old) (K.holds sink.new) }
+    ensures no_memory { result ≡ Status.NoMemory → sink.new ≡ sink.old }
+    ensures no_other { (result ≢ Status.BadWords) × (result ≢ Status.ReadFault) }
+{
+    if let Some(line) = first_unbuilt(script.commands.as_slice()) {
+        return refuse(alloc, sink, line, Cause::NotBuilt);
+    }
+    let report = match step(alloc, script) {
+        Ok(report) => report,
+        Err(_) => return Status::NoMemory,
+    };
+    match print(&report, sink) {
+        Ok(()) => Status::Done,
+        Err(Failed) => Status::WriteFault,
+    }
+}
+
+// Does what the bytes are.
+fn answer<K: Sink>(alloc: Global, bytes: &[u8], sink: &mut K) -> Status
+    ensures done { result ≡ Status.Done → Writes IsRunText (Some bytes.now) (K.holds sink.old) (K.holds sink.new) }
+    ensures refused { result ≡ Status.Refused → Writes IsRefusalText (Some bytes.now) (K.holds sink.old) (K.holds sink.new) }
+    ensures write_fault { result ≡ Status.WriteFault → Rose (K.faults sink.old) (K.faults sink.new) }
+    ensures front { result ≡ Status.WriteFault → WritesFront (Some bytes.now) (K.holds sink.old) (K.holds sink.new) }
+    ensures no_memory { result ≡ Status.NoMemory → sink.new ≡ sink.old }
+    ensures no_other { (result ≢ Status.BadWords) × (result ≢ Status.ReadFault) }
+{
+    match parse(alloc, bytes) {
+        Ok(script) => do_script(alloc, &script, sink),
+        Err(ScriptFault::Refused { line, why }) => refuse(alloc, sink, line, Cause::Faulty(why)),
+        Err(ScriptFault::NoMemory) => Status::NoMemory,
+    }
+}
+
+// Reads the source to its end, and does what its bytes are.
+fn perform<S: Source, K: Sink>(alloc: Global, source: &mut S, sink: &mut K) -> Status
+    ensures done { result ≡ Status.Done → Writes IsRunText (S.left source.old) (K.holds sink.old) (K.holds sink.new) }
+    ensures to_the_end { result ≡ Status.Done → IsAtEnd (S.left source.new) }
+    ensures refused { result ≡ Status.Refused → Writes IsRefusalText (S.left source.old) (K.holds sink.old) (K.holds sink.new) }
+    ensures read_fault { result ≡ Status.ReadFault → Rose (S.faults source.old) (S.faults source.new) }
+    ensures write_fault { result ≡ Status.WriteFault → Rose (K.faults sink.old) (K.faults sink.new) }
+    ensures front { result ≡ Status.WriteFault → WritesFront (S.left source.old) (K.holds sink.old) (K.holds sink.new) }
+    ensures read_fault_unwritten { result ≡ Status.ReadFault → sink.new ≡ sink.old }
+    ensures no_memory { result ≡ Status.NoMemory → sink.new ≡ sink.old }
+    ensures taken { ConsumesUpTo MAX_BYTES (S.left source.old) (S.left source.new) }
+    ensures no_other { result ≢ Status.BadWords }
+{
+    match read_all(alloc, source, MAX_BYTES) {
+        Ok(bytes) => answer(alloc, bytes.as_slice(), sink),
+        Err(ReadStop::TooLong) => refuse(alloc, sink, 0, Cause::Faulty(Reason::ScriptTooLong)),
+        Err(ReadStop::Failed) => Status::ReadFault,
+        Err(ReadStop::NoMemory) => Status::NoMemory,
+    }
+}
 
 /// Reads a script from the source, does its commands as the words ask, and writes the report to the sink. The words are
 /// those of the command line without the program's name; the gate stands between the steps of appends.

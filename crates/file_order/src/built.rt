@@ -1,0 +1,16 @@
+// Which commands are done.
+ghost use Rattle.std.specs.Prelude.{◌≡◌};
+ghost use Rattle.file_order.specs.Meaning.{is_built};
+
+use script_text::What;
+
+/// Whether a command is one of those that are done so far: an append to one colour, or a sync.
+pub fn is_built(what: &What) -> bool
+    ensures { result ≡ is_built what.now }
+{
+    match what {
+        What::Append { colours, .. } => colours.count() == 1,
+        What::Sync { .. } => true,
+        _ => false,
+    }
+}
