@@ -126,8 +126,8 @@ pub record HasSynced (region colour : ℕ) (column : ColumnState) (client client
 
 -- no number that a command in the region meets is out of range
 pub record IsInRange (region : ℕ) (client : ClientKept) (columns : List ColumnState) : Type 0 where
-  pub region : region < 4
-  pub columns : place_of region 16 ≤ length columns
+  pub in_range : region < 4
+  pub column_count : place_of region 16 ≤ length columns
   pub clocks : (colour : ℕ) → colour < 16 → clock (column_at columns region colour).history ≤ last_stamp
   pub starts : (colour : ℕ) → colour < 16 → slice_index client.starts colour ≤ length (column_at columns region colour).nodes
   pub floor : client.floor ≤ last_stamp

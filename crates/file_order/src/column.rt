@@ -8,10 +8,21 @@ ghost use Rattle.file_order.specs.Inside.{new_column, single_of, with_node, alon
 use crate::caller::{Caller, single_of};
 use crate::counts::alone;
 use col_core::Entry;
-use log_node::{Item, Items, Key, ListOf, Text};
+use log_node::{Counts, Item, Items, Key, ListOf, Text};
 use report_text::ColumnReport;
 use std::alloc::{AllocError, Global};
 use std::marker::Model;
+
+/// The keys of some nodes.
+fn keys_of(alloc: Global, nodes: &[Item]) -> Result<ListOf<Key>, AllocError>
+    ensures { IfOk result (λ keys. keys ≡ map (λ (item : PlacedNode). item.head.key) nodes.now) }
+{
+    let mut keys = ListOf::new(alloc);
+    for item in nodes {
+        keys.push(item.head.key)?;
+    }
+    Ok(keys)
+}
 
 /// A column. Its clock is the greatest stamp of its journal.
 #[derive(Drop)]
@@ -113,17 +124,17 @@ impl Column {
           base = zeros;
         }) }
     {
-        let keys: Vec<Key> = self.nodes.iter().map(|item| item.head.key).collect(alloc)?;
+        let line = keys_of(alloc, self.nodes.as_slice())?;
         Ok(ColumnReport {
             region,
             colour,
             region_name,
             colour_name,
             clock: self.reached,
-            line: ListOf::from(keys),
+            line,
             queue: ListOf::new(alloc),
             cut: alone(region, self.positions()),
-            base: alone(region, 0),
+            base: Counts([0; 4]),
             journal: ListOf::from(self.journal),
         })
     }

@@ -1,5 +1,5 @@
 // The run of a script in the order of the file.
-ghost use Rattle.std.specs.Prelude.{◌≡◌, ◌+◌, ◌*◌, ◌<◌, ◌≤◌, length, map, replicate, IsTrue, IfOk};
+ghost use Rattle.std.specs.Prelude.{◌≡◌, ◌+◌, ◌*◌, ◌<◌, ◌≤◌, length, map, IsTrue, IfOk};
 ghost use Rattle.std.specs.List.{All, range_with_len};
 ghost use Rattle.script_text.specs.declared.script.Command.{Command};
 ghost use Rattle.script_text.specs.Fitting.{IsFitting};
@@ -18,13 +18,9 @@ use std::alloc::{AllocError, Global};
 
 /// So many columns, with no events.
 fn new_columns(alloc: Global, count: usize) -> Result<Vec<Column>, AllocError>
-    ensures { IfOk result (λ columns. columns.items ≡ replicate count new_column) }
+    ensures { IfOk result (λ columns. columns.items ≡ map (λ _. new_column) (range_with_len 0 count)) }
 {
-    let mut columns = Vec::new(alloc);
-    for _ in 0..count {
-        columns.push(Column::new(alloc))?;
-    }
-    Ok(columns)
+    (0..count).map(|_| Column::new(alloc)).collect(alloc)
 }
 
 /// How many of the commands the client asks.
