@@ -1,5 +1,5 @@
 -- What it means to do a script's commands in the order of the file.
-use Rattle.std.specs.Prelude.{◌≡◌, Bool, true, false, IsTrue, ℕ, ◌+◌, ◌==◌, max, List, [], ◌∷◌, ◌++◌, length, take, drop, map, Some, None, unwrap_or, slice_get, slice_index, if◌then◌else◌}
+use Rattle.std.specs.Prelude.{◌≡◌, ◌≢◌, Bool, true, false, IsTrue, ℕ, ◌+◌, ◌==◌, max, List, [], ◌∷◌, ◌++◌, length, take, drop, map, Some, None, unwrap_or, slice_get, slice_index, if◌then◌else◌}
 use Rattle.std.specs.List.{All, fold, flat_map, range_with_len, enumerate_from}
 use Rattle.log_node.specs.declared.ids.Colours.{Colours}
 use Rattle.log_node.specs.declared.ids.Counts.{Counts}
@@ -202,3 +202,7 @@ pub record IsStepReport (script : Script) (report : Report) : Type 0 where
   pub state : State
   pub leads : LeadTo script script.commands state
   pub shown : report ≡ report_of script state
+
+-- no reply tells of want of memory
+abbrev pub FoundMemory : Report → Type 0
+FoundMemory report = All (λ (c : ClientReport). All (λ (r : ReplyLine). r.answer ≢ answers.NoMemory) c.replies) report.clients
