@@ -15,3 +15,4 @@ pub mod Lawfulness
 pub mod Exactness
 pub mod Numbers
 pub mod Places
+pub mod Tying

@@ -51,6 +51,9 @@ alone-zero own =
     let d = nothing-chosen (3 == own) 0 in
     cc (a, b, c, d)
 
+above_it : (x y : ℕ) → x ≤ y → (x ≡ y → ⊥) → x + 1 ≤ y
+above_it x y l ne = omega (arith, ne)
+
 -- where the test passes, something is kept
 some_kept : (p : ℕ → Bool) (n a k : ℕ) → a ≤ k → k < a + n → p k ≡ true → length (filter p (range_with_len a n)) ≡ 0 → ⊥
 some_kept p zero a k low high t e = omega arith
@@ -67,9 +70,6 @@ some_kept p (suc n) a k low high t e = pick (p a) refl (eqb_tells a k) (λ l h g
       let above : a + 1 ≤ k = above_it a k low ne in
       let below : k < a + 1 + n = omega arith in
       rec above below (ap (λ (b : Bool). length (cond b (a ∷ filter p (range_with_len (a + 1) n)) (filter p (range_with_len (a + 1) n)))) (sym f) ∙ e)
-
-  above_it : (x y : ℕ) → x ≤ y → (x ≡ y → ⊥) → x + 1 ≤ y
-  above_it x y l ne = omega (arith, ne)
 
 nothing_in : (xs : List ℕ) → length xs ≡ 0 → xs ≡ []
 nothing_in [] e = refl
@@ -91,16 +91,11 @@ only_kept p (suc n) a k low high t e = pick (p a) refl (eqb_tells a k) (λ l h g
         is_it : (((a == k) ≡ true) × (a ≡ k)) ⊎ (((a == k) ≡ false) × (a ≡ k → ⊥)) → length (filter p (range_with_len (a + 1) n)) ≡ 0 → a ≡ k
         is_it (inl v) none = v.1
         is_it (inr v) none = let ne = v.1 in absurd (some_kept p n (a + 1) k (above_it a k low ne) (omega arith) t none)
-
-        above_it : (x y : ℕ) → x ≤ y → (x ≡ y → ⊥) → x + 1 ≤ y
-        above_it x y l ne = omega (arith, ne)
   pick false f (inl w) rec = let g : false ≡ true = sym f ∙ (ap p w.1 ∙ t) in absurd cc
   pick false f (inr w) rec =
       let ne = w.1 in
       ap (λ (b : Bool). cond b (a ∷ filter p (range_with_len (a + 1) n)) (filter p (range_with_len (a + 1) n))) f
-      ∙ rec (above_it a k low ne) (omega arith) (ap (λ (b : Bool). length (cond b (a ∷ filter p (range_with_len (a + 1) n)) (filter p (range_with_len (a + 1) n)))) (sym f) ∙ e) where
-        above_it : (x y : ℕ) → x ≤ y → (x ≡ y → ⊥) → x + 1 ≤ y
-        above_it x y l ne = omega (arith, ne)
+      ∙ rec (above_it a k low ne) (omega arith) (ap (λ (b : Bool). length (cond b (a ∷ filter p (range_with_len (a + 1) n)) (filter p (range_with_len (a + 1) n)))) (sym f) ∙ e)
 
 none_kept : (p : ℕ → Bool) (n a : ℕ) → ((k : ℕ) → p k ≡ false) → length (filter p (range_with_len a n)) ≡ 0
 none_kept p zero a f = refl

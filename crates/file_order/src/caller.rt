@@ -8,7 +8,7 @@ use std::alloc::{AllocError, Global};
 use std::sync::Arc;
 
 /// What an append takes from its client: the next id, its region, its floor and its last snapshot of the colour.
-#[derive(Clone, Copy, Debug)]
+#[derive(Clone, Copy)]
 pub struct Caller {
     pub id: Id,
     pub region: u8,

@@ -7,9 +7,9 @@ ghost use Rattle.file_order.specs.Meaning.{is_built, IsStepReport};
 ghost use Rattle.file_order.specs.Inside.{new_column, new_client};
 ghost use Rattle.file_order.specs.Run.{asks, IsRunAt};
 
-use crate::answering::{answer, reply_of};
+use crate::answers::{answer, reply_of};
 use crate::client::Client;
-use crate::closing::report;
+use crate::reports::report;
 use crate::column::Column;
 use crate::request::MAX_COLOURS;
 use report_text::Report;

@@ -1,16 +1,16 @@
 //! Does the commands of a script in the order of the file, over plain columns.
 #![tactic(auto)]
 
-mod answering;
-mod appending;
+mod answers;
+mod appends;
 mod caller;
 mod client;
-mod closing;
 mod column;
 mod counts;
 mod in_order;
+mod reports;
 mod request;
-mod syncing;
+mod syncs;
 mod words;
 
 pub use in_order::step;

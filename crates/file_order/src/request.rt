@@ -6,7 +6,7 @@ ghost use Rattle.file_order.specs.Inside.{place_of};
 pub const MAX_COLOURS: usize = 16;
 
 /// A client's number, its region, and a colour.
-#[derive(Clone, Copy, Debug)]
+#[derive(Clone, Copy)]
 pub struct Request {
     pub client: u8,
     pub region: u8,

@@ -1,7 +1,7 @@
 use Rattle.std.proofs.Common.{◌≡◌, ℕ, ◌<◌, ◌≤◌, length}
 use Rattle.std.specs.List.{flat_map, range_with_len}
 use Rattle.file_order.specs.Inside.{column_at, region_shown}
-use Rattle.file_order.proofs.closing.column_reports.Given as goal
+use Rattle.file_order.proofs.reports.column_reports.Given as goal
 
 -- the reports of the regions so far; the columns of the others are as they were
 abbrev pub invariant-loop-region : goal.invariant-loop-region

@@ -6,12 +6,12 @@ ghost use Rattle.report_text.specs.declared.report.Answer.TheVariants.{NoMemory}
 ghost use Rattle.file_order.specs.Meaning.{is_built};
 ghost use Rattle.file_order.specs.Inside.{IsInRange, IsOfOne, HasAppendedTo, HasSynced, HasDone, column_at, reply_of};
 
-use crate::appending::append;
+use crate::appends::append;
 use crate::client::Client;
 use crate::column::Column;
 use crate::counts::only_member;
 use crate::request::Request;
-use crate::syncing::sync;
+use crate::syncs::sync;
 use crate::words::word_of;
 use log_node::{Colours, Items, ListOf, Text};
 use report_text::{Answer, ReplyLine};

@@ -1,7 +1,7 @@
 use Rattle.std.proofs.Common.{◌≡◌, ◌≢◌, ◌⊎◌, ℕ, ◌<◌, ◌≤◌, ◌++◌, length, map}
 use Rattle.std.specs.List.{range_with_len}
 use Rattle.file_order.specs.Inside.{column_at, column_shown}
-use Rattle.file_order.proofs.closing.push_region.Given as goal
+use Rattle.file_order.proofs.reports.push_region.Given as goal
 
 -- the reports of the columns so far; the others are as they were
 abbrev pub invariant-loop-colour : goal.invariant-loop-colour

@@ -1,7 +1,7 @@
 use Rattle.std.proofs.Common.{◌≡◌, ℕ, ◌<◌, ◌≤◌, length, map, take}
 use Rattle.std.specs.List.{enumerate_from}
 use Rattle.file_order.specs.Inside.{client_at, client_shown}
-use Rattle.file_order.proofs.closing.client_reports.Given as goal
+use Rattle.file_order.proofs.reports.client_reports.Given as goal
 
 -- the reports of the clients so far; the others are as they were
 abbrev pub invariant-loop-number : goal.invariant-loop-number
