@@ -16,3 +16,4 @@ pub mod Exactness
 pub mod Numbers
 pub mod Places
 pub mod Tying
+pub mod Ends
