@@ -11,6 +11,9 @@ pub mod Clients
 pub mod Syncing
 pub mod Leading
 pub mod Closing
-
 pub mod Lawfulness
 pub mod Exactness
+pub mod Numbers
+pub mod Places
+pub mod Tying
+pub mod Ends

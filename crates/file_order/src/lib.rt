@@ -1,6 +1,16 @@
 //! Does the commands of a script in the order of the file, over plain columns.
 #![tactic(auto)]
 
-mod laws;
+mod answers;
+mod appends;
+mod caller;
+mod client;
+mod column;
+mod counts;
+mod in_order;
+mod reports;
+mod request;
+mod syncs;
+mod words;
 
-pub use laws::law;
+pub use in_order::step;

@@ -1,7 +1,0 @@
-// Laws.
-ghost use Rattle.std.specs.Prelude.{◌≡◌, ℕ};
-
-/// A law.
-pub fn law()
-    ensures { (n : ℕ) → n ≡ n }
-{}
