@@ -23,8 +23,9 @@ use Rattle.report_text.specs.declared.report.Answer.{Answer}
 use Rattle.report_text.specs.declared.report.Answer.TheVariants as answers
 use Rattle.report_text.specs.declared.report.ReplyLine.{ReplyLine}
 use Rattle.report_text.specs.declared.report.ClientReport.{ClientReport}
+use Rattle.report_text.specs.declared.report.Report.{Report}
 use Rattle.lawful_run.proofs.Prefixes.{prefix_self, prefix_more, prefix_get, get-append}
-use Rattle.file_order.specs.Meaning.{State, opening, done, done_one, appended, appended_to, entered, node_made, refused, replied, LeadTo, nothing, one_done, one_refused, report_of, step_report, FoundMemory}
+use Rattle.file_order.specs.Meaning.{State, opening, done, done_one, appended, appended_to, entered, node_made, refused, replied, LeadTo, nothing, one_done, one_refused, report_of, step_report, FoundMemory, IsStepReport}
 use Rattle.file_order.proofs.Updates.{updated-both, updated-same}
 use Rattle.file_order.proofs.Lists.{got_end}
 use Rattle.file_order.proofs.Closing.{at_place}
@@ -104,3 +105,7 @@ exact_report script fits fit state leads found = ap (report_of script) (exact sc
               ∙ ap (option_map (λ (p : ℕ × List ℕ). record { name = p.1; replies = state.replies p.0 })) number in
       at_place (λ (x : ReplyLine). x.answer ≢ answers.NoMemory) (state.replies client)
       (at_place (λ (d : ClientReport). All (λ (x : ReplyLine). x.answer ≢ answers.NoMemory) d.replies) (report_of script state).clients found client (record { name = c.0; replies = state.replies client }) shown) i r there
+
+-- the same of the report that a run of the script gives
+pub exact_step : (script : Script) → IsFitting script → AreFit script script.commands → (report : Report) → IsStepReport script report → FoundMemory report → report ≡ step_report script
+exact_step script fits fit report is found = is.shown ∙ exact_report script fits fit is.state is.leads (subst (λ (r : Report). FoundMemory r) is.shown found)

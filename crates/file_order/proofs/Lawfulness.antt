@@ -28,9 +28,10 @@ use Rattle.report_text.specs.declared.report.QueueKey.{QueueKey}
 use Rattle.report_text.specs.declared.report.ReplyLine.{ReplyLine}
 use Rattle.report_text.specs.declared.report.ClientReport.{ClientReport}
 use Rattle.report_text.specs.declared.report.ColumnReport.{ColumnReport}
+use Rattle.report_text.specs.declared.report.Report.{Report}
 use Rattle.lawful_run.specs.Columns.{column_numbers, ShowsClosing, IsColumnReport, AreColumns, AreRows, AreCopies, row_report}
 use Rattle.lawful_run.specs.Lawful.{IsClientRun, LawfulRun}
-use Rattle.file_order.specs.Meaning.{State, is_built, LeadTo, column_report, report_of}
+use Rattle.file_order.specs.Meaning.{State, is_built, LeadTo, column_report, report_of, IsStepReport}
 use Rattle.file_order.proofs.OwnLines.{OwnHistory, none, more, single, own_line, IsOwnLine}
 use Rattle.file_order.proofs.Lists.{got_last}
 use Rattle.file_order.proofs.Runs.{log_of, heads_of, IsColumn, IsRun}
@@ -173,3 +174,7 @@ fit_all script fits built i c there = record {
 -- what the commands of a script lead to is reported as a lawful run
 pub lawful_report : (script : Script) → IsFitting script → All (λ (c : Command). IsTrue (is_built c.what)) script.commands → (state : State) → LeadTo script script.commands state → LawfulRun script (report_of script state)
 lawful_report script fits built state leads = lawful script fits state (runs script (fit_all script fits built) leads)
+
+-- the same of the report that a run of the script gives
+pub lawful_step : (script : Script) → IsFitting script → All (λ (c : Command). IsTrue (is_built c.what)) script.commands → (report : Report) → IsStepReport script report → LawfulRun script report
+lawful_step script fits built report is = subst (λ (r : Report). LawfulRun script r) (sym is.shown) (lawful_report script fits built is.state is.leads)

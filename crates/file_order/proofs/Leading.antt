@@ -24,7 +24,7 @@ use Rattle.report_text.specs.declared.report.Answer.{Answer}
 use Rattle.report_text.specs.declared.report.ReplyLine.{ReplyLine}
 use Rattle.lawful_run.specs.Callers.{caller_of}
 use Rattle.lawful_run.specs.Explains.{start, greatest_stamp}
-use Rattle.file_order.specs.Meaning.{ColumnState, ClientState, State, opening, is_built, done, done_one, appended, appended_to, synced, refused, replied, LeadTo, nothing, one_done, one_refused}
+use Rattle.file_order.specs.Meaning.{ColumnState, ClientState, State, opening, is_built, is_one, done, done_one, appended, appended_to, synced, refused, replied, LeadTo, nothing, one_done, one_refused}
 use Rattle.file_order.proofs.OwnLines.{OwnHistory, none, own_counts}
 use Rattle.file_order.proofs.Updates.{updated-both, updated_at-both}
 use Rattle.lawful_run.proofs.Prefixes.{get-append}
@@ -263,6 +263,7 @@ module _ (script : Script) (commands : List Command) (state : State) (command : 
   runs_appended_to fit colours text (colour ∷ d ∷ ds) is asked one = absurd (omega arith)
 
   runs_done_one : (fit : IsFit script command) (what : What) → command.what ≡ what → IsTrue (is_built what) → IsRun script (commands ++ command ∷ []) (done_one script state command what)
+  unfolding is_one
   runs_done_one fit (whats.Append colours text) asked built = runs_appended_to fit colours text (members colours) refl asked (eqb-true _ _ built)
   runs_done_one fit (whats.Sync colour) asked built = runs_synced fit colour asked
   runs_done_one fit what asked built = absurd (let f : ⊥ = cc in f)

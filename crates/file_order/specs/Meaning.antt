@@ -30,9 +30,13 @@ use Rattle.report_text.specs.declared.report.ColumnReport.{ColumnReport}
 use Rattle.report_text.specs.declared.report.Report.{Report}
 use Rattle.lawful_run.specs.Explains.{greatest_stamp}
 
+-- a set of one colour
+unfoldable pub is_one : Colours → Bool
+is_one colours = length (members colours) == 1
+
 -- the commands that are done so far: an append to one colour, and a sync
 abbrev pub is_built : What → Bool
-is_built (whats.Append colours text) = length (members colours) == 1
+is_built (whats.Append colours text) = is_one colours
 is_built (whats.Sync colour) = true
 is_built _ = false
 

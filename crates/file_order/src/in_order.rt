@@ -3,7 +3,8 @@ ghost use Rattle.std.specs.Prelude.{◌≡◌, ◌+◌, ◌*◌, ◌<◌, ◌≤
 ghost use Rattle.std.specs.List.{All, range_with_len};
 ghost use Rattle.script_text.specs.declared.script.Command.{Command};
 ghost use Rattle.script_text.specs.Fitting.{IsFitting};
-ghost use Rattle.file_order.specs.Meaning.{is_built, IsStepReport};
+ghost use Rattle.lawful_run.specs.Lawful.{LawfulRun};
+ghost use Rattle.file_order.specs.Meaning.{is_built, IsStepReport, FoundMemory, step_report};
 ghost use Rattle.file_order.specs.Inside.{new_column, new_client};
 ghost use Rattle.file_order.specs.Run.{asks, IsRunAt};
 
@@ -68,11 +69,14 @@ fn do_command(
 }
 
 /// Does the commands of a script in the order of the file. A command that finds no memory is answered so, and the
-/// run goes on; `Err` means that there was no memory before the first command, or none for the report.
+/// run goes on; `Err` means that there was no memory before the first command, or none for the report. The report is
+/// that of a lawful run; where no reply tells of want of memory, it is the one report that the meaning gives.
 pub fn step(alloc: Global, script: &Script) -> Result<Report, AllocError>
     requires fits { IsFitting script.now }
     requires built { All (λ (c : Command). IsTrue (is_built c.what)) script.now.commands }
     ensures ok { IfOk result (IsStepReport script.now) }
+    ensures lawful { IfOk result (LawfulRun script.now) }
+    ensures exact { IfOk result (λ report. FoundMemory report → report ≡ step_report script.now) }
 {
     let mut columns = new_columns(alloc, script.shape.regions as usize * MAX_COLOURS)?;
     let mut clients = new_clients(alloc, script)?;

@@ -3,6 +3,7 @@
 
 mod answers;
 mod appends;
+mod built;
 mod caller;
 mod client;
 mod column;
@@ -13,4 +14,5 @@ mod request;
 mod syncs;
 mod words;
 
+pub use built::is_built;
 pub use in_order::step;
