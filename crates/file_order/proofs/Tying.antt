@@ -114,14 +114,14 @@ module _ (script : Script) (fits : IsFitting script) (built : All (λ (c : Comma
         length-take-at_most (suc k) (x ∷ xs) = let e = length-take-at_most k xs in omega (arith, e)
 
   -- the one colour that a command names
-  pub of_one : (what : What) → IsTrue (is_built what) → IsWithin script.shape what → IsOfOne what
+  pub of_one : (what : What) → IsTrue (is_built what) → IsWithin script.shape.regions script.shape.colours what → IsOfOne what
   of_one what is within = record {
     append = λ colours text e.
-        let w : (0 < length (members colours)) × All (λ c. c < script.shape.colours) (members colours) = subst (IsWithin script.shape) e within in
+        let w : All (λ c. c < script.shape.colours) (members colours) = subst (IsWithin script.shape.regions script.shape.colours) e within in
         let b : IsTrue (is_built (whats.Append colours text)) = subst (λ (x : What). IsTrue (is_built x)) e is in
-        (eqb-true (length (members colours)) 1 b, λ k d lt. let small = w.1 k d lt in let few = fits.shape.few_colours in omega (arith, small, few));
+        (eqb-true (length (members colours)) 1 b, λ k d lt. let small = w k d lt in let few = fits.shape.few_colours in omega (arith, small, few));
     sync = λ colour e.
-        let w : colour < script.shape.colours = subst (IsWithin script.shape) e within in
+        let w : colour < script.shape.colours = subst (IsWithin script.shape.regions script.shape.colours) e within in
         let few = fits.shape.few_colours in omega (arith, w, few);
   }
 
@@ -532,7 +532,7 @@ module _ (script : Script) (fits : IsFitting script) (built : All (λ (c : Comma
   asks_built = subst (λ (c : Command). IsTrue (is_built c.what)) (sym stands) (built n command within)
 
   asks_one : IsOfOne command.what
-  asks_one = of_one script fits built command.what asks_built (subst (λ (c : Command). IsWithin script.shape c.what) (sym stands) (fits.commands n command within))
+  asks_one = of_one script fits built command.what asks_built (subst (λ (c : Command). IsWithin script.shape.regions script.shape.colours c.what) (sym stands) (fits.commands n command within))
 
   -- the region of the client
   abbrev region : ℕ

@@ -3,6 +3,7 @@
 
 mod answers;
 mod appends;
+mod built;
 mod caller;
 mod client;
 mod column;
@@ -13,4 +14,8 @@ mod request;
 mod syncs;
 mod words;
 
+pub use built::is_built;
 pub use in_order::step;
+
+#[cfg(test)]
+mod tests;
