@@ -12,7 +12,7 @@ use report_text::{Answer, PointPiece};
 use std::alloc::{AllocError, Global};
 
 /// The last stamp.
-pub const MAX_STAMP: u64 = 0x3fff_ffff_ffff_ffff;
+pub const MAX_STAMP: u64 = (1 << 62) - 1;
 
 /// Appends the text as a node of the client's to the column, under the next stamp, if one is left.
 pub fn append(

@@ -4,6 +4,7 @@ ghost use Rattle.file_order.specs.Inside.{new_client, caller_of, with_id, with_s
 
 use crate::caller::Caller;
 use crate::counts::alone;
+use crate::request::PLACES;
 use log_node::{Id, ListOf};
 use report_text::ReplyLine;
 use std::alloc::{AllocError, Global};
@@ -15,7 +16,7 @@ use std::mem;
 pub struct Client {
     floor: u64,
     ids: u64,
-    starts: [u64; 16],
+    starts: [u64; PLACES],
     replies: Vec<ReplyLine>,
 }
 
@@ -41,7 +42,7 @@ impl Client {
         Ok(Client {
             floor: 0,
             ids: 0,
-            starts: [0; 16],
+            starts: [0; PLACES],
             replies: Vec::with_capacity(alloc, room)?,
         })
     }

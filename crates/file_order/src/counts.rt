@@ -1,7 +1,6 @@
 // Vectors with a number for one region alone, and the one colour of a set.
 ghost use Rattle.std.specs.Prelude.{◌≡◌, ◌<◌, [], ◌∷◌, length};
 ghost use Rattle.log_node.specs.Sets.{members};
-ghost use Rattle.log_node.specs.Vectors.{zeros};
 ghost use Rattle.file_order.specs.Inside.{alone};
 
 use log_node::{Colours, Counts};
@@ -21,5 +20,8 @@ pub fn only_member(colours: Colours) -> u8
     requires { length (members colours) ≡ 1 }
     ensures { members colours ≡ result ∷ [] }
 {
-    colours.0.trailing_zeros() as u8
+    match colours.first() {
+        Some(colour) => colour,
+        None => unreachable!(),
+    }
 }

@@ -12,7 +12,7 @@ use crate::answers::{answer, reply_of};
 use crate::client::Client;
 use crate::reports::report;
 use crate::column::Column;
-use crate::request::MAX_COLOURS;
+use crate::request::PLACES;
 use report_text::Report;
 use script_text::{Command, Script};
 use std::alloc::{AllocError, Global};
@@ -78,7 +78,7 @@ pub fn step(alloc: Global, script: &Script) -> Result<Report, AllocError>
     ensures lawful { IfOk result (LawfulRun script.now) }
     ensures exact { IfOk result (λ report. FoundMemory report → report ≡ step_report script.now) }
 {
-    let mut columns = new_columns(alloc, script.shape.regions as usize * MAX_COLOURS)?;
+    let mut columns = new_columns(alloc, script.shape.regions as usize * PLACES)?;
     let mut clients = new_clients(alloc, script)?;
     for place in 0..script.commands.len() {
         do_command(alloc, script, place, &mut columns, &mut clients);

@@ -16,3 +16,6 @@ mod words;
 
 pub use built::is_built;
 pub use in_order::step;
+
+#[cfg(test)]
+mod tests;

@@ -1,9 +1,11 @@
 // Who asks, and for which column.
-ghost use Rattle.std.specs.Prelude.{◌≡◌, ◌<◌};
+ghost use Rattle.std.specs.Prelude.{◌≡◌};
 ghost use Rattle.file_order.specs.Inside.{place_of};
 
-/// How many colours a region has places for.
-pub const MAX_COLOURS: usize = 16;
+use log_node::MAX_COLOURS;
+
+/// How many columns a region has places for: one for each colour that there may be.
+pub const PLACES: usize = MAX_COLOURS as usize;
 
 /// A client's number, its region, and a colour.
 #[derive(Clone, Copy)]
@@ -18,6 +20,6 @@ impl Request {
     pub fn place(&self) -> usize
         ensures { result ≡ place_of self.now.region self.now.colour }
     {
-        self.region as usize * MAX_COLOURS + self.colour as usize
+        self.region as usize * PLACES + self.colour as usize
     }
 }

@@ -1,6 +1,10 @@
-use Rattle.std.proofs.Common.{arith}
-use Rattle.file_order.proofs.Numbers.{the_only}
+use Rattle.std.proofs.Common.{sym}
+use Rattle.log_node.specs.Sets.{members}
+use Rattle.file_order.proofs.Numbers.{only_item, some_item}
 use Rattle.file_order.proofs.counts.only_member.Goals as goal
 
+pub unreachable-requires : goal.unreachable-requires
+unreachable-requires c = some_item (members c.args.colours) c.requires (sym c.in-None.ensures)
+
 pub returns : goal.returns
-returns c = let p = the_only c.args.colours (omega arith) c.requires in p.0
+returns c = only_item (members c.args.colours) c.in-Some.colour c.requires (sym c.in-Some.ensures)
