@@ -546,6 +546,9 @@ module _ (script : Script) (fits : IsFitting script) (built : All (λ (c : Comma
     client_is : client ≡ client_at clients command.client
     client_is = client_read ∙ any_default clients command.client client (new_client 0) (let e = run.client_count in let h = caller in omega (arith, e, h))
 
+    pub next_one : IsOfOne command.what
+    next_one = asks_one
+
     pub next_in_range : IsInRange region client columns
     next_in_range =
         subst (λ (k : ClientKept). IsInRange region k columns) (sym client_is)

@@ -1,12 +1,18 @@
 use Rattle.std.proofs.Common.{◌+◌, sym, subst, set}
 use Rattle.file_order.specs.Inside.{ClientKept}
 use Rattle.file_order.specs.Run.{IsRunAt}
-use Rattle.file_order.proofs.Tying.{next_in_range, next_room, next_run}
+use Rattle.file_order.proofs.Tying.{next_one, next_in_range, next_room, next_run}
 use Rattle.file_order.proofs.in_order.do_command.Goals as goal
 
 pub answer-given-requires-clause-range : goal.answer-given-requires-clause-range
 answer-given-requires-clause-range c =
     next_in_range c.args.script.now c.requires.fits c.requires.built c.args.place c.args.columns.now.items c.args.clients.now.items c.requires.place c.requires.run
+        c.as_slice.result.now c.as_slice-2.result.now c.as_slice.ensures c.as_slice-2.ensures
+        c.index-as_slice-place.result c.index-as_slice-place.is c.index_mut-client.result.now c.index_mut-client.ensures.value
+
+pub answer-given-requires-clause-one : goal.answer-given-requires-clause-one
+answer-given-requires-clause-one c =
+    next_one c.args.script.now c.requires.fits c.requires.built c.args.place c.args.columns.now.items c.args.clients.now.items c.requires.place c.requires.run
         c.as_slice.result.now c.as_slice-2.result.now c.as_slice.ensures c.as_slice-2.ensures
         c.index-as_slice-place.result c.index-as_slice-place.is c.index_mut-client.result.now c.index_mut-client.ensures.value
 
