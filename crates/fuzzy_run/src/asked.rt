@@ -11,7 +11,7 @@ pub enum Asked {
 }
 
 /// What the words ask for, without the program's name.
-pub fn asked(words: &[String]) -> Option<Asked>
+pub fn read_words(words: &[String]) -> Option<Asked>
     ensures { result ≡ asked_by (map string_bytes words.now) }
 {
     match words {

@@ -6,31 +6,28 @@ mod refusal;
 mod status;
 mod top;
 
-#[cfg(test)]
-mod tests;
-
 use fuzzy_io::{OpenGate, ReadSource, WriteSink};
 use status::Status;
-use std::env;
 use std::process::ExitCode;
+use std::{env, io};
+use top::run;
 
 /// What is printed where the words are none that the program knows.
 const USAGE: &str = "usage: fuzzy_run step";
 
-// Runs with the words of the command line over the standard streams.
-fn over_streams(rt: &HostRuntime) -> Status {
-    let words = match args(rt) {
-        Ok(words) => words,
-        // A word that is no text is none that the program knows.
-        Err(_) => return Status::BadWords,
-    };
-    let mut source = ReadSource::open(rt.stdin());
-    let mut sink = WriteSink::open(rt.stdout());
-    run(rt.alloc(), rt, words.as_slice(), &mut source, &mut sink, &OpenGate)
+// The words of the command line without the program's name.
+fn words_of(rt: &HostRuntime) -> io::Result<Vec<String>> {
+    Ok(env::args(rt)?.skip(1).collect(rt.alloc())?)
 }
 
 fn main(rt: HostRuntime) -> ExitCode {
-    let status = over_streams(&rt);
+    let mut source = ReadSource::open(rt.stdin());
+    let mut sink = WriteSink::open(rt.stdout());
+    let status = match words_of(&rt) {
+        Ok(words) => run(rt.alloc(), &rt, words.as_slice(), &mut source, &mut sink, &OpenGate),
+        // A word that is no text is none that the program knows.
+        Err(_) => Status::BadWords,
+    };
     if status == Status::BadWords {
         let _ = eprintln!(rt; "{USAGE}");
     }

