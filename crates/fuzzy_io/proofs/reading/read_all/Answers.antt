@@ -1,0 +1,12 @@
+use Rattle.std.proofs.Common.{arith, length-take}
+use Rattle.fuzzy_io.proofs.Fronts.{consumes_more, within_limit}
+use Rattle.fuzzy_io.proofs.reading.read_all.Goals as goal
+
+-- What was read before, and this piece, are within the limit.
+pub returns-then-is_err-clause-taken : goal.returns-then-is_err-clause-taken
+returns-then-is_err-clause-taken g c =
+    let asked = length-take c.next_room.result c.loop-count.piece in (
+      _,
+      within_limit c.args.most c.in-Ok.count c.next_room.result c.loop-count.bytes.items c.read.new.into c.in-Ok.ensures.bound.0 (omega (arith, asked, c.read.auto.into)) (omega (arith, c.next_room.ensures.limit, c.loop-count.bytes.ok.0)),
+      consumes_more _ _ _ _ _ c.loop-count.invariant.gone c.in-Ok.ensures.bytes.0,
+    )
