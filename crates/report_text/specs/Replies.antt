@@ -3,6 +3,8 @@ use Rattle.std.specs.Prelude.{ℕ, List, [], ◌∷◌, ◌++◌, Option, Some, 
 use Rattle.std.specs.List.{flat_map}
 use Rattle.log_node.specs.Seen.{PlacedNode}
 use Rattle.script_text.specs.Words.{word_text}
+use Rattle.report_text.specs.declared.report.RaisePiece.{RaisePiece}
+use Rattle.report_text.specs.declared.report.SyncPiece.{SyncPiece}
 use Rattle.report_text.specs.declared.report.KeyAnswer.{KeyAnswer}
 use Rattle.report_text.specs.declared.report.Answer.{Answer}
 use Rattle.report_text.specs.declared.report.Answer.TheVariants.{Stood, StampEnd, Full, Stopped, Synced, Scanned, Pulled, SameRegion, Based, Got, GotMany, GotKeys, Ruled, NoTx, Took, UnreadTrimmed, UnreadNoMemory, Trimmed, NotHome, NoMemory}
@@ -40,6 +42,10 @@ abbrev pub verdict_text : Option (List ℕ) → ℕ → List ℕ
 verdict_text None stamp = codes "committed " ++ decimal stamp
 verdict_text (Some key) stamp = codes "conflict " ++ key ++ 32 ∷ decimal stamp
 
+-- the raises and the syncs of a stamped read
+abbrev pub read_text : Report → List RaisePiece → List SyncPiece → List ℕ
+read_text report raises syncs = spaced (raise_text report) raises ++ spaced (sync_text report) syncs
+
 abbrev pub answer_text : Report → Answer → List ℕ
 answer_text report (Stood stamp row points) = codes "ok " ++ decimal stamp ++ row_text row ++ spaced (point_text report) points
 answer_text report (StampEnd colour) = codes "stampend " ++ colour_name report colour
@@ -47,7 +53,7 @@ answer_text report (Full used) = codes "full " ++ decimal used
 answer_text report (Stopped steps) = codes "stopped " ++ decimal steps
 answer_text report (Synced sync plays) = codes "ok " ++ sync_text report sync ++ codes " plays " ++ decimal plays
 answer_text report (Scanned stamp nodes raises syncs) =
-    codes "ok " ++ decimal stamp ++ codes " nodes " ++ decimal nodes ++ spaced (raise_text report) raises ++ spaced (sync_text report) syncs
+    codes "ok " ++ decimal stamp ++ codes " nodes " ++ decimal nodes ++ read_text report raises syncs
 answer_text report (Pulled nodes give carry) =
     codes "ok " ++ decimal nodes ++ codes " give " ++ at_text give ++ codes " carry " ++ at_text carry
 answer_text report SameRegion = codes "sameregion"
@@ -55,10 +61,10 @@ answer_text report (Based place base) = codes "ok " ++ at_text place ++ codes " 
 answer_text report (Got value sync) = value_text value ++ 32 ∷ sync_text report sync
 answer_text report (GotMany values sync) = values_text values ++ 32 ∷ sync_text report sync
 answer_text report (GotKeys stamp keys raises syncs) =
-    codes "ok " ++ decimal stamp ++ spaced key_answer_text keys ++ spaced (raise_text report) raises ++ spaced (sync_text report) syncs
+    codes "ok " ++ decimal stamp ++ spaced key_answer_text keys ++ read_text report raises syncs
 answer_text report (Ruled conflict stamp row points read_stamp raises syncs) =
     verdict_text conflict stamp ++ row_text row ++ spaced (point_text report) points
-    ++ codes " at " ++ decimal read_stamp ++ spaced (raise_text report) raises ++ spaced (sync_text report) syncs
+    ++ codes " at " ++ decimal read_stamp ++ read_text report raises syncs
 answer_text report NoTx = codes "notx"
 answer_text report (Took value point sync) = value_text value ++ 32 ∷ point_text report point ++ 32 ∷ sync_text report sync
 answer_text report (UnreadTrimmed stamp colour base) =

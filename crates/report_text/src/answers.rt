@@ -1,9 +1,6 @@
 // What a command was answered.
-ghost use Rattle.std.specs.Prelude.{Option, List, ℕ, ◌++◌};
-ghost use Rattle.std.specs.Option.{option_copied};
 ghost use Rattle.report_text.specs.Output.{Adds};
-ghost use Rattle.report_text.specs.Pieces.{spaced, raise_text, sync_text};
-ghost use Rattle.report_text.specs.Replies.{row_text, value_text, values_text, key_answer_text, verdict_text, answer_text};
+ghost use Rattle.report_text.specs.Replies.{row_text, value_text, values_text, key_answer_text, verdict_text, read_text, answer_text};
 
 use crate::names::Names;
 use crate::output::{Output, put_number};
@@ -14,11 +11,11 @@ use log_node::{ListOf, Names as Values, Text};
 impl Printed for KeyAnswer {
     ghost text = { λ _ answer. key_answer_text answer };
 
-    fn print<O: Output>(&self, _names: &Names<'_>, out: &mut O) {
-        out.put(self.key.as_bytes());
+    fn print<O: Output>(&self, names: &Names<'_>, out: &mut O) {
+        self.key.print(names, out);
         out.put(b"=");
         match &self.value {
-            Some(value) => out.put(value.as_bytes()),
+            Some(value) => value.print(names, out),
             None => out.put(b"-"),
         }
     }
@@ -35,13 +32,13 @@ fn print_row<O: Output>(row: Option<u32>, out: &mut O)
 }
 
 /// `ok` and the value, or `none`.
-fn print_value<O: Output>(value: &Option<Text>, out: &mut O)
+fn print_value<O: Output>(value: &Option<Text>, names: &Names<'_>, out: &mut O)
     ensures { Adds (O.state out.old) (O.state out.new) (value_text value.now) }
 {
     match value {
         Some(value) => {
             out.put(b"ok ");
-            out.put(value.as_bytes());
+            value.print(names, out);
         }
         None => out.put(b"none"),
     }
@@ -56,18 +53,23 @@ fn print_values<O: Output>(values: &Values, names: &Names<'_>, out: &mut O)
         return;
     }
     out.put(b"ok ");
-    print_listed(values.as_slice(), names, out);
+    print_listed(values, names, out);
 }
 
 /// `committed`, or `conflict` and the key that differs, and the stamp.
-fn print_verdict<O: Output>(conflict: &Option<Text>, stamp: u64, out: &mut O)
+fn print_verdict<O: Output>(
+    conflict: &Option<Text>,
+    stamp: u64,
+    names: &Names<'_>,
+    out: &mut O,
+)
     ensures { Adds (O.state out.old) (O.state out.new) (verdict_text conflict.now stamp) }
 {
     match conflict {
         None => out.put(b"committed "),
         Some(key) => {
             out.put(b"conflict ");
-            out.put(key.as_bytes());
+            key.print(names, out);
             out.put(b" ");
         }
     }
@@ -81,11 +83,10 @@ fn print_read<O: Output>(
     names: &Names<'_>,
     out: &mut O,
 )
-    ensures { Adds (O.state out.old) (O.state out.new)
-        (spaced (raise_text names.now) raises.now ++ spaced (sync_text names.now) syncs.now) }
+    ensures { Adds (O.state out.old) (O.state out.new) (read_text names.now raises.now syncs.now) }
 {
-    print_spaced(raises.as_slice(), names, out);
-    print_spaced(syncs.as_slice(), names, out);
+    print_spaced(raises, names, out);
+    print_spaced(syncs, names, out);
 }
 
 impl Printed for Answer {
@@ -97,11 +98,11 @@ impl Printed for Answer {
                 out.put(b"ok ");
                 put_number(out, *stamp);
                 print_row(*row, out);
-                print_spaced(points.as_slice(), names, out);
+                print_spaced(points, names, out);
             }
             Answer::StampEnd { colour } => {
                 out.put(b"stampend ");
-                out.put(names.colour(*colour));
+                names.put_colour(*colour, out);
             }
             Answer::Full { used } => {
                 out.put(b"full ");
@@ -145,7 +146,7 @@ impl Printed for Answer {
                 base.print(names, out);
             }
             Answer::Got { value, sync } => {
-                print_value(value, out);
+                print_value(value, names, out);
                 out.put(b" ");
                 sync.print(names, out);
             }
@@ -162,7 +163,7 @@ impl Printed for Answer {
             } => {
                 out.put(b"ok ");
                 put_number(out, *stamp);
-                print_spaced(keys.as_slice(), names, out);
+                print_spaced(keys, names, out);
                 print_read(raises, syncs, names, out);
             }
             Answer::Ruled {
@@ -174,16 +175,16 @@ impl Printed for Answer {
                 raises,
                 syncs,
             } => {
-                print_verdict(conflict, *stamp, out);
+                print_verdict(conflict, *stamp, names, out);
                 print_row(*row, out);
-                print_spaced(points.as_slice(), names, out);
+                print_spaced(points, names, out);
                 out.put(b" at ");
                 put_number(out, *read_stamp);
                 print_read(raises, syncs, names, out);
             }
             Answer::NoTx => out.put(b"notx"),
             Answer::Took { value, point, sync } => {
-                print_value(value, out);
+                print_value(value, names, out);
                 out.put(b" ");
                 point.print(names, out);
                 out.put(b" ");
@@ -197,7 +198,7 @@ impl Printed for Answer {
                 out.put(b"unread ");
                 put_number(out, *stamp);
                 out.put(b" trimmed ");
-                out.put(names.colour(*colour));
+                names.put_colour(*colour, out);
                 out.put(b" ");
                 base.print(names, out);
             }
@@ -208,13 +209,13 @@ impl Printed for Answer {
             }
             Answer::Trimmed { colour, base } => {
                 out.put(b"trimmed ");
-                out.put(names.colour(*colour));
+                names.put_colour(*colour, out);
                 out.put(b" ");
                 base.print(names, out);
             }
             Answer::NotHome { home } => {
                 out.put(b"nothome ");
-                out.put(names.region(*home));
+                names.put_region(*home, out);
             }
             Answer::NoMemory => out.put(b"nomemory"),
         }

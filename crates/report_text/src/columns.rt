@@ -73,7 +73,7 @@ impl Printed for Entry {
             }
             Event::Give { region, from } => {
                 out.put(b"give ");
-                out.put(names.region(*region));
+                names.put_region(*region, out);
                 out.put(b" ");
                 put_number(out, *from);
             }
@@ -83,10 +83,10 @@ impl Printed for Entry {
                 heads,
             } => {
                 out.put(b"carry ");
-                out.put(names.region(*region));
+                names.put_region(*region, out);
                 out.put(b" ");
                 put_number(out, *start);
-                print_spaced(heads.as_slice(), names, out);
+                print_spaced(heads, names, out);
             }
             Event::Trim { counts } => {
                 out.put(b"trim ");
@@ -102,7 +102,7 @@ fn print_entry<O: Output>(place: u64, entry: &Entry, names: &Names<'_>, out: &mu
 {
     put_number(out, place);
     out.put(b" ");
-    out.put(names.client(entry.by));
+    names.put_client(entry.by, out);
     out.put(b" ");
     entry.print(names, out);
     out.put(b"\n");
@@ -124,9 +124,9 @@ fn print_closing<O: Output>(column: &ColumnReport, names: &Names<'_>, out: &mut 
     out.put(b"= clock ");
     put_number(out, column.clock);
     out.put(b" line ");
-    print_listed(column.line.as_slice(), names, out);
+    print_listed(&column.line, names, out);
     out.put(b" queue ");
-    print_listed(column.queue.as_slice(), names, out);
+    print_listed(&column.queue, names, out);
     out.put(b" cut ");
     column.cut.print(names, out);
     out.put(b" base ");
@@ -139,9 +139,9 @@ impl Printed for ColumnReport {
 
     fn print<O: Output>(&self, names: &Names<'_>, out: &mut O) {
         out.put(b"column ");
-        out.put(self.region_name.as_bytes());
+        self.region_name.print(names, out);
         out.put(b" ");
-        out.put(self.colour_name.as_bytes());
+        self.colour_name.print(names, out);
         out.put(b"\n");
         print_journal(self.journal.as_slice(), names, out);
         print_closing(self, names, out);

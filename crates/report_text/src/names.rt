@@ -1,7 +1,9 @@
 // The names in a report, found by number at once.
 ghost use Rattle.std.specs.Prelude.{◌≡◌};
+ghost use Rattle.report_text.specs.Output.{Adds};
 ghost use Rattle.report_text.specs.Names.{region_name, colour_name, client_name, region_count};
 
+use crate::output::Output;
 use crate::report::Report;
 use std::marker::Model;
 
@@ -55,7 +57,7 @@ impl<'r> Names<'r> {
         }
     }
 
-    pub fn region(&self, number: u8) -> &[u8]
+    fn region(&self, number: u8) -> &[u8]
         ensures { result.now ≡ region_name self.now number }
     {
         match self.report.columns.get(self.region_at[number as usize]) {
@@ -64,7 +66,7 @@ impl<'r> Names<'r> {
         }
     }
 
-    pub fn colour(&self, number: u8) -> &[u8]
+    fn colour(&self, number: u8) -> &[u8]
         ensures { result.now ≡ colour_name self.now number }
     {
         match self.report.columns.get(self.colour_at[number as usize]) {
@@ -73,7 +75,7 @@ impl<'r> Names<'r> {
         }
     }
 
-    pub fn client(&self, number: u8) -> &[u8]
+    fn client(&self, number: u8) -> &[u8]
         ensures { result.now ≡ client_name self.now number }
     {
         match self.report.clients.get(number as usize) {
@@ -86,5 +88,23 @@ impl<'r> Names<'r> {
         ensures { result ≡ region_count self.now }
     {
         self.regions
+    }
+
+    pub fn put_region<O: Output>(&self, number: u8, out: &mut O)
+        ensures { Adds (O.state out.old) (O.state out.new) (region_name self.now number) }
+    {
+        out.put(self.region(number));
+    }
+
+    pub fn put_colour<O: Output>(&self, number: u8, out: &mut O)
+        ensures { Adds (O.state out.old) (O.state out.new) (colour_name self.now number) }
+    {
+        out.put(self.colour(number));
+    }
+
+    pub fn put_client<O: Output>(&self, number: u8, out: &mut O)
+        ensures { Adds (O.state out.old) (O.state out.new) (client_name self.now number) }
+    {
+        out.put(self.client(number));
     }
 }

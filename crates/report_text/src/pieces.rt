@@ -21,7 +21,7 @@ impl Printed for Id {
     ghost text = { id_text };
 
     fn print<O: Output>(&self, names: &Names<'_>, out: &mut O) {
-        out.put(names.client(self.client));
+        names.put_client(self.client, out);
         out.put(b".");
         put_number(out, self.count);
     }
@@ -85,7 +85,7 @@ impl Printed for PointPiece {
     ghost text = { point_text };
 
     fn print<O: Output>(&self, names: &Names<'_>, out: &mut O) {
-        out.put(names.colour(self.colour));
+        names.put_colour(self.colour, out);
         self.at.print(names, out);
         out.put(b"@");
         put_number(out, self.position);
@@ -96,7 +96,7 @@ impl Printed for RaisePiece {
     ghost text = { raise_text };
 
     fn print<O: Output>(&self, names: &Names<'_>, out: &mut O) {
-        out.put(names.colour(self.colour));
+        names.put_colour(self.colour, out);
         self.at.print(names, out);
     }
 }
@@ -105,7 +105,7 @@ impl Printed for SyncPiece {
     ghost text = { sync_text };
 
     fn print<O: Output>(&self, names: &Names<'_>, out: &mut O) {
-        out.put(names.colour(self.colour));
+        names.put_colour(self.colour, out);
         out.put(b"?");
         put_number(out, self.events);
         out.put(b"/");

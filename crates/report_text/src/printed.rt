@@ -7,6 +7,7 @@ ghost use Rattle.report_text.specs.Pieces.{spaced, listed};
 
 use crate::names::Names;
 use crate::output::Output;
+use log_node::ListOf;
 
 /// Has a text in a report.
 pub trait Printed {
@@ -17,19 +18,19 @@ pub trait Printed {
 }
 
 /// One after another.
-pub fn print_each<T: Printed, O: Output>(items: &[T], names: &Names<'_>, out: &mut O)
+pub fn print_each<T: Printed, O: Output>(items: &ListOf<T>, names: &Names<'_>, out: &mut O)
     ensures { Adds (O.state out.old) (O.state out.new) (flat_map (T.text names.now) items.now) }
 {
-    for item in items {
+    for item in items.as_slice() {
         item.print(names, out);
     }
 }
 
 /// Each with a space before it.
-pub fn print_spaced<T: Printed, O: Output>(items: &[T], names: &Names<'_>, out: &mut O)
+pub fn print_spaced<T: Printed, O: Output>(items: &ListOf<T>, names: &Names<'_>, out: &mut O)
     ensures { Adds (O.state out.old) (O.state out.new) (spaced (T.text names.now) items.now) }
 {
-    for item in items {
+    for item in items.as_slice() {
         out.put(b" ");
         item.print(names, out);
     }
@@ -46,10 +47,10 @@ fn print_further<T: Printed, O: Output>(items: &[T], names: &Names<'_>, out: &mu
 }
 
 /// With a comma between two; a dash where there is none.
-pub fn print_listed<T: Printed, O: Output>(items: &[T], names: &Names<'_>, out: &mut O)
+pub fn print_listed<T: Printed, O: Output>(items: &ListOf<T>, names: &Names<'_>, out: &mut O)
     ensures { Adds (O.state out.old) (O.state out.new) (listed (T.text names.now) items.now) }
 {
-    let Some((first, others)) = items.split_first() else {
+    let Some((first, others)) = items.as_slice().split_first() else {
         out.put(b"-");
         return;
     };

@@ -10,7 +10,7 @@ use crate::output::{Output, put_number};
 use crate::page::Page;
 use crate::printed::print_each;
 use crate::report::Report;
-use crate::words::reason_bytes;
+use crate::words::put_reason;
 use fuzzy_io::{Failed, Sink};
 use script_text::Reason;
 
@@ -20,9 +20,9 @@ fn put_report<O: Output>(report: &Report, out: &mut O)
 {
     let names = Names::of(report);
     out.put(b"report 1\n");
-    print_each(report.clients.as_slice(), &names, out);
-    print_each(report.rows.as_slice(), &names, out);
-    print_each(report.columns.as_slice(), &names, out);
+    print_each(&report.clients, &names, out);
+    print_each(&report.rows, &names, out);
+    print_each(&report.columns, &names, out);
 }
 
 /// Writes the text of the report. At `Err` a front of it went out. It takes no memory.
@@ -54,6 +54,6 @@ fn put_refusal<O: Output>(line: u32, why: Reason, out: &mut O)
     out.put(b"refused: line ");
     put_number(out, line as u64);
     out.put(b": ");
-    out.put(reason_bytes(why));
+    put_reason(why, out);
     out.put(b"\n");
 }

@@ -1,24 +1,31 @@
 // The lines of a client: its name, its replies, and the nodes that they show.
-ghost use Rattle.std.specs.Prelude.{ℕ};
+ghost use Rattle.std.specs.Prelude.{◌≡◌};
 ghost use Rattle.report_text.specs.Replies.{node_line, reply_lines, client_lines};
 
 use crate::names::Names;
 use crate::output::{Output, put_number};
 use crate::printed::{Printed, print_each};
 use crate::report::{ClientReport, ReplyLine};
-use crate::words::word_bytes;
-use log_node::Item;
+use crate::words::put_word;
+use log_node::{Item, Key};
+
+fn key_of(item: &Item) -> Key
+    ensures { result ≡ item.now.head.key }
+{
+    item.head.key
+}
 
 impl Printed for Item {
     ghost text = { node_line };
 
     fn print<O: Output>(&self, names: &Names<'_>, out: &mut O) {
         out.put(b"+ ");
-        self.head.key.id.print(names, out);
+        let key = key_of(self);
+        key.id.print(names, out);
         out.put(b" ");
-        put_number(out, self.head.key.stamp);
+        put_number(out, key.stamp);
         out.put(b" ");
-        out.put(self.node().text.as_bytes());
+        self.node().text.print(names, out);
         out.put(b"\n");
     }
 }
@@ -29,11 +36,11 @@ impl Printed for ReplyLine {
     fn print<O: Output>(&self, names: &Names<'_>, out: &mut O) {
         put_number(out, self.line as u64);
         out.put(b" ");
-        out.put(word_bytes(self.word));
+        put_word(self.word, out);
         out.put(b" ");
         self.answer.print(names, out);
         out.put(b"\n");
-        print_each(self.nodes.as_slice(), names, out);
+        print_each(&self.nodes, names, out);
     }
 }
 
@@ -42,8 +49,8 @@ impl Printed for ClientReport {
 
     fn print<O: Output>(&self, names: &Names<'_>, out: &mut O) {
         out.put(b"client ");
-        out.put(self.name.as_bytes());
+        self.name.print(names, out);
         out.put(b"\n");
-        print_each(self.replies.as_slice(), names, out);
+        print_each(&self.replies, names, out);
     }
 }

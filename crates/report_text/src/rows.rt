@@ -31,7 +31,7 @@ impl Printed for ColourMark {
     ghost text = { colour_mark_text };
 
     fn print<O: Output>(&self, names: &Names<'_>, out: &mut O) {
-        out.put(names.colour(self.colour));
+        names.put_colour(self.colour, out);
         out.put(b"=");
         print_mark(self.mark, out);
     }
@@ -60,14 +60,14 @@ impl Printed for RowReport {
 
     fn print<O: Output>(&self, names: &Names<'_>, out: &mut O) {
         out.put(b"row ");
-        out.put(names.region(self.region));
+        names.put_region(self.region, out);
         out.put(b" ");
-        out.put(names.client(self.row.client));
+        names.put_client(self.row.client, out);
         out.put(b".");
         put_number(out, self.row.number as u64);
         out.put(b" ");
         self.id.print(names, out);
-        print_spaced(self.marks.as_slice(), names, out);
+        print_spaced(&self.marks, names, out);
         out.put(b" ");
         self.last.print(names, out);
         out.put(b"\n");

@@ -1,10 +1,24 @@
 // The words of commands and of reasons.
 ghost use Rattle.std.specs.Prelude.{◌≡◌};
+ghost use Rattle.report_text.specs.Output.{Adds};
 ghost use Rattle.script_text.specs.Words.{word_text, reason_text};
 
+use crate::output::Output;
 use script_text::{Reason, Word};
 
-pub fn word_bytes(word: Word) -> &'static [u8]
+pub fn put_word<O: Output>(word: Word, out: &mut O)
+    ensures { Adds (O.state out.old) (O.state out.new) (word_text word) }
+{
+    out.put(word_bytes(word));
+}
+
+pub fn put_reason<O: Output>(reason: Reason, out: &mut O)
+    ensures { Adds (O.state out.old) (O.state out.new) (reason_text reason) }
+{
+    out.put(reason_bytes(reason));
+}
+
+fn word_bytes(word: Word) -> &'static [u8]
     ensures { result.now ≡ word_text word }
 {
     match word {
@@ -26,7 +40,7 @@ pub fn word_bytes(word: Word) -> &'static [u8]
     }
 }
 
-pub fn reason_bytes(reason: Reason) -> &'static [u8]
+fn reason_bytes(reason: Reason) -> &'static [u8]
     ensures { result.now ≡ reason_text reason }
 {
     match reason {
