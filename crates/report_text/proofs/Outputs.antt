@@ -24,14 +24,18 @@ sends : {T E : Type 0} (old new : OutputState) (bytes piece : List ℕ) (r : Res
     HasTakenBy false holds faults text old → HasTakenBy (is_err r) holds faults (text ++ piece) new
 sends old new bytes piece (Ok x) holds faults text e left ok err count h =
     let sent = h.0 in
-    let all : text ++ piece ≡ sent ++ bytes = ap (λ w. w ++ piece) h.2 ∙ append_assoc sent old.pending piece ∙ ap (λ w. sent ++ w) e in
-    (sent ++ bytes, appends_both holds old.holds new.holds sent bytes h.1 ok,
-    all ∙ sym (append-nil (sent ++ bytes)) ∙ ap (λ w. (sent ++ bytes) ++ w) (sym left), count ∙ h.3)
+    let all : text ++ piece ≡ sent ++ bytes = ap (λ w. w ++ piece) h.2 ∙ append_assoc sent old.pending piece ∙ ap (λ w. sent ++ w) e in (
+      sent ++ bytes,
+      appends_both holds old.holds new.holds sent bytes h.1 ok,
+      all ∙ sym (append-nil (sent ++ bytes)) ∙ ap (λ w. (sent ++ bytes) ++ w) (sym left),
+      count ∙ h.3,
+    )
 sends old new bytes piece (Err x) holds faults text e left ok err count h =
     let sent = h.0 in
-    let all : text ++ piece ≡ sent ++ bytes = ap (λ w. w ++ piece) h.2 ∙ append_assoc sent old.pending piece ∙ ap (λ w. sent ++ w) e in
-    (rw all (front_after holds old.holds new.holds sent bytes h.1 err),
-    subst (λ (n : ℕ). Rose n new.faults) h.3 count)
+    let all : text ++ piece ≡ sent ++ bytes = ap (λ w. w ++ piece) h.2 ∙ append_assoc sent old.pending piece ∙ ap (λ w. sent ++ w) e in (
+      rw all (front_after holds old.holds new.holds sent bytes h.1 err),
+      subst (λ (n : ℕ). Rose n new.faults) h.3 count,
+    )
 
 pub writes : {T E : Type 0} (old new : OutputState) (bytes piece : List ℕ) (r : Result T E) → new.sink ≡ old.sink → old.failed ≡ false → new.failed ≡ is_err r →
     old.pending ++ piece ≡ bytes → new.pending ≡ [] → OnOk r (Appends old.holds new.holds bytes) → OnErr r (AppendsFront old.holds new.holds bytes) → CountsFaults old.faults new.faults r → Adds old new piece
@@ -69,7 +73,7 @@ pub whole : {K T E : Type 0} (holds : K → Option (List ℕ)) (faults : K → �
 whole holds faults start first last end text r a b d e₁ e₂ h₁ f₁ empty clean adds ends h₂ f₂ =
     let all : IsWhole a.holds d.holds a.faults d.faults text r = ends.all a.holds a.faults text (adds.more a.holds a.faults [] (fresh a empty clean)) in
     let one : IsWhole (holds start) d.holds (faults start) d.faults text r =
-        subst (λ (n : ℕ). IsWhole (holds start) d.holds n d.faults text r) (f₁ ∙ ap faults e₁) (subst (λ (o : Option (List ℕ)). IsWhole o d.holds a.faults d.faults text r) (h₁ ∙ ap holds e₁) all) in
+    subst (λ (n : ℕ). IsWhole (holds start) d.holds n d.faults text r) (f₁ ∙ ap faults e₁) (subst (λ (o : Option (List ℕ)). IsWhole o d.holds a.faults d.faults text r) (h₁ ∙ ap holds e₁) all) in
     subst (λ (n : ℕ). IsWhole (holds start) (holds end) (faults start) n text r) (f₂ ∙ ap faults (sym e₂)) (subst (λ (o : Option (List ℕ)). IsWhole (holds start) o (faults start) d.faults text r) (h₂ ∙ ap holds (sym e₂)) one)
 
 pub whole_ok : {T E : Type 0} (old new : Option (List ℕ)) (before now : ℕ) (text : List ℕ) (r : Result T E) → IsWhole old new before now text r → OnOk r (Appends old new text)

@@ -57,12 +57,7 @@ fn print_values<O: Output>(values: &Values, names: &Names<'_>, out: &mut O)
 }
 
 /// `committed`, or `conflict` and the key that differs, and the stamp.
-fn print_verdict<O: Output>(
-    conflict: &Option<Text>,
-    stamp: u64,
-    names: &Names<'_>,
-    out: &mut O,
-)
+fn print_verdict<O: Output>(conflict: &Option<Text>, stamp: u64, names: &Names<'_>, out: &mut O)
     ensures { Adds (O.state out.old) (O.state out.new) (verdict_text conflict.now stamp) }
 {
     match conflict {

@@ -15,8 +15,13 @@ pub struct Page<'a, K> {
 }
 
 impl<'a, K: Sink> Output for Page<'a, K> {
-    ghost state = { λ p. record { sink = p.sink.ghost_name; holds = K.holds p.sink.now;
-        faults = K.faults p.sink.now; pending = p.pending; failed = p.failed } };
+    ghost state = { λ p. record {
+      sink = p.sink.ghost_name;
+      holds = K.holds p.sink.now;
+      faults = K.faults p.sink.now;
+      pending = p.pending;
+      failed = p.failed;
+    } };
 
     fn put(&mut self, piece: &[u8]) {
         if piece.len() <= PAGE - self.pending.len() {
