@@ -1,0 +1,41 @@
+-- The line of a begun row: whose it is, its marks, and what became of it.
+use Rattle.std.specs.Prelude.{ℕ, List, [], ◌∷◌, ◌++◌, decimal, codes}
+use Rattle.skeen_core.specs.declared.Why.{Why}
+use Rattle.skeen_core.specs.declared.Why.TheVariants.{Memory, StampEnd}
+use Rattle.skeen_core.specs.declared.Mark.{Mark}
+use Rattle.skeen_core.specs.declared.Mark.TheVariants as marks
+use Rattle.skeen_core.specs.declared.ColourMark.{ColourMark}
+use Rattle.skeen_core.specs.declared.Outcome.{Outcome}
+use Rattle.skeen_core.specs.declared.Outcome.TheVariants.{Open, Gone, Final}
+use Rattle.log_node.specs.declared.ids.Row.{Row}
+use Rattle.report_text.specs.declared.report.RowReport.{RowReport}
+use Rattle.report_text.specs.declared.report.Report.{Report}
+use Rattle.report_text.specs.Names.{region_name, colour_name, client_name}
+use Rattle.report_text.specs.Pieces.{line_end, spaced, id_text}
+
+abbrev pub why_text : Why → List ℕ
+why_text Memory = codes "memory"
+why_text StampEnd = codes "stampend"
+
+abbrev pub mark_text : Mark → List ℕ
+mark_text marks.None = codes "-"
+mark_text (marks.Number stamp) = decimal stamp
+mark_text (marks.Fenced why) = why_text why
+
+-- COLOUR=MARK
+abbrev pub colour_mark_text : Report → ColourMark → List ℕ
+colour_mark_text report m = colour_name report m.colour ++ 61 ∷ mark_text m.mark
+
+abbrev pub outcome_text : Outcome → List ℕ
+outcome_text Open = codes "open"
+outcome_text (Final stamp) = codes "final " ++ decimal stamp
+outcome_text (Gone why) = codes "gone " ++ why_text why
+
+-- the client's name, a dot, the row's number
+abbrev pub row_number_text : Report → Row → List ℕ
+row_number_text report row = client_name report row.client ++ 46 ∷ decimal row.number
+
+abbrev pub row_line : Report → RowReport → List ℕ
+row_line report r =
+    codes "row " ++ region_name report r.region ++ 32 ∷ row_number_text report r.row ++ 32 ∷ id_text report r.id
+    ++ spaced (colour_mark_text report) r.marks ++ 32 ∷ outcome_text r.last ++ line_end

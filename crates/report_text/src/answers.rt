@@ -1,0 +1,218 @@
+// What a command was answered.
+ghost use Rattle.report_text.specs.Output.{Adds};
+ghost use Rattle.report_text.specs.Replies.{row_text, value_text, values_text, key_answer_text, verdict_text, read_text, answer_text};
+
+use crate::names::Names;
+use crate::output::{Output, put_number};
+use crate::printed::{Printed, print_listed, print_spaced};
+use crate::report::{Answer, KeyAnswer, PointPiece, RaisePiece, SyncPiece};
+use log_node::{ListOf, Names as Values, Text};
+
+impl Printed for KeyAnswer {
+    ghost text = { λ _ answer. key_answer_text answer };
+
+    fn print<O: Output>(&self, names: &Names<'_>, out: &mut O) {
+        self.key.print(names, out);
+        out.put(b"=");
+        match &self.value {
+            Some(value) => value.print(names, out),
+            None => out.put(b"-"),
+        }
+    }
+}
+
+/// The number of the row that an append began, where it began one.
+fn print_row<O: Output>(row: Option<u32>, out: &mut O)
+    ensures { Adds (O.state out.old) (O.state out.new) (row_text row) }
+{
+    if let Some(number) = row {
+        out.put(b" row ");
+        put_number(out, number as u64);
+    }
+}
+
+/// `ok` and the value, or `none`.
+fn print_value<O: Output>(value: &Option<Text>, names: &Names<'_>, out: &mut O)
+    ensures { Adds (O.state out.old) (O.state out.new) (value_text value.now) }
+{
+    match value {
+        Some(value) => {
+            out.put(b"ok ");
+            value.print(names, out);
+        }
+        None => out.put(b"none"),
+    }
+}
+
+/// `ok` and the values with commas, or `none`.
+fn print_values<O: Output>(values: &Values, names: &Names<'_>, out: &mut O)
+    ensures { Adds (O.state out.old) (O.state out.new) (values_text values.now) }
+{
+    if values.is_empty() {
+        out.put(b"none");
+        return;
+    }
+    out.put(b"ok ");
+    print_listed(values, names, out);
+}
+
+/// `committed`, or `conflict` and the key that differs, and the stamp.
+fn print_verdict<O: Output>(conflict: &Option<Text>, stamp: u64, names: &Names<'_>, out: &mut O)
+    ensures { Adds (O.state out.old) (O.state out.new) (verdict_text conflict.now stamp) }
+{
+    match conflict {
+        None => out.put(b"committed "),
+        Some(key) => {
+            out.put(b"conflict ");
+            key.print(names, out);
+            out.put(b" ");
+        }
+    }
+    put_number(out, stamp);
+}
+
+/// The raises and the syncs of a stamped read.
+fn print_read<O: Output>(
+    raises: &ListOf<RaisePiece>,
+    syncs: &ListOf<SyncPiece>,
+    names: &Names<'_>,
+    out: &mut O,
+)
+    ensures { Adds (O.state out.old) (O.state out.new) (read_text names.now raises.now syncs.now) }
+{
+    print_spaced(raises, names, out);
+    print_spaced(syncs, names, out);
+}
+
+impl Printed for Answer {
+    ghost text = { answer_text };
+
+    fn print<O: Output>(&self, names: &Names<'_>, out: &mut O) {
+        match self {
+            Answer::Stood { stamp, row, points } => {
+                out.put(b"ok ");
+                put_number(out, *stamp);
+                print_row(*row, out);
+                print_spaced(points, names, out);
+            }
+            Answer::StampEnd { colour } => {
+                out.put(b"stampend ");
+                names.put_colour(*colour, out);
+            }
+            Answer::Full { used } => {
+                out.put(b"full ");
+                put_number(out, *used as u64);
+            }
+            Answer::Stopped { steps } => {
+                out.put(b"stopped ");
+                put_number(out, *steps as u64);
+            }
+            Answer::Synced { sync, plays } => {
+                out.put(b"ok ");
+                sync.print(names, out);
+                out.put(b" plays ");
+                put_number(out, *plays);
+            }
+            Answer::Scanned {
+                stamp,
+                nodes,
+                raises,
+                syncs,
+            } => {
+                out.put(b"ok ");
+                put_number(out, *stamp);
+                out.put(b" nodes ");
+                put_number(out, *nodes);
+                print_read(raises, syncs, names, out);
+            }
+            Answer::Pulled { nodes, give, carry } => {
+                out.put(b"ok ");
+                put_number(out, *nodes);
+                out.put(b" give ");
+                give.print(names, out);
+                out.put(b" carry ");
+                carry.print(names, out);
+            }
+            Answer::SameRegion => out.put(b"sameregion"),
+            Answer::Based { at, base } => {
+                out.put(b"ok ");
+                at.print(names, out);
+                out.put(b" base ");
+                base.print(names, out);
+            }
+            Answer::Got { value, sync } => {
+                print_value(value, names, out);
+                out.put(b" ");
+                sync.print(names, out);
+            }
+            Answer::GotMany { values, sync } => {
+                print_values(values, names, out);
+                out.put(b" ");
+                sync.print(names, out);
+            }
+            Answer::GotKeys {
+                stamp,
+                keys,
+                raises,
+                syncs,
+            } => {
+                out.put(b"ok ");
+                put_number(out, *stamp);
+                print_spaced(keys, names, out);
+                print_read(raises, syncs, names, out);
+            }
+            Answer::Ruled {
+                conflict,
+                stamp,
+                row,
+                points,
+                read_stamp,
+                raises,
+                syncs,
+            } => {
+                print_verdict(conflict, *stamp, names, out);
+                print_row(*row, out);
+                print_spaced(points, names, out);
+                out.put(b" at ");
+                put_number(out, *read_stamp);
+                print_read(raises, syncs, names, out);
+            }
+            Answer::NoTx => out.put(b"notx"),
+            Answer::Took { value, point, sync } => {
+                print_value(value, names, out);
+                out.put(b" ");
+                point.print(names, out);
+                out.put(b" ");
+                sync.print(names, out);
+            }
+            Answer::UnreadTrimmed {
+                stamp,
+                colour,
+                base,
+            } => {
+                out.put(b"unread ");
+                put_number(out, *stamp);
+                out.put(b" trimmed ");
+                names.put_colour(*colour, out);
+                out.put(b" ");
+                base.print(names, out);
+            }
+            Answer::UnreadNoMemory { stamp } => {
+                out.put(b"unread ");
+                put_number(out, *stamp);
+                out.put(b" nomemory");
+            }
+            Answer::Trimmed { colour, base } => {
+                out.put(b"trimmed ");
+                names.put_colour(*colour, out);
+                out.put(b" ");
+                base.print(names, out);
+            }
+            Answer::NotHome { home } => {
+                out.put(b"nothome ");
+                names.put_region(*home, out);
+            }
+            Answer::NoMemory => out.put(b"nomemory"),
+        }
+    }
+}

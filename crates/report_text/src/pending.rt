@@ -1,0 +1,63 @@
+// Bytes that wait to be written together.
+ghost use Rattle.std.specs.Prelude.{◌≡◌, ◌+◌, ◌≤◌, [], ◌++◌, length};
+
+use std::marker::Model;
+
+/// How many bytes are joined before they are written.
+pub const PAGE: usize = 4096;
+
+/// At most `PAGE` bytes, which contracts see as their list.
+#[derive(Drop)]
+pub struct Pending {
+    bytes: [u8; PAGE],
+    used: usize,
+}
+
+impl Model for Pending {
+    ghost use Rattle.std.specs.Prelude.{ℕ, ◌≤◌, List, take};
+
+    ghost Value = { List ℕ };
+
+    ghost view = { λ p. take p.used p.bytes };
+
+    ghost invariant = { λ p. p.used ≤ 4096 };
+}
+
+impl Pending {
+    pub fn new() -> Pending
+        ensures { result ≡ [] }
+    {
+        Pending {
+            bytes: [0; PAGE],
+            used: 0,
+        }
+    }
+
+    pub fn len(&self) -> usize
+        ensures len { result ≡ length self.now }
+        ensures limit { result ≤ PAGE }
+    {
+        self.used
+    }
+
+    pub fn as_slice(&self) -> &[u8]
+        ensures { result.now ≡ self.now }
+    {
+        &self.bytes[..self.used]
+    }
+
+    pub fn push(&mut self, piece: &[u8])
+        requires { length self.old + length piece.now ≤ PAGE }
+        ensures { self.new ≡ self.old ++ piece.now }
+    {
+        let end = self.used + piece.len();
+        self.bytes[self.used..end].copy_from_slice(piece);
+        self.used = end;
+    }
+
+    pub fn clear(&mut self)
+        ensures { self.new ≡ [] }
+    {
+        self.used = 0;
+    }
+}

@@ -1,0 +1,59 @@
+// Printing a report, and the line of a refusal.
+ghost use Rattle.std.specs.Prelude.{OnOk, OnErr};
+ghost use Rattle.std.specs.Io.KnownBytes.{Appends};
+ghost use Rattle.fuzzy_io.specs.Causes.{CountsFaults, AppendsFront};
+ghost use Rattle.report_text.specs.Output.{Adds};
+ghost use Rattle.report_text.specs.ReportText.{report_bytes, refusal_bytes};
+
+use crate::names::Names;
+use crate::output::{Output, put_number};
+use crate::page::Page;
+use crate::printed::print_each;
+use crate::report::Report;
+use crate::words::put_reason;
+use fuzzy_io::{Failed, Sink};
+use script_text::Reason;
+
+/// The report, to an output.
+fn put_report<O: Output>(report: &Report, out: &mut O)
+    ensures { Adds (O.state out.old) (O.state out.new) (report_bytes report.now) }
+{
+    let names = Names::of(report);
+    out.put(b"report 1\n");
+    print_each(&report.clients, &names, out);
+    print_each(&report.rows, &names, out);
+    print_each(&report.columns, &names, out);
+}
+
+/// Writes the text of the report. At `Err` a front of it went out. It takes no memory.
+pub fn print<K: Sink>(report: &Report, sink: &mut K) -> Result<(), Failed>
+    ensures ok { OnOk result (Appends (K.holds sink.old) (K.holds sink.new) (report_bytes report.now)) }
+    ensures front { OnErr result (AppendsFront (K.holds sink.old) (K.holds sink.new) (report_bytes report.now)) }
+    ensures cause { CountsFaults (K.faults sink.old) (K.faults sink.new) result }
+{
+    let mut page = Page::over(sink);
+    put_report(report, &mut page);
+    page.finish()
+}
+
+/// Writes the line of a refused script. At `Err` a front of it went out. It takes no memory.
+pub fn print_refusal<K: Sink>(line: u32, why: Reason, sink: &mut K) -> Result<(), Failed>
+    ensures ok { OnOk result (Appends (K.holds sink.old) (K.holds sink.new) (refusal_bytes line why)) }
+    ensures front { OnErr result (AppendsFront (K.holds sink.old) (K.holds sink.new) (refusal_bytes line why)) }
+    ensures cause { CountsFaults (K.faults sink.old) (K.faults sink.new) result }
+{
+    let mut page = Page::over(sink);
+    put_refusal(line, why, &mut page);
+    page.finish()
+}
+
+/// The line of a refusal, to an output.
+fn put_refusal<O: Output>(line: u32, why: Reason, out: &mut O)
+    ensures { Adds (O.state out.old) (O.state out.new) (refusal_bytes line why) }
+{
+    out.put(b"refused: line ");
+    put_number(out, line as u64);
+    out.put(b": ");
+    put_reason(why, out);
+    out.put(b"\n");
+}
