@@ -1,6 +1,5 @@
--- Why bytes are not done, and the line that says so.
-use Rattle.std.specs.Prelude.{◌≡◌, ℕ, List, [], ◌∷◌, ◌++◌, Option, Some, None, codes, not}
-use Rattle.std.specs.Fmt.{decimal}
+-- Why bytes are not done.
+use Rattle.std.specs.Prelude.{◌≡◌, ℕ, List, Option, Some, codes, not}
 use Rattle.std.specs.List.{find}
 use Rattle.std.specs.Option.{option_map}
 use Rattle.script_text.specs.declared.script.Command.{Command}
@@ -15,9 +14,6 @@ use Rattle.fuzzy_run.specs.declared.refusal.Cause.TheVariants.{Faulty, NotBuilt}
 abbrev pub cause_text : Cause → List ℕ
 cause_text (Faulty why) = reason_text why
 cause_text NotBuilt = codes "not built"
-
-abbrev pub refusal_text : ℕ → Cause → List ℕ
-refusal_text line cause = codes "refused: line " ++ decimal line ++ codes ": " ++ cause_text cause ++ 10 ∷ []
 
 -- the line of the first command that is not done yet
 abbrev pub first_unbuilt : List Command → Option ℕ

@@ -5,12 +5,12 @@ use Rattle.fuzzy_io.specs.Causes.{AppendsFront}
 use Rattle.script_text.specs.declared.script.Script.{Script}
 use Rattle.script_text.specs.Grammar.{IsScript}
 use Rattle.report_text.specs.declared.report.Report.{Report}
-use Rattle.report_text.specs.ReportText.{report_bytes}
+use Rattle.report_text.specs.ReportText.{report_bytes, refusal_bytes}
 use Rattle.lawful_run.specs.Lawful.{LawfulRun}
 use Rattle.file_order.specs.Meaning.{IsStepReport, FoundMemory, step_report}
 use Rattle.fuzzy_run.specs.declared.refusal.Cause.{Cause}
 use Rattle.fuzzy_run.specs.declared.refusal.Cause.TheVariants.{NotBuilt}
-use Rattle.fuzzy_run.specs.Refusals.{IsRefusedFor, refusal_text, first_unbuilt}
+use Rattle.fuzzy_run.specs.Refusals.{IsRefusedFor, cause_text, first_unbuilt}
 
 -- The report is that of a lawful run of the script, done in the order of the file; where no reply tells of want of memory,
 -- it is the one report that this means.
@@ -32,7 +32,7 @@ pub record IsRefusalText (bytes text : List ℕ) : Type 0 where
   pub line : ℕ
   pub cause : Cause
   pub refused : IsRefusedFor bytes line cause
-  pub shown : text ≡ refusal_text line cause
+  pub shown : text ≡ refusal_bytes line (cause_text cause)
 
 -- such a text of the bytes, where these are known, was written whole
 abbrev pub Writes : (List ℕ → List ℕ → Type 0) → Option (List ℕ) → Option (List ℕ) → Option (List ℕ) → Type 0
@@ -50,4 +50,4 @@ Shows script old new = (report : Report) × IsRunOf script report × Appends old
 abbrev pub ShowsFront : Script → Option (List ℕ) → Option (List ℕ) → Type 0
 ShowsFront script old new =
     ((report : Report) × IsRunOf script report × AppendsFront old new (report_bytes report))
-    ⊎ ((line : ℕ) × (first_unbuilt script.commands ≡ Some line) × AppendsFront old new (refusal_text line NotBuilt))
+    ⊎ ((line : ℕ) × (first_unbuilt script.commands ≡ Some line) × AppendsFront old new (refusal_bytes line (cause_text NotBuilt)))

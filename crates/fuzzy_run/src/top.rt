@@ -5,16 +5,17 @@ ghost use Rattle.fuzzy_io.specs.Causes.{Rose, ConsumesUpTo, AppendsFront};
 ghost use Rattle.script_text.specs.declared.script.Script.{Script};
 ghost use Rattle.script_text.specs.Fitting.{IsFitting};
 ghost use Rattle.report_text.specs.declared.report.Report.{Report};
-ghost use Rattle.report_text.specs.ReportText.{report_bytes};
+ghost use Rattle.report_text.specs.ReportText.{report_bytes, refusal_bytes};
 ghost use Rattle.fuzzy_run.specs.Words.{asked_by};
-ghost use Rattle.fuzzy_run.specs.Refusals.{first_unbuilt, refusal_text};
+ghost use Rattle.fuzzy_run.specs.Refusals.{first_unbuilt, cause_text};
 ghost use Rattle.fuzzy_run.specs.TopCall.{IsRunOf, IsRunText, IsRefusalText, Writes, WritesFront, Shows, ShowsFront};
 
 use crate::asked::{Asked, read_words};
-use crate::refusal::{Cause, first_unbuilt, refusal_line};
+use crate::refusal::{Cause, first_unbuilt};
 use crate::status::Status;
 use file_order::step;
-use fuzzy_io::{Failed, Gate, ReadStop, Sink, Source, read_all, write_all};
+use fuzzy_io::{Failed, Gate, ReadStop, Sink, Source, read_all};
+use report_text::{print, print_refusal};
 use script_text::{Reason, Script, ScriptFault, parse};
 use std::alloc::Global;
 use std::sync::Wait;
@@ -24,18 +25,13 @@ use std::thread::Threads;
 const MAX_BYTES: usize = 1 << 20;
 
 // Writes the line that says why bytes are not done.
-fn refuse<K: Sink>(alloc: Global, sink: &mut K, line: u32, cause: Cause) -> Status
-    ensures refused { result ≡ Status.Refused → Appends (K.holds sink.old) (K.holds sink.new) (refusal_text line cause) }
+fn refuse<K: Sink>(sink: &mut K, line: u32, cause: Cause) -> Status
+    ensures refused { result ≡ Status.Refused → Appends (K.holds sink.old) (K.holds sink.new) (refusal_bytes line (cause_text cause)) }
     ensures write_fault { result ≡ Status.WriteFault → Rose (K.faults sink.old) (K.faults sink.new) }
-    ensures front { result ≡ Status.WriteFault → AppendsFront (K.holds sink.old) (K.holds sink.new) (refusal_text line cause) }
-    ensures no_memory { result ≡ Status.NoMemory → sink.new ≡ sink.old }
-    ensures no_other { (result ≢ Status.Done) × (result ≢ Status.BadWords) × (result ≢ Status.ReadFault) }
+    ensures front { result ≡ Status.WriteFault → AppendsFront (K.holds sink.old) (K.holds sink.new) (refusal_bytes line (cause_text cause)) }
+    ensures one { (result ≡ Status.Refused) ⊎ (result ≡ Status.WriteFault) }
 {
-    let text = match refusal_line(alloc, line, cause) {
-        Ok(text) => text,
-        Err(_) => return Status::NoMemory,
-    };
-    match write_all(sink, text.as_bytes()) {
+    match print_refusal(line, cause.as_bytes(), sink) {
         Ok(()) => Status::Refused,
         Err(Failed) => Status::WriteFault,
     }
@@ -46,18 +42,22 @@ fn do_script<K: Sink>(alloc: Global, script: &Script, sink: &mut K) -> Status
     requires { IsFitting script.now }
     ensures done { result ≡ Status.Done → Shows script.now (K.holds sink.old) (K.holds sink.new) }
     ensures refused { result ≡ Status.Refused → (line : ℕ) × (first_unbuilt script.now.commands ≡ Some line)
-        × Appends (K.holds sink.old) (K.holds sink.new) (refusal_text line Cause.NotBuilt) }
+        × Appends (K.holds sink.old) (K.holds sink.new) (refusal_bytes line (cause_text Cause.NotBuilt)) }
     ensures write_fault { result ≡ Status.WriteFault → Rose (K.faults sink.old) (K.faults sink.new) }
     ensures front { result ≡ Status.WriteFault → ShowsFront script.now (K.holds sink.old) (K.holds sink.new) }
     ensures no_memory { result ≡ Status.NoMemory → sink.new ≡ sink.old }
     ensures no_other { (result ≢ Status.BadWords) × (result ≢ Status.ReadFault) }
 {
     if let Some(line) = first_unbuilt(script.commands.as_slice()) {
-        return refuse(alloc, sink, line, Cause::NotBuilt);
+        return refuse(sink, line, Cause::NotBuilt);
     }
-    match step(alloc, script) {
-        Ok(_) => Status::NoMemory,
-        Err(_) => Status::NoMemory,
+    let report = match step(alloc, script) {
+        Ok(report) => report,
+        Err(_) => return Status::NoMemory,
+    };
+    match print(&report, sink) {
+        Ok(()) => Status::Done,
+        Err(Failed) => Status::WriteFault,
     }
 }
 
@@ -72,7 +72,7 @@ fn answer<K: Sink>(alloc: Global, bytes: &[u8], sink: &mut K) -> Status
 {
     match parse(alloc, bytes) {
         Ok(script) => do_script(alloc, &script, sink),
-        Err(ScriptFault::Refused { line, why }) => refuse(alloc, sink, line, Cause::Faulty(why)),
+        Err(ScriptFault::Refused { line, why }) => refuse(sink, line, Cause::Faulty(why)),
         Err(ScriptFault::NoMemory) => Status::NoMemory,
     }
 }
@@ -92,7 +92,7 @@ fn perform<S: Source, K: Sink>(alloc: Global, source: &mut S, sink: &mut K) -> S
 {
     match read_all(alloc, source, MAX_BYTES) {
         Ok(bytes) => answer(alloc, bytes.as_slice(), sink),
-        Err(ReadStop::TooLong) => refuse(alloc, sink, 0, Cause::Faulty(Reason::ScriptTooLong)),
+        Err(ReadStop::TooLong) => refuse(sink, 0, Cause::Faulty(Reason::ScriptTooLong)),
         Err(ReadStop::Failed) => Status::ReadFault,
         Err(ReadStop::NoMemory) => Status::NoMemory,
     }

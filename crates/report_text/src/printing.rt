@@ -10,9 +10,7 @@ use crate::output::{Output, put_number};
 use crate::page::Page;
 use crate::printed::print_each;
 use crate::report::Report;
-use crate::words::put_reason;
 use fuzzy_io::{Failed, Sink};
-use script_text::Reason;
 
 /// The report, to an output.
 fn put_report<O: Output>(report: &Report, out: &mut O)
@@ -36,10 +34,10 @@ pub fn print<K: Sink>(report: &Report, sink: &mut K) -> Result<(), Failed>
     page.finish()
 }
 
-/// Writes the line of a refused script. At `Err` a front of it went out. It takes no memory.
-pub fn print_refusal<K: Sink>(line: u32, why: Reason, sink: &mut K) -> Result<(), Failed>
-    ensures ok { OnOk result (Appends (K.holds sink.old) (K.holds sink.new) (refusal_bytes line why)) }
-    ensures front { OnErr result (AppendsFront (K.holds sink.old) (K.holds sink.new) (refusal_bytes line why)) }
+/// Writes the line of a refused script, with the reason in words. At `Err` a front of it went out. It takes no memory.
+pub fn print_refusal<K: Sink>(line: u32, why: &[u8], sink: &mut K) -> Result<(), Failed>
+    ensures ok { OnOk result (Appends (K.holds sink.old) (K.holds sink.new) (refusal_bytes line why.now)) }
+    ensures front { OnErr result (AppendsFront (K.holds sink.old) (K.holds sink.new) (refusal_bytes line why.now)) }
     ensures cause { CountsFaults (K.faults sink.old) (K.faults sink.new) result }
 {
     let mut page = Page::over(sink);
@@ -48,12 +46,12 @@ pub fn print_refusal<K: Sink>(line: u32, why: Reason, sink: &mut K) -> Result<()
 }
 
 /// The line of a refusal, to an output.
-fn put_refusal<O: Output>(line: u32, why: Reason, out: &mut O)
-    ensures { Adds (O.state out.old) (O.state out.new) (refusal_bytes line why) }
+fn put_refusal<O: Output>(line: u32, why: &[u8], out: &mut O)
+    ensures { Adds (O.state out.old) (O.state out.new) (refusal_bytes line why.now) }
 {
     out.put(b"refused: line ");
     put_number(out, line as u64);
     out.put(b": ");
-    put_reason(why, out);
+    out.put(why);
     out.put(b"\n");
 }

@@ -3,7 +3,6 @@ use super::made::{client, column, first_key, idle};
 use crate::{QueueKey, Report, print, print_refusal};
 use fuzzy_io::{Failed, MemorySink};
 use log_node::ListOf;
-use script_text::Reason;
 use std::alloc::{AllocError, Global};
 use std::test::Fail;
 
@@ -38,7 +37,7 @@ fn a_sink_whose_second_write_fails_holds_a_front(rt: HostRuntime) -> Result<(), 
 #[test]
 fn a_refusal_is_one_line(rt: HostRuntime) -> Result<(), Fail> {
     let mut sink = MemorySink::open(rt.alloc(), 100, &[])?;
-    assert_eq!(rt; print_refusal(8, Reason::TextLength, &mut sink), Ok(()));
+    assert_eq!(rt; print_refusal(8, b"text length", &mut sink), Ok(()));
     assert_eq!(rt; sink.bytes(), b"refused: line 8: text length\n".as_slice());
     Ok(())
 }
