@@ -1,0 +1,105 @@
+// What seats tell one another.
+ghost use Rattle.std.specs.Prelude.{◌≡◌, ℕ, ◌<◌, []};
+ghost use Rattle.stamp_board.specs.Views.{Learns, KnowsBegun, KnowsMark, KnowsOutcome, told};
+ghost use Rattle.stamp_board.specs.Law.{Told, heard, both, lowest, others};
+ghost use Rattle.stamp_board.specs.Seats.{IsSeatOf, IsColumnOf, IsLater, IsLaterColumn, SetsNone, seen, column_seen};
+
+use crate::board::Board;
+use crate::law::{Deals, Hears, Tells};
+use crate::seats::{ColumnSeat, Seat};
+use crate::steps::Inner;
+
+impl Board {
+    fn split(&self, seat: &mut Inner) -> Inner
+        requires { (seat.old.table_id ≡ self.now.table.shared.table_id) × (seat.old.me.0.size ≡ self.now.size) }
+        ensures seat { (seat.new.table_id ≡ seat.old.table_id) × (seat.new.me ≡ seat.old.me) }
+        ensures new { (result.table_id ≡ seat.old.table_id) × (result.me ≡ (told seat.old.me.0, [])) }
+    {
+        self.table.shared.split_seat::<Tells>(seat)
+    }
+
+    // The load tells that what both knew agrees.
+    pub(crate) fn join(&self, seat: &mut Inner, other: Inner)
+        requires seat { (seat.old.table_id ≡ self.now.table.shared.table_id) × (seat.old.me.0.size ≡ self.now.size) }
+        requires other { (other.table_id ≡ self.now.table.shared.table_id) × (other.me.1 ≡ []) }
+        ensures seat { (seat.new.table_id ≡ seat.old.table_id) × (seat.new.me.1 ≡ seat.old.me.1) }
+        ensures view { (n : ℕ) × (seat.new.me.0 ≡ heard (both seat.old.me.0 other.me.0) 0 n) × Told (both seat.old.me.0 other.me.0) 0 n }
+    {
+        self.table.shared.join_seat::<Hears>(seat, other);
+        self.load(seat, 0);
+    }
+
+    // The lowest part goes to a new seat.
+    pub(crate) fn deal(&self, seat: &mut Inner) -> Inner
+        requires seat { (seat.old.table_id ≡ self.now.table.shared.table_id) × (seat.old.me.0.size ≡ self.now.size) }
+        requires parts { seat.old.me.0.low < seat.old.me.0.high }
+        requires fresh { seat.old.me.0.mine ≡ [] }
+        ensures seat { (seat.new.table_id ≡ seat.old.table_id) × (seat.new.me ≡ (others seat.old.me.0, seat.old.me.1)) }
+        ensures new { (result.table_id ≡ seat.old.table_id) × (result.me ≡ (lowest seat.old.me.0, [])) }
+    {
+        self.table.shared.split_seat::<Deals>(seat)
+    }
+
+    /// A seat that has seen as much, owns no rows and has no column.
+    pub fn tell(&self, seat: &mut Seat) -> Seat
+        requires { IsSeatOf self.now seat.old }
+        ensures seat { IsLater seat.old seat.new × (seen seat.new ≡ seen seat.old) }
+        ensures new { IsSeatOf self.now result × (seen result ≡ told (seen seat.old)) × (result.used ≡ 0) }
+    {
+        let inner = self.split(&mut seat.inner);
+        Seat {
+            client: 0,
+            used: 0,
+            inner,
+        }
+    }
+
+    /// The seat then knows what both knew. No two seats know one row as begun for two nodes.
+    pub fn hear(&self, seat: &mut Seat, other: Seat)
+        requires { IsSeatOf self.now seat.old × IsSeatOf self.now other }
+        ensures seat { IsLater seat.old seat.new }
+        ensures learns { Learns (seen other) (seen seat.new) }
+        ensures one_node { (row : _) (x y : _) → KnowsBegun (seen seat.old) row x → KnowsBegun (seen other) row y → x ≡ y }
+        ensures one_mark { (row : _) (c : ℕ) (x y : _) → KnowsMark (seen seat.old) row c x → KnowsMark (seen other) row c y → x ≡ y }
+        ensures one_outcome { (row : _) (x y : _) → KnowsOutcome (seen seat.old) row x → KnowsOutcome (seen other) row y → x ≡ y }
+    {
+        let Seat {
+            client: _,
+            used: _,
+            inner,
+        } = other;
+        self.join(&mut seat.inner, inner);
+    }
+
+    /// A seat that has seen as much as the column's, owns no rows and has no column.
+    pub fn note(&self, seat: &mut ColumnSeat) -> Seat
+        requires { IsColumnOf self.now seat.old }
+        ensures seat { IsLaterColumn seat.old seat.new × (column_seen seat.new ≡ column_seen seat.old) }
+        ensures new { IsSeatOf self.now result × (seen result ≡ told (column_seen seat.old)) × (result.used ≡ 0) }
+    {
+        let inner = self.split(&mut seat.inner);
+        Seat {
+            client: 0,
+            used: 0,
+            inner,
+        }
+    }
+
+    /// The column's seat then knows what both knew.
+    pub fn learn(&self, seat: &mut ColumnSeat, other: Seat)
+        requires { IsColumnOf self.now seat.old × IsSeatOf self.now other }
+        ensures seat { IsLaterColumn seat.old seat.new }
+        ensures none { SetsNone seat.old seat.new }
+        ensures learns { Learns (seen other) (column_seen seat.new) }
+        ensures one_node { (row : _) (x y : _) → KnowsBegun (column_seen seat.old) row x → KnowsBegun (seen other) row y → x ≡ y }
+        ensures one_mark { (row : _) (c : ℕ) (x y : _) → KnowsMark (column_seen seat.old) row c x → KnowsMark (seen other) row c y → x ≡ y }
+        ensures one_outcome { (row : _) (x y : _) → KnowsOutcome (column_seen seat.old) row x → KnowsOutcome (seen other) row y → x ≡ y }
+    {
+        let Seat {
+            client: _,
+            used: _,
+            inner,
+        } = other;
+        self.join(&mut seat.inner, inner);
+    }
+}
