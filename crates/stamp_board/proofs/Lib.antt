@@ -11,3 +11,4 @@ pub mod Telling
 pub mod Opening
 pub mod Gathering
 pub mod Ending
+pub mod Pairs
