@@ -21,8 +21,8 @@ use Rattle.stamp_board.specs.declared.view.Size.{Size}
 use Rattle.stamp_board.specs.declared.view.View.{View}
 use Rattle.stamp_board.specs.Words.{row_at, word_at, mark_from, outcome_from}
 use Rattle.stamp_board.specs.Rows.{AreColours, marks_at, outcome_at}
-use Rattle.stamp_board.specs.Views.{Has, at, Fits, Grows, KnowsAll, KnowsOutcome}
-use Rattle.stamp_board.specs.Law.{Lawful, Told, heard, AreSet}
+use Rattle.stamp_board.specs.Views.{Has, at, Grows, KnowsAll, KnowsOutcome}
+use Rattle.stamp_board.specs.Law.{Fits, Lawful, Told, heard, AreSet}
 use Rattle.stamp_board.proofs.Colours.{has_bit, marks_below, marks_are_below}
 use Rattle.stamp_board.proofs.Knowing.{if_yes, if_no, heard_grows, heard_mine, heard_size, heard_knows}
 use Rattle.stamp_board.proofs.Outcomes.{open_if_missing, open_if_unbegun}
@@ -122,7 +122,7 @@ module _ (k : Size) (u v : View) (r bits c count : ℕ) (taken : List Mark) (t :
         let old : Fits k ws v = subst (λ (z : Size). Fits z ws v) is told.2 in
         let law = told_law k v i n is told in
         let nonzero : get_or ws (word_at k r 0) 0 ≢ 0 = λ z. t.began (sym (t.first ws old) ∙ z) in
-        (ws, law, told_fits k v i n is told, open_if_missing k ws r c few (law.spans r nonzero).1 (subst (λ (z : ℕ). has_bit z c ≡ true) (sym (t.first ws old)) bit) (ap (λ (z : ℕ). get_or ws z 0) (sym here) ∙ told.3 ∙ none))
+        (ws, law, told_fits k v i n is told, open_if_missing k ws r c few (law.colours r nonzero).within (subst (λ (z : ℕ). has_bit z c ≡ true) (sym (t.first ws old)) bit) (ap (λ (z : ℕ). get_or ws z 0) (sym here) ∙ told.3 ∙ none))
 
 pub ended_marks : (k : Size) (u v : View) (r bits count : ℕ) (taken : List Mark) → Taken k u v r bits k.colours count taken → k.colours ≤ 64
     → (ws : List ℕ) → Lawful k ws → Fits k ws v → outcome_at k ws r ≡ outcome_of taken
@@ -131,7 +131,7 @@ ended_marks k u v r bits count taken t few ws law f =
     let e : now ≡ bits = t.first ws f in
     let nonzero : now ≢ 0 = λ z. t.began (sym e ∙ z) in
     let all : marks_at k ws r record { 0 = now } ≡ taken
-    = marks_are_below k ws r record { 0 = now } few (law.spans r nonzero).1 ∙ ap (λ (z : ℕ). marks_below k ws r z k.colours) e ∙ t.marks ws f in
+    = marks_are_below k ws r record { 0 = now } few (law.colours r nonzero).within ∙ ap (λ (z : ℕ). marks_below k ws r z k.colours) e ∙ t.marks ws f in
     if_no now 0 Open _ nonzero ∙ ap outcome_of all
 
 -- a begun row has a mark
@@ -141,11 +141,11 @@ ended_some k u v r bits count taken t few z =
     let now : ℕ = get_or ws (word_at k r 0) 0 in
     let e : now ≡ bits = t.first ws t.fits in
     let nonzero : now ≢ 0 = λ y. t.began (sym e ∙ y) in
-    let spans : AreColours k record { 0 = now } = t.law.spans r nonzero in
-    let many : 2 ≤ length (members record { 0 = now }) = spans.0 in
+    let spans : AreColours k record { 0 = now } = t.law.colours r nonzero in
+    let many : 2 ≤ length (members record { 0 = now }) = spans.many in
     let wide : length (marks_at k ws r record { 0 = now }) ≡ length (members record { 0 = now }) = length-map (members record { 0 = now }) (λ (c : ℕ). mark_from (get_or ws (word_at k r (1 + c)) 0)) in
     let all : length (marks_at k ws r record { 0 = now }) ≡ count
-    = ap length (marks_are_below k ws r record { 0 = now } few spans.1 ∙ ap (λ (y : ℕ). marks_below k ws r y k.colours) e ∙ t.marks ws t.fits) ∙ t.many in
+    = ap length (marks_are_below k ws r record { 0 = now } few spans.within ∙ ap (λ (y : ℕ). marks_below k ws r y k.colours) e ∙ t.marks ws t.fits) ∙ t.many in
     omega arith
 
 module _ (k : Size) (u v v' : View) (r bits c count count' : ℕ) (marks marks' : List Mark) (t : Taken k u v r bits c count (take count marks)) where
@@ -219,7 +219,7 @@ never_open k v w row is few grows all ws law f e =
     let g = f.known (word_at k r (1 + c)) n (grows.known (word_at k r (1 + c)) n known) in
     let p : 0 < n = g.0 in let q : get_or ws (word_at k r (1 + c)) 0 ≡ n = g.1 in omega arith in
     let marks : List Mark = marks_at k ws r record { 0 = bits } in
-    let here : list_any is_missing marks ≡ false = ap (list_any is_missing) (marks_are_below k ws r record { 0 = bits } few (law.spans r nonzero).1) ∙ present_below k ws r bits k.colours each in
+    let here : list_any is_missing marks ≡ false = ap (list_any is_missing) (marks_are_below k ws r record { 0 = bits } few (law.colours r nonzero).within) ∙ present_below k ws r bits k.colours each in
     not_open marks here (sym (if_no bits 0 Open _ nonzero) ∙ e)
 
 module _ (k : Size) (v w : View) (row : Row) (new found : ℕ) (kept : Outcome) (is : v.size ≡ k)

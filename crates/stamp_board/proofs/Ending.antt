@@ -20,10 +20,11 @@ use Rattle.stamp_board.specs.declared.seats.Seat.{Seat}
 use Rattle.stamp_board.specs.declared.seats.ColumnSeat.{ColumnSeat}
 use Rattle.stamp_board.specs.Words.{row_at, word_at, words_of, owner_of, mark_from}
 use Rattle.stamp_board.specs.Rows.{IsRow, AreColours, colours_in, mark_in}
-use Rattle.stamp_board.specs.Views.{at, Fits}
-use Rattle.stamp_board.specs.Law.{Lawful, Kept}
+use Rattle.stamp_board.specs.Views.{at}
+use Rattle.stamp_board.specs.Law.{Fits, Lawful, Kept}
 use Rattle.stamp_board.specs.Seats.{seen, column_seen}
-use Rattle.stamp_board.specs.Closing.{IsIn, Gathered, Closes, rows_begun, all_begun}
+use Rattle.stamp_board.specs.Closing.{Closes, rows_begun, all_begun}
+use Rattle.stamp_board.specs.Inside.{IsIn, Gathered}
 use Rattle.stamp_board.proofs.Places.{owner_of_mark, owner_of_row}
 use Rattle.stamp_board.proofs.Keeps.{fits}
 use Rattle.stamp_board.proofs.Possible.{may_be}

@@ -12,8 +12,8 @@ use Rattle.skeen_core.specs.Outcomes.{is_missing, is_stamp_end_fence, is_memory_
 use Rattle.stamp_board.specs.declared.view.Size.{Size}
 use Rattle.stamp_board.specs.declared.view.View.{View}
 use Rattle.stamp_board.specs.Words.{mark_from}
-use Rattle.stamp_board.specs.Views.{Has, Fits}
-use Rattle.stamp_board.specs.Law.{heard, IsSet, AreSet, IsKept}
+use Rattle.stamp_board.specs.Views.{Has}
+use Rattle.stamp_board.specs.Law.{Fits, heard, IsSet, AreSet, IsKept}
 use Rattle.stamp_board.proofs.Knowing.{if_yes, if_no, heard_cases, heard_some}
 
 pub fits_heard : (k : Size) (ws : List ℕ) (v : View) (i n : ℕ) → Fits k ws v → get_or ws i 0 ≡ n → Fits k ws (heard v i n)

@@ -18,8 +18,8 @@ use Rattle.stamp_board.specs.declared.view.Size.{Size}
 use Rattle.stamp_board.specs.declared.view.View.{View}
 use Rattle.stamp_board.specs.Words.{width, words_of, word_at, row_at, owner_of, outcome_from}
 use Rattle.stamp_board.specs.Rows.{AreColours, outcome_at}
-use Rattle.stamp_board.specs.Views.{Has, at, Plays, Fits, told}
-use Rattle.stamp_board.specs.Law.{Lawful, Sits, Kept, Told, heard, wrote, with_node, looked, marked, ended, began, Turns, lowest, others, both, merged, spent, newcomer, came}
+use Rattle.stamp_board.specs.Views.{Has, at, told}
+use Rattle.stamp_board.specs.Law.{Plays, Fits, Lawful, Sits, Kept, Told, heard, wrote, with_node, looked, marked, ended, began, Turns, lowest, others, both, merged, spent, newcomer, came}
 use Rattle.stamp_board.proofs.Colours.{has_bit, not_empty}
 use Rattle.stamp_board.proofs.Places.{owner_of_word, owner_of_mark, owner_of_row, same_row, same_part, row_of_word}
 use Rattle.stamp_board.proofs.Knowing.{if_yes, if_no, Has-append, at_here, at_else, at-append, heard_some, heard_cases}
@@ -189,7 +189,7 @@ module _ (k : Size) where
         let val : get_or after j 0 ≡ n = subst (λ (z : ℕ). get_or after z 0 ≡ n) (sym here) after_same in
         let agree : (o : ℕ) → o ≤ k.colours → get_or ws (word_at k r o) 0 ≡ get_or after (word_at k r o) 0
         = λ o le. let ne : word_at k r o ≢ word_at k r p = λ e. let d : o ≡ p = same_part k r o r p (omega arith) part e in omega arith in sym (after_else (word_at k r o) ne) in
-        ap outcome_from val ∙ ends last ∙ outcome_same k ws after r (λ ne. (law.spans r ne).1) agree ∙ ap (λ (z : ℕ). outcome_at k after z) (sym same))
+        ap outcome_from val ∙ ends last ∙ outcome_same k ws after r (λ ne. (law.colours r ne).within) agree ∙ ap (λ (z : ℕ). outcome_at k after z) (sym same))
         (λ not_last.
         let ne : j ≢ word_at k r p = λ e. not_last (sym (same_part k q (k.colours + 1) r p (omega arith) part e)) in
         let val : get_or after j 0 ≡ get_or ws j 0 = after_else j ne in
@@ -200,15 +200,15 @@ module _ (k : Size) where
         = λ o lt. after_else (word_at k q o) (λ e. other (same_row k q o r p lt part e)) in
         let val : get_or after j 0 ≡ get_or ws j 0 = away (k.colours + 1) (omega arith) in
         let was : get_or ws j 0 ≢ 0 = λ z. set_now (val ∙ z) in
-        ap outcome_from val ∙ law.finals q was ∙ outcome_same k ws after q (λ ne. (law.spans q ne).1) (λ o le. sym (away o (omega arith))))
+        ap outcome_from val ∙ law.finals q was ∙ outcome_same k ws after q (λ ne. (law.colours q ne).within) (λ o le. sym (away o (omega arith))))
 
     pub law_set : n < 2 ^ 62 + 2 → (p ≡ 0 → AreColours k record { 0 = n }) → (p ≡ k.colours + 1 → outcome_from n ≡ outcome_at k ws r) → (p ≢ k.colours + 1 → outcome_at k ws r ≡ Open) → Lawful k after
     law_set small spans ends undone = record {
       small = λ j. dite (ℕ_discrete j (word_at k r p)) (λ e. let P : ℕ → Type 0 = λ z. get_or after z 0 < 2 ^ 62 + 2 in subst P (sym e) (let Q : ℕ → Type 0 = λ z. z < 2 ^ 62 + 2 in subst Q (sym after_same) small))
           (λ ne. let Q : ℕ → Type 0 = λ z. z < 2 ^ 62 + 2 in subst Q (sym (after_else j ne)) (law.small j));
-      spans = λ q set_now. let j : ℕ = word_at k q 0 in dite (ℕ_discrete j (word_at k r p))
+      colours = λ q set_now. let j : ℕ = word_at k q 0 in dite (ℕ_discrete j (word_at k r p))
           (λ e. let first : p ≡ 0 = sym (same_part k q 0 r p (omega arith) part e) in subst (λ (z : ℕ). AreColours k record { 0 = z }) (sym (ap (λ (z : ℕ). get_or after z 0) e ∙ after_same)) (spans first))
-          (λ ne. let val = after_else j ne in subst (λ (z : ℕ). AreColours k record { 0 = z }) (sym val) (law.spans q (λ z. set_now (val ∙ z))));
+          (λ ne. let val = after_else j ne in subst (λ (z : ℕ). AreColours k record { 0 = z }) (sym val) (law.colours q (λ z. set_now (val ∙ z))));
       finals = law_finals ends undone;
     }
 
@@ -282,7 +282,7 @@ module _ (k : Size) where
       let begun = kept.named r x ((kept.sits id me.0 here).begun r x knows) in
       let bit_now : has_bit (get_or s.words (word_at k r 0) 0) c ≡ true = subst (λ (z : ℕ). has_bit z c ≡ true) (sym begun.1) bit in
       let nonzero : get_or s.words (word_at k r 0) 0 ≢ 0 = λ z. let p = begun.0 in let e = begun.1 in omega arith in
-      let undone = open_if_missing k s.words r c few (kept.lawful.spans r nonzero).1 bit_now free in
+      let undone = open_if_missing k s.words r c few (kept.lawful.colours r nonzero).within bit_now free in
       kept_set s kept id me.0 (wrote me.0 i n) i n kept.nodes here free
       (law_set s.words r (1 + c) n within part kept.lawful small (λ z. absurd (omega arith)) (λ z. absurd (omega arith)) (λ _. undone))
       (λ _ _ e. e)
@@ -318,7 +318,7 @@ module _ (k : Size) where
       → Allows (Kept k) slots id me (word_at k r 0) (λ m. either (eqb m 0) x.colours.0 m) (Turns began (step slots (word_at k r 0) 0 x.colours.0 (some x)) me)
   begins slots id me r x is inside plays small spans =
       let n : ℕ = x.colours.0 in
-      let many = spans.0 in
+      let many = spans.many in
       let filled : n ≢ 0 = not_empty x.colours (omega arith) in
       let pos : 0 < n = omega arith in
       exchanges slots id me (word_at k r 0) n (some x) began is (λ m ne. if_no m 0 _ _ ne) (λ s kept here free.
@@ -512,7 +512,7 @@ opens k n high is =
       long = length-replicate n 0 ∙ is;
       lawful = record {
         small = λ i. let P : ℕ → Type 0 = λ z. z < 2 ^ 62 + 2 in subst P (sym (blank i)) (omega arith);
-        spans = λ r ne. absurd (ne (blank (word_at k r 0)));
+        colours = λ r ne. absurd (ne (blank (word_at k r 0)));
         finals = λ r ne. absurd (ne (blank (word_at k r (k.colours + 1))));
       };
       nodes = λ _. none;

@@ -11,9 +11,9 @@ use Rattle.stamp_board.specs.declared.view.Size.{Size}
 use Rattle.stamp_board.specs.declared.view.View.{View}
 use Rattle.stamp_board.specs.Words.{row_at, word_at, mark_from}
 use Rattle.stamp_board.specs.Views.{Has, at, Grows, KnowsWord, KnowsBegun, KnowsMark, own_mark}
+use Rattle.stamp_board.specs.Law.{Told, heard, wrote, with_node}
 use Rattle.stamp_board.specs.Rows.{AreColours, IsRow}
 use Rattle.stamp_board.proofs.Colours.{not_empty}
-use Rattle.stamp_board.specs.Law.{Told, heard, wrote, with_node}
 use Rattle.stamp_board.proofs.Knowing.{if_yes, if_no, at_here, at_else, heard_mine, heard_size, heard_knows}
 use Rattle.stamp_board.proofs.Places.{same_row, client_of_row, number_of_row}
 use Rattle.stamp_board.proofs.Deciding.{mark_from-none}
@@ -129,7 +129,7 @@ module _ (k : Size) (v w : View) (client used found : ℕ) (x : Node) (is : v.si
       (λ e z. let same : word_at v.size (row_at v.size next) 0 ≡ word_at v.size (client * v.size.rows + j) 0 = ap (λ (n : ℕ). word_at v.size (client * v.size.rows + n) 0) (sym e) in
       let sum : at ((word_at v.size (row_at v.size next) 0, x.colours.0) ∷ v.mine) (word_at v.size (client * v.size.rows + j) 0) ≡ x.colours.0 + at v.mine (word_at v.size (client * v.size.rows + j) 0)
       = at_here v.mine (word_at v.size (row_at v.size next) 0) x.colours.0 (word_at v.size (client * v.size.rows + j) 0) same in
-      let many = bits.0 in let filled : x.colours.0 ≢ 0 = not_empty x.colours (omega arith) in omega arith)
+      let many = bits.many in let filled : x.colours.0 ≢ 0 = not_empty x.colours (omega arith) in omega arith)
       (λ d z. all j (omega arith) (sym (at_else v.mine (word_at v.size (row_at v.size next) 0) x.colours.0 (word_at v.size (client * v.size.rows + j) 0) (differ j d)) ∙ z)))
 
   pub next_begun : IsNextBegun v w client used x

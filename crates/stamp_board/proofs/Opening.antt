@@ -8,7 +8,8 @@ use Rattle.atomic_table.specs.declared.shared.Seat.{Seat as Inner}
 use Rattle.log_node.specs.declared.node.Node.{Node}
 use Rattle.stamp_board.specs.declared.view.View.{View}
 use Rattle.stamp_board.specs.Law.{lowest, others}
-use Rattle.stamp_board.specs.Seats.{HasParts, IsFreshClient, IsFreshColumn, AreFreshClients, AreFreshColumns}
+use Rattle.stamp_board.specs.Seats.{IsFreshClient, IsFreshColumn, AreFreshClients, AreFreshColumns}
+use Rattle.stamp_board.specs.Inside.{HasParts}
 
 module _ {A : Type 0} where
   -- an item of a list that was lengthened by one is one of those before, or the last

@@ -1,5 +1,5 @@
 -- Lists of two, and a set of two colours.
-use Rattle.std.proofs.Common.{◌≡◌, ℕ, ◌+◌, ◌<◌, ◌≤◌, true, false, List, [], ◌∷◌, ◌++◌, length, Some, slice_get, sym, refl, ap, ◌∙◌, subst, arith, length-append}
+use Rattle.std.proofs.Common.{◌≡◌, ℕ, ◌+◌, true, false, List, [], ◌∷◌, ◌++◌, length, Some, slice_get, sym, refl, ap, ◌∙◌, subst, arith, length-append}
 use Rattle.std.specs.Prelude.{◌==◌}
 use Rattle.std.specs.Int.{bit_at}
 use Rattle.std.proofs.lemmas.Nat.Bits.{bit_at_above}
@@ -26,9 +26,9 @@ abbrev pub first_two : Colours
 first_two = record { 0 = 3 }
 
 pub two_colours : (size : Size) → size.colours ≡ 2 → AreColours size first_two
-two_colours size two = (
-  (let many : length (members first_two) ≡ 2 = refl in omega arith),
-  (λ c h. dite (dec_le 2 c)
+two_colours size two = record {
+  many = (let two : length (members first_two) ≡ 2 = refl in omega arith);
+  within = (λ c h. dite (dec_le 2 c)
       (λ le. absurd (let none : bit_at 3 c ≡ 0 = bit_at_above 3 2 c (omega arith) le in let no : has first_two c ≡ false = ap (λ (n : ℕ). n == 1) none in let both : true ≡ false = sym h ∙ no in cc (both)))
-      (λ lt. omega arith)),
-)
+      (λ lt. omega arith));
+}

@@ -12,8 +12,8 @@ use Rattle.skeen_core.specs.Marks.{IsMark, IsOutcome}
 use Rattle.stamp_board.specs.declared.view.Size.{Size}
 use Rattle.stamp_board.specs.declared.view.View.{View}
 use Rattle.stamp_board.specs.Words.{row_at, word_at, mark_from, outcome_from}
-use Rattle.stamp_board.specs.Views.{Fits, MayBe}
-use Rattle.stamp_board.specs.Law.{Lawful, Told, heard, IsSet, IsKept}
+use Rattle.stamp_board.specs.Views.{MayBe}
+use Rattle.stamp_board.specs.Law.{Fits, Lawful, Told, heard, IsSet, IsKept}
 use Rattle.stamp_board.proofs.Knowing.{if_yes, if_no, heard_size}
 use Rattle.stamp_board.proofs.Fitting.{mark_from-good}
 use Rattle.stamp_board.proofs.Deciding.{told_law, told_fits, told_small}
@@ -43,7 +43,7 @@ own ws v law f = let k : Size = v.size in record {
   one_node = λ row x y h h'. f.same (row_at k row) x y h h';
   marks = λ row c m h. ap mark_from (f.known (word_at k (row_at k row) (1 + c)) h.0 h.1).1 ∙ h.2;
   outcomes = λ row o h. ap outcome_from (f.known (word_at k (row_at k row) (k.colours + 1)) h.0 h.1).1 ∙ h.2;
-  colours = λ row ne. law.spans (row_at k row) ne;
+  colours = λ row ne. law.colours (row_at k row) ne;
   stamps = λ row c. mark_from-stamp (get_or ws (word_at k (row_at k row) (1 + c)) 0) (law.small (word_at k (row_at k row) (1 + c)));
   kept = λ row ne. law.finals (row_at k row) (λ z. ne (ap outcome_from z));
 }

@@ -1,5 +1,5 @@
 -- The rule of a board's table, and what its steps tell.
-use Rattle.std.specs.Prelude.{◌≡◌, ◌≢◌, ℕ, ◌+◌, ◌/◌, ◌^◌, ◌<◌, ◌==◌, if◌then◌else◌, List, [], ◌∷◌, ◌++◌, length, slice_index}
+use Rattle.std.specs.Prelude.{◌≡◌, ◌≢◌, ℕ, ◌+◌, ◌/◌, ◌^◌, ◌<◌, ◌≤◌, ◌==◌, if◌then◌else◌, List, [], ◌∷◌, ◌++◌, length, slice_index}
 use mathlib.Core.Option.{Option, none, some}
 use lib.ListN.{get_elem?}
 use Rattle.atomic_table.specs.Table.{State, Me, Step}
@@ -13,7 +13,7 @@ use Rattle.stamp_board.specs.declared.view.Size.{Size}
 use Rattle.stamp_board.specs.declared.view.View.{View}
 use Rattle.stamp_board.specs.Words.{width, words_of, word_at, owner_of, outcome_from}
 use Rattle.stamp_board.specs.Rows.{AreColours, outcome_at}
-use Rattle.stamp_board.specs.Views.{Has, at, Plays, Fits}
+use Rattle.stamp_board.specs.Views.{Has, at}
 
 -- a mark that is set
 abbrev pub IsSet : Mark → Type 0
@@ -31,10 +31,22 @@ IsKept Open = ⊥
 IsKept (Gone why) = Unit {0}
 IsKept (Final f) = IsStamp f
 
+-- only a seat that plays the part a sets the words of a
+abbrev pub Plays : View → ℕ → Type 0
+Plays v a = (0 < a) × (v.low ≤ a) × (a < v.high)
+
+-- the words agree with what the seat knows, and with what it set of its own
+pub record Fits (k : Size) (ws : List ℕ) (v : View) : Type 0 where
+  pub known : (i n : ℕ) → Has v.known i n → (0 < n) × (slice_index ws i ≡ n)
+  pub begun : (r : ℕ) (x : Node) → Has v.begun r x → (0 < x.colours.0) × (slice_index ws (word_at k r 0) ≡ x.colours.0)
+  pub same : (r : ℕ) (x y : Node) → Has v.begun r x → Has v.begun r y → x ≡ y
+  pub mine : (i : ℕ) → Plays v (owner_of k i) → at v.mine i ≡ slice_index ws i
+  pub own : (i : ℕ) → at v.mine i ≢ 0 → Plays v (owner_of k i)
+
 -- each number keeps its bound, each begun row has two colours or more, and each final word has the outcome of its row's marks
 pub record Lawful (k : Size) (ws : List ℕ) : Type 0 where
   pub small : (i : ℕ) → slice_index ws i < 2 ^ 62 + 2
-  pub spans : (r : ℕ) → slice_index ws (word_at k r 0) ≢ 0 → AreColours k record { 0 = slice_index ws (word_at k r 0) }
+  pub colours : (r : ℕ) → slice_index ws (word_at k r 0) ≢ 0 → AreColours k record { 0 = slice_index ws (word_at k r 0) }
   pub finals : (r : ℕ) → slice_index ws (word_at k r (k.colours + 1)) ≢ 0 → outcome_from (slice_index ws (word_at k r (k.colours + 1))) ≡ outcome_at k ws r
 
 -- what holds of each view: what is known stands, a begun row has its one node, and the seat has set those of its own words that are set, and no others

@@ -4,3 +4,4 @@ pub mod Views
 pub mod Law
 pub mod Seats
 pub mod Closing
+pub mod Inside

@@ -16,8 +16,9 @@ abbrev pub IsRow : Size → Row → Type 0
 IsRow k row = (row.client < k.clients) × (row.number < k.rows)
 
 -- two colours or more, each one of the board's
-abbrev pub AreColours : Size → Colours → Type 0
-AreColours k set = (2 ≤ length (members set)) × ((c : ℕ) → has set c ≡ true → c < k.colours)
+pub record AreColours (k : Size) (set : Colours) : Type 0 where
+  pub many : 2 ≤ length (members set)
+  pub within : (c : ℕ) → has set c ≡ true → c < k.colours
 
 -- the colours of the node for which the row is begun; none where it is not begun
 abbrev pub colours_in : Size → List ℕ → Row → Colours

@@ -7,7 +7,6 @@ use Rattle.skeen_core.specs.declared.marks.Mark.TheVariants as marks
 use Rattle.skeen_core.specs.Marks.{IsMark}
 use Rattle.stamp_board.specs.declared.view.View.{View}
 use Rattle.stamp_board.specs.declared.board.Board.{Board}
-use Rattle.atomic_table.specs.declared.shared.Seat.{Seat as Inner}
 use Rattle.stamp_board.specs.declared.seats.Seat.{Seat}
 use Rattle.stamp_board.specs.declared.seats.ColumnSeat.{ColumnSeat}
 use Rattle.stamp_board.specs.Rows.{IsRow}
@@ -108,13 +107,3 @@ AreClientsOf b ss = (n : ℕ) (s : Seat) → slice_get ss n ≡ Some s → IsSea
 -- they are the seats of the columns, by colour
 abbrev pub AreColumnsOf : Board → List ColumnSeat → Type 0
 AreColumnsOf b cs = (n : ℕ) (c : ColumnSeat) → slice_get cs n ≡ Some c → IsColumnOf b c × (c.colour ≡ n)
-
--- the seat that has the parts of the board from `first` on, none of them used
-pub record HasParts (b : Board) (s : Inner Node View) (first : ℕ) : Type 0 where
-  pub board : s.table_id ≡ b.table.shared.table_id
-  pub size : s.me.0.size ≡ b.size
-  pub low : s.me.0.low ≡ first
-  pub high : s.me.0.high ≡ 1 + b.size.clients + b.size.colours
-  pub mine : s.me.0.mine ≡ []
-  pub known : s.me.0.known ≡ []
-  pub begun : s.me.0.begun ≡ []

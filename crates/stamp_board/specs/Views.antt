@@ -1,5 +1,5 @@
 -- What a seat knows of its board.
-use Rattle.std.specs.Prelude.{◌≡◌, ◌≢◌, ◌⊎◌, ℕ, ◌+◌, ◌<◌, ◌≤◌, ◌==◌, true, if◌then◌else◌, List, [], ◌∷◌, slice_index}
+use Rattle.std.specs.Prelude.{◌≡◌, ◌≢◌, ◌⊎◌, ℕ, ◌+◌, ◌==◌, true, if◌then◌else◌, List, [], ◌∷◌}
 use Rattle.log_node.specs.declared.ids.Row.{Row}
 use Rattle.log_node.specs.declared.node.Node.{Node}
 use Rattle.log_node.specs.Sets.{has}
@@ -9,7 +9,7 @@ use Rattle.skeen_core.specs.declared.marks.Outcome.TheVariants.{Open}
 use Rattle.skeen_core.specs.Marks.{IsMark}
 use Rattle.stamp_board.specs.declared.view.Size.{Size}
 use Rattle.stamp_board.specs.declared.view.View.{View}
-use Rattle.stamp_board.specs.Words.{row_at, word_at, owner_of, mark_from, outcome_from}
+use Rattle.stamp_board.specs.Words.{row_at, word_at, mark_from, outcome_from}
 use Rattle.stamp_board.specs.Rows.{AreColours, IsBegun, colours_in, mark_in, kept_in, outcome_in}
 
 -- the list has the pair of i and x
@@ -67,18 +67,6 @@ pub record Grows (v w : View) : Type 0 where
 -- a seat that has seen as much, and has no part of the board
 abbrev pub told : View → View
 told v = record v { low = 0; high = 0; mine = [] }
-
--- only a seat that plays the part a sets the words of a
-abbrev pub Plays : View → ℕ → Type 0
-Plays v a = (0 < a) × (v.low ≤ a) × (a < v.high)
-
--- the words agree with what the seat knows, and with what it set of its own
-pub record Fits (k : Size) (ws : List ℕ) (v : View) : Type 0 where
-  pub known : (i n : ℕ) → Has v.known i n → (0 < n) × (slice_index ws i ≡ n)
-  pub begun : (r : ℕ) (x : Node) → Has v.begun r x → (0 < x.colours.0) × (slice_index ws (word_at k r 0) ≡ x.colours.0)
-  pub same : (r : ℕ) (x y : Node) → Has v.begun r x → Has v.begun r y → x ≡ y
-  pub mine : (i : ℕ) → Plays v (owner_of k i) → at v.mine i ≡ slice_index ws i
-  pub own : (i : ℕ) → at v.mine i ≢ 0 → Plays v (owner_of k i)
 
 -- The board may have these words: they break no rule of boards, and agree with all that the seat knows.
 -- What is known of a row, a mark or an outcome is what stands, and a row has one node. A begun row has two colours or

@@ -4,8 +4,8 @@ ghost use Rattle.skeen_core.specs.Outcomes.{outcome_of};
 ghost use Rattle.skeen_core.specs.Marks.{IsOutcome};
 ghost use Rattle.stamp_board.specs.Words.{outcome_from};
 ghost use Rattle.stamp_board.specs.Rows.{IsRow, outcome_in};
-ghost use Rattle.stamp_board.specs.Views.{Fits, Grows, KnowsAll, KnowsOutcome, MayBe};
-ghost use Rattle.stamp_board.specs.Law.{AreSet, IsKept, Lawful};
+ghost use Rattle.stamp_board.specs.Views.{Grows, KnowsAll, KnowsOutcome, MayBe};
+ghost use Rattle.stamp_board.specs.Law.{Fits, AreSet, IsKept, Lawful};
 ghost use Rattle.stamp_board.specs.Seats.{IsSeatOf, IsLater, seen};
 
 use crate::board::Board;

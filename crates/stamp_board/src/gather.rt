@@ -1,10 +1,10 @@
 // All seats become one, when the board closes.
 ghost use Rattle.std.specs.Prelude.{◌≡◌, ◌≢◌, ℕ, ◌+◌, ◌<◌, ◌≤◌, [], ◌∷◌, length};
-ghost use Rattle.stamp_board.specs.Views.{at, Plays};
-ghost use Rattle.stamp_board.specs.Words.{owner_of};
-ghost use Rattle.stamp_board.specs.Law.{merged, nobody};
+ghost use Rattle.stamp_board.specs.Views.{at};
+ghost use Rattle.stamp_board.specs.Law.{Plays, merged, nobody};
 ghost use Rattle.stamp_board.specs.Seats.{AreClientsOf, AreColumnsOf};
-ghost use Rattle.stamp_board.specs.Closing.{Gathered};
+ghost use Rattle.stamp_board.specs.Inside.{Gathered};
+ghost use Rattle.stamp_board.specs.Words.{owner_of};
 
 use crate::board::Board;
 use crate::law::{Comes, Gathers};

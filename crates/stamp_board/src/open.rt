@@ -1,7 +1,8 @@
 // A board with its seats.
 ghost use Rattle.std.specs.Prelude.{◌≡◌, ◌+◌, ◌<◌, ◌≤◌, [], length, IfOk};
 ghost use Rattle.stamp_board.specs.Words.{words_of};
-ghost use Rattle.stamp_board.specs.Seats.{AreFreshClients, AreFreshColumns, HasParts};
+ghost use Rattle.stamp_board.specs.Seats.{AreFreshClients, AreFreshColumns};
+ghost use Rattle.stamp_board.specs.Inside.{HasParts};
 
 use crate::board::Board;
 use crate::seats::{ColumnSeat, ColumnSeats, Seat, Seats};

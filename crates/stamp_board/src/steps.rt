@@ -4,8 +4,8 @@ ghost use mathlib.Core.Option.{none, some};
 ghost use Rattle.log_node.specs.Sets.{has};
 ghost use Rattle.stamp_board.specs.Words.{words_of, word_at, row_at, outcome_from};
 ghost use Rattle.stamp_board.specs.Rows.{AreColours, IsRow, outcome_in};
-ghost use Rattle.stamp_board.specs.Views.{Has, Fits};
-ghost use Rattle.stamp_board.specs.Law.{Lawful, Told, heard, wrote, with_node};
+ghost use Rattle.stamp_board.specs.Views.{Has};
+ghost use Rattle.stamp_board.specs.Law.{Fits, Lawful, Told, heard, wrote, with_node};
 
 use crate::board::Board;
 use crate::law::{Begins, Ends, Looks, Marks};

@@ -18,6 +18,19 @@ impl Board {
         self.table.shared.split_seat::<Tells>(seat)
     }
 
+    fn told_seat(&self, seat: &mut Inner) -> Seat
+        requires { (seat.old.table_id ≡ self.now.table.shared.table_id) × (seat.old.me.0.size ≡ self.now.size) }
+        ensures seat { (seat.new.table_id ≡ seat.old.table_id) × (seat.new.me ≡ seat.old.me) }
+        ensures new { IsSeatOf self.now result × (seen result ≡ told seat.old.me.0) × (result.used ≡ 0) }
+    {
+        let inner = self.split(seat);
+        Seat {
+            client: 0,
+            used: 0,
+            inner,
+        }
+    }
+
     // The load tells that what both knew agrees.
     pub(crate) fn join(&self, seat: &mut Inner, other: Inner)
         requires seat { (seat.old.table_id ≡ self.now.table.shared.table_id) × (seat.old.me.0.size ≡ self.now.size) }
@@ -46,12 +59,7 @@ impl Board {
         ensures seat { IsLater seat.old seat.new × (seen seat.new ≡ seen seat.old) }
         ensures new { IsSeatOf self.now result × (seen result ≡ told (seen seat.old)) × (result.used ≡ 0) }
     {
-        let inner = self.split(&mut seat.inner);
-        Seat {
-            client: 0,
-            used: 0,
-            inner,
-        }
+        self.told_seat(&mut seat.inner)
     }
 
     /// The seat then knows what both knew. No two seats know one row as begun for two nodes.
@@ -77,12 +85,7 @@ impl Board {
         ensures seat { IsLaterColumn seat.old seat.new × (column_seen seat.new ≡ column_seen seat.old) }
         ensures new { IsSeatOf self.now result × (seen result ≡ told (column_seen seat.old)) × (result.used ≡ 0) }
     {
-        let inner = self.split(&mut seat.inner);
-        Seat {
-            client: 0,
-            used: 0,
-            inner,
-        }
+        self.told_seat(&mut seat.inner)
     }
 
     /// The column's seat then knows what both knew.

@@ -26,4 +26,4 @@ returns c = let k = c.args.size in let ws = c.args.words.now in let l = c.loop-c
     let a = l.auto.colour-end in let b = c.loop-colour-test.false in let last : l.colour ≡ k.colours = omega arith in
     let bits : get_or ws c.index.result 0 ≡ (colours_in k ws c.args.row).0 = ap (λ (z : ℕ). get_or ws z 0) c.index.ensures.word in
     let few : k.colours ≤ 64 = (let most = c.requires.size.1 in omega arith) in
-    l.invariant ∙ (λ i. below f (bits i) (last i)) ∙ sym (below_members f (colours_in k ws c.args.row) k.colours few c.requires.colours.1)
+    l.invariant ∙ (λ i. below f (bits i) (last i)) ∙ sym (below_members f (colours_in k ws c.args.row) k.colours few c.requires.colours.within)

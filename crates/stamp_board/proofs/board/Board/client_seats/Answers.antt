@@ -1,5 +1,6 @@
 use Rattle.std.proofs.Common.{◌≡◌, ◌+◌, length, [], ◌∷◌, length-append, sym, ap, ◌∙◌, subst, arith}
-use Rattle.stamp_board.specs.Seats.{HasParts, IsFreshClient, AreFreshClients}
+use Rattle.stamp_board.specs.Seats.{IsFreshClient, AreFreshClients}
+use Rattle.stamp_board.specs.Inside.{HasParts}
 use Rattle.stamp_board.proofs.Opening.{more_clients, dealt_first, dealt_client}
 use Rattle.stamp_board.proofs.board.Board.client_seats.Goals as goal
 

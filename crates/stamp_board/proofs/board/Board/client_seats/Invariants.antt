@@ -1,5 +1,6 @@
 use Rattle.std.proofs.Common.{◌≡◌, ◌+◌, length}
-use Rattle.stamp_board.specs.Seats.{HasParts, AreFreshClients}
+use Rattle.stamp_board.specs.Seats.{AreFreshClients}
+use Rattle.stamp_board.specs.Inside.{HasParts}
 use Rattle.stamp_board.proofs.board.Board.client_seats.Given as goal
 
 abbrev pub invariant-loop-client : goal.invariant-loop-client

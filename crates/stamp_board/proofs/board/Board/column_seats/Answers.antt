@@ -1,5 +1,6 @@
 use Rattle.std.proofs.Common.{◌≡◌, ◌+◌, length, [], ◌∷◌, length-append, sym, ap, ◌∙◌, subst, arith}
-use Rattle.stamp_board.specs.Seats.{HasParts, IsFreshColumn, AreFreshColumns}
+use Rattle.stamp_board.specs.Seats.{IsFreshColumn, AreFreshColumns}
+use Rattle.stamp_board.specs.Inside.{HasParts}
 use Rattle.stamp_board.proofs.Opening.{more_columns, dealt_first, dealt_column}
 use Rattle.stamp_board.proofs.board.Board.column_seats.Goals as goal
 

@@ -1,5 +1,6 @@
 use Rattle.std.proofs.Common.{◌≡◌, ◌+◌, length}
-use Rattle.stamp_board.specs.Seats.{HasParts, AreFreshColumns}
+use Rattle.stamp_board.specs.Seats.{AreFreshColumns}
+use Rattle.stamp_board.specs.Inside.{HasParts}
 use Rattle.stamp_board.proofs.board.Board.column_seats.Given as goal
 
 abbrev pub invariant-loop-colour : goal.invariant-loop-colour

@@ -2,7 +2,7 @@ use Rattle.std.proofs.Common.{◌≡◌, ◌/◌, ◌%◌, ◌^◌, ◌<◌, ◌
 use Rattle.stamp_board.proofs.Colours.{has_bit}
 use Rattle.stamp_board.specs.declared.view.View.{View}
 use Rattle.stamp_board.specs.Words.{row_at}
-use Rattle.stamp_board.specs.Views.{Fits}
+use Rattle.stamp_board.specs.Law.{Fits}
 use Rattle.stamp_board.proofs.Deciding.{Taken, starts, goes_past, goes_on, misses, ended_marks, ended_some}
 use Rattle.stamp_board.proofs.board.Board.take_marks.Goals as goal
 use Rattle.stamp_board.proofs.board.Board.take_marks.Goals.{then-bits-colour-eq1+else-found-eq0, else-bits-colour-eq1}
