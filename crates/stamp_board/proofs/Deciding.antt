@@ -124,6 +124,25 @@ module _ (k : Size) (u v : View) (r bits c count : ℕ) (taken : List Mark) (t :
         let nonzero : get_or ws (word_at k r 0) 0 ≢ 0 = λ z. t.began (sym (t.first ws old) ∙ z) in
         (ws, law, told_fits k v i n is told, open_if_missing k ws r c few (law.colours r nonzero).within (subst (λ (z : ℕ). has_bit z c ≡ true) (sym (t.first ws old)) bit) (ap (λ (z : ℕ). get_or ws z 0) (sym here) ∙ told.3 ∙ none))
 
+-- a later view still knows it
+pub knows_later : (v w : View) (row : Row) (o : Outcome) → Grows v w → KnowsOutcome v row o → KnowsOutcome w row o
+knows_later v w row o g h = (
+  h.0,
+  subst (λ (z : Size). Has w.known (word_at z (row_at z row) (z.colours + 1)) h.0) (sym g.size) (g.known (word_at v.size (row_at v.size row) (v.size.colours + 1)) h.0 h.1),
+  h.2,
+)
+
+-- an outcome that is known is that of the marks
+pub known_outcome : (k : Size) (v : View) (row : Row) (o : Outcome) → v.size ≡ k → KnowsOutcome v row o
+    → (ws : List ℕ) → Lawful k ws → Fits k ws v → outcome_at k ws (row_at k row) ≡ o
+known_outcome k v row o is knows ws law f =
+    let i : ℕ = word_at k (row_at k row) (k.colours + 1) in
+    let known : Has v.known i knows.0 = subst (λ (z : Size). Has v.known (word_at z (row_at z row) (z.colours + 1)) knows.0) is knows.1 in
+    let there = f.known i knows.0 known in
+    let pos : 0 < knows.0 = there.0 in
+    let word : get_or ws i 0 ≡ knows.0 = there.1 in
+    sym (law.finals (row_at k row) (λ z. omega arith)) ∙ ap outcome_from word ∙ knows.2
+
 pub ended_marks : (k : Size) (u v : View) (r bits count : ℕ) (taken : List Mark) → Taken k u v r bits k.colours count taken → k.colours ≤ 64
     → (ws : List ℕ) → Lawful k ws → Fits k ws v → outcome_at k ws r ≡ outcome_of taken
 ended_marks k u v r bits count taken t few ws law f =

@@ -99,9 +99,9 @@ module _ (k : Size) (ws : List ℕ) (ss : List Seat) (cs : List ColumnSeat) (v :
         ap mark_from (sym (f.mine i (omega arith, omega arith, omega arith)) ∙ (in_column n c here).mine i owner)
         ∙ (λ t. mark_from (at (column_seen c).mine (word_at (sym a.0 t) (row_at (sym a.0 t) row) (1 + sym a.1 t))));
     begun = λ n s here j l. let a = are n s here in (
-        (λ ne. s.begun j (λ e. ne (row_word n s here j l ∙ (λ t. at (seen s).mine (word_at (sym a.0 t) (sym a.1 t * (sym a.0 t).rows + j) 0)) ∙ e))),
-        (λ lt e. s.all j lt ((λ t. at (seen s).mine (word_at (a.0 t) (a.1 t * (a.0 t).rows + j) 0)) ∙ sym (row_word n s here j l) ∙ e)),
-      );
+      (λ ne. s.begun j (λ e. ne (row_word n s here j l ∙ (λ t. at (seen s).mine (word_at (sym a.0 t) (sym a.1 t * (sym a.0 t).rows + j) 0)) ∙ e))),
+      (λ lt e. s.all j lt ((λ t. at (seen s).mine (word_at (a.0 t) (a.1 t * (a.0 t).rows + j) 0)) ∙ sym (row_word n s here j l) ∙ e)),
+    );
   }
 
 -- each row that the seats have begun is one of the board's, and is begun for two colours or more

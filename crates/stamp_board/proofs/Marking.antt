@@ -77,7 +77,7 @@ module _ (k : Size) (v w : View) (row : Row) (c n found : ℕ) (is : v.size ≡ 
       (λ ne. (
         found,
         (let size = ap (λ (z : View). z.size) (kept_view ne) ∙ heard_size v place found in
-        subst (λ (z : Size). Has w.known (word_at z (row_at z row) (1 + c)) found) (sym size) (subst (λ (z : View). Has z.known place found) (sym (kept_view ne)) (heard_knows v place found ne))),
+            subst (λ (z : Size). Has w.known (word_at z (row_at z row) (1 + c)) found) (sym size) (subst (λ (z : View). Has z.known place found) (sym (kept_view ne)) (heard_knows v place found ne))),
         sym (all_stay ne row ∙ was),
       ))
 

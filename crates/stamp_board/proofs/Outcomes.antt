@@ -29,7 +29,7 @@ outcome_same k ws ws' r within same =
     let first : bits ≡ get_or ws' (word_at k r 0) 0 = same 0 (omega arith) in
     let at_bits : bits ≢ 0 → marks_at k ws r record { 0 = bits } ≡ marks_at k ws' r record { 0 = bits }
     = λ ne. same_members (λ c. mark_from (get_or ws (word_at k r (1 + c)) 0)) (λ c. mark_from (get_or ws' (word_at k r (1 + c)) 0)) (has_bit bits) (range_with_len 0 64)
-        (λ c h. let lt : c < k.colours = within ne c h in ap mark_from (same (1 + c) (omega arith))) in
+    (λ c h. let lt : c < k.colours = within ne c h in ap mark_from (same (1 + c) (omega arith))) in
     let moved : outcome_at k ws r ≡ (if bits == 0 then Open else outcome_of (marks_at k ws' r record { 0 = bits }))
     = dite (ℕ_discrete bits 0) (λ z. if_yes bits 0 Open _ z ∙ sym (if_yes bits 0 Open _ z)) (λ ne. ap (λ (ms : List Mark). if bits == 0 then Open else outcome_of ms) (at_bits ne)) in
     moved ∙ ap (λ (z : ℕ). if z == 0 then Open else outcome_of (marks_at k ws' r record { 0 = z })) first

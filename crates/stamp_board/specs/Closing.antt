@@ -29,5 +29,7 @@ pub record Closes (k : Size) (ws : List ℕ) (v : View) (ss : List Seat) (cs : L
   pub board : MayBe k ws v
   pub seats : (n : ℕ) (s : Seat) → slice_get ss n ≡ Some s → Learns (seen s) v
   pub columns : (n : ℕ) (c : ColumnSeat) → slice_get cs n ≡ Some c → Learns (column_seen c) v
-  pub marks : (n : ℕ) (c : ColumnSeat) → slice_get cs n ≡ Some c → (row : Row) → mark_in k ws row n ≡ set_mark c row
-  pub begun : (n : ℕ) (s : Seat) → slice_get ss n ≡ Some s → (j : ℕ) → j < k.rows → IsBegun k ws record { client = n; number = j } ↔ (j < s.used)
+  pub marks : (n : ℕ) (c : ColumnSeat) → slice_get cs n ≡ Some c → (row : Row)
+      → mark_in k ws row n ≡ set_mark c row
+  pub begun : (n : ℕ) (s : Seat) → slice_get ss n ≡ Some s → (j : ℕ) → j < k.rows
+      → IsBegun k ws record { client = n; number = j } ↔ (j < s.used)

@@ -12,6 +12,14 @@ use Rattle.stamp_board.specs.Views.{at, Learns}
 use Rattle.stamp_board.specs.Law.{Plays}
 use Rattle.stamp_board.specs.Seats.{seen, column_seen}
 
+-- a seat of the board's table
+abbrev pub IsOf : Board → Inner Node View → Type 0
+IsOf b s = (s.table_id ≡ b.table.shared.table_id) × (s.me.0.size ≡ b.size)
+
+-- the seat stays at its table, and holds no slot more or less
+abbrev pub Stays : Inner Node View → Inner Node View → Type 0
+Stays s t = (t.table_id ≡ s.table_id) × (t.me.1 ≡ s.me.1)
+
 -- the seat that has the parts of the board from `first` on, none of them used
 pub record HasParts (b : Board) (s : Inner Node View) (first : ℕ) : Type 0 where
   pub board : s.table_id ≡ b.table.shared.table_id

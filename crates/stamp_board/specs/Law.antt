@@ -1,9 +1,11 @@
 -- The rule of a board's table, and what its steps tell.
-use Rattle.std.specs.Prelude.{◌≡◌, ◌≢◌, ℕ, ◌+◌, ◌/◌, ◌^◌, ◌<◌, ◌≤◌, ◌==◌, if◌then◌else◌, List, [], ◌∷◌, ◌++◌, length, slice_index}
+use Rattle.std.specs.Prelude.{◌≡◌, ◌≢◌, ℕ, ◌+◌, ◌/◌, ◌^◌, ◌<◌, ◌≤◌, ◌==◌, true, if◌then◌else◌, List, [], ◌∷◌, ◌++◌, length, slice_index}
 use mathlib.Core.Option.{Option, none, some}
 use lib.ListN.{get_elem?}
 use Rattle.atomic_table.specs.Table.{State, Me, Step}
+use Rattle.log_node.specs.declared.ids.Row.{Row}
 use Rattle.log_node.specs.declared.node.Node.{Node}
+use Rattle.log_node.specs.Sets.{has}
 use Rattle.skeen_core.specs.declared.marks.Mark.{Mark}
 use Rattle.skeen_core.specs.declared.marks.Mark.TheVariants as marks
 use Rattle.skeen_core.specs.declared.marks.Outcome.{Outcome}
@@ -11,7 +13,7 @@ use Rattle.skeen_core.specs.declared.marks.Outcome.TheVariants.{Open, Gone, Fina
 use Rattle.skeen_core.specs.Marks.{IsStamp}
 use Rattle.stamp_board.specs.declared.view.Size.{Size}
 use Rattle.stamp_board.specs.declared.view.View.{View}
-use Rattle.stamp_board.specs.Words.{width, words_of, word_at, owner_of, outcome_from}
+use Rattle.stamp_board.specs.Words.{width, words_of, row_at, word_at, row_word, owner_of, outcome_from}
 use Rattle.stamp_board.specs.Rows.{AreColours, outcome_at}
 use Rattle.stamp_board.specs.Views.{Has, at}
 
@@ -81,15 +83,23 @@ abbrev pub with_node : View → ℕ → Option Node → View
 with_node v r none = v
 with_node v r (some x) = record v { begun = (r, x) ∷ v.begun }
 
+-- the view of a seat that was to set a mark from 0 to `new`, and found n
+abbrev pub after_mark : View → ℕ → ℕ → ℕ → View
+after_mark v i new n = if n == 0 then wrote v i new else heard v i n
+
+-- the view of a seat that was to set a final word from 0 to `new`, and found n
+abbrev pub after_final : View → ℕ → ℕ → ℕ → View
+after_final v i new n = heard v i (if n == 0 then new else n)
+
 -- the view after a load; after a mark was to be set; after a final word was to be set; after a row was to be begun
 abbrev pub looked : Step Node → View → ℕ → View
 looked s v n = heard v s.word n
 
 abbrev pub marked : Step Node → View → ℕ → View
-marked s v n = if n == 0 then wrote v s.word s.second else heard v s.word n
+marked s v n = after_mark v s.word s.second n
 
 abbrev pub ended : Step Node → View → ℕ → View
-ended s v n = heard v s.word (if n == 0 then s.second else n)
+ended s v n = after_final v s.word s.second n
 
 abbrev pub began : Step Node → View → ℕ → View
 began s v n = if n == 0 then with_node (wrote v s.word s.second) (s.word / width v.size) s.said else heard v s.word n
@@ -125,3 +135,23 @@ came me me' = me' ≡ (record me.0 { low = me.0.high }, me.1)
 -- a seat that plays no part and stands behind all parts
 abbrev pub nobody : Size → View
 nobody k = record { size = k; low = 1 + k.clients + k.colours; high = 1 + k.clients + k.colours; mine = []; known = []; begun = [] }
+
+-- the view of a seat that has begun the row for x
+abbrev pub after_begin : View → Size → Row → Node → View
+after_begin v k row x = with_node (wrote v (row_word k row) x.colours.0) (row_at k row) (some x)
+
+-- the seat plays this part alone
+abbrev pub PlaysOne : View → ℕ → Type 0
+PlaysOne v a = (v.low ≡ a) × (v.high ≡ v.low + 1)
+
+-- the seat knows the row r as begun for a node with the colour c
+abbrev pub HasColour : View → ℕ → ℕ → Type 0
+HasColour v r c = (x : Node) × Has v.begun r x × (has x.colours c ≡ true)
+
+-- P holds of all lawful words that fit what the seat knows
+abbrev pub AlwaysIn : Size → View → (List ℕ → Type 0) → Type 0
+AlwaysIn k v P = (ws : List ℕ) → Lawful k ws → Fits k ws v → P ws
+
+-- P holds of some
+abbrev pub OnceIn : Size → View → (List ℕ → Type 0) → Type 0
+OnceIn k v P = (ws : List ℕ) × Lawful k ws × Fits k ws v × P ws

@@ -9,7 +9,11 @@ use Rattle.skeen_core.specs.declared.marks.Outcome.{Outcome}
 use Rattle.skeen_core.specs.declared.marks.Outcome.TheVariants.{Open}
 use Rattle.skeen_core.specs.Outcomes.{outcome_of}
 use Rattle.stamp_board.specs.declared.view.Size.{Size}
-use Rattle.stamp_board.specs.Words.{row_at, word_at, mark_from, outcome_from}
+use Rattle.stamp_board.specs.Words.{row_at, word_at, row_word, mark_word, kept_word, mark_from, outcome_from}
+
+-- at most 16 clients, 16 colours and 4,096 rows of each client, and one of each at least
+abbrev pub IsSize : Size → Type 0
+IsSize k = (0 < k.clients) × (k.clients ≤ 16) × (0 < k.colours) × (k.colours ≤ 16) × (0 < k.rows) × (k.rows ≤ 4096)
 
 -- the row is one of the board's
 abbrev pub IsRow : Size → Row → Type 0
@@ -22,13 +26,13 @@ pub record AreColours (k : Size) (set : Colours) : Type 0 where
 
 -- the colours of the node for which the row is begun; none where it is not begun
 abbrev pub colours_in : Size → List ℕ → Row → Colours
-colours_in k ws row = record { 0 = slice_index ws (word_at k (row_at k row) 0) }
+colours_in k ws row = record { 0 = slice_index ws (row_word k row) }
 
 abbrev pub IsBegun : Size → List ℕ → Row → Type 0
 IsBegun k ws row = (colours_in k ws row).0 ≢ 0
 
 abbrev pub mark_in : Size → List ℕ → Row → ℕ → Mark
-mark_in k ws row c = mark_from (slice_index ws (word_at k (row_at k row) (1 + c)))
+mark_in k ws row c = mark_from (slice_index ws (mark_word k row c))
 
 -- the marks of the row's colours, the smallest colour first
 abbrev pub marks_in : Size → List ℕ → Row → List ColourMark
@@ -36,7 +40,7 @@ marks_in k ws row = map (λ c. record { colour = c; mark = mark_in k ws row c })
 
 -- the outcome that was kept for the row; Open where none was
 abbrev pub kept_in : Size → List ℕ → Row → Outcome
-kept_in k ws row = outcome_from (slice_index ws (word_at k (row_at k row) (k.colours + 1)))
+kept_in k ws row = outcome_from (slice_index ws (kept_word k row))
 
 -- the marks of a set of colours, in the row with this number
 abbrev pub marks_at : Size → List ℕ → ℕ → Colours → List Mark

@@ -3,6 +3,7 @@ use Rattle.std.specs.Prelude.{◌≡◌, ◌≢◌, ℕ, ◌+◌, ◌<◌, List,
 use Rattle.log_node.specs.declared.ids.Row.{Row}
 use Rattle.log_node.specs.declared.node.Node.{Node}
 use Rattle.skeen_core.specs.declared.marks.Mark.{Mark}
+use Rattle.skeen_core.specs.declared.marks.Full.{Full}
 use Rattle.skeen_core.specs.declared.marks.Mark.TheVariants as marks
 use Rattle.skeen_core.specs.Marks.{IsMark}
 use Rattle.stamp_board.specs.declared.view.View.{View}
@@ -37,6 +38,14 @@ IsClients b s = (s.client < b.size.clients) × ((seen s).low ≡ 1 + s.client) �
 abbrev pub next_row_of : Seat → Row
 next_row_of s = record { client = s.client; number = s.used }
 
+-- the client has a row left, and it is the next
+abbrev pub IsNext : Board → Seat → Row → Type 0
+IsNext b s row = (s.used < b.size.rows) × (row ≡ next_row_of s)
+
+-- the client has begun all its rows
+abbrev pub IsFull : Board → Seat → Full → Type 0
+IsFull b s full = (s.used ≡ b.size.rows) × (full.used ≡ s.used)
+
 -- the seat is the same one, has begun nothing, and knows all that it knew
 pub record IsLater (s t : Seat) : Type 0 where
   pub board : t.inner.table_id ≡ s.inner.table_id
@@ -66,7 +75,8 @@ SetsNone s t = (row : Row) → set_mark t row ≡ set_mark s row
 pub record SetsMark (s t : ColumnSeat) (row : Row) (m : Mark) : Type 0 where
   pub unset : set_mark s row ≡ marks.None
   pub set : set_mark t row ≡ m
-  pub others : (other : Row) → IsRow (column_seen s).size row → IsRow (column_seen s).size other → other ≢ row → set_mark t other ≡ set_mark s other
+  pub others : (other : Row) → IsRow (column_seen s).size row → IsRow (column_seen s).size other → other ≢ row
+      → set_mark t other ≡ set_mark s other
 
 -- the seat's mark in the row was set before, to m, and it has set none
 pub record MarkStood (s t : ColumnSeat) (row : Row) (m : Mark) : Type 0 where
@@ -102,7 +112,8 @@ AreFreshColumns b cs = (n : ℕ) (c : ColumnSeat) → slice_get cs n ≡ Some c 
 
 -- they are the seats of the clients, by number
 abbrev pub AreClientsOf : Board → List Seat → Type 0
-AreClientsOf b ss = (n : ℕ) (s : Seat) → slice_get ss n ≡ Some s → IsSeatOf b s × IsClients b s × (s.client ≡ n)
+AreClientsOf b ss =
+    (n : ℕ) (s : Seat) → slice_get ss n ≡ Some s → IsSeatOf b s × IsClients b s × (s.client ≡ n)
 
 -- they are the seats of the columns, by colour
 abbrev pub AreColumnsOf : Board → List ColumnSeat → Type 0

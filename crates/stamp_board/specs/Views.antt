@@ -9,7 +9,7 @@ use Rattle.skeen_core.specs.declared.marks.Outcome.TheVariants.{Open}
 use Rattle.skeen_core.specs.Marks.{IsMark}
 use Rattle.stamp_board.specs.declared.view.Size.{Size}
 use Rattle.stamp_board.specs.declared.view.View.{View}
-use Rattle.stamp_board.specs.Words.{row_at, word_at, mark_from, outcome_from}
+use Rattle.stamp_board.specs.Words.{row_at, word_at, mark_word, mark_from, outcome_from}
 use Rattle.stamp_board.specs.Rows.{AreColours, IsBegun, colours_in, mark_in, kept_in, outcome_in}
 
 -- the list has the pair of i and x
@@ -49,7 +49,7 @@ KnowsAll v row =
 
 -- the mark that the seat of the colour c has set in the row
 abbrev pub own_mark : View → Row → ℕ → Mark
-own_mark v row c = mark_from (at v.mine (word_at v.size (row_at v.size row) (1 + c)))
+own_mark v row c = mark_from (at v.mine (mark_word v.size row c))
 
 -- the later view knows all that the other one knew
 pub record Learns (v w : View) : Type 0 where
@@ -79,3 +79,11 @@ pub record MayBe (k : Size) (ws : List ℕ) (v : View) : Type 0 where
   pub colours : (row : Row) → IsBegun k ws row → AreColours k (colours_in k ws row)
   pub stamps : (row : Row) (c : ℕ) → IsMark (mark_in k ws row c)
   pub kept : (row : Row) → kept_in k ws row ≢ Open → kept_in k ws row ≡ outcome_in k ws row
+
+-- P holds of some board that may be, by all that the seat knows
+abbrev pub Possibly : Size → View → (List ℕ → Type 0) → Type 0
+Possibly k v P = (ws : List ℕ) × MayBe k ws v × P ws
+
+-- P holds of each board that may be
+abbrev pub Surely : Size → View → (List ℕ → Type 0) → Type 0
+Surely k v P = (ws : List ℕ) → MayBe k ws v → P ws

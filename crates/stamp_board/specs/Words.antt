@@ -26,6 +26,15 @@ row_at k r = r.client * k.rows + r.number
 abbrev pub word_at : Size → ℕ → ℕ → ℕ
 word_at k r p = r * width k + p
 
+abbrev pub row_word : Size → Row → ℕ
+row_word k row = word_at k (row_at k row) 0
+
+abbrev pub mark_word : Size → Row → ℕ → ℕ
+mark_word k row c = word_at k (row_at k row) (1 + c)
+
+abbrev pub kept_word : Size → Row → ℕ
+kept_word k row = word_at k (row_at k row) (k.colours + 1)
+
 -- whose a word is: 0 nobody's, 1 + i the client i's, 1 + clients + c the colour c's
 abbrev pub owner_in : Size → ℕ → ℕ → ℕ
 owner_in k r p = if p == 0 then 1 + r / k.rows else (if nat_le p k.colours then k.clients + p else 0)

@@ -1,7 +1,7 @@
 // Rows that clients begin.
-ghost use Rattle.std.specs.Prelude.{◌≡◌, ◌<◌, MatchResult};
+ghost use Rattle.std.specs.Prelude.{◌≡◌, MatchResult};
 ghost use Rattle.stamp_board.specs.Rows.{AreColours};
-ghost use Rattle.stamp_board.specs.Seats.{IsSeatOf, IsClients, Begins, next_row_of};
+ghost use Rattle.stamp_board.specs.Seats.{IsSeatOf, IsClients, IsNext, IsFull, Begins};
 
 use crate::board::Board;
 use crate::seats::Seat;
@@ -14,7 +14,7 @@ impl Board {
     /// The row that the client's seat begins next.
     pub fn next_row(&self, seat: &Seat) -> Result<Row, Full>
         requires seat { IsSeatOf self.now seat.now × IsClients self.now seat.now }
-        ensures { MatchResult result (λ row. (seat.now.used < self.now.size.rows) × (row ≡ next_row_of seat.now)) (λ full. (seat.now.used ≡ self.now.size.rows) × (full.used ≡ seat.now.used)) }
+        ensures { MatchResult result (λ row. IsNext self.now seat.now row) (λ full. IsFull self.now seat.now full) }
     {
         if seat.used < self.size.rows {
             Ok(Row {
@@ -30,7 +30,8 @@ impl Board {
     pub fn begin(&self, seat: &mut Seat, node: &Arc<Node, Global>) -> Result<Row, Full>
         requires seat { IsSeatOf self.now seat.old × IsClients self.now seat.old }
         requires node { AreColours self.now.size node.now.value.colours }
-        ensures { MatchResult result (λ row. (seat.old.used < self.now.size.rows) × (row ≡ next_row_of seat.old) × Begins seat.old seat.new row node.now.value) (λ full. (seat.old.used ≡ self.now.size.rows) × (full.used ≡ seat.old.used) × (seat.new ≡ seat.old)) }
+        ensures row { MatchResult result (λ row. IsNext self.now seat.old row) (λ full. IsFull self.now seat.old full) }
+        ensures begun { MatchResult result (λ row. Begins seat.old seat.new row node.now.value) (λ _. seat.new ≡ seat.old) }
     {
         if seat.used == self.size.rows {
             return Err(Full { used: seat.used });

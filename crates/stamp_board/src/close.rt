@@ -3,7 +3,7 @@ ghost use Rattle.std.specs.Prelude.{◌≡◌, ◌<◌, ◌≤◌, [], List, ℕ
 ghost use Rattle.std.specs.List.{All};
 ghost use Rattle.std.specs.Mem.Slots.{slots_items, slots_len, IsFull};
 ghost use Rattle.stamp_board.specs.Words.{words_of};
-ghost use Rattle.stamp_board.specs.Rows.{AreColours, IsRow, colours_in, marks_in};
+ghost use Rattle.stamp_board.specs.Rows.{AreColours, IsRow, IsSize, colours_in, marks_in};
 ghost use Rattle.stamp_board.specs.Law.{Fits, Lawful};
 ghost use Rattle.stamp_board.specs.Seats.{AreClientsOf, AreColumnsOf};
 ghost use Rattle.stamp_board.specs.Closing.{Closes, all_begun, closed_row, rows_begun};
@@ -44,7 +44,11 @@ fn begun_rows(alloc: Global, seats: &[Seat]) -> Result<Vec<Row>, AllocError>
     Ok(rows)
 }
 
-fn copy_words(alloc: Global, closed: &Closed<Node, Global>, count: usize) -> Result<Vec<u64>, AllocError>
+fn copy_words(
+    alloc: Global,
+    closed: &Closed<Node, Global>,
+    count: usize,
+) -> Result<Vec<u64>, AllocError>
     requires { (count ≡ slots_len closed.now.words) × IsFull closed.now.words × (length (slots_items closed.now.words) ≡ count) }
     ensures { IfOk result (λ v. v.items ≡ slots_items closed.now.words) }
 {
@@ -56,7 +60,7 @@ fn copy_words(alloc: Global, closed: &Closed<Node, Global>, count: usize) -> Res
 }
 
 fn marks_of(alloc: Global, size: Size, words: &[u64], row: Row) -> Result<Marks, AllocError>
-    requires size { (size.clients ≤ 16) × (size.colours ≤ 16) × (size.rows ≤ 4096) }
+    requires size { IsSize size }
     requires row { IsRow size row }
     requires words { length words.now ≡ words_of size }
     requires colours { AreColours size (colours_in size words.now row) }
@@ -74,7 +78,7 @@ fn marks_of(alloc: Global, size: Size, words: &[u64], row: Row) -> Result<Marks,
 }
 
 fn rows_of(alloc: Global, size: Size, words: &[u64], rows: &[Row]) -> Result<ClosedRows, AllocError>
-    requires size { (size.clients ≤ 16) × (size.colours ≤ 16) × (size.rows ≤ 4096) }
+    requires size { IsSize size }
     requires words { length words.now ≡ words_of size }
     requires rows { All (λ row. IsRow size row × AreColours size (colours_in size words.now row)) rows.now }
     ensures { IfOk result (λ closed. closed ≡ map (closed_row size words.now) rows.now) }
@@ -105,7 +109,12 @@ impl Board {
     /// The begun rows with their closing marks and outcomes, by client and number. All that the seats knew stands
     /// there, a colour's mark is set exactly where that colour's seat had set it, and a client's rows are begun
     /// exactly below what its seat has used. Where memory is refused, the board and its seats are gone.
-    pub fn close(self, alloc: Global, seats: Seats, columns: ColumnSeats) -> Result<ClosedRows, AllocError>
+    pub fn close(
+        self,
+        alloc: Global,
+        seats: Seats,
+        columns: ColumnSeats,
+    ) -> Result<ClosedRows, AllocError>
         requires counts { (length seats ≡ self.size.clients) × (length columns ≡ self.size.colours) }
         requires seats { AreClientsOf self seats }
         requires columns { AreColumnsOf self columns }

@@ -4,9 +4,10 @@ ghost use Rattle.skeen_core.specs.Outcomes.{outcome_of};
 ghost use Rattle.skeen_core.specs.Marks.{IsOutcome};
 ghost use Rattle.stamp_board.specs.Words.{outcome_from};
 ghost use Rattle.stamp_board.specs.Rows.{IsRow, outcome_in};
-ghost use Rattle.stamp_board.specs.Views.{Grows, KnowsAll, KnowsOutcome, MayBe};
-ghost use Rattle.stamp_board.specs.Law.{Fits, AreSet, IsKept, Lawful};
+ghost use Rattle.stamp_board.specs.Views.{Grows, KnowsAll, KnowsOutcome, Possibly, Surely};
+ghost use Rattle.stamp_board.specs.Law.{AlwaysIn, AreSet, IsKept, OnceIn};
 ghost use Rattle.stamp_board.specs.Seats.{IsSeatOf, IsLater, seen};
+ghost use Rattle.stamp_board.specs.Inside.{IsOf, Stays};
 
 use crate::board::Board;
 use crate::seats::Seat;
@@ -35,14 +36,14 @@ impl Board {
     // Loads the marks of the row's colours, and says how many they are: 0 where the row is not begun or a mark is
     // missing.
     fn take_marks(&self, seat: &mut Inner, row: Row, marks: &mut [Mark]) -> usize
-        requires seat { (seat.old.table_id ≡ self.now.table.shared.table_id) × (seat.old.me.0.size ≡ self.now.size) }
+        requires seat { IsOf self.now seat.old }
         requires row { IsRow self.now.size row }
         requires marks { length marks.old ≡ 16 }
-        ensures seat { (seat.new.table_id ≡ seat.old.table_id) × (seat.new.me.1 ≡ seat.old.me.1) }
+        ensures seat { Stays seat.old seat.new }
         ensures view { Grows seat.old.me.0 seat.new.me.0 × (seat.new.me.0.mine ≡ seat.old.me.0.mine) }
         ensures count { result ≤ 16 }
-        ensures none { result ≡ 0 → (ws : List ℕ) × Lawful self.now.size ws × Fits self.now.size ws seat.new.me.0 × (outcome_in self.now.size ws row ≡ Outcome.Open) }
-        ensures some { result ≢ 0 → (ws : List ℕ) → Lawful self.now.size ws → Fits self.now.size ws seat.new.me.0 → outcome_in self.now.size ws row ≡ outcome_of (take result marks.new) }
+        ensures none { result ≡ 0 → OnceIn self.now.size seat.new.me.0 (λ ws. outcome_in self.now.size ws row ≡ Outcome.Open) }
+        ensures some { result ≢ 0 → AlwaysIn self.now.size seat.new.me.0 (λ ws. outcome_in self.now.size ws row ≡ outcome_of (take result marks.new)) }
         ensures set { AreSet (take result marks.new) }
     {
         let first = self.word(row, 0);
@@ -71,10 +72,11 @@ impl Board {
         requires seat { IsSeatOf self.now seat.old }
         requires row { IsRow self.now.size row }
         ensures seat { IsLater seat.old seat.new }
-        ensures open { result ≡ Outcome.Open → (ws : List ℕ) × MayBe self.now.size ws (seen seat.new) × (outcome_in self.now.size ws row ≡ Outcome.Open) }
+        ensures open { result ≡ Outcome.Open → Possibly self.now.size (seen seat.new) (λ ws. outcome_in self.now.size ws row ≡ result) }
         ensures closed { KnowsAll (seen seat.old) row → result ≢ Outcome.Open }
         ensures known { result ≢ Outcome.Open → KnowsOutcome (seen seat.new) row result }
-        ensures of_marks { result ≢ Outcome.Open → (ws : List ℕ) → MayBe self.now.size ws (seen seat.new) → outcome_in self.now.size ws row ≡ result }
+        ensures before { (o : Outcome) → KnowsOutcome (seen seat.old) row o → result ≡ o }
+        ensures of_marks { result ≢ Outcome.Open → Surely self.now.size (seen seat.new) (λ ws. outcome_in self.now.size ws row ≡ result) }
         ensures stamp { IsOutcome result }
     {
         let mut marks = [Mark::None; MAX_COLOURS];

@@ -19,7 +19,7 @@ impl Board {
         requires begun { KnowsColour (column_seen seat.old) row seat.old.colour }
         requires number { IsStamp number }
         ensures seat { IsLaterColumn seat.old seat.new }
-        ensures value { MatchMarked result (SetsMark seat.old seat.new row (Mark.Number number)) (λ m. MarkStood seat.old seat.new row m) }
+        ensures value { MatchMarked result (SetsMark seat.old seat.new row (Mark.Number number)) (MarkStood seat.old seat.new row) }
         ensures known { KnowsMark (column_seen seat.new) row seat.old.colour (set_mark seat.new row) }
     {
         let found = self.set_mark(&mut seat.inner, row, seat.colour, number + 2);
@@ -36,7 +36,8 @@ impl Board {
         requires row { IsRow self.now.size row }
         requires begun { KnowsColour (column_seen seat.old) row seat.old.colour }
         ensures seat { IsLaterColumn seat.old seat.new }
-        ensures fenced { set_mark seat.old row ≡ Mark.None → (result ≡ Mark.Fenced why) × SetsMark seat.old seat.new row result }
+        ensures fenced { set_mark seat.old row ≡ Mark.None → result ≡ Mark.Fenced why }
+        ensures set { set_mark seat.old row ≡ Mark.None → SetsMark seat.old seat.new row result }
         ensures already { set_mark seat.old row ≢ Mark.None → MarkStood seat.old seat.new row result }
         ensures known { KnowsMark (column_seen seat.new) row seat.old.colour result }
     {

@@ -1,6 +1,8 @@
 // A board with its seats.
 ghost use Rattle.std.specs.Prelude.{◌≡◌, ◌+◌, ◌<◌, ◌≤◌, [], length, IfOk};
 ghost use Rattle.stamp_board.specs.Words.{words_of};
+ghost use Rattle.stamp_board.specs.Rows.{IsSize};
+ghost use Rattle.stamp_board.specs.Law.{PlaysOne};
 ghost use Rattle.stamp_board.specs.Seats.{AreFreshClients, AreFreshColumns};
 ghost use Rattle.stamp_board.specs.Inside.{HasParts};
 
@@ -13,7 +15,7 @@ use log_node::ListOf;
 use std::alloc::{AllocError, Global};
 
 fn words(size: Size) -> usize
-    requires { (size.clients ≤ 16) × (size.colours ≤ 16) × (size.rows ≤ 4096) }
+    requires { IsSize size }
     ensures { result ≡ words_of size }
 {
     usize::from(size.clients) * (size.rows as usize) * (usize::from(size.colours) + 2)
@@ -32,7 +34,8 @@ fn client_seat(client: u8, inner: Inner) -> Seat
 
 fn column_seat(colour: u8, inner: Inner) -> ColumnSeat
     requires held { inner.me.1 ≡ [] }
-    requires part { (colour < inner.me.0.size.colours) × (inner.me.0.low ≡ 1 + inner.me.0.size.clients + colour) × (inner.me.0.high ≡ inner.me.0.low + 1) }
+    requires colour { colour < inner.me.0.size.colours }
+    requires part { PlaysOne inner.me.0 (1 + inner.me.0.size.clients + colour) }
     ensures { (result.colour ≡ colour) × (result.inner ≡ inner) }
 {
     ColumnSeat { colour, inner }
@@ -40,9 +43,7 @@ fn column_seat(colour: u8, inner: Inner) -> ColumnSeat
 
 impl Board {
     fn with_words(alloc: Global, size: Size) -> Result<(Board, Inner), AllocError>
-        requires clients { (0 < size.clients) × (size.clients ≤ 16) }
-        requires colours { (0 < size.colours) × (size.colours ≤ 16) }
-        requires rows { (0 < size.rows) × (size.rows ≤ 4096) }
+        requires { IsSize size }
         ensures { IfOk result (λ b. (b.0.size ≡ size) × HasParts b.0 b.1 1) }
     {
         let zeros = vec![in alloc; 0u64; words(size)]?;
@@ -77,10 +78,13 @@ impl Board {
 
     /// A board whose rows are not begun, with a seat for each client and one for each colour. Each client has `rows`
     /// rows.
-    pub fn open(alloc: Global, clients: u8, colours: u8, rows: u32) -> Result<(Board, Seats, ColumnSeats), AllocError>
-        requires clients { (0 < clients) × (clients ≤ 16) }
-        requires colours { (0 < colours) × (colours ≤ 16) }
-        requires rows { (0 < rows) × (rows ≤ 4096) }
+    pub fn open(
+        alloc: Global,
+        clients: u8,
+        colours: u8,
+        rows: u32,
+    ) -> Result<(Board, Seats, ColumnSeats), AllocError>
+        requires size { IsSize record { clients = clients; colours = colours; rows = rows } }
         ensures size { IfOk result (λ b. b.0.size ≡ record { clients = clients; colours = colours; rows = rows }) }
         ensures seats { IfOk result (λ b. (length b.1 ≡ clients) × AreFreshClients b.0 b.1) }
         ensures columns { IfOk result (λ b. (length b.2 ≡ colours) × AreFreshColumns b.0 b.2) }

@@ -1,9 +1,10 @@
 // What stands in a row: loads of one word.
-ghost use Rattle.std.specs.Prelude.{◌≡◌, ◌≢◌, ℕ, ◌<◌, List};
+ghost use Rattle.std.specs.Prelude.{◌≡◌, ◌≢◌, ◌<◌};
 ghost use Rattle.skeen_core.specs.Marks.{IsMark, IsOutcome};
 ghost use Rattle.stamp_board.specs.Rows.{IsRow, mark_in, kept_in};
-ghost use Rattle.stamp_board.specs.Views.{KnowsMark, KnowsOutcome, MayBe};
-ghost use Rattle.stamp_board.specs.Seats.{IsSeatOf, IsColumnOf, IsLater, IsLaterColumn, SetsNone, seen, column_seen, set_mark};
+ghost use Rattle.stamp_board.specs.Views.{KnowsMark, KnowsOutcome, Possibly};
+ghost use Rattle.stamp_board.specs.Seats.{IsSeatOf, IsColumnOf, IsLater, IsLaterColumn, SetsNone};
+ghost use Rattle.stamp_board.specs.Seats.{seen, column_seen, set_mark};
 
 use crate::board::Board;
 use crate::seats::{ColumnSeat, Seat};
@@ -18,7 +19,7 @@ impl Board {
         requires row { IsRow self.now.size row }
         requires colour { colour < self.now.size.colours }
         ensures seat { IsLater seat.old seat.new }
-        ensures value { (ws : List ℕ) × MayBe self.now.size ws (seen seat.new) × (mark_in self.now.size ws row colour ≡ result) }
+        ensures value { Possibly self.now.size (seen seat.new) (λ ws. mark_in self.now.size ws row colour ≡ result) }
         ensures known { result ≢ Mark.None → KnowsMark (seen seat.new) row colour result }
         ensures before { (m : Mark) → KnowsMark (seen seat.old) row colour m → result ≡ m }
         ensures stamp { IsMark result }
@@ -32,7 +33,7 @@ impl Board {
         requires seat { IsSeatOf self.now seat.old }
         requires row { IsRow self.now.size row }
         ensures seat { IsLater seat.old seat.new }
-        ensures value { (ws : List ℕ) × MayBe self.now.size ws (seen seat.new) × (kept_in self.now.size ws row ≡ result) }
+        ensures value { Possibly self.now.size (seen seat.new) (λ ws. kept_in self.now.size ws row ≡ result) }
         ensures known { result ≢ Outcome.Open → KnowsOutcome (seen seat.new) row result }
         ensures before { (o : Outcome) → KnowsOutcome (seen seat.old) row o → result ≡ o }
         ensures stamp { IsOutcome result }

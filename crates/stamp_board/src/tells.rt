@@ -3,6 +3,7 @@ ghost use Rattle.std.specs.Prelude.{◌≡◌, ℕ, ◌<◌, []};
 ghost use Rattle.stamp_board.specs.Views.{Learns, KnowsBegun, KnowsMark, KnowsOutcome, told};
 ghost use Rattle.stamp_board.specs.Law.{Told, heard, both, lowest, others};
 ghost use Rattle.stamp_board.specs.Seats.{IsSeatOf, IsColumnOf, IsLater, IsLaterColumn, SetsNone, seen, column_seen};
+ghost use Rattle.stamp_board.specs.Inside.{IsOf, Stays};
 
 use crate::board::Board;
 use crate::law::{Deals, Hears, Tells};
@@ -11,7 +12,7 @@ use crate::steps::Inner;
 
 impl Board {
     fn split(&self, seat: &mut Inner) -> Inner
-        requires { (seat.old.table_id ≡ self.now.table.shared.table_id) × (seat.old.me.0.size ≡ self.now.size) }
+        requires { IsOf self.now seat.old }
         ensures seat { (seat.new.table_id ≡ seat.old.table_id) × (seat.new.me ≡ seat.old.me) }
         ensures new { (result.table_id ≡ seat.old.table_id) × (result.me ≡ (told seat.old.me.0, [])) }
     {
@@ -19,7 +20,7 @@ impl Board {
     }
 
     fn told_seat(&self, seat: &mut Inner) -> Seat
-        requires { (seat.old.table_id ≡ self.now.table.shared.table_id) × (seat.old.me.0.size ≡ self.now.size) }
+        requires { IsOf self.now seat.old }
         ensures seat { (seat.new.table_id ≡ seat.old.table_id) × (seat.new.me ≡ seat.old.me) }
         ensures new { IsSeatOf self.now result × (seen result ≡ told seat.old.me.0) × (result.used ≡ 0) }
     {
@@ -33,9 +34,9 @@ impl Board {
 
     // The load tells that what both knew agrees.
     pub(crate) fn join(&self, seat: &mut Inner, other: Inner)
-        requires seat { (seat.old.table_id ≡ self.now.table.shared.table_id) × (seat.old.me.0.size ≡ self.now.size) }
+        requires seat { IsOf self.now seat.old }
         requires other { (other.table_id ≡ self.now.table.shared.table_id) × (other.me.1 ≡ []) }
-        ensures seat { (seat.new.table_id ≡ seat.old.table_id) × (seat.new.me.1 ≡ seat.old.me.1) }
+        ensures seat { Stays seat.old seat.new }
         ensures view { (n : ℕ) × (seat.new.me.0 ≡ heard (both seat.old.me.0 other.me.0) 0 n) × Told (both seat.old.me.0 other.me.0) 0 n }
     {
         self.table.shared.join_seat::<Hears>(seat, other);
@@ -44,7 +45,7 @@ impl Board {
 
     // The lowest part goes to a new seat.
     pub(crate) fn deal(&self, seat: &mut Inner) -> Inner
-        requires seat { (seat.old.table_id ≡ self.now.table.shared.table_id) × (seat.old.me.0.size ≡ self.now.size) }
+        requires seat { IsOf self.now seat.old }
         requires parts { seat.old.me.0.low < seat.old.me.0.high }
         requires fresh { seat.old.me.0.mine ≡ [] }
         ensures seat { (seat.new.table_id ≡ seat.old.table_id) × (seat.new.me ≡ (others seat.old.me.0, seat.old.me.1)) }

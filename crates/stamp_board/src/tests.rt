@@ -119,7 +119,13 @@ fn decide_as(board: &Board, mut seat: Seat, row: Row) -> (Seat, Outcome)
 }
 
 // Two threads decide one row, and hear the same outcome.
-fn decide_both<R: Threads + Sync>(rt: &R, board: &Board, one: Seat, two: Seat, row: Row) -> (Outcome, Outcome)
+fn decide_both<R: Threads + Sync>(
+    rt: &R,
+    board: &Board,
+    one: Seat,
+    two: Seat,
+    row: Row,
+) -> (Outcome, Outcome)
     requires { IsSeatOf board.now one × IsSeatOf board.now two × IsRow board.now.size row }
     ensures { result.0 ≢ Outcome.Open → result.1 ≢ Outcome.Open → result.0 ≡ result.1 }
 {

@@ -1,7 +1,7 @@
 // What the words mean, and where they lie.
 ghost use Rattle.std.specs.Prelude.{◌≡◌, ◌+◌, ◌^◌, ◌<◌, ◌≤◌};
 ghost use Rattle.stamp_board.specs.Words.{mark_from, outcome_from, row_at, word_at, words_of, width};
-ghost use Rattle.stamp_board.specs.Rows.{IsRow};
+ghost use Rattle.stamp_board.specs.Rows.{IsRow, IsSize};
 
 use crate::board::Board;
 use crate::view::Size;
@@ -37,7 +37,7 @@ pub(crate) fn outcome_of_word(n: u64) -> Outcome
 }
 
 pub(crate) fn index(size: Size, row: Row, part: u8) -> usize
-    requires size { (size.clients ≤ 16) × (size.colours ≤ 16) × (size.rows ≤ 4096) }
+    requires size { IsSize size }
     requires row { IsRow size row }
     requires part { part < width size }
     ensures word { result ≡ word_at size (row_at size row) part }

@@ -17,7 +17,7 @@ invariant_of-seat-clause-few c = let b = c.args.self.now in let s = c.args.seat.
     let room : s.used < b.size.rows = omega (arith, apart) in
     let high = (let h = c.requires.seat.1.2 in let l = c.requires.seat.1.1 in let i : s.inner.me.0.high ≡ s.inner.me.0.low + 1 = omega arith in i) in
     let next = next_begun b.size s.inner.me.0 t.new.seat.me.0 s.client s.used t.result c.deref-node.result.now c.requires.seat.0.1 room c.requires.seat.1.1 high s.begun s.all
-        t.ensures.told (subst (λ (z : Node). AreColours b.size z.colours) (sym c.deref-node.ensures) c.requires.node) t.ensures.view in
+    t.ensures.told (subst (λ (z : Node). AreColours b.size z.colours) (sym c.deref-node.ensures) c.requires.node) t.ensures.view in
     next.few
 
 pub invariant_of-seat-clause-begun : goal.invariant_of-seat-clause-begun
@@ -28,7 +28,7 @@ invariant_of-seat-clause-begun c = let b = c.args.self.now in let s = c.args.sea
     let room : s.used < b.size.rows = omega (arith, apart) in
     let high = (let h = c.requires.seat.1.2 in let l = c.requires.seat.1.1 in let i : s.inner.me.0.high ≡ s.inner.me.0.low + 1 = omega arith in i) in
     let next = next_begun b.size s.inner.me.0 t.new.seat.me.0 s.client s.used t.result c.deref-node.result.now c.requires.seat.0.1 room c.requires.seat.1.1 high s.begun s.all
-        t.ensures.told (subst (λ (z : Node). AreColours b.size z.colours) (sym c.deref-node.ensures) c.requires.node) t.ensures.view in
+    t.ensures.told (subst (λ (z : Node). AreColours b.size z.colours) (sym c.deref-node.ensures) c.requires.node) t.ensures.view in
     next.rows
 
 pub invariant_of-seat-clause-all : goal.invariant_of-seat-clause-all
@@ -39,26 +39,22 @@ invariant_of-seat-clause-all c = let b = c.args.self.now in let s = c.args.seat.
     let room : s.used < b.size.rows = omega (arith, apart) in
     let high = (let h = c.requires.seat.1.2 in let l = c.requires.seat.1.1 in let i : s.inner.me.0.high ≡ s.inner.me.0.low + 1 = omega arith in i) in
     let next = next_begun b.size s.inner.me.0 t.new.seat.me.0 s.client s.used t.result c.deref-node.result.now c.requires.seat.0.1 room c.requires.seat.1.1 high s.begun s.all
-        t.ensures.told (subst (λ (z : Node). AreColours b.size z.colours) (sym c.deref-node.ensures) c.requires.node) t.ensures.view in
+    t.ensures.told (subst (λ (z : Node). AreColours b.size z.colours) (sym c.deref-node.ensures) c.requires.node) t.ensures.view in
     next.all
 
-pub returns : goal.returns
-returns c = let b = c.args.self.now in let s = c.args.seat.now in let t = c.set_row in
+pub returns-clause-begun : goal.returns-clause-begun
+returns-clause-begun c = let b = c.args.self.now in let s = c.args.seat.now in let t = c.set_row in
     let e : s.inner.me.0.size.rows ≡ b.size.rows = ap (λ (z : Size). z.rows) c.requires.seat.0.1 in
     let few : s.used ≤ s.inner.me.0.size.rows = s.few in
     let apart = c.if-seat-self.false in
     let room : s.used < b.size.rows = omega (arith, apart) in
     let high = (let h = c.requires.seat.1.2 in let l = c.requires.seat.1.1 in let i : s.inner.me.0.high ≡ s.inner.me.0.low + 1 = omega arith in i) in
     let next = next_begun b.size s.inner.me.0 t.new.seat.me.0 s.client s.used t.result c.deref-node.result.now c.requires.seat.0.1 room c.requires.seat.1.1 high s.begun s.all
-        t.ensures.told (subst (λ (z : Node). AreColours b.size z.colours) (sym c.deref-node.ensures) c.requires.node) t.ensures.view in
-    (
-      room,
-      refl,
-      record {
-        board = t.ensures.seat.0;
-        client = refl;
-        used = refl;
-        grows = next.grows;
-        knows = subst (KnowsBegun t.new.seat.me.0 record { client = s.client; number = s.used }) c.deref-node.ensures next.knows;
-      },
-    )
+    t.ensures.told (subst (λ (z : Node). AreColours b.size z.colours) (sym c.deref-node.ensures) c.requires.node) t.ensures.view in
+    record {
+      board = t.ensures.seat.0;
+      client = refl;
+      used = refl;
+      grows = next.grows;
+      knows = subst (KnowsBegun t.new.seat.me.0 record { client = s.client; number = s.used }) c.deref-node.ensures next.knows;
+    }

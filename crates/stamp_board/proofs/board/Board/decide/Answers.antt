@@ -3,11 +3,12 @@ use Rattle.std.specs.Prelude.{if◌then◌else◌, ◌==◌}
 use Rattle.skeen_core.specs.declared.marks.Mark.{Mark}
 use Rattle.skeen_core.specs.declared.marks.Outcome.{Outcome}
 use Rattle.skeen_core.specs.declared.marks.Outcome.TheVariants.{Open}
+use Rattle.stamp_board.specs.declared.view.Size.{Size}
 use Rattle.skeen_core.specs.Outcomes.{outcome_of}
 use Rattle.stamp_board.specs.Words.{word_at, row_at}
-use Rattle.stamp_board.specs.Law.{AreSet, IsKept}
+use Rattle.stamp_board.specs.Law.{AreSet, Fits, IsKept, Lawful}
 use Rattle.stamp_board.proofs.Fitting.{outcome_kept}
-use Rattle.stamp_board.proofs.Deciding.{never_open, ended_knows, later_grows, later_mine, begun_stay}
+use Rattle.stamp_board.proofs.Deciding.{known_outcome, knows_later, never_open, ended_knows, later_grows, later_mine, begun_stay}
 use Rattle.stamp_board.proofs.Possible.{may_be, kept_is_outcome}
 use Rattle.stamp_board.proofs.board.Board.decide.Goals as goal
 
@@ -21,9 +22,20 @@ pub returns-then-count-eq0-clause-open : goal.returns-then-count-eq0-clause-open
 returns-then-count-eq0-clause-open c _ = let k = c.args.self.now.size in let t = c.take_marks-count in let o = t.ensures.none c.if-count-eq0.true in
     (o.0, may_be k o.0 t.new.seat.me.0 (t.ensures.view.0.size ∙ c.requires.seat.1) o.1 o.2, o.3)
 
+pub returns-then-count-eq0-clause-before : goal.returns-then-count-eq0-clause-before
+returns-then-count-eq0-clause-before c o knows = let k = c.args.self.now.size in let t = c.take_marks-count in let w = t.ensures.none c.if-count-eq0.true in
+    sym w.3 ∙ known_outcome k t.new.seat.me.0 c.args.row o (t.ensures.view.0.size ∙ c.requires.seat.1) (knows_later c.args.seat.now.inner.me.0 t.new.seat.me.0 c.args.row o t.ensures.view.0 knows) w.0 w.1 w.2
+
+pub returns-clause-before : goal.returns-clause-before
+returns-clause-before c o knows = let k = c.args.self.now.size in let t = c.take_marks-count in let told = c.set_final.ensures.told in let is = t.ensures.view.0.size ∙ c.requires.seat.1 in
+    let law : Lawful k told.0 = subst (λ (z : Size). Lawful z told.0) is told.1 in
+    let f : Fits k told.0 t.new.seat.me.0 = subst (λ (z : Size). Fits z told.0 t.new.seat.me.0) is told.2 in
+    c.outcome-kept.ensures ∙ sym (t.ensures.some c.if-count-eq0.false told.0 law f)
+    ∙ known_outcome k t.new.seat.me.0 c.args.row o is (knows_later c.args.seat.now.inner.me.0 t.new.seat.me.0 c.args.row o t.ensures.view.0 knows) told.0 law f
+
 pub returns-then-count-eq0-clause-closed : goal.returns-then-count-eq0-clause-closed
 returns-then-count-eq0-clause-closed c all _ = let b = c.args.self.now in let t = c.take_marks-count in let o = t.ensures.none c.if-count-eq0.true in
-    never_open b.size c.args.seat.now.inner.me.0 t.new.seat.me.0 c.args.row c.requires.seat.1 (let few : b.size.colours ≤ 16 = b.few_colours in omega arith) t.ensures.view.0 all o.0 o.1 o.2 o.3
+    never_open b.size c.args.seat.now.inner.me.0 t.new.seat.me.0 c.args.row c.requires.seat.1 (let few : b.size.colours ≤ 16 = b.is_size.3 in omega arith) t.ensures.view.0 all o.0 o.1 o.2 o.3
 
 pub word_of_outcome-new-requires : goal.word_of_outcome-new-requires
 word_of_outcome-new-requires c = let t = c.take_marks-count in is_kept t.result t.new.marks c.outcome-kept.result t.auto.marks t.ensures.count c.if-count-eq0.false t.ensures.set c.outcome-kept.ensures
@@ -53,7 +65,7 @@ returns-clause-known c _ = let k = c.args.self.now.size in let t = c.take_marks-
 pub returns-clause-of_marks : goal.returns-clause-of_marks
 returns-clause-of_marks c ne ws may = let k = c.args.self.now.size in let t = c.take_marks-count in let e = c.set_final in let w = c.word_of_outcome-new in
     let knows = ended_knows k t.new.seat.me.0 e.new.seat.me.0 c.args.row w.result e.result c.outcome-kept.result (t.ensures.view.0.size ∙ c.requires.seat.1) e.ensures.view e.ensures.told
-        (λ ws law f. t.ensures.some c.if-count-eq0.false ws law f ∙ sym c.outcome-kept.ensures) w.ensures.word w.ensures.small.0 in
+    (λ ws law f. t.ensures.some c.if-count-eq0.false ws law f ∙ sym c.outcome-kept.ensures) w.ensures.word w.ensures.small.0 in
     let kept = may.outcomes c.args.row c.outcome-kept.result knows in
     sym (may.kept c.args.row (λ z. ne (sym kept ∙ z))) ∙ kept
 
