@@ -7,7 +7,7 @@ use Rattle.stamp_board.specs.declared.view.View.{View}
 use Rattle.skeen_core.specs.declared.marks.Mark.{Mark}
 use Rattle.skeen_core.specs.declared.marks.Outcome.{Outcome}
 use Rattle.stamp_board.specs.Words.{row_at, word_at, mark_from, outcome_from}
-use Rattle.stamp_board.specs.Views.{Has, Grows, Learns, KnowsBegun, KnowsWord, KnowsMark, KnowsOutcome}
+use Rattle.stamp_board.specs.Views.{Agree, Has, Grows, Learns, KnowsBegun, KnowsWord, KnowsMark, KnowsOutcome}
 use Rattle.stamp_board.specs.Law.{Told, heard, both}
 use Rattle.stamp_board.proofs.Knowing.{Has-left, Has-right, heard_grows, heard_mine}
 use Rattle.stamp_board.proofs.Deciding.{grows_on}
@@ -28,7 +28,7 @@ module _ (v w u : View) (n : ℕ) (is : u ≡ heard (both v w) 0 n) (tells : Tol
     begun = λ r x h. g.begun r x (Has-right v.begun w.begun r x h);
   })
 
-  pub joined_nodes : v.size ≡ w.size → (row : Row) (x y : Node) → KnowsBegun v row x → KnowsBegun w row y → x ≡ y
+  joined_nodes : v.size ≡ w.size → (row : Row) (x y : Node) → KnowsBegun v row x → KnowsBegun w row y → x ≡ y
   joined_nodes same row x y h h' = tells.2.same (row_at v.size row) x y (Has-left v.begun w.begun (row_at v.size row) x h)
       (Has-right v.begun w.begun (row_at v.size row) y (subst (λ (z : Size). Has w.begun (row_at z row) y) (sym same) h'))
 
@@ -39,9 +39,12 @@ module _ (v w u : View) (n : ℕ) (is : u ≡ heard (both v w) 0 n) (tells : Tol
       let b = tells.2.known i n (Has-right v.known w.known i n (subst (λ (z : Size). Has w.known (word_at z (row_at z row) p) n) (sym same) h')) in
       sym a.1 ∙ b.1
 
-  pub joined_marks : v.size ≡ w.size → (row : Row) (c : ℕ) (x y : Mark) → KnowsMark v row c x → KnowsMark w row c y → x ≡ y
+  joined_marks : v.size ≡ w.size → (row : Row) (c : ℕ) (x y : Mark) → KnowsMark v row c x → KnowsMark w row c y → x ≡ y
   joined_marks same row c x y h h' = sym h.2 ∙ ap mark_from (joined_words same row (1 + c) h.0 h'.0 h.1 h'.1) ∙ h'.2
 
-  pub joined_outcomes : v.size ≡ w.size → (row : Row) (x y : Outcome) → KnowsOutcome v row x → KnowsOutcome w row y → x ≡ y
+  joined_outcomes : v.size ≡ w.size → (row : Row) (x y : Outcome) → KnowsOutcome v row x → KnowsOutcome w row y → x ≡ y
   joined_outcomes same row x y h h' = sym h.2 ∙ ap outcome_from (joined_words same row (v.size.colours + 1) h.0 h'.0 h.1
       (subst (λ (z : Size). KnowsWord w row (z.colours + 1) h'.0) (sym same) h'.1)) ∙ h'.2
+
+  pub joined_agree : v.size ≡ w.size → Agree v w
+  joined_agree same = record { node = joined_nodes same; mark = joined_marks same; outcome = joined_outcomes same }

@@ -1,5 +1,6 @@
 -- The rule of a board's table, and what its steps tell.
-use Rattle.std.specs.Prelude.{◌≡◌, ◌≢◌, ℕ, ◌+◌, ◌/◌, ◌^◌, ◌<◌, ◌≤◌, ◌==◌, true, if◌then◌else◌, List, [], ◌∷◌, ◌++◌, length, slice_index}
+use Rattle.std.specs.Prelude.{◌≡◌, ◌≢◌, ℕ, ◌+◌, ◌/◌, ◌^◌, ◌<◌, ◌≤◌, ◌==◌, true, if◌then◌else◌}
+use Rattle.std.specs.Prelude.{List, [], ◌∷◌, ◌++◌, length, slice_index}
 use mathlib.Core.Option.{Option, none, some}
 use lib.ListN.{get_elem?}
 use Rattle.atomic_table.specs.Table.{State, Me, Step}
@@ -45,13 +46,17 @@ pub record Fits (k : Size) (ws : List ℕ) (v : View) : Type 0 where
   pub mine : (i : ℕ) → Plays v (owner_of k i) → at v.mine i ≡ slice_index ws i
   pub own : (i : ℕ) → at v.mine i ≢ 0 → Plays v (owner_of k i)
 
--- each number keeps its bound, each begun row has two colours or more, and each final word has the outcome of its row's marks
+-- each number keeps its bound, each begun row has two colours or more, and each final word has the outcome of its
+-- row's marks
 pub record Lawful (k : Size) (ws : List ℕ) : Type 0 where
   pub small : (i : ℕ) → slice_index ws i < 2 ^ 62 + 2
-  pub colours : (r : ℕ) → slice_index ws (word_at k r 0) ≢ 0 → AreColours k record { 0 = slice_index ws (word_at k r 0) }
-  pub finals : (r : ℕ) → slice_index ws (word_at k r (k.colours + 1)) ≢ 0 → outcome_from (slice_index ws (word_at k r (k.colours + 1))) ≡ outcome_at k ws r
+  pub colours : (r : ℕ) → slice_index ws (word_at k r 0) ≢ 0
+      → AreColours k record { 0 = slice_index ws (word_at k r 0) }
+  pub finals : (r : ℕ) → slice_index ws (word_at k r (k.colours + 1)) ≢ 0
+      → outcome_from (slice_index ws (word_at k r (k.colours + 1))) ≡ outcome_at k ws r
 
--- what holds of each view: what is known stands, a begun row has its one node, and the seat has set those of its own words that are set, and no others
+-- what holds of each view: what is known stands, a begun row has its one node, and the seat has set those of its own
+-- words that are set, and no others
 pub record Sits (k : Size) (ws : List ℕ) (nodes : ℕ → Option Node) (v : View) : Type 0 where
   pub known : (i n : ℕ) → Has v.known i n → (0 < n) × (slice_index ws i ≡ n)
   pub begun : (r : ℕ) (x : Node) → Has v.begun r x → nodes r ≡ some x
@@ -63,9 +68,11 @@ pub record Kept (k : Size) (s : State Node View) : Type 0 where
   pub long : length s.words ≡ words_of k
   pub lawful : Lawful k s.words
   pub nodes : ℕ → Option Node
-  pub named : (r : ℕ) (x : Node) → nodes r ≡ some x → (0 < x.colours.0) × (slice_index s.words (word_at k r 0) ≡ x.colours.0)
+  pub named : (r : ℕ) (x : Node) → nodes r ≡ some x
+      → (0 < x.colours.0) × (slice_index s.words (word_at k r 0) ≡ x.colours.0)
   pub sits : (id : ℕ) (v : View) → get_elem? s.views id ≡ some v → Sits k s.words nodes v
-  pub apart : (id id' : ℕ) (v v' : View) (a : ℕ) → get_elem? s.views id ≡ some v → get_elem? s.views id' ≡ some v' → Plays v a → Plays v' a → id ≡ id'
+  pub apart : (id id' : ℕ) (v v' : View) (a : ℕ) → get_elem? s.views id ≡ some v → get_elem? s.views id' ≡ some v'
+      → Plays v a → Plays v' a → id ≡ id'
 
 -- there is a list of words that fits what the seat knows, in which this word was found
 abbrev pub Told : View → ℕ → ℕ → Type 0
@@ -123,7 +130,8 @@ merged v w = record v { high = w.high; mine = v.mine ++ w.mine; known = v.known 
 
 -- what is left of a seat that another took in
 abbrev pub spent : View
-spent = record { size = record { clients = 0; colours = 0; rows = 0 }; low = 0; high = 0; mine = []; known = []; begun = [] }
+spent =
+    record { size = record { clients = 0; colours = 0; rows = 0 }; low = 0; high = 0; mine = []; known = []; begun = [] }
 
 -- the first seat's view: it plays each part
 abbrev pub newcomer : Size → ℕ → View
@@ -134,7 +142,9 @@ came me me' = me' ≡ (record me.0 { low = me.0.high }, me.1)
 
 -- a seat that plays no part and stands behind all parts
 abbrev pub nobody : Size → View
-nobody k = record { size = k; low = 1 + k.clients + k.colours; high = 1 + k.clients + k.colours; mine = []; known = []; begun = [] }
+nobody k =
+    let behind : ℕ = 1 + k.clients + k.colours in
+    record { size = k; low = behind; high = behind; mine = []; known = []; begun = [] }
 
 -- the view of a seat that has begun the row for x
 abbrev pub after_begin : View → Size → Row → Node → View
@@ -155,3 +165,11 @@ AlwaysIn k v P = (ws : List ℕ) → Lawful k ws → Fits k ws v → P ws
 -- P holds of some
 abbrev pub OnceIn : Size → View → (List ℕ → Type 0) → Type 0
 OnceIn k v P = (ws : List ℕ) × Lawful k ws × Fits k ws v × P ws
+
+-- the view of a seat that knows what v and w know, after one more load
+abbrev pub Joins : View → View → View → Type 0
+Joins v w u = (n : ℕ) × (u ≡ heard (both v w) 0 n) × Told (both v w) 0 n
+
+-- the second seat's parts are those behind the first one's
+abbrev pub Follows : View → View → Type 0
+Follows v w = (v.high ≡ w.low) × (v.low ≤ v.high) × (w.low ≤ w.high)

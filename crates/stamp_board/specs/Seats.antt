@@ -11,7 +11,7 @@ use Rattle.stamp_board.specs.declared.board.Board.{Board}
 use Rattle.stamp_board.specs.declared.seats.Seat.{Seat}
 use Rattle.stamp_board.specs.declared.seats.ColumnSeat.{ColumnSeat}
 use Rattle.stamp_board.specs.Rows.{IsRow}
-use Rattle.stamp_board.specs.Views.{Grows, KnowsBegun, own_mark}
+use Rattle.stamp_board.specs.Views.{Grows, KnowsBegun, own_mark, told}
 
 -- what a seat knows
 abbrev pub seen : Seat → View
@@ -33,6 +33,10 @@ IsColumnOf b s = (s.inner.table_id ≡ b.table.shared.table_id) × ((column_seen
 -- the seat is the one that begins the rows of its client, as a told seat never is
 abbrev pub IsClients : Board → Seat → Type 0
 IsClients b s = (s.client < b.size.clients) × ((seen s).low ≡ 1 + s.client) × ((seen s).high ≡ 2 + s.client)
+
+-- a seat that knows what v knows, owns no rows and has no column
+abbrev pub IsNote : Board → View → Seat → Type 0
+IsNote b v s = IsSeatOf b s × (seen s ≡ told v) × (s.used ≡ 0)
 
 -- the row that the client's seat begins next
 abbrev pub next_row_of : Seat → Row

@@ -64,6 +64,12 @@ pub record Grows (v w : View) : Type 0 where
   pub known : (i n : ℕ) → Has v.known i n → Has w.known i n
   pub begun : (r : ℕ) (x : Node) → Has v.begun r x → Has w.begun r x
 
+-- what both know of a row is the same: the node for which it is begun, a mark, and the outcome
+pub record Agree (v w : View) : Type 0 where
+  pub node : (row : Row) (x y : Node) → KnowsBegun v row x → KnowsBegun w row y → x ≡ y
+  pub mark : (row : Row) (c : ℕ) (m n : Mark) → KnowsMark v row c m → KnowsMark w row c n → m ≡ n
+  pub outcome : (row : Row) (o p : Outcome) → KnowsOutcome v row o → KnowsOutcome w row p → o ≡ p
+
 -- a seat that has seen as much, and has no part of the board
 abbrev pub told : View → View
 told v = record v { low = 0; high = 0; mine = [] }

@@ -31,7 +31,8 @@ impl Board {
         requires seat { IsSeatOf self.now seat.old × IsClients self.now seat.old }
         requires node { AreColours self.now.size node.now.value.colours }
         ensures row { MatchResult result (λ row. IsNext self.now seat.old row) (λ full. IsFull self.now seat.old full) }
-        ensures begun { MatchResult result (λ row. Begins seat.old seat.new row node.now.value) (λ _. seat.new ≡ seat.old) }
+        ensures begun { MatchResult result
+            (λ row. Begins seat.old seat.new row node.now.value) (λ _. seat.new ≡ seat.old) }
     {
         if seat.used == self.size.rows {
             return Err(Full { used: seat.used });

@@ -49,7 +49,8 @@ fn copy_words(
     closed: &Closed<Node, Global>,
     count: usize,
 ) -> Result<Vec<u64>, AllocError>
-    requires { (count ≡ slots_len closed.now.words) × IsFull closed.now.words × (length (slots_items closed.now.words) ≡ count) }
+    requires { (count ≡ slots_len closed.now.words) × IsFull closed.now.words
+        × (length (slots_items closed.now.words) ≡ count) }
     ensures { IfOk result (λ v. v.items ≡ slots_items closed.now.words) }
 {
     let mut words = Vec::new(alloc);
@@ -96,7 +97,8 @@ fn rows_of(alloc: Global, size: Size, words: &[u64], rows: &[Row]) -> Result<Clo
 impl Board {
     fn finish(self, alloc: Global, last: Inner) -> Result<Vec<u64>, AllocError>
         requires seat { (last.table_id ≡ self.table.shared.table_id) × (last.me.1 ≡ []) }
-        ensures { IfOk result (λ v. (length v.items ≡ words_of self.size) × Lawful self.size v.items × Fits self.size v.items last.me.0) }
+        ensures { IfOk result (λ v. (length v.items ≡ words_of self.size)
+            × Lawful self.size v.items × Fits self.size v.items last.me.0) }
     {
         let Board { table, size: _ } = self;
         let count = table.word_count();
@@ -118,7 +120,8 @@ impl Board {
         requires counts { (length seats ≡ self.size.clients) × (length columns ≡ self.size.colours) }
         requires seats { AreClientsOf self seats }
         requires columns { AreColumnsOf self columns }
-        ensures { IfOk result (λ rows. (ws : List ℕ) × (v : View) × Closes self.size ws v seats columns × (rows ≡ map (closed_row self.size ws) (all_begun seats))) }
+        ensures { IfOk result (λ rows. (ws : List ℕ) × (v : View) × Closes self.size ws v seats columns
+            × (rows ≡ map (closed_row self.size ws) (all_begun seats))) }
     {
         let size = self.size;
         let rows = begun_rows(alloc, seats.as_slice())?;

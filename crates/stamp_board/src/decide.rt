@@ -42,8 +42,10 @@ impl Board {
         ensures seat { Stays seat.old seat.new }
         ensures view { Grows seat.old.me.0 seat.new.me.0 × (seat.new.me.0.mine ≡ seat.old.me.0.mine) }
         ensures count { result ≤ 16 }
-        ensures none { result ≡ 0 → OnceIn self.now.size seat.new.me.0 (λ ws. outcome_in self.now.size ws row ≡ Outcome.Open) }
-        ensures some { result ≢ 0 → AlwaysIn self.now.size seat.new.me.0 (λ ws. outcome_in self.now.size ws row ≡ outcome_of (take result marks.new)) }
+        ensures none { let k = self.now.size in
+            result ≡ 0 → OnceIn k seat.new.me.0 (λ ws. outcome_in k ws row ≡ Outcome.Open) }
+        ensures some { let k = self.now.size in
+            result ≢ 0 → AlwaysIn k seat.new.me.0 (λ ws. outcome_in k ws row ≡ outcome_of (take result marks.new)) }
         ensures set { AreSet (take result marks.new) }
     {
         let first = self.word(row, 0);
@@ -72,11 +74,13 @@ impl Board {
         requires seat { IsSeatOf self.now seat.old }
         requires row { IsRow self.now.size row }
         ensures seat { IsLater seat.old seat.new }
-        ensures open { result ≡ Outcome.Open → Possibly self.now.size (seen seat.new) (λ ws. outcome_in self.now.size ws row ≡ result) }
+        ensures open { let k = self.now.size in
+            result ≡ Outcome.Open → Possibly k (seen seat.new) (λ ws. outcome_in k ws row ≡ result) }
         ensures closed { KnowsAll (seen seat.old) row → result ≢ Outcome.Open }
         ensures known { result ≢ Outcome.Open → KnowsOutcome (seen seat.new) row result }
         ensures before { (o : Outcome) → KnowsOutcome (seen seat.old) row o → result ≡ o }
-        ensures of_marks { result ≢ Outcome.Open → Surely self.now.size (seen seat.new) (λ ws. outcome_in self.now.size ws row ≡ result) }
+        ensures of_marks { let k = self.now.size in
+            result ≢ Outcome.Open → Surely k (seen seat.new) (λ ws. outcome_in k ws row ≡ result) }
         ensures stamp { IsOutcome result }
     {
         let mut marks = [Mark::None; MAX_COLOURS];

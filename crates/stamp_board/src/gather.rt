@@ -1,7 +1,7 @@
 // All seats become one, when the board closes.
 ghost use Rattle.std.specs.Prelude.{◌≡◌, ◌≢◌, ℕ, ◌+◌, ◌<◌, ◌≤◌, [], ◌∷◌, length};
 ghost use Rattle.stamp_board.specs.Views.{at};
-ghost use Rattle.stamp_board.specs.Law.{Plays, merged, nobody};
+ghost use Rattle.stamp_board.specs.Law.{Follows, merged, nobody};
 ghost use Rattle.stamp_board.specs.Seats.{AreClientsOf, AreColumnsOf};
 ghost use Rattle.stamp_board.specs.Inside.{Gathered};
 ghost use Rattle.stamp_board.specs.Words.{owner_of};
@@ -21,15 +21,17 @@ impl Board {
     fn gather(&self, seat: &mut Inner, other: Inner)
         requires seat { seat.old.table_id ≡ self.now.table.shared.table_id }
         requires other { (other.table_id ≡ self.now.table.shared.table_id) × (other.me.1 ≡ []) }
-        requires parts { (seat.old.me.0.high ≡ other.me.0.low) × (seat.old.me.0.low ≤ seat.old.me.0.high) × (other.me.0.low ≤ other.me.0.high) }
-        ensures { (seat.new.table_id ≡ seat.old.table_id) × (seat.new.me ≡ (merged seat.old.me.0 other.me.0, seat.old.me.1)) }
+        requires parts { Follows seat.old.me.0 other.me.0 }
+        ensures seat { seat.new.table_id ≡ seat.old.table_id }
+        ensures all { seat.new.me ≡ (merged seat.old.me.0 other.me.0, seat.old.me.1) }
     {
         self.table.shared.join_seat::<Gathers>(seat, other);
     }
 
     // One seat with the parts of all clients and columns.
     pub(crate) fn gather_all(&self, mut seats: Vec<Seat>, mut columns: Vec<ColumnSeat>) -> Inner
-        requires counts { (length seats.items ≡ self.now.size.clients) × (length columns.items ≡ self.now.size.colours) }
+        requires counts { (length seats.items ≡ self.now.size.clients)
+            × (length columns.items ≡ self.now.size.colours) }
         requires seats { AreClientsOf self.now seats.items }
         requires columns { AreColumnsOf self.now columns.items }
         ensures seat { (result.table_id ≡ self.now.table.shared.table_id) × (result.me.1 ≡ []) }

@@ -1,7 +1,8 @@
 // The rule, and the kinds of step.
 ghost use Rattle.std.specs.Prelude.{◌+◌};
 ghost use Rattle.stamp_board.specs.Views.{told};
-ghost use Rattle.stamp_board.specs.Law.{Kept, Turns, looked, marked, ended, began, lowest, others, both, merged, spent, newcomer, came};
+ghost use Rattle.stamp_board.specs.Law.{Kept, Turns, looked, marked, ended, began};
+ghost use Rattle.stamp_board.specs.Law.{lowest, others, both, merged, spent, newcomer, came};
 
 use crate::view::{Size, View};
 use atomic_table::{Join, Play, Split, TableRule};

@@ -19,7 +19,8 @@ impl Board {
         requires begun { KnowsColour (column_seen seat.old) row seat.old.colour }
         requires number { IsStamp number }
         ensures seat { IsLaterColumn seat.old seat.new }
-        ensures value { MatchMarked result (SetsMark seat.old seat.new row (Mark.Number number)) (MarkStood seat.old seat.new row) }
+        ensures value { MatchMarked result
+            (SetsMark seat.old seat.new row (Mark.Number number)) (MarkStood seat.old seat.new row) }
         ensures known { KnowsMark (column_seen seat.new) row seat.old.colour (set_mark seat.new row) }
     {
         let found = self.set_mark(&mut seat.inner, row, seat.colour, number + 2);

@@ -14,8 +14,10 @@ pub struct Seat {
     pub(crate) inner: atomic_table::Seat<Node, View>,
     ghost empty: { inner.me.1 ≡ [] },
     ghost few: { used ≤ inner.me.0.size.rows },
-    ghost begun: { (j : ℕ) → at inner.me.0.mine (word_at inner.me.0.size (client * inner.me.0.size.rows + j) 0) ≢ 0 → j < used },
-    ghost all: { (j : ℕ) → j < used → at inner.me.0.mine (word_at inner.me.0.size (client * inner.me.0.size.rows + j) 0) ≢ 0 },
+    ghost begun: { (j : ℕ)
+        → at inner.me.0.mine (word_at inner.me.0.size (client * inner.me.0.size.rows + j) 0) ≢ 0 → j < used },
+    ghost all: { (j : ℕ) → j < used
+        → at inner.me.0.mine (word_at inner.me.0.size (client * inner.me.0.size.rows + j) 0) ≢ 0 },
 }
 
 /// What a column knows of its region's board. It alone sets the marks of its colour.

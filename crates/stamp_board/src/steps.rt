@@ -1,8 +1,10 @@
 // The kinds of step, each with what it does to a seat's view.
 ghost use Rattle.std.specs.Prelude.{◌≡◌, ◌+◌, ◌^◌, ◌<◌};
-ghost use Rattle.stamp_board.specs.Words.{words_of, row_at, row_word, mark_word, kept_word, outcome_from};
+ghost use Rattle.stamp_board.specs.Words.{words_of, row_at, outcome_from};
+ghost use Rattle.stamp_board.specs.Words.{row_word, mark_word, kept_word};
 ghost use Rattle.stamp_board.specs.Rows.{AreColours, IsRow, outcome_in};
-ghost use Rattle.stamp_board.specs.Law.{AlwaysIn, HasColour, PlaysOne, Told, after_begin, after_final, after_mark, heard};
+ghost use Rattle.stamp_board.specs.Law.{AlwaysIn, HasColour, PlaysOne, Told};
+ghost use Rattle.stamp_board.specs.Law.{after_begin, after_final, after_mark, heard};
 ghost use Rattle.stamp_board.specs.Inside.{IsOf, Stays};
 
 use crate::board::Board;
@@ -47,7 +49,8 @@ impl Board {
         requires seat { IsOf self.now seat.old }
         requires row { IsRow self.now.size row }
         requires new { (0 < new) × (new < 2 ^ 62 + 2) }
-        requires outcome { AlwaysIn self.now.size seat.old.me.0 (λ ws. outcome_from new ≡ outcome_in self.now.size ws row) }
+        requires outcome { let k = self.now.size in
+            AlwaysIn k seat.old.me.0 (λ ws. outcome_from new ≡ outcome_in k ws row) }
         ensures seat { Stays seat.old seat.new }
         ensures view { seat.new.me.0 ≡ after_final seat.old.me.0 (kept_word self.now.size row) new result }
         ensures told { Told seat.old.me.0 (kept_word self.now.size row) result }

@@ -1,8 +1,9 @@
 // What seats tell one another.
 ghost use Rattle.std.specs.Prelude.{◌≡◌, ℕ, ◌<◌, []};
-ghost use Rattle.stamp_board.specs.Views.{Learns, KnowsBegun, KnowsMark, KnowsOutcome, told};
-ghost use Rattle.stamp_board.specs.Law.{Told, heard, both, lowest, others};
-ghost use Rattle.stamp_board.specs.Seats.{IsSeatOf, IsColumnOf, IsLater, IsLaterColumn, SetsNone, seen, column_seen};
+ghost use Rattle.stamp_board.specs.Views.{Agree, Learns, told};
+ghost use Rattle.stamp_board.specs.Law.{Joins, lowest, others};
+ghost use Rattle.stamp_board.specs.Seats.{IsSeatOf, IsColumnOf, IsLater, IsLaterColumn, IsNote, SetsNone};
+ghost use Rattle.stamp_board.specs.Seats.{seen, column_seen};
 ghost use Rattle.stamp_board.specs.Inside.{IsOf, Stays};
 
 use crate::board::Board;
@@ -22,7 +23,7 @@ impl Board {
     fn told_seat(&self, seat: &mut Inner) -> Seat
         requires { IsOf self.now seat.old }
         ensures seat { (seat.new.table_id ≡ seat.old.table_id) × (seat.new.me ≡ seat.old.me) }
-        ensures new { IsSeatOf self.now result × (seen result ≡ told seat.old.me.0) × (result.used ≡ 0) }
+        ensures note { IsNote self.now seat.old.me.0 result }
     {
         let inner = self.split(seat);
         Seat {
@@ -37,7 +38,7 @@ impl Board {
         requires seat { IsOf self.now seat.old }
         requires other { (other.table_id ≡ self.now.table.shared.table_id) × (other.me.1 ≡ []) }
         ensures seat { Stays seat.old seat.new }
-        ensures view { (n : ℕ) × (seat.new.me.0 ≡ heard (both seat.old.me.0 other.me.0) 0 n) × Told (both seat.old.me.0 other.me.0) 0 n }
+        ensures view { Joins seat.old.me.0 other.me.0 seat.new.me.0 }
     {
         self.table.shared.join_seat::<Hears>(seat, other);
         self.load(seat, 0);
@@ -48,7 +49,8 @@ impl Board {
         requires seat { IsOf self.now seat.old }
         requires parts { seat.old.me.0.low < seat.old.me.0.high }
         requires fresh { seat.old.me.0.mine ≡ [] }
-        ensures seat { (seat.new.table_id ≡ seat.old.table_id) × (seat.new.me ≡ (others seat.old.me.0, seat.old.me.1)) }
+        ensures seat { seat.new.table_id ≡ seat.old.table_id }
+        ensures rest { seat.new.me ≡ (others seat.old.me.0, seat.old.me.1) }
         ensures new { (result.table_id ≡ seat.old.table_id) × (result.me ≡ (lowest seat.old.me.0, [])) }
     {
         self.table.shared.split_seat::<Deals>(seat)
@@ -58,19 +60,18 @@ impl Board {
     pub fn tell(&self, seat: &mut Seat) -> Seat
         requires { IsSeatOf self.now seat.old }
         ensures seat { IsLater seat.old seat.new × (seen seat.new ≡ seen seat.old) }
-        ensures new { IsSeatOf self.now result × (seen result ≡ told (seen seat.old)) × (result.used ≡ 0) }
+        ensures note { IsNote self.now (seen seat.old) result }
     {
         self.told_seat(&mut seat.inner)
     }
 
-    /// The seat then knows what both knew. No two seats know one row as begun for two nodes.
+    /// The seat then knows what both knew. What both knew of a row is the same: no two seats know one row as begun for
+    /// two nodes.
     pub fn hear(&self, seat: &mut Seat, other: Seat)
         requires { IsSeatOf self.now seat.old × IsSeatOf self.now other }
         ensures seat { IsLater seat.old seat.new }
         ensures learns { Learns (seen other) (seen seat.new) }
-        ensures one_node { (row : _) (x y : _) → KnowsBegun (seen seat.old) row x → KnowsBegun (seen other) row y → x ≡ y }
-        ensures one_mark { (row : _) (c : ℕ) (x y : _) → KnowsMark (seen seat.old) row c x → KnowsMark (seen other) row c y → x ≡ y }
-        ensures one_outcome { (row : _) (x y : _) → KnowsOutcome (seen seat.old) row x → KnowsOutcome (seen other) row y → x ≡ y }
+        ensures agree { Agree (seen seat.old) (seen other) }
     {
         let Seat {
             client: _,
@@ -83,8 +84,9 @@ impl Board {
     /// A seat that has seen as much as the column's, owns no rows and has no column.
     pub fn note(&self, seat: &mut ColumnSeat) -> Seat
         requires { IsColumnOf self.now seat.old }
-        ensures seat { IsLaterColumn seat.old seat.new × (column_seen seat.new ≡ column_seen seat.old) }
-        ensures new { IsSeatOf self.now result × (seen result ≡ told (column_seen seat.old)) × (result.used ≡ 0) }
+        ensures seat { IsLaterColumn seat.old seat.new }
+        ensures same { column_seen seat.new ≡ column_seen seat.old }
+        ensures note { IsNote self.now (column_seen seat.old) result }
     {
         self.told_seat(&mut seat.inner)
     }
@@ -95,9 +97,7 @@ impl Board {
         ensures seat { IsLaterColumn seat.old seat.new }
         ensures none { SetsNone seat.old seat.new }
         ensures learns { Learns (seen other) (column_seen seat.new) }
-        ensures one_node { (row : _) (x y : _) → KnowsBegun (column_seen seat.old) row x → KnowsBegun (seen other) row y → x ≡ y }
-        ensures one_mark { (row : _) (c : ℕ) (x y : _) → KnowsMark (column_seen seat.old) row c x → KnowsMark (seen other) row c y → x ≡ y }
-        ensures one_outcome { (row : _) (x y : _) → KnowsOutcome (column_seen seat.old) row x → KnowsOutcome (seen other) row y → x ≡ y }
+        ensures agree { Agree (column_seen seat.old) (seen other) }
     {
         let Seat {
             client: _,

@@ -3,7 +3,8 @@ ghost use Rattle.std.specs.Prelude.{◌≡◌, ◌≢◌, ◌<◌, true, length,
 ghost use Rattle.log_node.specs.Sets.{has};
 ghost use Rattle.stamp_board.specs.Rows.{AreColours, IsRow};
 ghost use Rattle.stamp_board.specs.Views.{KnowsBegun, KnowsColour, KnowsOutcome};
-ghost use Rattle.stamp_board.specs.Seats.{IsSeatOf, IsClients, IsColumnOf, IsFreshClient, IsFreshColumn, IsLater, IsLaterColumn, AreFreshClients, AreFreshColumns, column_seen, seen};
+ghost use Rattle.stamp_board.specs.Seats.{IsSeatOf, IsClients, IsColumnOf, IsLater, IsLaterColumn, column_seen, seen};
+ghost use Rattle.stamp_board.specs.Seats.{IsFreshClient, IsFreshColumn, AreFreshClients, AreFreshColumns};
 ghost use Rattle.stamp_board.specs.declared.view.Size.{Size};
 
 use crate::{Board, ClosedRows, ColumnSeat, ColumnSeats, Seat, Seats};
@@ -133,11 +134,13 @@ fn decide_both<R: Threads + Sync>(
         rt,
         || -> (Seat, Outcome)
             requires { IsSeatOf board.now one × IsRow board.now.size row }
-            ensures { IsSeatOf board.entry.now result.0 × (result.1 ≢ Outcome.Open → KnowsOutcome (seen result.0) row result.1) }
+            ensures { IsSeatOf board.entry.now result.0
+                × (result.1 ≢ Outcome.Open → KnowsOutcome (seen result.0) row result.1) }
         { decide_as(board, one, row) },
         || -> (Seat, Outcome)
             requires { IsSeatOf board.now two × IsRow board.now.size row }
-            ensures { IsSeatOf board.entry.now result.0 × (result.1 ≢ Outcome.Open → KnowsOutcome (seen result.0) row result.1) }
+            ensures { IsSeatOf board.entry.now result.0
+                × (result.1 ≢ Outcome.Open → KnowsOutcome (seen result.0) row result.1) }
         { decide_as(board, two, row) },
     );
     let (mut one, first) = left;

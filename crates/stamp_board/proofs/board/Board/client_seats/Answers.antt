@@ -11,7 +11,7 @@ loop-client-preserved c =
     let fresh : IsFreshClient b new l.client = dealt_client b l.first c.deal-inner.result l.client new l.invariant.first d.new.0 d.new.1 c.loop-client-test.true s.0 s.1 s.2 in
     let next : 1 + l.client + 1 ≡ 1 + (l.client + 1) = omega arith in
     record {
-      first = subst (HasParts b c.deal-inner.new.seat) next (dealt_first b l.first c.deal-inner.new.seat (1 + l.client) l.invariant.first d.seat.0 d.seat.1);
+      first = subst (HasParts b c.deal-inner.new.seat) next (dealt_first b l.first c.deal-inner.new.seat (1 + l.client) l.invariant.first d.seat d.rest);
       count = ap length h.ok ∙ length-append l.seats (new ∷ []) ∙ ap (λ n. n + 1) count;
       seats = subst (AreFreshClients b) (sym h.ok) (more_clients b l.seats new l.invariant.seats (subst (IsFreshClient b new) (sym count) fresh));
     }

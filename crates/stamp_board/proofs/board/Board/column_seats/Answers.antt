@@ -12,7 +12,7 @@ loop-colour-preserved c =
     let fresh : IsFreshColumn b new l.colour = dealt_column b l.first c.deal-inner.result l.colour low new l.invariant.first d.new.0 d.new.1 s.0 s.1 in
     let next : low + 1 ≡ 1 + b.size.clients + (l.colour + 1) = omega arith in
     record {
-      first = subst (HasParts b c.deal-inner.new.seat) next (dealt_first b l.first c.deal-inner.new.seat low l.invariant.first d.seat.0 d.seat.1);
+      first = subst (HasParts b c.deal-inner.new.seat) next (dealt_first b l.first c.deal-inner.new.seat low l.invariant.first d.seat d.rest);
       count = ap length h.ok ∙ length-append l.seats (new ∷ []) ∙ ap (λ n. n + 1) count;
       seats = subst (AreFreshColumns b) (sym h.ok) (more_columns b l.seats new l.invariant.seats (subst (IsFreshColumn b new) (sym count) fresh));
     }

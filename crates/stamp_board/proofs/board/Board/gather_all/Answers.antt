@@ -20,9 +20,9 @@ loop-column-preserved c = let i = c.loop-column.invariant in let b = c.args.self
     let q = c.requires.columns (length rest) col at in let p = low_of k col (length rest) q.0.1 q.1 in let low = i.low in
     let p0 : col.inner.me.0.low ≡ 1 + k.clients + length rest = p.0 in let p1 : col.inner.me.0.high ≡ 1 + k.clients + (length rest + 1) = p.1 in
     let v = c.loop-column.all.me.0 in let u = col.inner.me.0 in let x = c.load.new.seat.me.0 in let w = c.gather.new.seat.me.0 in
-    let new = ap (λ (m : Me Node View). m.0) c.gather.ensures.1 in let z = parts_low v u x w c.load.result c.load.ensures.view new in record {
-      table = c.gather.ensures.0 ∙ c.load.ensures.seat.0 ∙ q.0.0;
-      held = ap (λ (m : Me Node View). m.1) c.gather.ensures.1 ∙ c.load.ensures.seat.1 ∙ col.empty;
+    let new = ap (λ (m : Me Node View). m.0) c.gather.ensures.all in let z = parts_low v u x w c.load.result c.load.ensures.view new in record {
+      table = c.gather.ensures.seat ∙ c.load.ensures.seat.0 ∙ q.0.0;
+      held = ap (λ (m : Me Node View). m.1) c.gather.ensures.all ∙ c.load.ensures.seat.1 ∙ col.empty;
       left = λ n d here. i.left n d (ap (λ l. slice_get l n) e ∙ got_front rest col d n here);
       low = z.0 ∙ p0;
       high = z.1 ∙ i.high;
@@ -51,10 +51,10 @@ loop-client-preserved c = let i = c.loop-client.invariant in let b = c.args.self
     let at = i.left (length rest) s (ap (λ l. slice_get l (length rest)) e ∙ got_end rest s) in
     let q = c.requires.seats (length rest) s at in let low = i.low in let q1 : s.inner.me.0.low ≡ 1 + s.client = q.1.1 in let q2 : s.inner.me.0.high ≡ 2 + s.client = q.1.2 in let q3 : s.client ≡ length rest = q.2 in
     let v = c.loop-client.all.me.0 in let u = s.inner.me.0 in let x = c.load-in-Some-pop.new.seat.me.0 in let w = c.gather-in-Some-pop.new.seat.me.0 in
-    let new = ap (λ (m : Me Node View). m.0) c.gather-in-Some-pop.ensures.1 in let z = parts_low v u x w c.load-in-Some-pop.result c.load-in-Some-pop.ensures.view new in
+    let new = ap (λ (m : Me Node View). m.0) c.gather-in-Some-pop.ensures.all in let z = parts_low v u x w c.load-in-Some-pop.result c.load-in-Some-pop.ensures.view new in
     let p0 : u.low ≡ 1 + length rest = omega arith in record {
-      table = c.gather-in-Some-pop.ensures.0 ∙ c.load-in-Some-pop.ensures.seat.0 ∙ q.0.0;
-      held = ap (λ (m : Me Node View). m.1) c.gather-in-Some-pop.ensures.1 ∙ c.load-in-Some-pop.ensures.seat.1 ∙ s.empty;
+      table = c.gather-in-Some-pop.ensures.seat ∙ c.load-in-Some-pop.ensures.seat.0 ∙ q.0.0;
+      held = ap (λ (m : Me Node View). m.1) c.gather-in-Some-pop.ensures.all ∙ c.load-in-Some-pop.ensures.seat.1 ∙ s.empty;
       left = λ n d here. i.left n d (ap (λ l. slice_get l n) e ∙ got_front rest s d n here);
       low = z.0 ∙ p0;
       high = z.1 ∙ i.high;

@@ -1,5 +1,5 @@
 use Rattle.std.proofs.Common.{sym, refl, ◌∙◌}
-use Rattle.stamp_board.proofs.Telling.{joined_grows, joined_mine, joined_learns, joined_nodes, joined_marks, joined_outcomes}
+use Rattle.stamp_board.proofs.Telling.{joined_grows, joined_mine, joined_learns, joined_agree}
 use Rattle.stamp_board.proofs.Marking.{same_own}
 use Rattle.stamp_board.proofs.board.Board.learn.Goals as goal
 
@@ -17,14 +17,6 @@ returns-clause-none c row = let s = c.args.seat.now in let v = s.inner.me.0 in l
 pub returns-clause-learns : goal.returns-clause-learns
 returns-clause-learns c = let v = c.args.seat.now.inner.me.0 in let w = c.args.other.inner.me.0 in let u = c.join.new.seat.me.0 in let e = c.join.ensures.view in joined_learns v w u e.0 e.1 e.2
 
-pub returns-clause-one_node : goal.returns-clause-one_node
-returns-clause-one_node c = let v = c.args.seat.now.inner.me.0 in let w = c.args.other.inner.me.0 in let u = c.join.new.seat.me.0 in let e = c.join.ensures.view in
-    joined_nodes v w u e.0 e.1 e.2 (c.requires.0.1 ∙ sym c.requires.1.1)
-
-pub returns-clause-one_mark : goal.returns-clause-one_mark
-returns-clause-one_mark c = let v = c.args.seat.now.inner.me.0 in let w = c.args.other.inner.me.0 in let u = c.join.new.seat.me.0 in let e = c.join.ensures.view in
-    joined_marks v w u e.0 e.1 e.2 (c.requires.0.1 ∙ sym c.requires.1.1)
-
-pub returns-clause-one_outcome : goal.returns-clause-one_outcome
-returns-clause-one_outcome c = let v = c.args.seat.now.inner.me.0 in let w = c.args.other.inner.me.0 in let u = c.join.new.seat.me.0 in let e = c.join.ensures.view in
-    joined_outcomes v w u e.0 e.1 e.2 (c.requires.0.1 ∙ sym c.requires.1.1)
+pub returns-clause-agree : goal.returns-clause-agree
+returns-clause-agree c = let v = c.args.seat.now.inner.me.0 in let w = c.args.other.inner.me.0 in let u = c.join.new.seat.me.0 in let e = c.join.ensures.view in
+    joined_agree v w u e.0 e.1 e.2 (c.requires.0.1 ∙ sym c.requires.1.1)
