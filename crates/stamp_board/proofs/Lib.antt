@@ -1,3 +1,4 @@
+pub mod CallerLemmas
 pub mod Colours
 pub mod Places
 pub mod Knowing

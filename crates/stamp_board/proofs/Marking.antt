@@ -1,5 +1,6 @@
 -- What a seat knows after it was to set a mark, and after it has begun a row.
-use Rattle.std.proofs.Common.{◌≡◌, ◌≢◌, ℕ, ◌+◌, ◌-◌, ◌*◌, ◌/◌, ◌%◌, ◌<◌, ◌≤◌, ◌∷◌, sym, refl, ap, ◌∙◌, subst, arith, inl, inr}
+use Rattle.std.proofs.Common.{◌≡◌, ◌≢◌, ℕ, ◌+◌, ◌-◌, ◌*◌, ◌/◌, ◌%◌, ◌<◌, ◌≤◌, ◌∷◌, sym, refl, ap, ◌∙◌, subst}
+use Rattle.std.proofs.Common.{arith, inl, inr}
 use Rattle.std.specs.Prelude.{if◌then◌else◌, ◌==◌}
 use mathlib.Core.Logic.{dite}
 use mathlib.Core.Option.{some}
@@ -20,23 +21,28 @@ use Rattle.stamp_board.proofs.Deciding.{mark_from-none}
 use Rattle.stamp_board.proofs.Keeps.{client_set}
 
 pub number_word : (s : ℕ) → 0 < s → mark_from (s + 2) ≡ marks.Number s
-number_word s pos = if_no (s + 2) 0 _ _ (λ z. omega arith) ∙ if_no (s + 2) 1 _ _ (λ z. omega arith) ∙ if_no (s + 2) 2 _ _ (λ z. omega arith)
+number_word s pos = if_no (s + 2) 0 _ _ (λ z. omega arith) ∙ if_no (s + 2) 1 _ _ (λ z. omega arith)
+    ∙ if_no (s + 2) 2 _ _ (λ z. omega arith)
     ∙ (let e : s + 2 - 2 ≡ s = omega arith in ap marks.Number e)
 
 -- rows with one number among all rows are one row
 rows_differ : (k : Size) (r s : Row) → IsRow k r → IsRow k s → row_at k r ≡ row_at k s → r ≡ s
 rows_differ k r s h h' e =
-    let clients : r.client ≡ s.client = sym (client_of_row k r h.1) ∙ ap (λ (n : ℕ). n / k.rows) e ∙ client_of_row k s h'.1 in
-    let numbers : r.number ≡ s.number = sym (number_of_row k r h.1) ∙ ap (λ (n : ℕ). n % k.rows) e ∙ number_of_row k s h'.1 in
+    let clients : r.client ≡ s.client = sym (client_of_row k r h.1) ∙ ap (λ (n : ℕ). n / k.rows) e
+    ∙ client_of_row k s h'.1 in
+    let numbers : r.number ≡ s.number = sym (number_of_row k r h.1) ∙ ap (λ (n : ℕ). n % k.rows) e
+    ∙ number_of_row k s h'.1 in
     λ i. record { client = clients i; number = numbers i }
 
 -- a seat that has set nothing has the marks that it had
-pub same_own : (v w : View) → w.mine ≡ v.mine → w.size ≡ v.size → (row : Row) (c : ℕ) → own_mark w row c ≡ own_mark v row c
+pub same_own : (v w : View) → w.mine ≡ v.mine → w.size ≡ v.size → (row : Row) (c : ℕ)
+    → own_mark w row c ≡ own_mark v row c
 same_own v w mine size row c = λ i. mark_from (at (mine i) (word_at (size i) (row_at (size i) row) (1 + c)))
 
 -- a column's seat after its mark in the row was to be set to n, where `found` was found
 module _ (k : Size) (v w : View) (row : Row) (c n found : ℕ) (is : v.size ≡ k)
-    (turns : w ≡ (if found == 0 then wrote v (word_at k (row_at k row) (1 + c)) n else heard v (word_at k (row_at k row) (1 + c)) found))
+    (turns : w ≡ (if found == 0 then wrote v (word_at k (row_at k row) (1 + c)) n else heard v
+    (word_at k (row_at k row) (1 + c)) found))
     (own : at v.mine (word_at v.size (row_at v.size row) (1 + c)) ≡ found) where
   abbrev place : ℕ
   place = word_at v.size (row_at v.size row) (1 + c)
@@ -45,7 +51,8 @@ module _ (k : Size) (v w : View) (row : Row) (c n found : ℕ) (is : v.size ≡ 
   set_view e = turns ∙ if_yes found 0 _ _ e ∙ ap (λ (z : Size). wrote v (word_at z (row_at z row) (1 + c)) n) (sym is)
 
   kept_view : found ≢ 0 → w ≡ heard v place found
-  kept_view ne = turns ∙ if_no found 0 _ _ ne ∙ ap (λ (z : Size). heard v (word_at z (row_at z row) (1 + c)) found) (sym is)
+  kept_view ne = turns ∙ if_no found 0 _ _ ne
+      ∙ ap (λ (z : Size). heard v (word_at z (row_at z row) (1 + c)) found) (sym is)
 
   pub was : own_mark v row c ≡ mark_from found
   was = ap mark_from own
@@ -62,14 +69,18 @@ module _ (k : Size) (v w : View) (row : Row) (c n found : ℕ) (is : v.size ≡ 
       let all : at ((place, n) ∷ v.mine) place ≡ n = sum ∙ ap (λ (z : ℕ). n + z) (own ∙ e) ∙ (omega arith) in
       ap (λ (z : View). own_mark z row c) (set_view e) ∙ ap mark_from all
 
-  pub others_stay : found ≡ 0 → c < v.size.colours → (other : Row) → IsRow v.size row → IsRow v.size other → other ≢ row → own_mark w other c ≡ own_mark v other c
+  pub others_stay : found ≡ 0 → c < v.size.colours → (other : Row) → IsRow v.size row → IsRow v.size other
+      → other ≢ row → own_mark w other c ≡ own_mark v other c
   others_stay e colour other h h' ne =
       let there : ℕ = word_at v.size (row_at v.size other) (1 + c) in
-      let apart : place ≢ there = λ d. ne (sym (rows_differ v.size row other h h' (same_row v.size (row_at v.size row) (1 + c) (row_at v.size other) (1 + c) (omega arith) (omega arith) d))) in
+      let apart : place ≢ there = λ d. ne (sym (rows_differ v.size row other h h'
+      (same_row v.size (row_at v.size row) (1 + c) (row_at v.size other) (1 + c) (omega arith) (omega arith) d)))
+      in
       ap (λ (z : View). own_mark z other c) (set_view e) ∙ ap mark_from (at_else v.mine place n there apart)
 
   pub all_stay : found ≢ 0 → (other : Row) → own_mark w other c ≡ own_mark v other c
-  all_stay ne other = same_own v w (ap (λ (z : View). z.mine) (kept_view ne) ∙ heard_mine v place found) (ap (λ (z : View). z.size) (kept_view ne) ∙ heard_size v place found) other c
+  all_stay ne other = same_own v w (ap (λ (z : View). z.mine) (kept_view ne)
+      ∙ heard_mine v place found) (ap (λ (z : View). z.size) (kept_view ne) ∙ heard_size v place found) other c
 
   pub knows_own : KnowsMark w row c (own_mark w row c)
   knows_own = dite (ℕ_discrete found 0)
@@ -77,7 +88,8 @@ module _ (k : Size) (v w : View) (row : Row) (c n found : ℕ) (is : v.size ≡ 
       (λ ne. (
         found,
         (let size = ap (λ (z : View). z.size) (kept_view ne) ∙ heard_size v place found in
-            subst (λ (z : Size). Has w.known (word_at z (row_at z row) (1 + c)) found) (sym size) (subst (λ (z : View). Has z.known place found) (sym (kept_view ne)) (heard_knows v place found ne))),
+            subst (λ (z : Size). Has w.known (word_at z (row_at z row) (1 + c)) found) (sym size)
+            (subst (λ (z : View). Has z.known place found) (sym (kept_view ne)) (heard_knows v place found ne))),
         sym (all_stay ne row ∙ was),
       ))
 
@@ -90,47 +102,66 @@ pub record IsNextBegun (v w : View) (client used : ℕ) (x : Node) : Type 0 wher
   pub all : (j : ℕ) → j < used + 1 → at w.mine (word_at w.size (client * w.size.rows + j) 0) ≢ 0
 
 -- a client's seat of which `used` rows are begun, and what it is after the next
-module _ (k : Size) (v w : View) (client used found : ℕ) (x : Node) (is : v.size ≡ k) (room : used < k.rows) (low : v.low ≡ 1 + client) (high : v.high ≡ v.low + 1)
+module _ (k : Size) (v w : View) (client used found : ℕ) (x : Node) (is : v.size ≡ k) (room : used < k.rows)
+    (low : v.low ≡ 1 + client) (high : v.high ≡ v.low + 1)
     (begun : (j : ℕ) → at v.mine (word_at v.size (client * v.size.rows + j) 0) ≢ 0 → j < used)
     (all : (j : ℕ) → j < used → at v.mine (word_at v.size (client * v.size.rows + j) 0) ≢ 0)
     (told : Told v (word_at k (row_at k record { client = client; number = used }) 0) found)
     (bits : AreColours k x.colours)
-    (view : found ≡ 0 → w ≡ with_node (wrote v (word_at k (row_at k record { client = client; number = used }) 0) x.colours.0) (row_at k record { client = client; number = used }) (some x)) where
+    (view : found ≡ 0 → w ≡ with_node (wrote v (word_at k (row_at k record { client = client; number = used }) 0)
+    x.colours.0) (row_at k record { client = client; number = used }) (some x)) where
   abbrev next : Row
   next = record { client = client; number = used }
 
   none_found : found ≡ 0
   none_found = let c = client_set k v next found is room low high told in
-      let here : at v.mine (word_at k (row_at k next) 0) ≡ 0 = dite (ℕ_discrete (at v.mine (word_at k (row_at k next) 0)) 0) (λ z. z)
-      (λ ne. absurd (let more : used < used = begun used (subst (λ (z : Size). at v.mine (word_at z (row_at z next) 0) ≢ 0) (sym is) ne) in omega arith)) in sym c ∙ here
+      let here : at v.mine (word_at k (row_at k next) 0) ≡ 0 = dite
+      (ℕ_discrete (at v.mine (word_at k (row_at k next) 0)) 0) (λ z. z)
+      (λ ne. absurd (let more : used < used = begun used
+      (subst (λ (z : Size). at v.mine (word_at z (row_at z next) 0) ≢ 0) (sym is) ne) in omega arith)) in sym c
+      ∙ here
 
   now : w ≡ with_node (wrote v (word_at v.size (row_at v.size next) 0) x.colours.0) (row_at v.size next) (some x)
-  now = view none_found ∙ ap (λ (z : Size). with_node (wrote v (word_at z (row_at z next) 0) x.colours.0) (row_at z next) (some x)) (sym is)
+  now = view none_found
+      ∙ ap (λ (z : Size). with_node (wrote v (word_at z (row_at z next) 0) x.colours.0) (row_at z next) (some x))
+      (sym is)
 
   begun_knows : KnowsBegun w next x
   begun_knows = subst (λ (z : View). KnowsBegun z next x) (sym now) (inl (refl, refl))
 
   begun_grows : Grows v w
-  begun_grows = subst (Grows v) (sym now) record { size = refl; low = refl; high = refl; known = λ _ _ h. inr h; begun = λ _ _ h. inr h }
+  begun_grows = subst (Grows v) (sym now) record
+      { size = refl; low = refl; high = refl; known = λ _ _ h. inr h; begun = λ _ _ h. inr h }
 
   begun_few : used + 1 ≤ w.size.rows
-  begun_few = let r : k.rows ≡ w.size.rows = ap (λ (z : Size). z.rows) (sym is) ∙ ap (λ (z : View). z.size.rows) (sym now) in omega arith
+  begun_few = let r : k.rows ≡ w.size.rows = ap (λ (z : Size). z.rows) (sym is)
+      ∙ ap (λ (z : View). z.size.rows) (sym now) in omega arith
 
   differ : (j : ℕ) → j ≢ used → word_at v.size (row_at v.size next) 0 ≢ word_at v.size (client * v.size.rows + j) 0
-  differ j ne e = let r : client * v.size.rows + used ≡ client * v.size.rows + j = same_row v.size (row_at v.size next) 0 (client * v.size.rows + j) 0 (omega arith) (omega arith) e in
+  differ j ne e = let r : client * v.size.rows + used ≡ client * v.size.rows + j = same_row v.size
+      (row_at v.size next) 0 (client * v.size.rows + j) 0 (omega arith) (omega arith) e in
       let p : ℕ = client * v.size.rows in let r' : p + used ≡ p + j = r in ne (omega arith)
 
   begun_rows : (j : ℕ) → at w.mine (word_at w.size (client * w.size.rows + j) 0) ≢ 0 → j < used + 1
-  begun_rows j = subst (λ (z : View). at z.mine (word_at z.size (client * z.size.rows + j) 0) ≢ 0 → j < used + 1) (sym now) (λ ne. dite (ℕ_discrete j used) (λ e. omega arith)
-      (λ d. let old : j < used = begun j (λ z. ne (at_else v.mine (word_at v.size (row_at v.size next) 0) x.colours.0 (word_at v.size (client * v.size.rows + j) 0) (differ j d) ∙ z)) in omega arith))
+  begun_rows j = subst (λ (z : View). at z.mine (word_at z.size (client * z.size.rows + j) 0) ≢ 0
+      → j < used + 1) (sym now) (λ ne. dite (ℕ_discrete j used) (λ e. omega arith)
+      (λ d. let old : j < used = begun j (λ z. ne
+      (at_else v.mine (word_at v.size (row_at v.size next) 0) x.colours.0
+      (word_at v.size (client * v.size.rows + j) 0) (differ j d) ∙ z)) in omega arith))
 
   begun_all : (j : ℕ) → j < used + 1 → at w.mine (word_at w.size (client * w.size.rows + j) 0) ≢ 0
-  begun_all j lt = subst (λ (z : View). at z.mine (word_at z.size (client * z.size.rows + j) 0) ≢ 0) (sym now) (dite (ℕ_discrete j used)
-      (λ e z. let same : word_at v.size (row_at v.size next) 0 ≡ word_at v.size (client * v.size.rows + j) 0 = ap (λ (n : ℕ). word_at v.size (client * v.size.rows + n) 0) (sym e) in
-      let sum : at ((word_at v.size (row_at v.size next) 0, x.colours.0) ∷ v.mine) (word_at v.size (client * v.size.rows + j) 0) ≡ x.colours.0 + at v.mine (word_at v.size (client * v.size.rows + j) 0)
-      = at_here v.mine (word_at v.size (row_at v.size next) 0) x.colours.0 (word_at v.size (client * v.size.rows + j) 0) same in
+  begun_all j lt = subst (λ (z : View). at z.mine (word_at z.size (client * z.size.rows + j) 0) ≢ 0) (sym now)
+      (dite (ℕ_discrete j used)
+      (λ e z. let same : word_at v.size (row_at v.size next) 0 ≡ word_at v.size (client * v.size.rows + j) 0 = ap
+      (λ (n : ℕ). word_at v.size (client * v.size.rows + n) 0) (sym e) in
+      let sum : at ((word_at v.size (row_at v.size next) 0, x.colours.0) ∷ v.mine)
+      (word_at v.size (client * v.size.rows + j) 0) ≡ x.colours.0 + at v.mine
+      (word_at v.size (client * v.size.rows + j) 0)
+      = at_here v.mine (word_at v.size (row_at v.size next) 0) x.colours.0
+      (word_at v.size (client * v.size.rows + j) 0) same in
       let many = bits.many in let filled : x.colours.0 ≢ 0 = not_empty x.colours (omega arith) in omega arith)
-      (λ d z. all j (omega arith) (sym (at_else v.mine (word_at v.size (row_at v.size next) 0) x.colours.0 (word_at v.size (client * v.size.rows + j) 0) (differ j d)) ∙ z)))
+      (λ d z. all j (omega arith) (sym (at_else v.mine (word_at v.size (row_at v.size next) 0) x.colours.0
+      (word_at v.size (client * v.size.rows + j) 0) (differ j d)) ∙ z)))
 
   pub next_begun : IsNextBegun v w client used x
   next_begun = record { knows = begun_knows; grows = begun_grows; few = begun_few; rows = begun_rows; all = begun_all }

@@ -131,7 +131,8 @@ merged v w = record v { high = w.high; mine = v.mine ++ w.mine; known = v.known 
 -- what is left of a seat that another took in
 abbrev pub spent : View
 spent =
-    record { size = record { clients = 0; colours = 0; rows = 0 }; low = 0; high = 0; mine = []; known = []; begun = [] }
+    let none : Size = record { clients = 0; colours = 0; rows = 0 } in
+    record { size = none; low = 0; high = 0; mine = []; known = []; begun = [] }
 
 -- the first seat's view: it plays each part
 abbrev pub newcomer : Size → ℕ → View

@@ -6,7 +6,8 @@ use Rattle.stamp_board.proofs.Ending.{row_of}
 use Rattle.stamp_board.proofs.close.push_begun.Goals as goal
 
 pub loop-number-preserved : goal.loop-number-preserved
-loop-number-preserved c = let l = c.loop-number in let before = c.args.rows.now.items in let f = row_of c.args.seat.now.client in
+loop-number-preserved c = let l = c.loop-number in let before = c.args.rows.now.items in
+    let f = row_of c.args.seat.now.client in
     let here : 0 + l.number ≡ l.number = omega arith in
     c.in_ok-push.ensures.items ∙ ap (λ (rows : List Row). rows ++ f l.number ∷ []) l.invariant
     ∙ append_assoc before (map f (range_with_len 0 l.number)) (f l.number ∷ [])

@@ -5,4 +5,5 @@ use Rattle.stamp_board.proofs.Pairs.{two_colours}
 use Rattle.stamp_board.proofs.tests.node.Goals as goal
 
 pub returns-clause-both : goal.returns-clause-both
-returns-clause-both c size two = subst (λ (z : Node). AreColours size z.colours) (sym c.in_ok-new.ensures.ok) (two_colours size two)
+returns-clause-both c size two = subst (λ (z : Node). AreColours size z.colours) (sym c.in_ok-new.ensures.ok)
+    (two_colours size two)

@@ -7,7 +7,8 @@ use Rattle.stamp_board.proofs.Marking.{next_begun}
 use Rattle.stamp_board.proofs.board.Board.begin.Goals as goal
 
 pub set_row-requires-clause-node : goal.set_row-requires-clause-node
-set_row-requires-clause-node c = subst (λ (z : Node). AreColours c.args.self.now.size z.colours) (sym c.deref-node.ensures) c.requires.node
+set_row-requires-clause-node c = subst (λ (z : Node). AreColours c.args.self.now.size z.colours)
+    (sym c.deref-node.ensures) c.requires.node
 
 pub invariant_of-seat-clause-few : goal.invariant_of-seat-clause-few
 invariant_of-seat-clause-few c = let b = c.args.self.now in let s = c.args.seat.now in let t = c.set_row in
@@ -15,9 +16,12 @@ invariant_of-seat-clause-few c = let b = c.args.self.now in let s = c.args.seat.
     let few : s.used ≤ s.inner.me.0.size.rows = s.few in
     let apart = c.if-seat-self.false in
     let room : s.used < b.size.rows = omega (arith, apart) in
-    let high = (let h = c.requires.seat.1.2 in let l = c.requires.seat.1.1 in let i : s.inner.me.0.high ≡ s.inner.me.0.low + 1 = omega arith in i) in
-    let next = next_begun b.size s.inner.me.0 t.new.seat.me.0 s.client s.used t.result c.deref-node.result.now c.requires.seat.0.1 room c.requires.seat.1.1 high s.begun s.all
-    t.ensures.told (subst (λ (z : Node). AreColours b.size z.colours) (sym c.deref-node.ensures) c.requires.node) t.ensures.view in
+    let high = (let h = c.requires.seat.1.2 in let l = c.requires.seat.1.1 in
+    let i : s.inner.me.0.high ≡ s.inner.me.0.low + 1 = omega arith in i) in
+    let next = next_begun b.size s.inner.me.0 t.new.seat.me.0 s.client s.used t.result c.deref-node.result.now
+    c.requires.seat.0.1 room c.requires.seat.1.1 high s.begun s.all
+    t.ensures.told (subst (λ (z : Node). AreColours b.size z.colours) (sym c.deref-node.ensures) c.requires.node)
+    t.ensures.view in
     next.few
 
 pub invariant_of-seat-clause-begun : goal.invariant_of-seat-clause-begun
@@ -26,9 +30,12 @@ invariant_of-seat-clause-begun c = let b = c.args.self.now in let s = c.args.sea
     let few : s.used ≤ s.inner.me.0.size.rows = s.few in
     let apart = c.if-seat-self.false in
     let room : s.used < b.size.rows = omega (arith, apart) in
-    let high = (let h = c.requires.seat.1.2 in let l = c.requires.seat.1.1 in let i : s.inner.me.0.high ≡ s.inner.me.0.low + 1 = omega arith in i) in
-    let next = next_begun b.size s.inner.me.0 t.new.seat.me.0 s.client s.used t.result c.deref-node.result.now c.requires.seat.0.1 room c.requires.seat.1.1 high s.begun s.all
-    t.ensures.told (subst (λ (z : Node). AreColours b.size z.colours) (sym c.deref-node.ensures) c.requires.node) t.ensures.view in
+    let high = (let h = c.requires.seat.1.2 in let l = c.requires.seat.1.1 in
+    let i : s.inner.me.0.high ≡ s.inner.me.0.low + 1 = omega arith in i) in
+    let next = next_begun b.size s.inner.me.0 t.new.seat.me.0 s.client s.used t.result c.deref-node.result.now
+    c.requires.seat.0.1 room c.requires.seat.1.1 high s.begun s.all
+    t.ensures.told (subst (λ (z : Node). AreColours b.size z.colours) (sym c.deref-node.ensures) c.requires.node)
+    t.ensures.view in
     next.rows
 
 pub invariant_of-seat-clause-all : goal.invariant_of-seat-clause-all
@@ -37,9 +44,12 @@ invariant_of-seat-clause-all c = let b = c.args.self.now in let s = c.args.seat.
     let few : s.used ≤ s.inner.me.0.size.rows = s.few in
     let apart = c.if-seat-self.false in
     let room : s.used < b.size.rows = omega (arith, apart) in
-    let high = (let h = c.requires.seat.1.2 in let l = c.requires.seat.1.1 in let i : s.inner.me.0.high ≡ s.inner.me.0.low + 1 = omega arith in i) in
-    let next = next_begun b.size s.inner.me.0 t.new.seat.me.0 s.client s.used t.result c.deref-node.result.now c.requires.seat.0.1 room c.requires.seat.1.1 high s.begun s.all
-    t.ensures.told (subst (λ (z : Node). AreColours b.size z.colours) (sym c.deref-node.ensures) c.requires.node) t.ensures.view in
+    let high = (let h = c.requires.seat.1.2 in let l = c.requires.seat.1.1 in
+    let i : s.inner.me.0.high ≡ s.inner.me.0.low + 1 = omega arith in i) in
+    let next = next_begun b.size s.inner.me.0 t.new.seat.me.0 s.client s.used t.result c.deref-node.result.now
+    c.requires.seat.0.1 room c.requires.seat.1.1 high s.begun s.all
+    t.ensures.told (subst (λ (z : Node). AreColours b.size z.colours) (sym c.deref-node.ensures) c.requires.node)
+    t.ensures.view in
     next.all
 
 pub returns-clause-begun : goal.returns-clause-begun
@@ -48,13 +58,17 @@ returns-clause-begun c = let b = c.args.self.now in let s = c.args.seat.now in l
     let few : s.used ≤ s.inner.me.0.size.rows = s.few in
     let apart = c.if-seat-self.false in
     let room : s.used < b.size.rows = omega (arith, apart) in
-    let high = (let h = c.requires.seat.1.2 in let l = c.requires.seat.1.1 in let i : s.inner.me.0.high ≡ s.inner.me.0.low + 1 = omega arith in i) in
-    let next = next_begun b.size s.inner.me.0 t.new.seat.me.0 s.client s.used t.result c.deref-node.result.now c.requires.seat.0.1 room c.requires.seat.1.1 high s.begun s.all
-    t.ensures.told (subst (λ (z : Node). AreColours b.size z.colours) (sym c.deref-node.ensures) c.requires.node) t.ensures.view in
+    let high = (let h = c.requires.seat.1.2 in let l = c.requires.seat.1.1 in
+    let i : s.inner.me.0.high ≡ s.inner.me.0.low + 1 = omega arith in i) in
+    let next = next_begun b.size s.inner.me.0 t.new.seat.me.0 s.client s.used t.result c.deref-node.result.now
+    c.requires.seat.0.1 room c.requires.seat.1.1 high s.begun s.all
+    t.ensures.told (subst (λ (z : Node). AreColours b.size z.colours) (sym c.deref-node.ensures) c.requires.node)
+    t.ensures.view in
     record {
       board = t.ensures.seat.0;
       client = refl;
       used = refl;
       grows = next.grows;
-      knows = subst (KnowsBegun t.new.seat.me.0 record { client = s.client; number = s.used }) c.deref-node.ensures next.knows;
+      knows = subst (KnowsBegun t.new.seat.me.0 record { client = s.client; number = s.used }) c.deref-node.ensures
+          next.knows;
     }
