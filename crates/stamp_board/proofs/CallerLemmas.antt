@@ -1,0 +1,54 @@
+-- What is known stays known: for those who carry seats from call to call.
+use Rattle.std.proofs.Common.{◌≡◌, ℕ, ◌+◌, sym, refl, ◌∙◌, subst}
+use Rattle.log_node.specs.declared.ids.Row.{Row}
+use Rattle.log_node.specs.declared.node.Node.{Node}
+use Rattle.skeen_core.specs.declared.marks.Mark.{Mark}
+use Rattle.skeen_core.specs.declared.marks.Outcome.{Outcome}
+use Rattle.stamp_board.specs.declared.view.Size.{Size}
+use Rattle.stamp_board.specs.declared.view.View.{View}
+use Rattle.stamp_board.specs.Words.{row_at, word_at}
+use Rattle.stamp_board.specs.Views.{Has, Grows, Learns, KnowsBegun, KnowsMark, KnowsOutcome}
+
+pub Learns-refl : (v : View) → Learns v v
+Learns-refl v = record { known = λ _ _ h. h; begun = λ _ _ h. h }
+
+pub Learns-trans : (u v w : View) → Learns u v → Learns v w → Learns u w
+Learns-trans u v w a b = record {
+  known = λ i n h. b.known i n (a.known i n h);
+  begun = λ r x h. b.begun r x (a.begun r x h);
+}
+
+pub Learns-from : (v w : View) → Grows v w → Learns v w
+Learns-from v w g = record { known = g.known; begun = g.begun }
+
+pub Grows-refl : (v : View) → Grows v v
+Grows-refl v = record { size = refl; low = refl; high = refl; known = λ _ _ h. h; begun = λ _ _ h. h }
+
+pub Grows-trans : (u v w : View) → Grows u v → Grows v w → Grows u w
+Grows-trans u v w a b = record {
+  size = b.size ∙ a.size;
+  low = b.low ∙ a.low;
+  high = b.high ∙ a.high;
+  known = λ i n h. b.known i n (a.known i n h);
+  begun = λ r x h. b.begun r x (a.begun r x h);
+}
+
+module _ (v w : View) (row : Row) (size : w.size ≡ v.size) (learns : Learns v w) where
+  pub begun_learnt : (x : Node) → KnowsBegun v row x → KnowsBegun w row x
+  begun_learnt x h = subst (λ (z : Size). Has w.begun (row_at z row) x) (sym size) (learns.begun (row_at v.size row) x h)
+
+  pub mark_learnt : (c : ℕ) (m : Mark) → KnowsMark v row c m → KnowsMark w row c m
+  mark_learnt c m h = (
+    h.0,
+    subst (λ (z : Size). Has w.known (word_at z (row_at z row) (1 + c)) h.0) (sym size)
+        (learns.known (word_at v.size (row_at v.size row) (1 + c)) h.0 h.1),
+    h.2,
+  )
+
+  pub outcome_learnt : (o : Outcome) → KnowsOutcome v row o → KnowsOutcome w row o
+  outcome_learnt o h = (
+    h.0,
+    subst (λ (z : Size). Has w.known (word_at z (row_at z row) (z.colours + 1)) h.0) (sym size)
+        (learns.known (word_at v.size (row_at v.size row) (v.size.colours + 1)) h.0 h.1),
+    h.2,
+  )

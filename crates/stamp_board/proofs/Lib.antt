@@ -1,0 +1,15 @@
+pub mod CallerLemmas
+pub mod Colours
+pub mod Places
+pub mod Knowing
+pub mod Outcomes
+pub mod Keeps
+pub mod Fitting
+pub mod Marking
+pub mod Deciding
+pub mod Possible
+pub mod Telling
+pub mod Opening
+pub mod Gathering
+pub mod Ending
+pub mod Pairs

@@ -1,0 +1,26 @@
+//! The board on which an append of several colours is decided: a row of words for each, over `atomic_table`.
+#![tactic(auto)]
+
+mod begins;
+mod board;
+mod close;
+mod decide;
+mod gather;
+mod law;
+mod marks;
+mod open;
+mod reads;
+mod rows;
+mod seats;
+mod steps;
+mod tells;
+mod view;
+mod words;
+
+pub use board::Board;
+pub use rows::{ClosedRow, ClosedRows};
+pub use seats::{ColumnSeat, ColumnSeats, Seat, Seats};
+pub use view::{Size, View};
+
+#[cfg(test)]
+mod tests;

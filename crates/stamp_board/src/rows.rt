@@ -1,0 +1,14 @@
+// Rows as a board closes with them.
+use log_node::{ListOf, Row};
+use skeen_core::{Marks, Outcome};
+
+/// A begun row: the mark of each of its colours, the smallest colour first, and the outcome that was kept for it.
+#[derive(Drop)]
+pub struct ClosedRow {
+    pub row: Row,
+    pub marks: Marks,
+    pub last: Outcome,
+}
+
+/// Closed rows, by client and number.
+pub type ClosedRows = ListOf<ClosedRow>;
