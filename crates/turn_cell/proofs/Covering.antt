@@ -8,7 +8,7 @@ use Rattle.turn_cell.specs.Histories.{IsLonger, IsWhole, with_own}
 use Rattle.turn_cell.specs.Cells.{Pass, seen, own, met, Accounts, Covers}
 use Rattle.turn_cell.specs.Steps.{Holding, with_seen, joined}
 use Rattle.turn_cell.proofs.Histories.{prefix_trans, all_first, all_second}
-use Rattle.turn_cell.proofs.Opens.{got_longer, got_last}
+use Rattle.turn_cell.proofs.Lists.{left_or}
 
 module _ {E : Type 0} (P : Maker E → Type 0) where
   own_of : (o : Option (Maker E)) (ms : List (Maker E))
@@ -54,28 +54,6 @@ module _ {S E T : Type 0} (by : E → ℕ) where
 
   covers_self : (p : Pass S E T) → Covers by p p
   covers_self p log pre acc = (pre, acc)
-
-module _ {A : Type 0} where
-  got_cases : (xs : List A) (x y : A) (k : ℕ)
-      → slice_get (xs ++ x ∷ []) k ≡ Some y → (slice_get xs k ≡ Some y) ⊎ (x ≡ y)
-  got_cases [] x y zero e = inr (cc (e))
-  got_cases [] x y (suc k) e = absurd cc
-  got_cases (z ∷ xs) x y zero e = inl e
-  got_cases (z ∷ xs) x y (suc k) e = got_cases xs x y k e
-
-  -- of a list whose last element left
-  pub left_has : (ps qs : List A) (x : A) (P : A → Type 0)
-      → ps ≡ qs ++ x ∷ []
-      → ((k : ℕ) (p : A) → slice_get ps k ≡ Some p → P p)
-      → ((k : ℕ) (p : A) → slice_get qs k ≡ Some p → P p) × P x
-  left_has ps qs x P e all = (
-    (λ k p at. all k p (ap (λ l. slice_get l k) e ∙ got_longer qs x p k at)),
-    all (length qs) x (ap (λ l. slice_get l (length qs)) e ∙ got_last qs x),
-  )
-
-  left_or : (ps qs : List A) (x p : A) (k : ℕ)
-      → ps ≡ qs ++ x ∷ [] → slice_get ps k ≡ Some p → (slice_get qs k ≡ Some p) ⊎ (x ≡ p)
-  left_or ps qs x p k e at = got_cases qs x p k (ap (λ l. slice_get l k) (sym e) ∙ at)
 
 module _ {S E T : Type 0} (by : E → ℕ) where
   -- each of the passes is still there, or q covers it

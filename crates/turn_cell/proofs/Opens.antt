@@ -1,5 +1,5 @@
 -- The passes that a new cell comes with.
-use Rattle.std.proofs.Common.{◌≡◌, ℕ, zero, suc, ◌+◌, ◌<◌, List, [], ◌∷◌, ◌++◌, length, Some, refl, ap, ◌∙◌, sym, arith, slice_get}
+use Rattle.std.proofs.Common.{◌≡◌, ℕ, ◌<◌, List, [], ◌∷◌, ◌++◌, length, Some, refl, ap, ◌∙◌, sym, arith, slice_get}
 use mathlib.Core.Logic.{dite}
 use native.Mathlib.Decide.{ℕ_discrete}
 use Rattle.std.proofs.lemmas.List.{length-append}
@@ -7,19 +7,7 @@ use Rattle.atomic_table.specs.Seated.{TableId}
 use Rattle.turn_cell.specs.Cells.{Pass}
 use Rattle.turn_cell.specs.Rule.{giver}
 use Rattle.turn_cell.specs.Steps.{numbered}
-
-module _ {A : Type 0} where
-  pub got_longer : (xs : List A) (x y : A) (k : ℕ) → slice_get xs k ≡ Some y → slice_get (xs ++ x ∷ []) k ≡ Some y
-  got_longer [] x y k e = absurd cc
-  got_longer (z ∷ xs) x y zero e = e
-  got_longer (z ∷ xs) x y (suc k) e = got_longer xs x y k e
-
-  pub got_last : (xs : List A) (x : A) → slice_get (xs ++ x ∷ []) (length xs) ≡ Some x
-  got_last [] x = refl
-  got_last (z ∷ xs) x = got_last xs x
-
-  pub one_longer : (ps qs : List A) (p : A) (n : ℕ) → qs ≡ ps ++ p ∷ [] → length ps ≡ n → length qs ≡ n + 1
-  one_longer ps qs p n e long = omega (arith, ap length e, length-append ps (p ∷ []))
+use Rattle.turn_cell.proofs.Lists.{got_longer, got_last}
 
 module _ {S E T : Type 0} (z : TableId) (t : T) where
   abbrev pub IsNew : ℕ → Pass S E T → Type 0

@@ -1,6 +1,7 @@
 use Rattle.std.proofs.Common.{rules, ◌≡◌, length, sym, ◌∙◌}
 use Rattle.turn_cell.specs.Cells.{IsReady}
-use Rattle.turn_cell.proofs.Covering.{left_has, covers_first, covers_more, covers_all}
+use Rattle.turn_cell.proofs.Lists.{left_has}
+use Rattle.turn_cell.proofs.Covering.{covers_first, covers_more, covers_all}
 use Rattle.turn_cell.proofs.cell.Cell.close_all.Goals as goal
 
 pub loop-other-init : goal.loop-other-init

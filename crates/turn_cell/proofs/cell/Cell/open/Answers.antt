@@ -3,7 +3,8 @@ use Rattle.atomic_table.specs.Table.{opening}
 use Rattle.turn_cell.specs.Rule.{Turns, first_view}
 use Rattle.turn_cell.specs.Steps.{giver_after, numbered}
 use Rattle.turn_cell.proofs.Passing.{numbers, opens}
-use Rattle.turn_cell.proofs.Opens.{none_yet, one_longer, one_more}
+use Rattle.turn_cell.proofs.Lists.{one_longer}
+use Rattle.turn_cell.proofs.Opens.{none_yet, one_more}
 use Rattle.turn_cell.proofs.cell.Cell.open.Goals as goal
 
 pub new-requires : goal.new-requires
