@@ -1,7 +1,7 @@
-//! Turns at a cell beside a lock of std: one, two and four threads that each add entries to one value.
+//! Turns at a cell beside a lock of std: one, two and four threads that share one value.
 //!
-//! With no argument each thread adds 500 entries, and how many there are in the end is printed. With a number as its
-//! argument each thread adds that many, and what is printed is how long a turn took and how many a second took.
+//! With no argument each thread takes 500 turns, and what is printed is how many entries there are in the end. With a
+//! number as its argument each thread takes that many, and what is printed is how long a turn took.
 #![tactic(auto)]
 
 mod tally;
@@ -13,35 +13,22 @@ use std::sync::Wait;
 use std::thread::Threads;
 use std::time::{Duration, Instant};
 use std::{env, io};
-use writers::{over_cell, over_lock};
+use writers::{Load, Work, over_cell, over_lock};
 
 const THREADS: [u8; 3] = [1, 2, 4];
 
-fn compare<R: Threads + Wait + Print + Sync>(rt: &R, alloc: Global) -> io::Result<()> {
-    for threads in THREADS {
-        if threads == 0 {
-            continue;
+const KINDS: [(&str, Work); 2] = [("look", Work::Look), ("add", Work::Add)];
+
+fn count<R: Threads + Wait + Print + Sync>(rt: &R, alloc: Global, turns: u64) -> io::Result<()> {
+    for (name, work) in KINDS {
+        for threads in THREADS {
+            let load = Load { work, turns };
+            let cell = over_cell(rt, alloc, threads, load)?;
+            let lock = over_lock(rt, alloc, threads, load)?;
+            println!(rt; "{name} threads {threads} entries cell {cell} lock {lock}")?;
         }
-        let entries = over_cell(rt, alloc, threads, 500)?;
-        let locked = over_lock(rt, alloc, threads, 500)?;
-        println!(rt; "threads {threads} cell {entries} lock {locked}")?;
     }
     Ok(())
-}
-
-fn report<R: Print>(
-    rt: &R,
-    what: &str,
-    threads: u8,
-    entries: u64,
-    time: Duration,
-) -> io::Result<()> {
-    let nanos = time.as_nanos();
-    let each = nanos.checked_div(entries as u128).unwrap_or(0);
-    let rate = (entries as u128 * 1_000_000_000)
-        .checked_div(nanos)
-        .unwrap_or(0);
-    println!(rt; "threads {threads} {what} {each} ns a turn, {rate} turns a second")
 }
 
 fn measure<R: Threads + Wait + Print + Clock + Sync>(
@@ -49,18 +36,29 @@ fn measure<R: Threads + Wait + Print + Clock + Sync>(
     alloc: Global,
     turns: u64,
 ) -> io::Result<()> {
-    for threads in THREADS {
-        if threads == 0 {
-            continue;
+    for (name, work) in KINDS {
+        for threads in THREADS {
+            let load = Load { work, turns };
+            let start = Instant::now(rt)?;
+            over_cell(rt, alloc, threads, load)?;
+            let cell = start.elapsed(rt)?;
+            let start = Instant::now(rt)?;
+            over_lock(rt, alloc, threads, load)?;
+            let lock = start.elapsed(rt)?;
+            println!(rt; "{name} threads {threads}")?;
+            report(rt, "cell", threads, turns, cell)?;
+            report(rt, "lock", threads, turns, lock)?;
         }
-        let start = Instant::now(rt)?;
-        let entries = over_cell(rt, alloc, threads, turns)?;
-        report(rt, "cell", threads, entries, start.elapsed(rt)?)?;
-        let start = Instant::now(rt)?;
-        let entries = over_lock(rt, alloc, threads, turns)?;
-        report(rt, "lock", threads, entries, start.elapsed(rt)?)?;
     }
     Ok(())
+}
+
+fn report<R: Print>(rt: &R, name: &str, threads: u8, turns: u64, time: Duration) -> io::Result<()> {
+    let all = threads as u128 * turns as u128;
+    let nanos = time.as_nanos();
+    let each = nanos.checked_div(all).unwrap_or(0);
+    let rate = (all * 1_000_000_000).checked_div(nanos).unwrap_or(0);
+    println!(rt; "  {name} {each} ns a turn, {rate} turns a second")
 }
 
 fn main(rt: HostRuntime) -> io::Result<()> {
@@ -69,6 +67,6 @@ fn main(rt: HostRuntime) -> io::Result<()> {
             Ok(turns) => measure(&rt, rt.alloc(), turns),
             Err(_) => println!(&rt; "the argument is the number of turns"),
         },
-        None => compare(&rt, rt.alloc()),
+        None => count(&rt, rt.alloc(), 500),
     }
 }

@@ -10,6 +10,22 @@ use std::thread;
 use std::thread::Threads;
 use turn_cell::{Cell, Pass, Passes};
 
+/// What a thread does under each of its turns.
+#[derive(Clone, Copy, PartialEq, Eq)]
+pub enum Work {
+    /// It only has the value.
+    Look,
+    /// It adds an entry.
+    Add,
+}
+
+/// What each thread does, and how often.
+#[derive(Clone, Copy)]
+pub struct Load {
+    pub work: Work,
+    pub turns: u64,
+}
+
 /// A pass, and its number.
 #[derive(Drop)]
 pub struct Writer {
@@ -18,13 +34,13 @@ pub struct Writer {
 }
 
 impl Writer {
-    /// Takes the turn, and adds an entry.
-    fn write<R: Wait>(&mut self, rt: &R, cell: &Cell<Tally>)
+    /// Takes the turn, does the work, and ends the turn.
+    fn write<R: Wait>(&mut self, rt: &R, cell: &Cell<Tally>, work: Work)
         requires { IsWriter cell.now self.old }
         ensures { IsWriter cell.now self.new }
     {
         let mut turn = cell.take(rt, &mut self.pass);
-        if turn.value.add(self.by) {
+        if work == Work::Add && turn.value.add(self.by) {
             turn.put(&mut self.pass);
         } else {
             turn.put(&mut self.pass);
@@ -32,12 +48,12 @@ impl Writer {
     }
 }
 
-fn write_all<R: Wait>(rt: &R, cell: &Cell<Tally>, mut writer: Writer, turns: u64) -> Writer
+fn write_all<R: Wait>(rt: &R, cell: &Cell<Tally>, mut writer: Writer, load: Load) -> Writer
     requires { IsWriter cell.now writer }
     ensures { IsWriter cell.now result }
 {
-    for _ in 0..turns {
-        writer.write(rt, cell);
+    for _ in 0..load.turns {
+        writer.write(rt, cell, load.work);
     }
     writer
 }
@@ -77,7 +93,7 @@ fn write_beside<R: Threads + Wait + Sync>(
     rt: &R,
     cell: &Cell<Tally>,
     writers: Vec<Writer>,
-    turns: u64,
+    load: Load,
 ) -> Result<Vec<Writer>, AllocError>
     requires { AreWriters cell.now writers.items }
     ensures writers { IfOk result (λ ws. AreWriters cell.now ws.items) }
@@ -89,22 +105,22 @@ fn write_beside<R: Threads + Wait + Sync>(
         &|writer: Writer| -> Writer
             requires { IsWriter cell.now writer }
             ensures { IsWriter cell.entry.now result }
-        { write_all(rt, cell, writer, turns) },
+        { write_all(rt, cell, writer, load) },
     )
 }
 
-/// Threads that each take so many turns at one cell. It answers how many entries its value has at the end.
+/// Threads that each take so many turns at one cell. The answer is how many entries its value has at the end.
 pub fn over_cell<R: Threads + Wait + Sync>(
     rt: &R,
     alloc: Global,
     threads: u8,
-    turns: u64,
+    load: Load,
 ) -> Result<u64, AllocError>
     requires { 0 < threads }
 {
     let (cell, passes) = Cell::open(alloc, Tally::new(), threads)?;
     let writers = hire(alloc, &cell, passes)?;
-    let writers = write_beside(rt, &cell, writers, turns)?;
+    let writers = write_beside(rt, &cell, writers, load)?;
     let passes = dismiss(alloc, &cell, writers)?;
     Ok(cell.close_all(rt, passes).count)
 }
@@ -114,19 +130,22 @@ pub fn over_lock<R: Threads + Wait + Sync>(
     rt: &R,
     alloc: Global,
     threads: u8,
-    turns: u64,
+    load: Load,
 ) -> Result<u64, AllocError> {
     let lock = Mutex::new(Tally::new());
     let mut numbers = Vec::new(alloc);
     for by in 0..threads {
         numbers.push(by)?;
     }
-    thread::map_vec(rt, numbers, &|by: u8| lock_all(rt, &lock, by, turns))?;
+    thread::map_vec(rt, numbers, &|by: u8| lock_all(rt, &lock, by, load))?;
     Ok(lock.into_inner().count)
 }
 
-fn lock_all<R: Wait>(rt: &R, lock: &Mutex<Tally>, by: u8, turns: u64) {
-    for _ in 0..turns {
-        lock.lock(rt).add(by);
+fn lock_all<R: Wait>(rt: &R, lock: &Mutex<Tally>, by: u8, load: Load) {
+    for _ in 0..load.turns {
+        let mut tally = lock.lock(rt);
+        if load.work == Work::Add {
+            tally.add(by);
+        }
     }
 }

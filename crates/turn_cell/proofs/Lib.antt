@@ -6,3 +6,4 @@ pub mod Passing
 pub mod Opens
 pub mod Puts
 pub mod Covering
+pub mod CallerLemmas

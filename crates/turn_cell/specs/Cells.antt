@@ -9,7 +9,7 @@ use Rattle.turn_cell.specs.declared.cell.Cell.{Cell}
 use Rattle.turn_cell.specs.declared.view.Maker.{Maker}
 use Rattle.turn_cell.specs.declared.view.View.{View}
 use Rattle.turn_cell.specs.declared.view.Stage.TheVariants.{Idle, Holds}
-use Rattle.turn_cell.specs.Histories.{IsWhole, maker, with_entry}
+use Rattle.turn_cell.specs.Histories.{IsWhole, maker, made_of, with_entry}
 
 abbrev pub Pass : Type 0 → Type 0 → Type 0 → Type 0
 Pass S E T = Seat (Option S) (View E T)
@@ -22,6 +22,10 @@ module _ {S E T : Type 0} where
   -- its number, with what it made
   abbrev pub own : Pass S E T → Option (Maker E)
   own p = p.me.0.own
+
+  -- the entries that it made
+  abbrev pub made : Pass S E T → List E
+  made p = made_of (own p)
 
   -- the numbers of the passes that it met, each with what was made under it
   abbrev pub met : Pass S E T → List (Maker E)
@@ -47,6 +51,10 @@ module _ {S E T : Type 0} where
   abbrev pub IsReady : (S → T) → Cell S E T → Pass S E T → Type 0
   IsReady tag c p = IsPassOf tag c p × (p.me.0.stage ≡ Idle) × (p.me.1 ≡ [])
 
+  -- the same, with this number
+  abbrev pub IsNumbered : (S → T) → Cell S E T → ℕ → Pass S E T → Type 0
+  IsNumbered tag c n p = IsReady tag c p × ((m : Maker E) × (own p ≡ Some m) × (m.number ≡ n))
+
   abbrev pub AreReady : (S → T) → Cell S E T → List (Pass S E T) → Type 0
   AreReady tag c ps = (k : ℕ) (p : Pass S E T) → slice_get ps k ≡ Some p → IsReady tag c p
 
@@ -58,10 +66,10 @@ module _ {S E T : Type 0} where
   abbrev pub IsNewPass : (S → T) → Cell S E T → ℕ → Pass S E T → Type 0
   IsNewPass tag c n p = IsReady tag c p × (seen p ≡ []) × (own p ≡ Some (maker n [])) × (met p ≡ [])
 
-  -- one new pass for each number below n
+  -- n new passes, by number
   abbrev pub AreNewPasses : (S → T) → Cell S E T → ℕ → List (Pass S E T) → Type 0
   AreNewPasses tag c n ps =
-      (length ps ≡ n) × ((k : ℕ) → k < n → (p : Pass S E T) × (slice_get ps k ≡ Some p) × IsNewPass tag c k p)
+      (length ps ≡ n) × ((k : ℕ) (p : Pass S E T) → slice_get ps k ≡ Some p → IsNewPass tag c k p)
 
   -- the same number, with the same entries made
   abbrev pub IsSameMaker : Pass S E T → Pass S E T → Type 0

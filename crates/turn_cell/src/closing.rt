@@ -19,7 +19,7 @@ impl<V: Kept> Cell<V> {
         ensures tag { V.tag result ≡ cell_tag V.tag self }
     {
         let Turn { cell: _, value } = self.take(rt, &mut pass);
-        let Cell { table } = self;
+        let Cell { table, sleepers: _ } = self;
         table.shared.load::<Part>(&mut pass, TURN);
         let mut closed = table.close_with(pass);
         match closed.take(VALUE) {

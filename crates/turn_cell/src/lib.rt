@@ -6,6 +6,8 @@ mod closing;
 mod kept;
 mod pass;
 mod rule;
+#[cfg(test)]
+mod tests;
 mod turn;
 mod view;
 

@@ -11,6 +11,7 @@ use atomic_table::{Seat, Table};
 use log_node::ListOf;
 use std::alloc::{AllocError, Global};
 use std::snapshot::Snapshot;
+use std::sync::atomic::AtomicU64;
 
 /// What one caller knows of a cell. It has no bytes.
 pub type Pass<V> = Seat<Option<V>, View<<V as Kept>::Entry, <V as Kept>::Tag>>;
@@ -38,7 +39,8 @@ impl<V: Kept> Cell<V> {
         for _ in 0..makers {
             passes.push(table.shared.split_seat::<Deal>(&mut dealer))?;
         }
-        Ok((Cell { table }, passes))
+        let sleepers = AtomicU64::new(0);
+        Ok((Cell { table, sleepers }, passes))
     }
 
     /// A pass that has seen as much, has no number and can add no entry.

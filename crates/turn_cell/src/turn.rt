@@ -7,9 +7,10 @@ use crate::cell::Cell;
 use crate::kept::Kept;
 use crate::pass::Pass;
 use crate::rule::{COUNT, Count, FREE, Free, HELD, Raise, TURN, Take, VALUE};
+use crossbeam_utils::Backoff;
 use log_node::At;
 use std::sync::Wait;
-use std::thread;
+use std::sync::atomic::Ordering::SeqCst;
 
 /// The value, while a pass holds the turn. It is never dropped: `put` ends it.
 pub struct Turn<'a, V: Kept> {
@@ -19,6 +20,7 @@ pub struct Turn<'a, V: Kept> {
 
 impl<V: Kept> Cell<V> {
     /// Waits for the turn. The value stands for the whole history, of which the pass has then seen all.
+    #[inline]
     pub fn take<'a, R: Wait>(&'a self, rt: &R, pass: &mut Pass<V>) -> Turn<'a, V>
         requires { IsReady V.tag self.now pass.old }
         ensures turn { HasTurn V.tag self.now pass.new × (result.cell.now ≡ self.now) }
@@ -27,14 +29,36 @@ impl<V: Kept> Cell<V> {
         ensures made { IsSameMaker pass.old pass.new × Accounts V.by pass.new (seen pass.new) }
     {
         let shared = &self.table.shared;
+        let backoff = Backoff::new();
         for _ in rt.forever() {
             if shared.compare_exchange::<Take>(pass, TURN, FREE, HELD) == FREE {
                 let value = shared.exchange(pass, VALUE, None).unwrap();
                 return Turn { cell: self, value };
             }
-            thread::yield_now();
+            self.pause(rt, &backoff);
         }
         unreachable!()
+    }
+
+    // Spins at first, then yields, and in the end sleeps until a turn ends. The sleep may end for no reason.
+    #[cold]
+    fn pause<R: Wait>(&self, rt: &R, backoff: &Backoff) {
+        if backoff.is_completed() {
+            self.sleepers.fetch_add(1, SeqCst);
+            self.table.shared.park(rt, TURN, HELD as u32);
+            self.sleepers.fetch_sub(1, SeqCst);
+        } else {
+            backoff.snooze();
+        }
+    }
+
+    // Wakes one that sleeps, once the turn is free. Whoever this load does not see counts itself later, and then finds
+    // the turn free, or held by one that wakes it in its turn.
+    #[inline]
+    fn wake(&self) {
+        if self.sleepers.load(SeqCst) > 0 {
+            self.table.shared.wake_one(TURN);
+        }
     }
 }
 
@@ -47,6 +71,7 @@ impl<'a, V: Kept> Turn<'a, V> {
 
     /// Ends the turn. With an entry added to the value the answer is the entry's place, counted from 0, and without
     /// one how many entries the history has.
+    #[inline]
     pub fn put(self, pass: &mut Pass<V>) -> At
         requires turn { HasTurn V.tag self.cell.now pass.old }
         requires tag { V.tag self.value ≡ cell_tag V.tag self.cell.now }
@@ -66,10 +91,12 @@ impl<'a, V: Kept> Turn<'a, V> {
         }
         if count == before {
             shared.store::<Free>(pass, TURN, FREE);
+            cell.wake();
             return At::Look(before);
         }
         let place = shared.fetch_add::<Raise>(pass, COUNT, 1);
         shared.store::<Free>(pass, TURN, FREE);
+        cell.wake();
         At::Event(place)
     }
 }

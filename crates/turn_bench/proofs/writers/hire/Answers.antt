@@ -1,5 +1,5 @@
 use Rattle.std.proofs.Common.{rules, ◌≤◌, length, subst, sym, arith}
-use Rattle.turn_cell.proofs.Lists.{joined_has}
+use Rattle.turn_cell.proofs.Lists.{joined_at}
 use Rattle.turn_bench.specs.declared.writers.Writer.{Writer}
 use Rattle.turn_bench.specs.Writers.{IsWriter}
 use Rattle.turn_bench.proofs.Hiring.{are_new, left_new, hired, moved_one}
@@ -21,7 +21,7 @@ loop-pass-preserved c =
     let w : Writer = record { by = c.len-by.result; pass = c.in-Some.pass } in
     let r = left_new c.args.cell.now c.loop-pass.passes.items c.pop.new.self.items c.in-Some.pass e i.left in record {
       left = r.0;
-      hired = joined_has c.loop-pass.writers.items c.push.new.self.items w (IsWriter c.args.cell.now) f i.hired
+      hired = joined_at c.loop-pass.writers.items c.push.new.self.items w (λ _. IsWriter c.args.cell.now) f i.hired
           (hired c.args.cell.now w (length c.pop.new.self.items) (search rules) r.1);
       few = search rules;
       count = moved_one c.loop-pass.passes.items c.pop.new.self.items c.in-Some.pass c.loop-pass.writers.items

@@ -1,13 +1,13 @@
 use Rattle.std.proofs.Common.{rules, ◌≡◌, length, sym, ◌∙◌}
 use Rattle.turn_cell.specs.Cells.{IsReady}
-use Rattle.turn_cell.proofs.Lists.{left_has}
+use Rattle.turn_cell.proofs.Lists.{left_at}
 use Rattle.turn_cell.proofs.Covering.{covers_first, covers_more, covers_all}
 use Rattle.turn_cell.proofs.cell.Cell.close_all.Goals as goal
 
 pub loop-other-init : goal.loop-other-init
 loop-other-init g c =
     let e = sym c.into_vec-passes.ensures ∙ c.in-Some.ensures.items in
-    let r = left_has c.args.passes c.pop.new.self.items c.in-Some.first (IsReady g.V.Kept.tag c.args.self) e
+    let r = left_at c.args.passes c.pop.new.self.items c.in-Some.first (λ _. IsReady g.V.Kept.tag c.args.self) e
     c.requires.ready in record {
       first = r.1;
       left = r.0;
@@ -16,16 +16,16 @@ loop-other-init g c =
 
 pub meet-requires-clause-other : goal.meet-requires-clause-other
 meet-requires-clause-other g c =
-    (left_has c.loop-other.passes.items c.pop-in-loop-other.new.self.items c.in-Some-pop.other
-    (IsReady g.V.Kept.tag c.args.self) c.in-Some-pop.ensures.items c.loop-other.invariant.left).1
+    (left_at c.loop-other.passes.items c.pop-in-loop-other.new.self.items c.in-Some-pop.other
+    (λ _. IsReady g.V.Kept.tag c.args.self) c.in-Some-pop.ensures.items c.loop-other.invariant.left).1
 
 pub loop-other-preserved : goal.loop-other-preserved
 loop-other-preserved g c =
     let e = c.in-Some-pop.ensures.items in
     let m = c.meet.ensures in record {
       first = m.ready;
-      left = (left_has c.loop-other.passes.items c.pop-in-loop-other.new.self.items c.in-Some-pop.other
-          (IsReady g.V.Kept.tag c.args.self) e c.loop-other.invariant.left).0;
+      left = (left_at c.loop-other.passes.items c.pop-in-loop-other.new.self.items c.in-Some-pop.other
+          (λ _. IsReady g.V.Kept.tag c.args.self) e c.loop-other.invariant.left).0;
       covered = covers_more g.V.Kept.by c.args.passes c.loop-other.passes.items c.pop-in-loop-other.new.self.items
           c.loop-other.first c.meet.new.pass c.in-Some-pop.other e m.covers.0 m.covers.1 c.loop-other.invariant.covered;
     }

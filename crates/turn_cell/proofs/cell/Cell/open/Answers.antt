@@ -51,16 +51,12 @@ returns-clause-passes g c =
     let i = c.loop.invariant in
     let n : c.loop.counter ≡ c.args.makers = omega arith in (
       i.count ∙ n,
-      λ k below.
-          let r = i.each k (omega arith) in
-          let me = r.2.1 in (
-            r.0,
-            r.1,
-            (
-              ((r.2.0, ap (λ m. m.0.tag) me ∙ ap (λ v. Some (g.V.Kept.tag v)) (sym i.key)), ap (λ m. m.0.stage) me, ap (λ m. m.1) me),
-              ap (λ m. m.0.seen) me,
-              ap (λ m. m.0.own) me,
-              ap (λ m. m.0.met) me,
-            ),
+      λ k p at.
+          let r = i.each k p at in
+          let tag = ap (λ m. m.0.tag) r.1 ∙ ap (λ v. Some (g.V.Kept.tag v)) (sym i.key) in (
+            ((r.0, tag), ap (λ m. m.0.stage) r.1, ap (λ m. m.1) r.1),
+            ap (λ m. m.0.seen) r.1,
+            ap (λ m. m.0.own) r.1,
+            ap (λ m. m.0.met) r.1,
           ),
     )
