@@ -1,5 +1,6 @@
 -- Opening a table, and cutting, joining and comparing passes, keep the rule.
-use Rattle.std.proofs.Common.{◌≡◌, ◌≢◌, ℕ, zero, suc, ◌+◌, eqb, List, [], ◌∷◌, ◌++◌, length, get_or, set, cond, Option, Some, None, refl, ap, sym, subst, ◌∙◌, ⊎_elim, arith}
+use Rattle.std.proofs.Common.{◌≡◌, ◌≢◌, ℕ, zero, suc, ◌+◌, eqb, List, [], ◌∷◌, ◌++◌, length, get_or, set, cond}
+use Rattle.std.proofs.Common.{Option, Some, None, refl, ap, sym, subst, ◌∙◌, ⊎_elim, arith}
 use Rattle.std.proofs.Common.{length-set, eq-eqb, ne_eqb}
 use Rattle.std.specs.List.{AllByRecursion}
 use mathlib.Core.Option.{none, some, some-ne-none}
@@ -11,7 +12,8 @@ use Rattle.turn_cell.specs.declared.view.Stage.TheVariants.{Idle}
 use Rattle.turn_cell.specs.declared.view.View.{View}
 use Rattle.turn_cell.specs.Histories.{maker, with_own}
 use Rattle.turn_cell.specs.Rule.{Right, may_give, may_make, has_met, AtStage, Has, Knows, first_view}
-use Rattle.turn_cell.specs.Steps.{Holding, next_number, new_maker, spent, told, giver_after, numbered, joined, with_seen, Compares}
+use Rattle.turn_cell.specs.Steps.{Holding, next_number, new_maker, spent, told, giver_after, numbered, joined}
+use Rattle.turn_cell.specs.Steps.{with_seen, Compares}
 use Rattle.turn_cell.proofs.Histories.{prefix_none, prefix_longer, at_end, all_map, all_append}
 use Rattle.turn_cell.proofs.Rules.{Owner, Apart, other_right, other_seat, stays, each_set, Ruled, looked}
 
@@ -40,7 +42,8 @@ module _ {S E T : Type 0} (stands : S → List E → Type 0) (by : E → ℕ) (t
       )
 
   -- a seat makes another: the numbers of the other seats stay theirs
-  splitting : (s : State (Option S) (View E T)) (r : Ruled stands by tag_of tag s) (id : ℕ) (rights : ℕ → Owner) (left right : View E T)
+  splitting : (s : State (Option S) (View E T)) (r : Ruled stands by tag_of tag s) (id : ℕ) (rights : ℕ → Owner)
+      (left right : View E T)
       → Knows by tag r.log rights r.holder (get_or s.words 0 0) s.homes id left
       → Knows by tag r.log rights r.holder (get_or s.words 0 0) s.homes (length s.views) right
       → ((j n : ℕ) (a : Right) → j ≢ id → r.rights n ≡ (j, a) → rights n ≡ (j, a))
@@ -217,6 +220,7 @@ module _ {S E T : Type 0} (stands : S → List E → Type 0) (by : E → ℕ) (t
               stage = tt;
             }
             (λ j u other at.
-            elim j as (λ z. z ≢ 0 → get_elem? (first_view tag ∷ []) z ≡ some u → K z u) [ zero ↦ λ o _. absurd (o refl) | suc k ↦ λ _ a. absurd (some-ne-none u (sym a)) ] other at)
+            elim j as (λ z. z ≢ 0 → get_elem? (first_view tag ∷ []) z ≡ some u → K z u)
+            [ zero ↦ λ o _. absurd (o refl) | suc k ↦ λ _ a. absurd (some-ne-none u (sym a)) ] other at)
             j v e;
       }

@@ -33,7 +33,8 @@ module _ {S E T : Type 0} (by : E → ℕ) (tag : T) where
   SameForHolder log holder turn homes log' holder' turn' homes' j =
       turn ≡ 1 → holder ≡ j → (turn' ≡ 1) × (holder' ≡ j) × (log' ≡ log) × (homes' ≡ homes)
 
-  stage_stays : (log : List E) (holder turn : ℕ) (homes : Homes S) (log' : List E) (holder' turn' : ℕ) (homes' : Homes S) (j : ℕ) (seen : List E)
+  stage_stays : (log : List E) (holder turn : ℕ) (homes : Homes S) (log' : List E) (holder' turn' : ℕ)
+      (homes' : Homes S) (j : ℕ) (seen : List E)
       → SameForHolder log holder turn homes log' holder' turn' homes' j
       → (st : Stage) → AtStage log holder turn homes j seen st → AtStage log' holder' turn' homes' j seen st
   stage_stays log holder turn homes log' holder' turn' homes' j seen same Idle k = tt
@@ -43,7 +44,8 @@ module _ {S E T : Type 0} (by : E → ℕ) (tag : T) where
       let h = same k.0 k.1 in (h.0, h.1, ap (λ (z : Homes S). get_elem? z 0) h.3 ∙ k.2)
 
   -- what a seat knows stays so, where the history grows, and the seat's numbers stay its own and made no entry
-  pub stays : (log : List E) (rights : ℕ → Owner) (holder turn : ℕ) (homes : Homes S) (log' : List E) (rights' : ℕ → Owner) (holder' turn' : ℕ) (homes' : Homes S) (j : ℕ) (v : View E T)
+  pub stays : (log : List E) (rights : ℕ → Owner) (holder turn : ℕ) (homes : Homes S) (log' : List E)
+      (rights' : ℕ → Owner) (holder' turn' : ℕ) (homes' : Homes S) (j : ℕ) (v : View E T)
       → ((xs : List E) → IsPrefix xs log → IsPrefix xs log')
       → ((n : ℕ) (a : Right) → rights n ≡ (j, a) → (rights' n ≡ (j, a)) × (made_by by n log' ≡ made_by by n log))
       → SameForHolder log holder turn homes log' holder' turn' homes' j
@@ -79,7 +81,8 @@ module _ {S E T : Type 0} (stands : S → List E → Type 0) (by : E → ℕ) (t
   turn_of s = get_or s.words 0 0
 
   -- a step of the seat id, after which it knows w
-  pub moved : (s : State (Option S) (View E T)) (id : ℕ) (ws : List ℕ) (hs : Homes S) (log : List E) (rights : ℕ → Owner) (holder : ℕ) (w : View E T)
+  pub moved : (s : State (Option S) (View E T)) (id : ℕ) (ws : List ℕ) (hs : Homes S) (log : List E)
+      (rights : ℕ → Owner) (holder : ℕ) (w : View E T)
       → length ws ≡ 2
       → get_or ws 1 0 ≡ length log
       → LiesFree stands by tag_of tag log (get_or ws 0 0) hs

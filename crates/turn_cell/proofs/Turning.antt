@@ -1,5 +1,6 @@
 -- The steps of a turn keep the rule: taking it, counting, adding an entry, ending it, and parting with the cell.
-use Rattle.std.proofs.Common.{◌≡◌, ℕ, ◌+◌, ◌%◌, eqb, ◌<◌, List, [], ◌∷◌, ◌++◌, length, get_or, set, Option, Some, None, refl, ap, sym, subst, ◌∙◌, arith}
+use Rattle.std.proofs.Common.{◌≡◌, ℕ, ◌+◌, ◌%◌, eqb, ◌<◌, List, [], ◌∷◌, ◌++◌, length, get_or, set, Option, Some}
+use Rattle.std.proofs.Common.{None, refl, ap, sym, subst, ◌∙◌, arith}
 use Rattle.std.proofs.Common.{length-append, length-set, get_or-set_other, get_or-set_same, eq-eqb, ne_eqb}
 use mathlib.Core.Logic.{dite}
 use mathlib.Core.Option.{none, some}
@@ -17,7 +18,8 @@ use Rattle.turn_cell.specs.Histories.{made_by, maker, with_entry}
 use Rattle.turn_cell.specs.Rule.{may_give, may_make, has_met, Homes, AtStage, Has}
 use Rattle.turn_cell.specs.Steps.{Holding, at_stage, with_seen, with_new, Takes, Counts, Raises, Frees, Parts}
 use Rattle.turn_cell.proofs.Histories.{prefix_none, prefix_self, prefix_grow, made_by-same, made_by-other, all_map}
-use Rattle.turn_cell.proofs.Rules.{Owner, Apart, other_right, other_seat, stays, Ruled, turn_of, moved, looked, holds_turn}
+use Rattle.turn_cell.proofs.Rules.{Owner, Apart, other_right, other_seat, stays, Ruled, turn_of, moved, looked}
+use Rattle.turn_cell.proofs.Rules.{holds_turn}
 
 -- a list that begins with x, by its rest
 pub as_rest : {A : Type 0} (l : List (ℕ × A)) (x : ℕ × A) (xs : List (ℕ × A)) → l ≡ x ∷ xs → l ≡ x ∷ rest l
@@ -72,7 +74,8 @@ module _ {S E T : Type 0} (stands : S → List E → Type 0) (by : E → ℕ) (t
         stage = (now, refl, refl);
       }
       (λ j u other e.
-      stays by tag r.log r.rights r.holder (get_or s.words 0 0) s.homes r.log r.rights id (get_or ws 0 0) hs j u
+      stays by tag r.log r.rights r.holder (get_or s.words 0 0) s.homes
+      r.log r.rights id (get_or ws 0 0) hs j u
       (λ xs p. p) (λ n a i. (i, refl)) (λ one _. absurd (omega arith)) (r.each j u e))
 
   pub takes_turn : (slots id : ℕ) (me : Holding S E T)
@@ -157,7 +160,8 @@ module _ {S E T : Type 0} (stands : S → List E → Type 0) (by : E → ℕ) (t
               stage = tt;
             }
             (λ j u other e.
-            stays by tag r.log r.rights r.holder (get_or s.words 0 0) s.homes r.log r.rights r.holder (get_or ws 0 0) hs j u
+            stays by tag r.log r.rights r.holder (get_or s.words 0 0) s.homes
+            r.log r.rights r.holder (get_or ws 0 0) hs j u
             (λ xs p. p) (λ n a i. (i, refl)) (λ _ mine. absurd (other (sym mine ∙ h.1))) (r.each j u e))),
         refl,
       )
@@ -193,7 +197,8 @@ module _ {S E T : Type 0} (stands : S → List E → Type 0) (by : E → ℕ) (t
               stage = (held, h.1, here);
             }
             (λ j u other e.
-            stays by tag r.log r.rights r.holder (get_or s.words 0 0) s.homes r.log r.rights r.holder (get_or s.words 0 0) hs j u
+            stays by tag r.log r.rights r.holder (get_or s.words 0 0) s.homes
+            r.log r.rights r.holder (get_or s.words 0 0) hs j u
             (λ xs p. p) (λ n a i. (i, refl)) (λ _ mine. absurd (other (sym mine ∙ h.1))) (r.each j u e))),
         refl,
       )
@@ -228,7 +233,8 @@ module _ {S E T : Type 0} (stands : S → List E → Type 0) (by : E → ℕ) (t
       let still : get_or ws 0 0 ≡ get_or s.words 0 0 = get_or-set_other s.words 1 0 new 0 (λ e. omega arith) in
       let held : get_or ws 0 0 ≡ 1 = still ∙ t.0 in
       let whose : r.rights (by e) ≡ (id, may_make) = ap r.rights named ∙ (known.own m mine).0 in
-      let apart : (o : Owner) (k : ℕ) → Apart o (id, may_make) → r.rights k ≡ o → made_by by k log ≡ made_by by k r.log =
+      let apart : (o : Owner) (k : ℕ)
+      → Apart o (id, may_make) → r.rights k ≡ o → made_by by k log ≡ made_by by k r.log =
       λ o k differ i. made_by-other by k r.log e (λ same. differ (sym i ∙ (ap r.rights (sym same) ∙ whose))) in
       let met_apart : Apart (id, has_met) (id, may_make) = other_right id id has_met may_make (λ same. cc) in
       let give_apart : Apart (id, may_give) (id, may_make) = other_right id id may_give may_make (λ same. cc) in (
@@ -255,7 +261,8 @@ module _ {S E T : Type 0} (stands : S → List E → Type 0) (by : E → ℕ) (t
                   (held, t.1, ap (λ z. z ++ e ∷ []) t.2);
             }
             (λ j u other g.
-            stays by tag r.log r.rights r.holder (get_or s.words 0 0) s.homes log r.rights r.holder (get_or ws 0 0) s.homes j u
+            stays by tag r.log r.rights r.holder (get_or s.words 0 0) s.homes
+            log r.rights r.holder (get_or ws 0 0) s.homes j u
             (λ xs p. prefix_grow xs r.log (e ∷ []) p)
             (λ k a i. (i, apart (j, a) k (other_seat j id a may_make other) i))
             (λ _ own. absurd (other (sym own ∙ t.1)))

@@ -104,9 +104,13 @@ module _ {S E T : Type 0} where
     abbrev pub MayPut : S → Pass S E T → Type 0
     MayPut x p = stands x (seen p) ⊎ ((e : E) × Adds x p e)
 
-  -- the value stands for one history, which each of these passes has seen a beginning of and accounts for
-  abbrev pub EndsWith : (S → List E → Type 0) → (E → ℕ) → S → List (Pass S E T) → Type 0
-  EndsWith stands by x ps =
+  -- the value stands for a history of which the pass has seen a beginning, and for which it accounts
+  abbrev pub EndsFor : (S → List E → Type 0) → (E → ℕ) → S → Pass S E T → Type 0
+  EndsFor stands by x p = (log : List E) × stands x log × IsPrefix (seen p) log × Accounts by p log
+
+  -- the same of all these passes, with one history
+  abbrev pub EndsForAll : (S → List E → Type 0) → (E → ℕ) → S → List (Pass S E T) → Type 0
+  EndsForAll stands by x ps =
       (log : List E)
       × stands x log
       × ((k : ℕ) (p : Pass S E T) → slice_get ps k ≡ Some p → IsPrefix (seen p) log × Accounts by p log)

@@ -1,7 +1,6 @@
 //! The end of a cell.
-ghost use Rattle.std.specs.Prelude.{◌≡◌, ◌<◌, List, length};
-ghost use mathlib.Core.List.{IsPrefix};
-ghost use Rattle.turn_cell.specs.Cells.{seen, Accounts, cell_tag, IsReady, AreReady, EndsWith};
+ghost use Rattle.std.specs.Prelude.{◌≡◌, ◌<◌, length};
+ghost use Rattle.turn_cell.specs.Cells.{cell_tag, IsReady, AreReady, EndsFor, EndsForAll};
 
 use crate::cell::Cell;
 use crate::kept::Kept;
@@ -15,7 +14,7 @@ impl<V: Kept> Cell<V> {
     /// this pass, and of each that it met, just what was made under it.
     pub fn close<R: Wait>(self, rt: &R, mut pass: Pass<V>) -> V
         requires { IsReady V.tag self pass }
-        ensures history { (log : List V.Entry) × V.stands result log × IsPrefix (seen pass) log × Accounts V.by pass log }
+        ensures history { EndsFor V.stands V.by result pass }
         ensures tag { V.tag result ≡ cell_tag V.tag self }
     {
         let Turn { cell: _, value } = self.take(rt, &mut pass);
@@ -35,7 +34,7 @@ impl<V: Kept> Cell<V> {
     pub fn close_all<R: Wait>(self, rt: &R, passes: Passes<V>) -> V
         requires some { 0 < length passes }
         requires ready { AreReady V.tag self passes }
-        ensures history { EndsWith V.stands V.by result passes }
+        ensures history { EndsForAll V.stands V.by result passes }
         ensures tag { V.tag result ≡ cell_tag V.tag self }
     {
         let mut passes = passes.into_vec();

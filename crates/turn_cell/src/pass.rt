@@ -60,7 +60,8 @@ impl<V: Kept> Cell<V> {
         requires other { IsReady V.tag self.now other }
         ensures ready { IsReady V.tag self.now pass.new }
         ensures seen { IsLonger (seen pass.old) (seen other) (seen pass.new) }
-        ensures made { (own pass.new ≡ own pass.old) × (met pass.new ≡ met pass.old ++ with_own (own other) (met other)) }
+        ensures own { own pass.new ≡ own pass.old }
+        ensures met { met pass.new ≡ met pass.old ++ with_own (own other) (met other) }
         ensures covers { Covers V.by pass.new pass.old × Covers V.by pass.new other }
     {
         self.table.shared.join_seat::<Meet>(pass, other);

@@ -1,5 +1,6 @@
 //! The rule of a cell's table, and what each step on the table tells the pass that makes it.
-ghost use Rattle.turn_cell.specs.Steps.{Takes, Counts, Raises, Frees, Parts, Compares, giver_after, numbered, told, joined, spent};
+ghost use Rattle.turn_cell.specs.Steps.{Takes, Counts, Raises, Frees, Parts, Compares, giver_after, numbered, told};
+ghost use Rattle.turn_cell.specs.Steps.{joined, spent};
 
 use crate::kept::Kept;
 use crate::view::View;

@@ -1,7 +1,8 @@
 //! A turn: taking the value, and ending the turn.
 ghost use Rattle.std.specs.Prelude.{◌≡◌};
 ghost use mathlib.Core.List.{IsPrefix};
-ghost use Rattle.turn_cell.specs.Cells.{seen, IsSameMaker, Accounts, IsLook, IsEvent, cell_tag, IsReady, HasTurn, Adds, MayPut};
+ghost use Rattle.turn_cell.specs.Cells.{seen, IsSameMaker, Accounts, IsLook, IsEvent, cell_tag, IsReady, HasTurn};
+ghost use Rattle.turn_cell.specs.Cells.{Adds, MayPut};
 
 use crate::cell::Cell;
 use crate::kept::Kept;

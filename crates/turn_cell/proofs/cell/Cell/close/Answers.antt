@@ -6,7 +6,9 @@ use Rattle.turn_cell.proofs.Turning.{parts, as_rest}
 use Rattle.turn_cell.proofs.cell.Cell.close.Goals as goal
 
 pub load-requires : goal.load-requires
-load-requires g c = (search rules, search rules, parts _ _ _ _ _ _ _ c.args.self.sized.1 c.take-value.ensures.turn.0.1 (as_rest _ _ _ c.take-value.ensures.turn.0.2))
+load-requires g c =
+    let turn = c.take-value.ensures.turn.0 in
+    (search rules, search rules, parts _ _ _ _ _ _ _ c.args.self.sized.1 turn.1 (as_rest _ _ _ turn.2))
 
 pub returns-clause-history : goal.returns-clause-history
 returns-clause-history g c = let made = c.take-value.ensures.made in let log = seen c.take-value.new.pass in (

@@ -34,4 +34,6 @@ pub returns-clause-history : goal.returns-clause-history
 returns-clause-history g c =
     let h = c.close.ensures.history in
     let none : length c.loop-other.passes.items ≡ 0 = search rules in
-    (h.0, h.1, covers_all g.V.Kept.by c.args.passes c.loop-other.passes.items c.loop-other.first h.0 none c.loop-other.invariant.covered h.2 h.3)
+    let each = covers_all g.V.Kept.by c.args.passes c.loop-other.passes.items c.loop-other.first h.0 none
+    c.loop-other.invariant.covered h.2 h.3 in
+    (h.0, h.1, each)
