@@ -1,5 +1,5 @@
 -- Writers that get new passes, and give them back.
-use Rattle.std.proofs.Common.{◌≡◌, ℕ, ◌+◌, List, [], ◌∷◌, ◌++◌, length, Some, slice_get, refl, subst, sym, ap, arith}
+use Rattle.std.proofs.Common.{◌≡◌, ℕ, ◌+◌, List, [], ◌∷◌, ◌++◌, length, refl, subst, sym, ap, arith}
 use Rattle.std.proofs.Common.{length-append}
 use Rattle.turn_cell.specs.Histories.{maker}
 use Rattle.turn_cell.specs.Cells.{Pass, IsNewPass, AreNewPasses}

@@ -80,7 +80,8 @@ impl<'a, V: Kept> Turn<'a, V> {
         ensures ready { IsReady V.tag self.entry.cell.now pass.new }
         ensures value { V.stands self.entry.value (seen pass.new) }
         ensures look { V.stands self.entry.value (seen pass.old) → IsLook pass.old pass.new result }
-        ensures event { (e : V.Entry) → Adds V.stands V.by V.newest self.entry.value pass.old e → IsEvent e pass.old pass.new result }
+        ensures event { (e : V.Entry) → Adds V.stands V.by V.newest self.entry.value pass.old e
+            → IsEvent e pass.old pass.new result }
     {
         let Turn { cell, value } = self;
         let shared = &cell.table.shared;

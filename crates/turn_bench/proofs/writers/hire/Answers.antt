@@ -1,4 +1,4 @@
-use Rattle.std.proofs.Common.{rules, ◌≤◌, length, subst, sym, arith}
+use Rattle.std.proofs.Common.{rules, ◌≤◌, length, subst, sym}
 use Rattle.turn_cell.proofs.Lists.{joined_at}
 use Rattle.turn_bench.specs.declared.writers.Writer.{Writer}
 use Rattle.turn_bench.specs.Writers.{IsWriter}
