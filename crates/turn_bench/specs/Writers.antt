@@ -1,8 +1,7 @@
 -- Writers, each with a pass of its own.
 use Rattle.std.specs.Prelude.{◌≡◌, ℕ, List, Some, slice_get}
 use Rattle.turn_cell.specs.declared.cell.Cell.{Cell}
-use Rattle.turn_cell.specs.declared.view.Maker.{Maker}
-use Rattle.turn_cell.specs.Cells.{own, IsReady}
+use Rattle.turn_cell.specs.Cells.{IsNumbered}
 use Rattle.turn_bench.specs.declared.tally.Tally.{Tally}
 use Rattle.turn_bench.specs.declared.writers.Writer.{Writer}
 
@@ -15,7 +14,7 @@ TallyCell = Cell Tally ℕ (Unit {0})
 
 -- its pass is one of this cell, does not hold the turn, and has its number
 abbrev pub IsWriter : TallyCell → Writer → Type 0
-IsWriter c w = IsReady no_tag c w.pass × ((m : Maker ℕ) × (own w.pass ≡ Some m) × (m.number ≡ w.by))
+IsWriter c w = IsNumbered no_tag c w.by w.pass
 
 abbrev pub AreWriters : TallyCell → List Writer → Type 0
 AreWriters c ws = (k : ℕ) (w : Writer) → slice_get ws k ≡ Some w → IsWriter c w

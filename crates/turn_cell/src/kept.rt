@@ -18,6 +18,7 @@ pub trait Kept {
     // The last entry of the history, where there is one.
     ghost newest: { Self → Option Self.Entry };
 
+    // What never changes of the value.
     ghost tag: { Self → Self.Tag };
 
     /// How many entries the history has. So all histories for which one value stands are equally long.

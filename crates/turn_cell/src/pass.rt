@@ -16,10 +16,12 @@ use std::sync::atomic::AtomicU64;
 /// What one caller knows of a cell. It has no bytes.
 pub type Pass<V> = Seat<Option<V>, View<<V as Kept>::Entry, <V as Kept>::Tag>>;
 
+/// Passes, by number.
 pub type Passes<V> = ListOf<Pass<V>>;
 
 impl<V: Kept> Cell<V> {
-    /// A cell with this value and no history yet, and a pass for each number below `makers`.
+    /// A cell with this value and no history yet, and a pass for each number below `makers`. Where there is no memory
+    /// for it, the value is dropped.
     pub fn open(alloc: Global, value: V, makers: u8) -> Result<(Cell<V>, Passes<V>), AllocError>
     where
         V: Drop,

@@ -20,6 +20,8 @@ pub(crate) const FREE: u64 = 0;
 
 pub(crate) const HELD: u64 = 1;
 
+/// The rule: while the turn is free the slot has the value, which stands for the whole history, and each pass has seen
+/// a beginning of that history.
 pub struct InTurn;
 
 impl<V: Kept> TableRule<Option<V>, View<V::Entry, V::Tag>, Snapshot<V>> for InTurn {

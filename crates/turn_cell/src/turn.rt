@@ -16,11 +16,13 @@ use std::sync::atomic::Ordering::SeqCst;
 /// The value, while a pass holds the turn. It is never dropped: `put` ends it.
 pub struct Turn<'a, V: Kept> {
     pub(crate) cell: &'a Cell<V>,
+    /// The value, which the holder may change in place.
     pub value: V,
 }
 
 impl<V: Kept> Cell<V> {
-    /// Waits for the turn. The value stands for the whole history, of which the pass has then seen all.
+    /// Waits for the turn, at first by spinning and in the end asleep. The value stands for the whole history, of which
+    /// the pass has then seen all.
     #[inline]
     pub fn take<'a, R: Wait>(&'a self, rt: &R, pass: &mut Pass<V>) -> Turn<'a, V>
         requires { IsReady V.tag self.now pass.old }
@@ -64,6 +66,7 @@ impl<V: Kept> Cell<V> {
 }
 
 impl<'a, V: Kept> Turn<'a, V> {
+    /// The value, to look at.
     pub fn value(&self) -> &V
         ensures { result.now ≡ self.now.value }
     {
