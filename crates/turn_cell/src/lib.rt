@@ -6,6 +6,7 @@ mod closing;
 mod kept;
 mod pass;
 mod rule;
+mod sleepers;
 #[cfg(test)]
 mod tests;
 mod turn;

@@ -6,12 +6,12 @@ ghost use Rattle.turn_cell.specs.Cells.{seen, own, met, IsSameView, Covers, cell
 use crate::cell::Cell;
 use crate::kept::Kept;
 use crate::rule::{Compare, Deal, FREE, Meet, TURN, Tell};
+use crate::sleepers::Sleepers;
 use crate::view::View;
 use atomic_table::{Seat, Table};
 use log_node::ListOf;
 use std::alloc::{AllocError, Global};
 use std::snapshot::Snapshot;
-use std::sync::atomic::AtomicU64;
 
 /// What one caller knows of a cell. It has no bytes.
 pub type Pass<V> = Seat<Option<V>, View<<V as Kept>::Entry, <V as Kept>::Tag>>;
@@ -41,7 +41,7 @@ impl<V: Kept> Cell<V> {
         for _ in 0..makers {
             passes.push(table.shared.split_seat::<Deal>(&mut dealer))?;
         }
-        let sleepers = AtomicU64::new(0);
+        let sleepers = Sleepers::new();
         Ok((Cell { table, sleepers }, passes))
     }
 

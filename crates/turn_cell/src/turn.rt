@@ -11,7 +11,6 @@ use crate::rule::{COUNT, Count, FREE, Free, HELD, Raise, TURN, Take, VALUE};
 use crossbeam_utils::Backoff;
 use log_node::At;
 use std::sync::Wait;
-use std::sync::atomic::Ordering::SeqCst;
 
 /// The value, while a pass holds the turn. It is never dropped: `put` ends it.
 pub struct Turn<'a, V: Kept> {
@@ -43,25 +42,18 @@ impl<V: Kept> Cell<V> {
         unreachable!()
     }
 
-    // Spins at first, then yields, and in the end sleeps until a turn ends. The sleep may end for no reason.
+    // Spins at first, then yields, and in the end sleeps until a turn ends.
     #[cold]
     fn pause<R: Wait>(&self, rt: &R, backoff: &Backoff) {
-        if backoff.is_completed() {
-            self.sleepers.fetch_add(1, SeqCst);
-            self.table.shared.park(rt, TURN, HELD as u32);
-            self.sleepers.fetch_sub(1, SeqCst);
-        } else {
+        if !backoff.is_completed() {
             backoff.snooze();
+            return;
         }
-    }
-
-    // Wakes one that sleeps, once the turn is free. Whoever this load does not see counts itself later, and then finds
-    // the turn free, or held by one that wakes it in its turn.
-    #[inline]
-    fn wake(&self) {
-        if self.sleepers.load(SeqCst) > 0 {
-            self.table.shared.wake_one(TURN);
+        let wakes = self.sleepers.announce();
+        if self.table.shared.peek(TURN) == HELD {
+            self.sleepers.sleep(rt, wakes);
         }
+        backoff.reset();
     }
 }
 
@@ -96,12 +88,12 @@ impl<'a, V: Kept> Turn<'a, V> {
         }
         if count == before {
             shared.store::<Free>(pass, TURN, FREE);
-            cell.wake();
+            cell.sleepers.wake();
             return At::Look(before);
         }
         let place = shared.fetch_add::<Raise>(pass, COUNT, 1);
         shared.store::<Free>(pass, TURN, FREE);
-        cell.wake();
+        cell.sleepers.wake();
         At::Event(place)
     }
 }
