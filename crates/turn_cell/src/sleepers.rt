@@ -36,7 +36,14 @@ impl Sleepers {
     /// Wakes one that sleeps, if there is one, and ends each sleep that was announced and has not begun.
     #[inline]
     pub fn wake(&self) {
-        if self.any.load(SeqCst) && self.any.swap(false, SeqCst) {
+        if self.any.load(SeqCst) {
+            self.wake_one();
+        }
+    }
+
+    #[cold]
+    fn wake_one(&self) {
+        if self.any.swap(false, SeqCst) {
             self.wakes.fetch_add(1, SeqCst);
             self.wakes.wake_one();
         }
