@@ -1,0 +1,72 @@
+//! Turns at a cell beside a lock of std: one, two and four threads that share one value.
+//!
+//! With no argument each thread takes 500 turns, and what is printed is how many entries there are in the end. With a
+//! number as its argument each thread takes that many, and what is printed is how long a turn took.
+#![tactic(auto)]
+
+mod tally;
+mod writers;
+
+use std::alloc::Global;
+use std::rt::Clock;
+use std::sync::Wait;
+use std::thread::Threads;
+use std::time::{Duration, Instant};
+use std::{env, io};
+use writers::{Load, Work, over_cell, over_lock};
+
+const THREADS: [u8; 3] = [1, 2, 4];
+
+const KINDS: [(&str, Work); 2] = [("look", Work::Look), ("add", Work::Add)];
+
+fn count<R: Threads + Wait + Print + Sync>(rt: &R, alloc: Global, turns: u64) -> io::Result<()> {
+    for (name, work) in KINDS {
+        for threads in THREADS {
+            let load = Load { work, turns };
+            let cell = over_cell(rt, alloc, threads, load)?;
+            let lock = over_lock(rt, alloc, threads, load)?;
+            println!(rt; "{name} threads {threads} entries cell {cell} lock {lock}")?;
+        }
+    }
+    Ok(())
+}
+
+fn measure<R: Threads + Wait + Print + Clock + Sync>(
+    rt: &R,
+    alloc: Global,
+    turns: u64,
+) -> io::Result<()> {
+    for (name, work) in KINDS {
+        for threads in THREADS {
+            let load = Load { work, turns };
+            let start = Instant::now(rt)?;
+            over_cell(rt, alloc, threads, load)?;
+            let cell = start.elapsed(rt)?;
+            let start = Instant::now(rt)?;
+            over_lock(rt, alloc, threads, load)?;
+            let lock = start.elapsed(rt)?;
+            println!(rt; "{name} threads {threads}")?;
+            report(rt, "cell", threads, turns, cell)?;
+            report(rt, "lock", threads, turns, lock)?;
+        }
+    }
+    Ok(())
+}
+
+fn report<R: Print>(rt: &R, name: &str, threads: u8, turns: u64, time: Duration) -> io::Result<()> {
+    let all = threads as u128 * turns as u128;
+    let nanos = time.as_nanos();
+    let each = nanos.checked_div(all).unwrap_or(0);
+    let rate = (all * 1_000_000_000).checked_div(nanos).unwrap_or(0);
+    println!(rt; "  {name} {each} ns a turn, {rate} turns a second")
+}
+
+fn main(rt: HostRuntime) -> io::Result<()> {
+    match env::args(&rt)?.nth(1) {
+        Some(word) => match word.as_str().parse::<u64>() {
+            Ok(turns) => measure(&rt, rt.alloc(), turns),
+            Err(_) => println!(&rt; "the argument is the number of turns"),
+        },
+        None => count(&rt, rt.alloc(), 500),
+    }
+}

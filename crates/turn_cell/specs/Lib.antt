@@ -1,0 +1,4 @@
+pub mod Histories
+pub mod Cells
+pub mod Rule
+pub mod Steps

@@ -1,0 +1,18 @@
+//! A cell: a table with a value in its slot, a word for the turn and a word that counts the history.
+ghost use Rattle.std.specs.Prelude.{◌≡◌};
+
+use crate::kept::Kept;
+use crate::rule::InTurn;
+use crate::sleepers::Sleepers;
+use crate::view::View;
+use atomic_table::Table;
+use std::alloc::Global;
+use std::snapshot::Snapshot;
+
+/// A value that passes take in turn.
+#[derive(Drop)]
+pub struct Cell<V: Kept> {
+    pub(crate) table: Table<Option<V>, View<V::Entry, V::Tag>, Snapshot<V>, InTurn, Global>,
+    pub(crate) sleepers: Sleepers,
+    ghost sized: { (table.shared.table_id.words ≡ 2) × (table.shared.table_id.slots ≡ 1) },
+}
