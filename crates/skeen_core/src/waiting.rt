@@ -1,0 +1,70 @@
+// Entries that wait in a delivery queue, and the steps on their list, which is in rising key.
+ghost use Rattle.std.specs.Prelude.{◌≡◌, ◌+◌, ◌<◌, ◌≤◌, true, map, take, drop, length, slice_index_or, vec_len, vec_capacity, ◌++◌, ◌∷◌, []};
+ghost use Rattle.std.specs.List.{position, prefix_len, insert, remove};
+ghost use Rattle.log_node.specs.Order.{key_below};
+ghost use Rattle.skeen_core.specs.Standings.{is_open_id};
+ghost use Rattle.skeen_core.specs.Queues.{standing_of, final_entry, with_stored};
+ghost use Rattle.skeen_core.specs.Inside.{IsRisingStored};
+ghost use Rattle.skeen_core.specs.declared.waiting.Waiting.{Waiting};
+
+use log_node::{Id, Key};
+
+/// An entry that is not in the line yet: its key, whether it is final, and its thing.
+#[derive(Drop)]
+pub struct Waiting<T> {
+    pub key: Key,
+    /// Whether the key is final. An open entry has its tentative stamp.
+    pub settled: bool,
+    pub thing: T,
+}
+
+// Whether the entry is open, and has this id.
+fn is_open<T>(entry: &Waiting<T>, id: Id) -> bool
+    ensures { result ≡ is_open_id id (standing_of entry.now) }
+{
+    !entry.settled && entry.key.id == id
+}
+
+// The place of the open entry with this id.
+pub(crate) fn open_place<T>(waiting: &[Waiting<T>], id: Id) -> Option<usize>
+    ensures { result ≡ position (λ w. is_open_id id (standing_of w)) waiting.now }
+{
+    waiting.iter().position(|entry| is_open(entry, id))
+}
+
+// How many entries at the front are final.
+pub(crate) fn final_front<T>(waiting: &[Waiting<T>]) -> usize
+    ensures { result ≡ prefix_len (λ w. w.settled) waiting.now }
+{
+    waiting.iter().take_while(|entry| entry.settled).count()
+}
+
+// At the end of a vector that has room.
+pub(crate) fn put<X>(list: &mut Vec<X>, item: X)
+    requires { vec_len list.old < vec_capacity list.old }
+    ensures items { list.new.items ≡ list.old.items ++ item ∷ [] }
+    ensures capacity { vec_capacity list.old ≤ vec_capacity list.new }
+{
+    match list.push(item) {
+        Ok(()) => {}
+        Err(_) => unreachable!(),
+    }
+}
+
+// Makes the entry at a place final under a stamp that is not below its own, and puts it where its new key belongs.
+pub(crate) fn final_under<T: Drop>(waiting: &mut Vec<Waiting<T>>, at: usize, stamp: u64)
+    requires in_bounds { at < vec_len waiting.old }
+    requires rising { IsRisingStored waiting.old.items }
+    ensures items { (d : Waiting T) → waiting.new.items ≡ with_stored (final_entry stamp (slice_index_or waiting.old.items at d)) (remove waiting.old.items at) }
+    ensures capacity { vec_capacity waiting.old ≤ vec_capacity waiting.new }
+{
+    let mut entry = waiting.remove(at);
+    entry.key.stamp = stamp;
+    entry.settled = true;
+    let key = entry.key;
+    let place = waiting.partition_point(|other| other.key < key);
+    match waiting.insert(place, entry) {
+        Ok(()) => {}
+        Err(_) => unreachable!(),
+    }
+}
