@@ -5,7 +5,7 @@ use Rattle.log_node.specs.declared.ids.Key.{Key}
 use Rattle.log_node.specs.Order.{same_id, key_below}
 use Rattle.skeen_core.specs.declared.waiting.Waiting.{Waiting}
 use Rattle.skeen_core.specs.Standings.{Standing}
-use Rattle.skeen_core.specs.Queues.{standing_of}
+use Rattle.skeen_core.specs.Queues.{Queued, standing_of}
 
 -- the final entry under a key
 abbrev pub final_at : Key → Standing
@@ -24,6 +24,16 @@ with_things (k ∷ ks) (t ∷ ts) = record { key = k; settled = true; thing = t 
 -- the entries of a line whose things are kept, and those that wait behind it
 abbrev pub all_stored : {T : Type 0} → List Key → List T → List (Waiting T) → List (Waiting T)
 all_stored line kept waiting = with_things (drop (length line - length kept) line) kept ++ waiting
+
+-- what contracts see of these fields
+abbrev pub queued : {T : Type 0} → ℕ → ℕ → List Key → List T → List (Waiting T) → Queued T
+queued clock spare line kept waiting = record {
+  clock = clock;
+  entries = all_entries line waiting;
+  base = length line - length kept;
+  stored = all_stored line kept waiting;
+  spare = spare;
+}
 
 -- every key is above those before it
 abbrev pub IsRising : List Standing → Type 0

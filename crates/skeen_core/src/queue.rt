@@ -25,22 +25,16 @@ pub struct Queue<T> {
 }
 
 impl<T> Model for Queue<T> {
-    ghost use Rattle.std.specs.Prelude.{◌-◌, length, vec_capacity};
+    ghost use Rattle.std.specs.Prelude.{vec_capacity};
     ghost use Rattle.skeen_core.specs.Queues.{Queued, queued_code};
 
     ghost Value = { Queued T };
 
     ghost coded = { queued_code T.code };
 
-    ghost use Rattle.skeen_core.specs.Inside.{all_entries, all_stored, IsQueue};
+    ghost use Rattle.skeen_core.specs.Inside.{queued, IsQueue};
 
-    ghost view = { λ a. record {
-      clock = a.clock;
-      entries = all_entries a.line.items a.waiting.items;
-      base = length a.line.items - length a.kept.items;
-      stored = all_stored a.line.items a.kept.items a.waiting.items;
-      spare = a.spare;
-    } };
+    ghost view = { λ a. queued a.clock a.spare a.line.items a.kept.items a.waiting.items };
 
     ghost invariant = { λ a. IsQueue a.clock a.spare a.line.items a.kept.items a.waiting.items (vec_capacity a.line) (vec_capacity a.kept) (vec_capacity a.waiting) };
 }

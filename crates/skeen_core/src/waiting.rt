@@ -34,7 +34,8 @@ pub(crate) fn open_place<T>(waiting: &[Waiting<T>], id: Id) -> Option<usize>
 
 // How many entries at the front are final.
 pub(crate) fn final_front<T>(waiting: &[Waiting<T>]) -> usize
-    ensures { result ≡ prefix_len (λ w. w.settled) waiting.now }
+    ensures value { result ≡ prefix_len (λ w. w.settled) waiting.now }
+    ensures bound { result ≤ length waiting.now }
 {
     waiting.iter().take_while(|entry| entry.settled).count()
 }
@@ -62,7 +63,7 @@ pub(crate) fn final_under<T: Drop>(waiting: &mut Vec<Waiting<T>>, at: usize, sta
     entry.key.stamp = stamp;
     entry.settled = true;
     let key = entry.key;
-    let place = waiting.partition_point(|other| other.key < key);
+    let place = waiting.partition_point(|other| other.key <= key);
     match waiting.insert(place, entry) {
         Ok(()) => {}
         Err(_) => unreachable!(),

@@ -1,0 +1,5 @@
+pub mod Order
+pub mod Lists
+pub mod Entries
+pub mod Delivery
+pub mod Stored
