@@ -3,3 +3,4 @@ pub mod Lists
 pub mod Entries
 pub mod Delivery
 pub mod Stored
+pub mod Delivering

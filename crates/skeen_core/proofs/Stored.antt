@@ -35,15 +35,14 @@ module _ {T : Type 0} where
   with_things-append (k ∷ ks) js [] us e = absurd (omega arith)
   with_things-append (k ∷ ks) js (t ∷ ts) us e = ap (λ ws. let w : Waiting T = record { key = k; settled = true; thing = t } in w ∷ ws) (with_things-append ks js ts us (omega arith))
 
+  with_things-nothing : (ks : List Key) → with_things {T = T} ks [] ≡ []
+  with_things-nothing [] = refl
+  with_things-nothing (k ∷ ks) = refl
+
   pub with_things-drop : (n : ℕ) (ks : List Key) (ts : List T) → drop n (with_things ks ts) ≡ with_things (drop n ks) (drop n ts)
   with_things-drop zero ks ts = refl
   with_things-drop (suc n) [] ts = refl
-  with_things-drop (suc n) (k ∷ ks) [] = nothing n ks where
-    nothing : (n : ℕ) (ks : List Key) → drop (suc n) (with_things (k ∷ ks) []) ≡ with_things (drop n ks) []
-    nothing n ks = sym (no-things (drop n ks)) where
-      no-things : (ks : List Key) → with_things ks [] ≡ []
-      no-things [] = refl
-      no-things (k ∷ ks) = refl
+  with_things-drop (suc n) (k ∷ ks) [] = sym (with_things-nothing (drop n ks))
   with_things-drop (suc n) (k ∷ ks) (t ∷ ts) = with_things-drop n ks ts
 
   -- as many keys as things are left of a line
@@ -71,3 +70,26 @@ module _ {T : Type 0} where
   pub waiting-queued : {clock spare : ℕ} {line : List Key} {kept : List T} {waiting : List (Waiting T)} {l k w : ℕ} → IsQueue clock spare line kept waiting l k w → waiting_entries (queued clock spare line kept waiting) ≡ waiting
   waiting-queued {line} {kept} {waiting} q =
       ap (λ ks. drop (length ks - (length line - length kept)) (all_stored line kept waiting)) (line-queued q) ∙ waiting-behind line kept waiting q.fewer
+
+  -- fewer things are kept
+  pub stored-drop : (n : ℕ) (line : List Key) (kept : List T) (waiting : List (Waiting T)) → length kept ≤ length line → n ≤ length kept → all_stored line (drop n kept) waiting ≡ drop n (all_stored line kept waiting)
+  stored-drop n line kept waiting fewer le =
+    let base : ℕ = length line - length kept in
+    let front : List (Waiting T) = with_things (drop base line) kept in
+    let d = length-drop n kept in
+    let further : length line - length (drop n kept) ≡ base + n = omega (arith, d) in
+    let long : n ≤ length front = subst (λ (m : ℕ). n ≤ m) (sym (length-with_things (drop base line) kept (left-of line kept fewer))) le in
+    ap (λ b. with_things (drop b line) (drop n kept) ++ waiting) further
+    ∙ ap (λ ks. with_things ks (drop n kept) ++ waiting) (sym (drop-drop n base line))
+    ∙ ap (λ ws. ws ++ waiting) (sym (with_things-drop n (drop base line) kept))
+    ∙ sym (drop-append-le n front waiting long)
+
+  -- contracts see a higher base
+  pub queued-dropped : (clock spare : ℕ) (line : List Key) (kept : List T) (waiting : List (Waiting T)) (to n : ℕ) → length kept ≤ length line → to ≤ length line → n ≡ to - (length line - length kept) → queued clock spare line (drop n kept) waiting ≡ record (queued clock spare line kept waiting) { base = max to (length line - length kept); stored = drop (to - (length line - length kept)) (all_stored line kept waiting) }
+  queued-dropped clock spare line kept waiting to n fewer within is =
+    let d = length-drop n kept in
+    let b : length line - length (drop n kept) ≡ max to (length line - length kept) = omega (arith, d) in
+    let s : all_stored line (drop n kept) waiting ≡ drop (to - (length line - length kept)) (all_stored line kept waiting) =
+      stored-drop n line kept waiting fewer (omega arith) ∙ ap (λ m. drop m (all_stored line kept waiting)) is in
+    ap (λ (m : ℕ). let q : Queued T = record { clock = clock; entries = all_entries line waiting; base = m; stored = all_stored line (drop n kept) waiting; spare = spare } in q) b
+    ∙ ap (λ (ws : List (Waiting T)). let q : Queued T = record { clock = clock; entries = all_entries line waiting; base = max to (length line - length kept); stored = ws; spare = spare } in q) s

@@ -112,6 +112,10 @@ entered_queue w q = record q {
   spare = q.spare - 1;
 }
 
+-- the queue after the things of the line below a base were dropped; no base falls
+abbrev pub dropped_queue : {T : Type 0} → ℕ → Queued T → Queued T
+dropped_queue base q = record q { base = max base q.base; stored = drop (base - q.base) q.stored }
+
 -- how many things of the line are stored
 abbrev pub kept_count : {T : Type 0} → Queued T → ℕ
 kept_count q = length (line_of q.entries) - q.base

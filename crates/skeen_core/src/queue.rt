@@ -4,7 +4,7 @@
 ghost use Rattle.std.specs.Prelude.{◌≡◌, ◌+◌, ◌-◌, ◌<◌, ◌≤◌, ◌&&◌, max, nat_lt, false, true, [], ◌∷◌, ◌++◌, map, take, drop, length, vec_len, vec_capacity, if◌then◌else◌, IfOk, IfErr, OnOk, OnErr};
 ghost use Rattle.std.specs.List.{prefix_len};
 ghost use Rattle.skeen_core.specs.Standings.{line_of, queue_of};
-ghost use Rattle.skeen_core.specs.Queues.{Queued, standing_of, has_id, has_open, is_decided, entered_queue, settled_queue, kept_entries, waiting_entries, IsContinued, MaySettle};
+ghost use Rattle.skeen_core.specs.Queues.{Queued, standing_of, has_id, has_open, is_decided, entered_queue, settled_queue, dropped_queue, kept_entries, waiting_entries, IsContinued, MaySettle};
 
 use crate::marks::Outcome;
 use crate::stamps::{MAX_STAMP, StampEnd};
@@ -226,7 +226,7 @@ impl<T: Drop> Queue<T> {
     /// Drops the things of the line below a base; no base falls.
     pub fn drop_to(&mut self, base: u64)
         requires { base ≤ length (line_of self.old.entries) }
-        ensures { self.new ≡ record self.old { base = max base self.old.base; stored = drop (base - self.old.base) self.old.stored } }
+        ensures { self.new ≡ dropped_queue base self.old }
     {
         let dropped = self.line.len() - self.kept.len();
         let below = (base as usize).saturating_sub(dropped);
