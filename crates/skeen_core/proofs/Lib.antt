@@ -4,3 +4,4 @@ pub mod Entries
 pub mod Delivery
 pub mod Stored
 pub mod Delivering
+pub mod Placing

@@ -25,6 +25,13 @@ fn is_open<T>(entry: &Waiting<T>, id: Id) -> bool
     !entry.settled && entry.key.id == id
 }
 
+// Whether a key comes before another.
+fn is_below(a: Key, b: Key) -> bool
+    ensures { result ≡ key_below a b }
+{
+    a < b
+}
+
 // The place of the open entry with this id.
 pub(crate) fn open_place<T>(waiting: &[Waiting<T>], id: Id) -> Option<usize>
     ensures { result ≡ position (λ w. is_open_id id (standing_of w)) waiting.now }
@@ -63,7 +70,7 @@ pub(crate) fn final_under<T: Drop>(waiting: &mut Vec<Waiting<T>>, at: usize, sta
     entry.key.stamp = stamp;
     entry.settled = true;
     let key = entry.key;
-    let place = waiting.partition_point(|other| other.key <= key);
+    let place = waiting.partition_point(|other| !is_below(key, other.key));
     match waiting.insert(place, entry) {
         Ok(()) => {}
         Err(_) => unreachable!(),
