@@ -5,3 +5,4 @@ pub mod Delivery
 pub mod Stored
 pub mod Delivering
 pub mod Placing
+pub mod Adding
