@@ -7,7 +7,7 @@ use Rattle.log_node.specs.declared.ids.Id.{Id}
 use Rattle.log_node.specs.Order.{same_id, key_below}
 use Rattle.skeen_core.specs.Standings.{Standing, with_entry, without_id}
 use Rattle.skeen_core.specs.Inside.{IsRising, AreApart, AreEntries}
-use Rattle.skeen_core.proofs.Lists.{each-weaker, each-append, each-left, each-right, each-filter, each-filtered}
+use Rattle.skeen_core.proofs.Lists.{each-weaker, each-append, each-left, each-right, each-both, each-filter, each-filtered}
 use Rattle.skeen_core.proofs.Order.{key-trans, key-asym, key-total, same_id-sym}
 
 -- every entry of the list has a key below this one
@@ -88,10 +88,6 @@ pub rising-across : (fs gs : List Standing) → IsRising (fs ++ gs) → AllByRec
 rising-across [] gs h = tt
 rising-across (f ∷ fs) gs h = (each-right (λ g. key_below f.key g.key ≡ true) fs gs h.0, rising-across fs gs h.1)
 
-pub apart-across : (fs gs : List Standing) → AreApart (fs ++ gs) → AllByRecursion (λ f. AllByRecursion (λ g. same_id g.key.id f.key.id ≡ false) gs) fs
-apart-across [] gs h = tt
-apart-across (f ∷ fs) gs h = (each-right (λ g. same_id g.key.id f.key.id ≡ false) fs gs h.0, apart-across fs gs h.1)
-
 pub rising-right : (fs gs : List Standing) → IsRising (fs ++ gs) → IsRising gs
 rising-right [] gs h = h
 rising-right (f ∷ fs) gs h = rising-right fs gs h.1
@@ -99,3 +95,23 @@ rising-right (f ∷ fs) gs h = rising-right fs gs h.1
 pub apart-right : (fs gs : List Standing) → AreApart (fs ++ gs) → AreApart gs
 apart-right [] gs h = h
 apart-right (f ∷ fs) gs h = apart-right fs gs h.1
+
+-- the same, one behind after the other
+pub below-over : (fs gs : List Standing) → IsRising (fs ++ gs) → AllByRecursion (λ g. AllBelow g fs) gs
+below-over [] gs h = nothing gs where
+  nothing : (gs : List Standing) → AllByRecursion (λ g. AllBelow g []) gs
+  nothing [] = tt
+  nothing (g ∷ gs) = (tt, nothing gs)
+below-over (f ∷ fs) gs h = each-both (λ g. key_below f.key g.key ≡ true) (λ g. AllBelow g fs) gs (each-right (λ g. key_below f.key g.key ≡ true) fs gs h.0) (below-over fs gs h.1)
+
+-- no entry of the list has this one's id
+abbrev pub HasOwnId : Standing → List Standing → Type 0
+HasOwnId g fs = AllByRecursion (λ f. same_id g.key.id f.key.id ≡ false) fs
+
+pub apart-over : (fs gs : List Standing) → AreApart (fs ++ gs) → AllByRecursion (λ g. HasOwnId g fs) gs
+apart-over [] gs h = nothing gs where
+  nothing : (gs : List Standing) → AllByRecursion (λ g. HasOwnId g []) gs
+  nothing [] = tt
+  nothing (g ∷ gs) = (tt, nothing gs)
+apart-over (f ∷ fs) gs h =
+    each-both (λ g. same_id g.key.id f.key.id ≡ false) (λ g. HasOwnId g fs) gs (each-right (λ g. same_id g.key.id f.key.id ≡ false) fs gs h.0) (apart-over fs gs h.1)

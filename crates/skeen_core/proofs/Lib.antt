@@ -6,3 +6,5 @@ pub mod Stored
 pub mod Delivering
 pub mod Placing
 pub mod Adding
+pub mod Settling
+pub mod Settled

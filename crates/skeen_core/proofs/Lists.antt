@@ -1,8 +1,11 @@
 -- What holds of each element of a list, by recursion.
-use Rattle.std.proofs.Common.{◌≡◌, ℕ, zero, suc, ◌+◌, ◌<◌, Bool, true, false, cond, List, [], ◌∷◌, ◌++◌, length, get_or, take, drop, refl, sym, ap, ◌∙◌, arith}
-use Rattle.std.specs.Prelude.{map, Option, Some, None}
+use Rattle.std.proofs.Common.{◌≡◌, ℕ, zero, suc, ◌+◌, ◌<◌, Bool, true, false, cond, List, [], ◌∷◌, ◌++◌, length, get_or, take, drop, refl, sym, ap, ◌∙◌, arith, inl, inr}
+use Rattle.std.specs.Prelude.{map, Option, Some, None, ◌||◌, unwrap_or}
 use Rattle.std.specs.List.{AllByRecursion, filter, find, list_all, list_any}
-use Rattle.std.proofs.lemmas.Bool.{cond_both, cond-true, cond-false, or_parts}
+use Rattle.std.proofs.lemmas.Bool.{cond_both, cond-true, cond-false, or_parts, or_cases, cases_Bool, false≢true}
+
+some_inj : {X : Type 0} {x y : X} → Some x ≡ Some y → x ≡ y
+some_inj {x} e = ap (λ o. unwrap_or o x) e
 
 module _ {X : Type 0} where
   pub each-weaker : (P Q : X → Type 0) → ((x : X) → P x → Q x) → (xs : List X) → AllByRecursion P xs → AllByRecursion Q xs
@@ -75,3 +78,38 @@ module _ {X : Type 0} where
   find-at p [] n d lt here before = absurd (omega arith)
   find-at p (x ∷ xs) zero d lt here before = cond-true (p x) (Some x) (find p xs) here
   find-at p (x ∷ xs) (suc n) d lt here before = cond-false (p x) (Some x) (find p xs) (before 0 (omega arith)) ∙ find-at p xs n d (omega arith) here (λ k h. before (suc k) (omega arith))
+
+  pub each-both : (P Q : X → Type 0) (xs : List X) → AllByRecursion P xs → AllByRecursion Q xs → AllByRecursion (λ x. P x × Q x) xs
+  each-both P Q [] p q = tt
+  each-both P Q (x ∷ xs) p q = ((p.0, q.0), each-both P Q xs p.1 q.1)
+
+  -- the first element that passes, where one does
+  pub find-some : (p : X → Bool) (P : X → Type 0) (xs : List X) → AllByRecursion P xs → list_any p xs ≡ true → (x : X) × (find p xs ≡ Some x) × (p x ≡ true) × P x
+  find-some p P [] h e = absurd (false≢true e)
+  find-some p P (x ∷ xs) h e = elim (cases_Bool (p x)) [
+    | inl t ↦ (x, cond-true (p x) (Some x) (find p xs) t, t, h.0)
+    | inr f ↦ let later : list_any p xs ≡ true = elim (or_cases (p x) (list_any p xs) e) [ inl t ↦ absurd (false≢true (sym f ∙ t)) | inr r ↦ r ] in
+        let r = find-some p P xs h.1 later in (r.0, cond-false (p x) (Some x) (find p xs) f ∙ r.1, r.2, r.3)
+  ]
+
+pub cond-map : {X Y : Type 0} (f : X → Y) (b : Bool) (x y : X) → f (cond b x y) ≡ cond b (f x) (f y)
+cond-map f true x y = refl
+cond-map f false x y = refl
+
+pub filter-map : {X Y : Type 0} (p : Y → Bool) (f : X → Y) (xs : List X) → filter p (map f xs) ≡ map f (filter (λ x. p (f x)) xs)
+filter-map p f [] = refl
+filter-map p f (x ∷ xs) =
+    ap (λ ys. cond (p (f x)) (f x ∷ ys) ys) (filter-map p f xs)
+    ∙ sym (cond-map (λ zs. map f zs) (p (f x)) (x ∷ filter (λ y. p (f y)) xs) (filter (λ y. p (f y)) xs))
+
+pub list_any-map : {X Y : Type 0} (p : Y → Bool) (f : X → Y) (xs : List X) → list_any p (map f xs) ≡ list_any (λ x. p (f x)) xs
+list_any-map p f [] = refl
+list_any-map p f (x ∷ xs) = ap (λ b. p (f x) || b) (list_any-map p f xs)
+
+pub find-map : {X Y : Type 0} (p : Y → Bool) (f : X → Y) (xs : List X) (x : X) → find (λ y. p (f y)) xs ≡ Some x → find p (map f xs) ≡ Some (f x)
+find-map p f [] x e = absurd (let h : ⊥ = cc in h)
+find-map p f (y ∷ ys) x e = elim (cases_Bool (p (f y))) [
+  | inl t ↦ let same : y ≡ x = some_inj (sym (cond-true (p (f y)) (Some y) (find (λ z. p (f z)) ys) t) ∙ e) in
+      cond-true (p (f y)) (Some (f y)) (find p (map f ys)) t ∙ ap (λ z. Some (f z)) same
+  | inr n ↦ cond-false (p (f y)) (Some (f y)) (find p (map f ys)) n ∙ find-map p f ys x (sym (cond-false (p (f y)) (Some y) (find (λ z. p (f z)) ys) n) ∙ e)
+]

@@ -21,8 +21,8 @@ module _ {T : Type 0} where
   insert-is w [] (suc n) le before behind = absurd (omega arith)
   insert-is w (v ∷ vs) zero le before behind = sym (cond-true (key_below w.key v.key) (w ∷ v ∷ vs) (v ∷ with_stored w vs) (behind 0 v (omega arith) (omega arith)))
   insert-is w (v ∷ vs) (suc n) le before behind =
-    ap (λ us. v ∷ us) (insert-is w vs n (omega arith) (λ k d l m. before (suc k) d (omega arith) (omega arith)) (λ k d l m. behind (suc k) d (omega arith) (omega arith)))
-    ∙ sym (cond-false (key_below w.key v.key) (w ∷ v ∷ vs) (v ∷ with_stored w vs) (before 0 v (omega arith) (omega arith)))
+      ap (λ us. v ∷ us) (insert-is w vs n (omega arith) (λ k d l m. before (suc k) d (omega arith) (omega arith)) (λ k d l m. behind (suc k) d (omega arith) (omega arith)))
+      ∙ sym (cond-false (key_below w.key v.key) (w ∷ v ∷ vs) (v ∷ with_stored w vs) (before 0 v (omega arith) (omega arith)))
 
   rising-at : (ws : List (Waiting T)) (i j : ℕ) (d : Waiting T) → IsRisingStored ws → i < j → j < length ws → key_below (get_or ws i d).key (get_or ws j d).key ≡ true
   rising-at [] i j d h lt le = absurd (omega arith)

@@ -74,22 +74,22 @@ module _ {T : Type 0} where
   -- fewer things are kept
   pub stored-drop : (n : ℕ) (line : List Key) (kept : List T) (waiting : List (Waiting T)) → length kept ≤ length line → n ≤ length kept → all_stored line (drop n kept) waiting ≡ drop n (all_stored line kept waiting)
   stored-drop n line kept waiting fewer le =
-    let base : ℕ = length line - length kept in
-    let front : List (Waiting T) = with_things (drop base line) kept in
-    let d = length-drop n kept in
-    let further : length line - length (drop n kept) ≡ base + n = omega (arith, d) in
-    let long : n ≤ length front = subst (λ (m : ℕ). n ≤ m) (sym (length-with_things (drop base line) kept (left-of line kept fewer))) le in
-    ap (λ b. with_things (drop b line) (drop n kept) ++ waiting) further
-    ∙ ap (λ ks. with_things ks (drop n kept) ++ waiting) (sym (drop-drop n base line))
-    ∙ ap (λ ws. ws ++ waiting) (sym (with_things-drop n (drop base line) kept))
-    ∙ sym (drop-append-le n front waiting long)
+      let base : ℕ = length line - length kept in
+      let front : List (Waiting T) = with_things (drop base line) kept in
+      let d = length-drop n kept in
+      let further : length line - length (drop n kept) ≡ base + n = omega (arith, d) in
+      let long : n ≤ length front = subst (λ (m : ℕ). n ≤ m) (sym (length-with_things (drop base line) kept (left-of line kept fewer))) le in
+      ap (λ b. with_things (drop b line) (drop n kept) ++ waiting) further
+      ∙ ap (λ ks. with_things ks (drop n kept) ++ waiting) (sym (drop-drop n base line))
+      ∙ ap (λ ws. ws ++ waiting) (sym (with_things-drop n (drop base line) kept))
+      ∙ sym (drop-append-le n front waiting long)
 
   -- contracts see a higher base
   pub queued-dropped : (clock spare : ℕ) (line : List Key) (kept : List T) (waiting : List (Waiting T)) (to n : ℕ) → length kept ≤ length line → to ≤ length line → n ≡ to - (length line - length kept) → queued clock spare line (drop n kept) waiting ≡ record (queued clock spare line kept waiting) { base = max to (length line - length kept); stored = drop (to - (length line - length kept)) (all_stored line kept waiting) }
   queued-dropped clock spare line kept waiting to n fewer within is =
-    let d = length-drop n kept in
-    let b : length line - length (drop n kept) ≡ max to (length line - length kept) = omega (arith, d) in
-    let s : all_stored line (drop n kept) waiting ≡ drop (to - (length line - length kept)) (all_stored line kept waiting) =
+      let d = length-drop n kept in
+      let b : length line - length (drop n kept) ≡ max to (length line - length kept) = omega (arith, d) in
+      let s : all_stored line (drop n kept) waiting ≡ drop (to - (length line - length kept)) (all_stored line kept waiting) =
       stored-drop n line kept waiting fewer (omega arith) ∙ ap (λ m. drop m (all_stored line kept waiting)) is in
-    ap (λ (m : ℕ). let q : Queued T = record { clock = clock; entries = all_entries line waiting; base = m; stored = all_stored line (drop n kept) waiting; spare = spare } in q) b
-    ∙ ap (λ (ws : List (Waiting T)). let q : Queued T = record { clock = clock; entries = all_entries line waiting; base = max to (length line - length kept); stored = ws; spare = spare } in q) s
+      ap (λ (m : ℕ). let q : Queued T = record { clock = clock; entries = all_entries line waiting; base = m; stored = all_stored line (drop n kept) waiting; spare = spare } in q) b
+      ∙ ap (λ (ws : List (Waiting T)). let q : Queued T = record { clock = clock; entries = all_entries line waiting; base = max to (length line - length kept); stored = ws; spare = spare } in q) s

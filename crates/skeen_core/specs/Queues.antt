@@ -8,6 +8,7 @@ use Rattle.log_node.specs.Order.{same_id, key_below}
 use Rattle.skeen_core.specs.declared.marks.Outcome.{Outcome}
 use Rattle.skeen_core.specs.declared.marks.Outcome.TheVariants.{Open, Gone, Final}
 use Rattle.skeen_core.specs.declared.waiting.Waiting.{Waiting}
+use Rattle.skeen_core.specs.Outcomes.{final_number}
 use Rattle.skeen_core.specs.Standings.{Standing, is_open_id, open_entry, settled_entries, with_entry, line_of}
 
 -- a delivery queue: its clock, all its entries in rising key, how many things of its line are dropped, the entries
@@ -65,12 +66,6 @@ abbrev pub is_decided : Outcome → Bool
 is_decided Open = false
 is_decided (Gone why) = true
 is_decided (Final f) = true
-
--- the number to which an outcome raises the clock
-abbrev pub final_number : Outcome → ℕ
-final_number Open = 0
-final_number (Gone why) = 0
-final_number (Final f) = f
 
 -- the entry, final under a number
 abbrev pub final_entry : {T : Type 0} → ℕ → Waiting T → Waiting T

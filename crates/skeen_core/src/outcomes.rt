@@ -1,7 +1,7 @@
 // The outcome of a row's marks.
 ghost use Rattle.std.specs.Prelude.{◌≡◌, ◌<◌, ◌||◌, max, map, length};
 ghost use Rattle.std.specs.List.{list_any};
-ghost use Rattle.skeen_core.specs.Outcomes.{outcome_of, is_missing, is_stamp_end_fence, is_memory_fence, number_of, greatest};
+ghost use Rattle.skeen_core.specs.Outcomes.{outcome_of, is_missing, is_stamp_end_fence, is_memory_fence, number_of, greatest, final_number};
 
 use crate::marks::{Mark, Outcome, Why};
 
@@ -72,5 +72,16 @@ pub fn outcome(marks: &[Mark]) -> Outcome
         Outcome::Gone(Why::Memory)
     } else {
         Outcome::Final(all.greatest)
+    }
+}
+
+// The number to which an outcome raises the clock.
+pub(crate) fn final_number(outcome: Outcome) -> u64
+    ensures { result ≡ final_number outcome }
+{
+    match outcome {
+        Outcome::Open => 0,
+        Outcome::Gone(_) => 0,
+        Outcome::Final(stamp) => stamp,
     }
 }

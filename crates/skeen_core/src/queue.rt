@@ -7,8 +7,9 @@ ghost use Rattle.skeen_core.specs.Standings.{line_of, queue_of};
 ghost use Rattle.skeen_core.specs.Queues.{Queued, standing_of, has_id, has_open, is_decided, entered_queue, settled_queue, dropped_queue, kept_entries, waiting_entries, IsContinued, MaySettle};
 
 use crate::marks::Outcome;
+use crate::outcomes::final_number;
 use crate::stamps::{MAX_STAMP, StampEnd};
-use crate::waiting::{Waiting, final_front, final_under, open_place, put};
+use crate::waiting::{Waiting, final_front, put, settle_entry};
 use log_node::{Id, Key};
 use std::alloc::{AllocError, Global};
 use std::marker::Model;
@@ -181,19 +182,10 @@ impl<T: Drop> Queue<T> {
         ensures queue { self.new ≡ (if result then settled_queue id outcome self.old else self.old) }
         ensures line { IsContinued (line_of self.old.entries) (line_of self.new.entries) }
     {
-        let Some(at) = open_place(self.waiting.as_slice(), id) else {
+        if !settle_entry(&mut self.waiting, id, outcome) {
             return false;
-        };
-        match outcome {
-            Outcome::Open => return false,
-            Outcome::Gone(_) => {
-                let _gone = self.waiting.remove(at);
-            }
-            Outcome::Final(stamp) => {
-                final_under(&mut self.waiting, at, stamp);
-                self.clock = self.clock.max(stamp);
-            }
         }
+        self.clock = self.clock.max(final_number(outcome));
         deliver(&mut self.waiting, &mut self.line, &mut self.kept);
         true
     }

@@ -1,12 +1,13 @@
 // Entries that wait in a delivery queue, and the steps on their list, which is in rising key.
-ghost use Rattle.std.specs.Prelude.{◌≡◌, ◌+◌, ◌<◌, ◌≤◌, true, map, take, drop, length, slice_index_or, vec_len, vec_capacity, ◌++◌, ◌∷◌, []};
-ghost use Rattle.std.specs.List.{position, prefix_len, insert, remove};
+ghost use Rattle.std.specs.Prelude.{◌≡◌, ◌+◌, ◌<◌, ◌≤◌, ◌&&◌, if◌then◌else◌, true, map, take, drop, length, slice_index_or, vec_len, vec_capacity, ◌++◌, ◌∷◌, []};
+ghost use Rattle.std.specs.List.{list_any, position, prefix_len, insert, remove};
 ghost use Rattle.log_node.specs.Order.{key_below};
 ghost use Rattle.skeen_core.specs.Standings.{is_open_id};
-ghost use Rattle.skeen_core.specs.Queues.{standing_of, final_entry, with_stored};
-ghost use Rattle.skeen_core.specs.Inside.{IsRisingStored};
+ghost use Rattle.skeen_core.specs.Queues.{standing_of, final_entry, with_stored, settled_stored, is_decided};
+ghost use Rattle.skeen_core.specs.Inside.{IsRisingStored, AreApart};
 ghost use Rattle.skeen_core.specs.declared.waiting.Waiting.{Waiting};
 
+use crate::marks::Outcome;
 use log_node::{Id, Key};
 
 /// An entry that is not in the line yet: its key, whether it is final, and its thing.
@@ -33,7 +34,7 @@ fn is_below(a: Key, b: Key) -> bool
 }
 
 // The place of the open entry with this id.
-pub(crate) fn open_place<T>(waiting: &[Waiting<T>], id: Id) -> Option<usize>
+fn open_place<T>(waiting: &[Waiting<T>], id: Id) -> Option<usize>
     ensures { result ≡ position (λ w. is_open_id id (standing_of w)) waiting.now }
 {
     waiting.iter().position(|entry| is_open(entry, id))
@@ -60,10 +61,11 @@ pub(crate) fn put<X>(list: &mut Vec<X>, item: X)
 }
 
 // Makes the entry at a place final under a stamp that is not below its own, and puts it where its new key belongs.
-pub(crate) fn final_under<T: Drop>(waiting: &mut Vec<Waiting<T>>, at: usize, stamp: u64)
+fn final_under<T: Drop>(waiting: &mut Vec<Waiting<T>>, at: usize, stamp: u64)
     requires in_bounds { at < vec_len waiting.old }
     requires rising { IsRisingStored waiting.old.items }
     ensures items { (d : Waiting T) → waiting.new.items ≡ with_stored (final_entry stamp (slice_index_or waiting.old.items at d)) (remove waiting.old.items at) }
+    ensures len { vec_len waiting.new ≡ vec_len waiting.old }
     ensures capacity { vec_capacity waiting.old ≤ vec_capacity waiting.new }
 {
     let mut entry = waiting.remove(at);
@@ -74,5 +76,31 @@ pub(crate) fn final_under<T: Drop>(waiting: &mut Vec<Waiting<T>>, at: usize, sta
     match waiting.insert(place, entry) {
         Ok(()) => {}
         Err(_) => unreachable!(),
+    }
+}
+
+// Settles the open entry with this id, where there is one: it becomes final under its number, or goes. Says whether it
+// did.
+pub(crate) fn settle_entry<T: Drop>(waiting: &mut Vec<Waiting<T>>, id: Id, outcome: Outcome) -> bool
+    requires rising { IsRisingStored waiting.old.items }
+    requires apart { AreApart (map standing_of waiting.old.items) }
+    ensures answer { result ≡ (list_any (λ w. is_open_id id (standing_of w)) waiting.old.items && is_decided outcome) }
+    ensures items { waiting.new.items ≡ (if result then settled_stored id outcome waiting.old.items else waiting.old.items) }
+    ensures len { vec_len waiting.new ≤ vec_len waiting.old }
+    ensures capacity { vec_capacity waiting.old ≤ vec_capacity waiting.new }
+{
+    let Some(at) = open_place(waiting.as_slice(), id) else {
+        return false;
+    };
+    match outcome {
+        Outcome::Open => false,
+        Outcome::Gone(_) => {
+            let _gone = waiting.remove(at);
+            true
+        }
+        Outcome::Final(stamp) => {
+            final_under(waiting, at, stamp);
+            true
+        }
     }
 }

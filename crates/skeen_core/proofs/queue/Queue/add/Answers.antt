@@ -21,7 +21,7 @@ invariant_of-self g c =
     let spare = ap (λ q. q.spare) c.self.view_is in
     rw (line, kept, waiting)
     (queue-added w _ _ _ c.self.invariant (omega (arith, spare)) (omega (arith, clock)) (omega (arith, clock, c.requires.stamp)) fresh
-      (omega arith) (omega arith) (omega arith))
+    (omega arith) (omega arith) (omega arith))
 
 pub returns-clause-queue : goal.returns-clause-queue
 returns-clause-queue g c =
