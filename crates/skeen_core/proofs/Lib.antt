@@ -8,3 +8,4 @@ pub mod Placing
 pub mod Adding
 pub mod Settling
 pub mod Settled
+pub mod RowMarks
