@@ -9,3 +9,4 @@ pub mod Adding
 pub mod Settling
 pub mod Settled
 pub mod RowMarks
+pub mod Marking
