@@ -10,3 +10,4 @@ pub mod Settling
 pub mod Settled
 pub mod RowMarks
 pub mod Marking
+pub mod Clients

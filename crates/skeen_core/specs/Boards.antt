@@ -1,6 +1,6 @@
 -- What contracts see of a stamp board, and what its calls make of it.
 use Rattle.std.specs.Prelude.{◌≡◌, ◌<◌, ◌≤◌, ℕ, Bool, true, List, [], ◌∷◌, ◌++◌, replicate, map, length, slice_get, slice_index_or, slice_set, Option, Some, None, if◌then◌else◌}
-use Rattle.std.specs.List.{filter, range_with_len}
+use Rattle.std.specs.List.{All, filter, range_with_len}
 use Rattle.log_node.specs.declared.ids.Id.{Id}
 use Rattle.log_node.specs.declared.ids.Colours.{Colours}
 use Rattle.log_node.specs.declared.ids.Row.{Row}
@@ -110,3 +110,7 @@ with_begun board client r = record board { begun = slice_set board.begun client 
 -- a row of which nothing is said yet
 abbrev pub fresh_row : Id → Colours → BoardRow
 fresh_row id colours = record { id = id; colours = colours; marks = replicate 16 marks.None; last = Open }
+
+-- each client may begin so many rows
+abbrev pub HaveRows : ℕ → List RowsOfClient → Type 0
+HaveRows rows clients = All (λ c. c.rows ≡ rows) clients
