@@ -5,6 +5,7 @@ use Rattle.std.specs.List.{AllByRecursion}
 use Rattle.std.proofs.lemmas.List.{map-append, length_push}
 use Rattle.log_node.specs.declared.ids.Key.{Key}
 use Rattle.log_node.specs.Order.{same_id, key_below}
+use Rattle.skeen_core.specs.declared.stamps.TheConstants.{MAX_STAMP}
 use Rattle.skeen_core.specs.declared.waiting.Waiting.{Waiting}
 use Rattle.skeen_core.specs.Standings.{Standing, with_entry, line_of}
 use Rattle.skeen_core.specs.Queues.{Queued, standing_of, has_id, entered_queue}
@@ -45,7 +46,7 @@ module _ {T : Type 0} where
   front-added (v ∷ vs) w first h = h
 
   -- what is left in the fields once an entry was put behind those that wait, and the front was delivered
-  pub queue-added : {clock spare : ℕ} {line : List Key} {kept : List T} {waiting : List (Waiting T)} {l k m : ℕ} (w : Waiting T) (l' k' m' : ℕ) → IsQueue clock spare line kept waiting l k m → 0 < spare → clock < w.key.stamp → w.key.stamp ≤ 4611686018427387903 → has_id w.key.id (all_entries line waiting) ≡ false → l ≤ l' → k ≤ k' → m ≤ m' → IsQueue w.key.stamp (spare - 1) (line ++ ready_keys (waiting ++ w ∷ [])) (kept ++ ready_things (waiting ++ w ∷ [])) (left (waiting ++ w ∷ [])) l' k' m'
+  pub queue-added : {clock spare : ℕ} {line : List Key} {kept : List T} {waiting : List (Waiting T)} {l k m : ℕ} (w : Waiting T) (l' k' m' : ℕ) → IsQueue clock spare line kept waiting l k m → 0 < spare → clock < w.key.stamp → w.key.stamp ≤ MAX_STAMP → has_id w.key.id (all_entries line waiting) ≡ false → l ≤ l' → k ≤ k' → m ≤ m' → IsQueue w.key.stamp (spare - 1) (line ++ ready_keys (waiting ++ w ∷ [])) (kept ++ ready_things (waiting ++ w ∷ [])) (left (waiting ++ w ∷ [])) l' k' m'
   queue-added {clock} {spare} {line} {kept} {waiting} w l' k' m' q some later within fresh lower kower mower =
       let n = length_push waiting w in
       queue-delivered w.key.stamp (spare - 1) line kept (waiting ++ w ∷ []) l' k' m' (still-entries clock line waiting w q.entries later fresh) within q.fewer

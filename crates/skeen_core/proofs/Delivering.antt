@@ -5,6 +5,7 @@ use Rattle.std.specs.List.{AllByRecursion, prefix_len}
 use Rattle.std.proofs.lemmas.Bool.{cond_both, cond-false}
 use Rattle.std.proofs.lemmas.List.{map-append, drop-append-le, length-map}
 use Rattle.log_node.specs.declared.ids.Key.{Key}
+use Rattle.skeen_core.specs.declared.stamps.TheConstants.{MAX_STAMP}
 use Rattle.skeen_core.specs.declared.waiting.Waiting.{Waiting}
 use Rattle.skeen_core.specs.Standings.{Standing, line_of}
 use Rattle.skeen_core.specs.Queues.{Queued, standing_of, IsContinued}
@@ -94,7 +95,7 @@ module _ {T : Type 0} where
       ∙ ap (λ (ws : List (Waiting T)). let q : Queued T = record { clock = clock; entries = all_entries line waiting; base = length line - length kept; stored = ws; spare = spare } in q) s
 
   -- the fields keep what a queue keeps, once the front is delivered
-  pub queue-delivered : (clock spare : ℕ) (line : List Key) (kept : List T) (waiting : List (Waiting T)) (l k w : ℕ) → AreEntries clock (all_entries line waiting) → clock ≤ 4611686018427387903 → length kept ≤ length line → length line + (length waiting + spare) ≤ l → length kept + (length waiting + spare) ≤ k → length waiting + spare ≤ w → IsQueue clock spare (line ++ ready_keys waiting) (kept ++ ready_things waiting) (left waiting) l k w
+  pub queue-delivered : (clock spare : ℕ) (line : List Key) (kept : List T) (waiting : List (Waiting T)) (l k w : ℕ) → AreEntries clock (all_entries line waiting) → clock ≤ MAX_STAMP → length kept ≤ length line → length line + (length waiting + spare) ≤ l → length kept + (length waiting + spare) ≤ k → length waiting + spare ≤ w → IsQueue clock spare (line ++ ready_keys waiting) (kept ++ ready_things waiting) (left waiting) l k w
   queue-delivered clock spare line kept waiting l k w entries bounded fewer in_line in_kept in_waiting =
       let whole = take-append-drop (ready waiting) waiting in
       let front : List (Waiting T) = take (ready waiting) waiting in

@@ -7,6 +7,7 @@ use Rattle.std.proofs.lemmas.List.Elements.{filter-append}
 use Rattle.log_node.specs.declared.ids.Id.{Id}
 use Rattle.log_node.specs.declared.ids.Key.{Key}
 use Rattle.log_node.specs.Order.{same_id, key_below}
+use Rattle.skeen_core.specs.declared.stamps.TheConstants.{MAX_STAMP}
 use Rattle.skeen_core.specs.declared.marks.Outcome.{Outcome}
 use Rattle.skeen_core.specs.declared.marks.Outcome.TheVariants.{Open, Gone, Final}
 use Rattle.skeen_core.specs.declared.waiting.Waiting.{Waiting}
@@ -137,17 +138,17 @@ module _ {T : Type 0} where
       ∙ ap (λ (vs : List (Waiting T)). let q : Queued T = record { clock = max clock (final_number outcome); entries = settled_entries id outcome (all_entries line waiting); base = length line - length kept; stored = vs; spare = spare } in q) (stored-settled id outcome line kept waiting w last o may)
 
   -- what is left in the fields once an id was settled among those that wait, and the front was delivered
-  pub queue-settled : {clock spare : ℕ} {line : List Key} {kept : List T} {waiting : List (Waiting T)} {l k m : ℕ} (id : Id) (outcome : Outcome) (l' k' m' : ℕ) → IsQueue clock spare line kept waiting l k m → list_any (opens id) waiting ≡ true → MaySettle id outcome (all_entries line waiting) 4611686018427387903 → length (settled_stored id outcome waiting) ≤ length waiting → l ≤ l' → k ≤ k' → m ≤ m' → IsQueue (max clock (final_number outcome)) spare (line ++ ready_keys (settled_stored id outcome waiting)) (kept ++ ready_things (settled_stored id outcome waiting)) (left (settled_stored id outcome waiting)) l' k' m'
+  pub queue-settled : {clock spare : ℕ} {line : List Key} {kept : List T} {waiting : List (Waiting T)} {l k m : ℕ} (id : Id) (outcome : Outcome) (l' k' m' : ℕ) → IsQueue clock spare line kept waiting l k m → list_any (opens id) waiting ≡ true → MaySettle id outcome (all_entries line waiting) MAX_STAMP → length (settled_stored id outcome waiting) ≤ length waiting → l ≤ l' → k ≤ k' → m ≤ m' → IsQueue (max clock (final_number outcome)) spare (line ++ ready_keys (settled_stored id outcome waiting)) (kept ++ ready_things (settled_stored id outcome waiting)) (left (settled_stored id outcome waiting)) l' k' m'
   queue-settled {clock} {spare} {line} {kept} {waiting} id outcome l' k' m' q some may shorter lower kower mower =
       let o = opened clock id line waiting q.entries some in
-      let within = final-within id outcome line waiting o.0 4611686018427387903 o.1 may in
-      let sound = subst (AreEntries (max clock (final_number outcome))) (sym (entries-settled id outcome line waiting o.0 4611686018427387903 o.1 may)) (still-settled clock id outcome (all_entries line waiting) q.entries) in
+      let within = final-within id outcome line waiting o.0 MAX_STAMP o.1 may in
+      let sound = subst (AreEntries (max clock (final_number outcome))) (sym (entries-settled id outcome line waiting o.0 MAX_STAMP o.1 may)) (still-settled clock id outcome (all_entries line waiting) q.entries) in
       queue-delivered (max clock (final_number outcome)) spare line kept (settled_stored id outcome waiting) l' k' m' sound
       (let b = q.bounded in omega (arith, b, within)) q.fewer
       (let a = q.in_line in omega (arith, a)) (let a = q.in_kept in omega (arith, a)) (let a = q.in_waiting in omega (arith, a))
 
-  pub view-settled : {clock spare : ℕ} {line : List Key} {kept : List T} {waiting : List (Waiting T)} {l k m : ℕ} (id : Id) (outcome : Outcome) → IsQueue clock spare line kept waiting l k m → list_any (opens id) waiting ≡ true → MaySettle id outcome (all_entries line waiting) 4611686018427387903 → queued (max clock (final_number outcome)) spare (line ++ ready_keys (settled_stored id outcome waiting)) (kept ++ ready_things (settled_stored id outcome waiting)) (left (settled_stored id outcome waiting)) ≡ settled_queue id outcome (queued clock spare line kept waiting)
+  pub view-settled : {clock spare : ℕ} {line : List Key} {kept : List T} {waiting : List (Waiting T)} {l k m : ℕ} (id : Id) (outcome : Outcome) → IsQueue clock spare line kept waiting l k m → list_any (opens id) waiting ≡ true → MaySettle id outcome (all_entries line waiting) MAX_STAMP → queued (max clock (final_number outcome)) spare (line ++ ready_keys (settled_stored id outcome waiting)) (kept ++ ready_things (settled_stored id outcome waiting)) (left (settled_stored id outcome waiting)) ≡ settled_queue id outcome (queued clock spare line kept waiting)
   view-settled {clock} {spare} {line} {kept} {waiting} id outcome q some may =
       let o = opened clock id line waiting q.entries some in
       queued-delivered (max clock (final_number outcome)) spare line kept (settled_stored id outcome waiting) q.fewer
-      ∙ queued-settled clock spare id outcome line kept waiting o.0 4611686018427387903 o.1 may
+      ∙ queued-settled clock spare id outcome line kept waiting o.0 MAX_STAMP o.1 may

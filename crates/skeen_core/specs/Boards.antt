@@ -11,6 +11,7 @@ use Rattle.skeen_core.specs.declared.marks.Marked.{Marked}
 use Rattle.skeen_core.specs.declared.marks.Marked.TheVariants.{Set, Already}
 use Rattle.skeen_core.specs.declared.marks.Outcome.{Outcome}
 use Rattle.skeen_core.specs.declared.marks.Outcome.TheVariants.{Open, Gone, Final}
+use Rattle.skeen_core.specs.declared.board_row.TheConstants.{MAX_COLOURS}
 use Rattle.skeen_core.specs.declared.board_row.BoardRow.{BoardRow}
 use Rattle.skeen_core.specs.Outcomes.{outcome_of, is_missing}
 
@@ -109,7 +110,7 @@ with_begun board client r = record board { begun = slice_set board.begun client 
 
 -- a row of which nothing is said yet
 abbrev pub fresh_row : Id → Colours → BoardRow
-fresh_row id colours = record { id = id; colours = colours; marks = replicate 16 marks.None; last = Open }
+fresh_row id colours = record { id = id; colours = colours; marks = replicate MAX_COLOURS marks.None; last = Open }
 
 -- each client may begin so many rows
 abbrev pub HaveRows : ℕ → List RowsOfClient → Type 0

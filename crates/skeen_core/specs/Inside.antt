@@ -3,6 +3,7 @@ use Rattle.std.specs.Prelude.{◌≡◌, ◌≤◌, ℕ, ◌+◌, ◌-◌, true,
 use Rattle.std.specs.List.{AllByRecursion}
 use Rattle.log_node.specs.declared.ids.Key.{Key}
 use Rattle.log_node.specs.Order.{same_id, key_below}
+use Rattle.skeen_core.specs.declared.stamps.TheConstants.{MAX_STAMP}
 use Rattle.skeen_core.specs.declared.waiting.Waiting.{Waiting}
 use Rattle.skeen_core.specs.Standings.{Standing}
 use Rattle.skeen_core.specs.Queues.{Queued, standing_of}
@@ -64,7 +65,7 @@ IsRisingStored ws = IsRising (map standing_of ws)
 pub record IsQueue {T : Type 0} (clock spare : ℕ) (line : List Key) (kept : List T) (waiting : List (Waiting T)) (line_room kept_room waiting_room : ℕ) : Type 0 where
   pub entries : AreEntries clock (all_entries line waiting)
   pub front : StartsOpen waiting
-  pub bounded : clock ≤ 4611686018427387903
+  pub bounded : clock ≤ MAX_STAMP
   pub fewer : length kept ≤ length line
   pub in_line : length line + (length waiting + spare) ≤ line_room
   pub in_kept : length kept + (length waiting + spare) ≤ kept_room

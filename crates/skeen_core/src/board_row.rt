@@ -10,7 +10,7 @@ use crate::outcomes::{Tally, outcome_of_tally, with_mark};
 use log_node::{Colours, Id};
 
 /// The most colours that a board may have.
-pub const MAX_COLOURS: u8 = 16;
+pub const MAX_COLOURS: usize = 16;
 
 /// A begun row: the id and the colours of its node, the mark of each colour, and the outcome that is kept for it.
 #[derive(Clone, Copy, Debug, PartialEq, Eq)]
@@ -18,14 +18,14 @@ pub struct BoardRow {
     pub id: Id,
     pub colours: Colours,
     /// By colour. `None` for a colour that the node lacks, too.
-    pub marks: [Mark; 16],
+    pub marks: [Mark; MAX_COLOURS],
     /// `Open` as long as none is kept.
     pub last: Outcome,
 }
 
 // Whether the set has the colour.
 fn has_colour(colours: Colours, colour: u8) -> bool
-    requires { colour < 16 }
+    requires { colour < MAX_COLOURS }
     ensures { result ≡ has colours colour }
 {
     (colours.0 >> colour) % 2 == 1
@@ -34,13 +34,13 @@ fn has_colour(colours: Colours, colour: u8) -> bool
 // What the marks of the row's colours have among them, from a colour on.
 #[tactic(auto, unfolding(crate::specs::Boards::marks_from))]
 fn tally_from(row: &BoardRow, colour: u8) -> Tally
-    requires { colour ≤ 16 }
-    ensures missing { result.missing ≡ list_any is_missing (marks_from row.now colour (16 - colour)) }
-    ensures stamp_end { result.stamp_end ≡ list_any is_stamp_end_fence (marks_from row.now colour (16 - colour)) }
-    ensures memory { result.memory ≡ list_any is_memory_fence (marks_from row.now colour (16 - colour)) }
-    ensures greatest { result.greatest ≡ greatest (map number_of (marks_from row.now colour (16 - colour))) }
+    requires { colour ≤ MAX_COLOURS }
+    ensures missing { result.missing ≡ list_any is_missing (marks_from row.now colour (MAX_COLOURS - colour)) }
+    ensures stamp_end { result.stamp_end ≡ list_any is_stamp_end_fence (marks_from row.now colour (MAX_COLOURS - colour)) }
+    ensures memory { result.memory ≡ list_any is_memory_fence (marks_from row.now colour (MAX_COLOURS - colour)) }
+    ensures greatest { result.greatest ≡ greatest (map number_of (marks_from row.now colour (MAX_COLOURS - colour))) }
 {
-    if colour == MAX_COLOURS {
+    if colour as usize == MAX_COLOURS {
         return Tally::NOTHING;
     }
     let rest = tally_from(row, colour + 1);

@@ -3,10 +3,13 @@ ghost use Rattle.std.specs.Prelude.{◌≡◌, ◌+◌, ◌<◌, ◌≤◌, ◌+
 ghost use Rattle.std.specs.Option.{option_copied};
 ghost use Rattle.skeen_core.specs.Boards.{changed_at, mark_in, with_mark, decided, outcome_in};
 
-use crate::board_row::{BoardRow, outcome_of_row};
+use crate::board_row::{BoardRow, MAX_COLOURS, outcome_of_row};
 use crate::marks::{Mark, Outcome};
 use std::alloc::{AllocError, Global};
 use std::marker::Model;
+
+/// The most rows that a client may begin.
+pub const MAX_ROWS: u32 = 4096;
 
 #[derive(Drop)]
 pub(crate) struct ClientRows {
@@ -17,18 +20,19 @@ pub(crate) struct ClientRows {
 impl Model for ClientRows {
     ghost use Rattle.std.specs.Prelude.{◌≤◌, length, vec_capacity};
     ghost use Rattle.skeen_core.specs.Boards.{RowsOfClient};
+    ghost use Rattle.skeen_core.specs.declared.client_rows.TheConstants.{MAX_ROWS};
 
     ghost Value = { RowsOfClient };
 
     ghost view = { λ a. record { begun = a.begun.items; rows = a.rows } };
 
-    ghost invariant = { λ a. (length a.begun.items ≤ a.rows) × (a.rows ≤ vec_capacity a.begun) × (a.rows ≤ 4096) };
+    ghost invariant = { λ a. (length a.begun.items ≤ a.rows) × (a.rows ≤ vec_capacity a.begun) × (a.rows ≤ MAX_ROWS) };
 }
 
 impl ClientRows {
     // No row, and memory for so many.
     pub(crate) fn open(alloc: Global, rows: u32) -> Result<Self, AllocError>
-        requires { rows ≤ 4096 }
+        requires { rows ≤ MAX_ROWS }
         ensures { IfOk result (λ client. client ≡ record { begun = []; rows = rows }) }
     {
         Ok(ClientRows {
@@ -66,7 +70,7 @@ impl ClientRows {
     // Marks a colour of a begun row, unless it is marked. The answer is the mark before.
     pub(crate) fn mark(&mut self, number: u32, colour: u8, mark: Mark) -> Mark
         requires begun { number < length self.old.begun }
-        requires colour { colour < 16 }
+        requires colour { colour < MAX_COLOURS }
         ensures before { result ≡ mark_in (slice_get self.old.begun number) colour }
         ensures rows { self.new ≡ record self.old { begun = changed_at self.old.begun number (with_mark colour mark) } }
     {

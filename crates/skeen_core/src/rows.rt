@@ -4,8 +4,8 @@ ghost use Rattle.log_node.specs.declared.ids.Row.{Row};
 ghost use Rattle.skeen_core.specs.Marks.{IsStamp};
 ghost use Rattle.skeen_core.specs.Boards.{Board, rows_of, begun_at, IsRow, AreColours, IsBegunWith, mark_in, outcome_in, last_in, first_mark, marked, with_mark, decided, with_changed, with_begun, fresh_row};
 
-use crate::board_row::BoardRow;
-use crate::client_rows::ClientRows;
+use crate::board_row::{BoardRow, MAX_COLOURS};
+use crate::client_rows::{ClientRows, MAX_ROWS};
 use crate::marks::{Full, Mark, Marked, Outcome, Why};
 use log_node::{Node, Row};
 use std::alloc::{AllocError, Global};
@@ -14,9 +14,6 @@ use std::sync::Arc;
 
 /// The most clients that a board may have.
 pub const MAX_CLIENTS: u8 = 16;
-
-/// The most rows that a client may begin.
-pub const MAX_ROWS: u32 = 4096;
 
 /// A stamp board for one thread.
 #[derive(Drop)]
@@ -29,19 +26,20 @@ pub struct Rows {
 impl Model for Rows {
     ghost use Rattle.std.specs.Prelude.{◌≤◌, map};
     ghost use Rattle.skeen_core.specs.Boards.{Board, HaveRows};
+    ghost use Rattle.skeen_core.specs.declared.board_row.TheConstants.{MAX_COLOURS};
 
     ghost Value = { Board };
 
     ghost view = { λ a. record { colours = a.colours; rows = a.rows; begun = map (λ c. c.begun) a.clients.items } };
 
-    ghost invariant = { λ a. (a.colours ≤ 16) × HaveRows a.rows a.clients.items };
+    ghost invariant = { λ a. (a.colours ≤ MAX_COLOURS) × HaveRows a.rows a.clients.items };
 }
 
 impl Rows {
     /// A board with no begun row. It takes the memory for all rows.
     pub fn open(alloc: Global, clients: u8, colours: u8, rows: u32) -> Result<Rows, AllocError>
         requires clients { clients ≤ MAX_CLIENTS }
-        requires colours { colours ≤ 16 }
+        requires colours { colours ≤ MAX_COLOURS }
         requires rows { rows ≤ MAX_ROWS }
         ensures { IfOk result (λ board. board ≡ record { colours = colours; rows = rows; begun = replicate clients [] }) }
     {
@@ -86,7 +84,7 @@ impl Rows {
         let begun = BoardRow {
             id: node.id,
             colours: node.colours,
-            marks: [Mark::None; 16],
+            marks: [Mark::None; MAX_COLOURS],
             last: Outcome::Open,
         };
         self.clients[client as usize].begin(begun);

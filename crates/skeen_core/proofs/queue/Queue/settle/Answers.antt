@@ -2,6 +2,7 @@ use Rattle.std.proofs.Common.{◌≡◌, ◌≤◌, ◌++◌, true, false, max, 
 use Rattle.std.specs.Prelude.{◌&&◌, map}
 use Rattle.std.specs.List.{list_any}
 use Rattle.std.proofs.lemmas.Bool.{and_parts, not-true, not-false, cond-true}
+use Rattle.skeen_core.specs.declared.stamps.TheConstants.{MAX_STAMP}
 use Rattle.skeen_core.specs.Outcomes.{final_number}
 use Rattle.skeen_core.specs.Standings.{line_of}
 use Rattle.skeen_core.specs.Queues.{MaySettle, standing_of, has_open, is_decided, settled_stored, settled_queue}
@@ -38,7 +39,7 @@ invariant_of-self-2 g c =
     let outcome = c.args.outcome in
     let items = c.if-not-settle_entry.ensures.items in
     let some = (and_parts (list_any (opens id) i.waiting.items) (is_decided outcome) (sym c.if-not-settle_entry.ensures.answer)).0 in
-    let may = subst (λ es. MaySettle id outcome es 4611686018427387903) (sym (ap (λ q. q.entries) c.self.view_is)) c.requires in
+    let may = subst (λ es. MaySettle id outcome es MAX_STAMP) (sym (ap (λ q. q.entries) c.self.view_is)) c.requires in
     let clock = c.max-self-inside.ensures ∙ ap (max i.clock) c.final_number.ensures in
     let line = c.deliver.ensures.line ∙ ap (λ ws. i.line.items ++ ready_keys ws) items in
     let kept = c.deliver.ensures.kept ∙ ap (λ ws. i.kept.items ++ ready_things ws) items in
@@ -53,7 +54,7 @@ returns-clause-queue g c =
     let outcome = c.args.outcome in
     let items = c.if-not-settle_entry.ensures.items in
     let some = (and_parts (list_any (opens id) i.waiting.items) (is_decided outcome) (sym c.if-not-settle_entry.ensures.answer)).0 in
-    let may = subst (λ es. MaySettle id outcome es 4611686018427387903) (sym (ap (λ q. q.entries) c.self.view_is)) c.requires in
+    let may = subst (λ es. MaySettle id outcome es MAX_STAMP) (sym (ap (λ q. q.entries) c.self.view_is)) c.requires in
     let clock = c.max-self-inside.ensures ∙ ap (max i.clock) c.final_number.ensures in
     let line = c.deliver.ensures.line ∙ ap (λ ws. i.line.items ++ ready_keys ws) items in
     let kept = c.deliver.ensures.kept ∙ ap (λ ws. i.kept.items ++ ready_things ws) items in
