@@ -50,10 +50,6 @@ begun_at board row = slice_get (rows_of board row.client) row.number
 abbrev pub IsRow : Board → Row → Type 0
 IsRow board row = (row.client < length board.begun) × (row.number < board.rows)
 
--- two colours or more, each one of the board's
-abbrev pub AreColours : Board → Colours → Type 0
-AreColours board set = (2 ≤ length (members set)) × ((c : ℕ) → has set c ≡ true → c < board.colours)
-
 -- the row is begun for a node with this colour
 abbrev pub IsBegunWith : Board → Row → ℕ → Type 0
 IsBegunWith board row colour = (r : BoardRow) × (begun_at board row ≡ Some r) × (has r.colours colour ≡ true)

@@ -2,7 +2,7 @@
 ghost use Rattle.std.specs.Prelude.{◌≡◌, ◌+◌, ◌<◌, ◌≤◌, [], length, replicate, Some, IfOk, IfErr, OnErr};
 ghost use Rattle.log_node.specs.declared.ids.Row.{Row};
 ghost use Rattle.skeen_core.specs.Marks.{IsStamp};
-ghost use Rattle.skeen_core.specs.Boards.{Board, rows_of, begun_at, IsRow, AreColours, IsBegunWith, mark_in, outcome_in, last_in, first_mark, marked, with_mark, decided, with_changed, with_begun, fresh_row};
+ghost use Rattle.skeen_core.specs.Boards.{Board, rows_of, begun_at, IsRow, IsBegunWith, mark_in, outcome_in, last_in, first_mark, marked, with_mark, decided, with_changed, with_begun, fresh_row};
 
 use crate::board_row::{BoardRow, MAX_COLOURS};
 use crate::client_rows::{ClientRows, MAX_ROWS};
@@ -74,7 +74,6 @@ impl Rows {
     /// Begins the client's next row for a node.
     pub fn begin(&mut self, client: u8, node: &Arc<Node>) -> Result<Row, Full>
         requires client { client < length self.old.begun }
-        requires colours { AreColours self.old node.now.value.colours }
         requires row { length (rows_of self.old client) < self.old.rows → node.now.value.row ≡ Some (record { client = client; number = length (rows_of self.old client) }) }
         ensures ok { IfOk result (λ row. (node.now.value.row ≡ Some row) × (self.new ≡ with_begun self.old client (fresh_row node.now.value.id node.now.value.colours))) }
         ensures full { IfErr result (λ full. (full.used ≡ length (rows_of self.old client)) × (length (rows_of self.old client) ≡ self.old.rows)) }
