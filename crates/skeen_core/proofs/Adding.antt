@@ -9,12 +9,12 @@ use Rattle.skeen_core.specs.declared.stamps.TheConstants.{MAX_STAMP}
 use Rattle.skeen_core.specs.declared.waiting.Waiting.{Waiting}
 use Rattle.skeen_core.specs.Standings.{Standing, with_entry, line_of}
 use Rattle.skeen_core.specs.Queues.{Queued, standing_of, has_id, entered_queue}
-use Rattle.skeen_core.specs.Inside.{final_at, all_entries, all_stored, with_things, queued, AreEntries, StartsOpen, IsQueue}
+use Rattle.skeen_core.specs.Inside.{final_at, all_entries, all_stored, with_things, queued, AreEntries, StartsOpen, IsQueue, ready_keys, ready_things, left}
 use Rattle.skeen_core.proofs.Lists.{each-weaker, each-list_any}
 use Rattle.skeen_core.proofs.Order.{stamp-key}
 use Rattle.skeen_core.proofs.Delivery.{line-is}
 use Rattle.skeen_core.proofs.Stored.{line-queued}
-use Rattle.skeen_core.proofs.Delivering.{ready_keys, ready_things, left, queued-delivered, queue-delivered}
+use Rattle.skeen_core.proofs.Delivering.{queued-delivered, queue-delivered}
 use Rattle.skeen_core.proofs.Entries.{with_entry-end, entries-with, entries-clock}
 
 module _ {T : Type 0} where

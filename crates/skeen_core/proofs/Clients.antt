@@ -1,11 +1,11 @@
 -- A board whose rows of one client have changed.
-use Rattle.std.proofs.Common.{◌≡◌, ℕ, zero, suc, ◌<◌, ◌≤◌, List, [], ◌∷◌, length, get_or, set, refl, sym, ap, subst, ◌∙◌, Some, None, arith, inl, inr}
-use Rattle.std.specs.Prelude.{map, replicate, slice_get}
+use Rattle.std.proofs.Common.{◌≡◌, ℕ, zero, suc, ◌<◌, ◌≤◌, List, [], ◌∷◌, length, get_or, set, refl, sym, ap, subst, ◌∙◌, true, Some, None, arith, inl, inr}
+use Rattle.std.specs.Prelude.{map, replicate, slice_get, Option}
 use Rattle.std.proofs.lemmas.List.{map-set, get_or-map, length-map, get_or_past}
-use Rattle.std.proofs.lemmas.Bool.{cases_lt}
+use Rattle.std.proofs.lemmas.Bool.{cases_lt, false≢true}
 use Rattle.skeen_core.specs.declared.board_row.BoardRow.{BoardRow}
 use Rattle.log_node.specs.declared.ids.Row.{Row}
-use Rattle.skeen_core.specs.Boards.{Board, RowsOfClient, begun_at}
+use Rattle.skeen_core.specs.Boards.{Board, RowsOfClient, begun_at, has_in}
 
 -- the begun rows of the clients, with those of one replaced
 pub client-set : (clients : List RowsOfClient) (i : ℕ) (old new : RowsOfClient) (begun : List (List BoardRow)) (f : List BoardRow → List BoardRow) → i < length clients → old ≡ get_or clients i old → map (λ (c : RowsOfClient). c.begun) clients ≡ begun → new.begun ≡ f old.begun → map (λ (c : RowsOfClient). c.begun) (set clients i new) ≡ set begun i (f (get_or begun i []))
@@ -54,3 +54,8 @@ client-within colours rows clients board row r is there = elim (cases_lt row.cli
       let some = some-within (get_or board.begun row.client []) row.number r there in
       absurd (omega (arith, some, ap length none))
 ]
+
+-- a row with a colour is begun
+pub some-begun : (o : Option BoardRow) (colour : ℕ) → has_in o colour ≡ true → (r : BoardRow) × (o ≡ Some r)
+some-begun None colour e = absurd (false≢true e)
+some-begun (Some r) colour e = (r, refl)

@@ -9,26 +9,10 @@ use Rattle.skeen_core.specs.declared.stamps.TheConstants.{MAX_STAMP}
 use Rattle.skeen_core.specs.declared.waiting.Waiting.{Waiting}
 use Rattle.skeen_core.specs.Standings.{Standing, line_of}
 use Rattle.skeen_core.specs.Queues.{Queued, standing_of, IsContinued}
-use Rattle.skeen_core.specs.Inside.{final_at, all_stored, all_entries, with_things, queued, AreEntries, StartsOpen, IsQueue}
+use Rattle.skeen_core.specs.Inside.{final_at, all_stored, all_entries, with_things, queued, AreEntries, StartsOpen, IsQueue, ready, ready_keys, ready_things, left}
 use Rattle.skeen_core.proofs.Stored.{with_things-append, left-of, line-queued}
 
 module _ {T : Type 0} where
-  abbrev pub is_final : Waiting T → Bool
-  is_final w = w.settled
-
-  -- how many entries in front are final
-  abbrev pub ready : List (Waiting T) → ℕ
-  ready waiting = prefix_len is_final waiting
-
-  abbrev pub ready_keys : List (Waiting T) → List Key
-  ready_keys waiting = map (λ w. w.key) (take (ready waiting) waiting)
-
-  abbrev pub ready_things : List (Waiting T) → List T
-  ready_things waiting = map (λ w. w.thing) (take (ready waiting) waiting)
-
-  abbrev pub left : List (Waiting T) → List (Waiting T)
-  left waiting = drop (ready waiting) waiting
-
   ready-final : (waiting : List (Waiting T)) → AllByRecursion (λ w. w.settled ≡ true) (take (ready waiting) waiting)
   ready-final [] = tt
   ready-final (w ∷ ws) =

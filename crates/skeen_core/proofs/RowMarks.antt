@@ -15,7 +15,7 @@ use Rattle.skeen_core.specs.declared.marks.Outcome.{Outcome}
 use Rattle.skeen_core.specs.declared.marks.Outcome.TheVariants.{Open, Gone, Final}
 use Rattle.skeen_core.specs.declared.board_row.BoardRow.{BoardRow}
 use Rattle.skeen_core.specs.Outcomes.{outcome_of, is_missing, is_stamp_end_fence, is_memory_fence, number_of, greatest}
-use Rattle.skeen_core.specs.Boards.{mark_at, marks_from, row_marks}
+use Rattle.skeen_core.specs.Boards.{mark_at, marks_above, row_marks}
 
 range_split : (a n m : ℕ) → range_with_len a (n + m) ≡ range_with_len a n ++ range_with_len (a + n) m
 range_split a zero m = let e : a ≡ a + 0 = omega arith in let f : 0 + m ≡ m = omega arith in λ i. range_with_len (e i) (f i)
@@ -39,10 +39,9 @@ bits_only set bits more small =
     ∙ append-nil (filter (has set) (range_with_len 0 bits))
 
 -- the marks of a row are those from the first colour on
-pub marks-are : (row : BoardRow) (bits more : ℕ) → bits + more ≡ 64 → row.colours.0 < 2 ^ bits → marks_from row 0 bits ≡ row_marks row
-unfolding marks_from row_marks
-marks-are row bits more all small =
-    ap (map (mark_at row)) (sym (bits_only row.colours bits more small) ∙ ap (λ (n : ℕ). filter (has row.colours) (range_with_len 0 n)) all)
+pub marks-are : (row : BoardRow) → row.colours.0 < 2 ^ 16 → marks_above row 0 ≡ row_marks row
+unfolding marks_above row_marks
+marks-are row small = ap (map (mark_at row)) (sym (bits_only row.colours 16 48 small))
 
 -- an outcome, from what is among the marks
 pub outcome-from : (marks : List Mark) (missing stamp_end memory : Bool) (top : ℕ) → missing ≡ list_any is_missing marks → stamp_end ≡ list_any is_stamp_end_fence marks → memory ≡ list_any is_memory_fence marks → top ≡ greatest (map number_of marks) → (if missing then Open else (if stamp_end then Gone StampEnd else (if memory then Gone Memory else Final top))) ≡ outcome_of marks

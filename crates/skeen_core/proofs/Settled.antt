@@ -14,11 +14,11 @@ use Rattle.skeen_core.specs.declared.waiting.Waiting.{Waiting}
 use Rattle.skeen_core.specs.Outcomes.{final_number}
 use Rattle.skeen_core.specs.Standings.{Standing, with_entry, without_id, settled_entries, is_open_id, open_entry}
 use Rattle.skeen_core.specs.Queues.{Queued, standing_of, final_entry, with_stored, stored_without, with_found, settled_stored, settled_queue, MaySettle}
-use Rattle.skeen_core.specs.Inside.{final_at, all_entries, all_stored, with_things, queued, AreEntries, IsQueue}
+use Rattle.skeen_core.specs.Inside.{final_at, all_entries, all_stored, with_things, queued, AreEntries, IsQueue, ready_keys, ready_things, left}
 use Rattle.skeen_core.proofs.Lists.{each-weaker, each-both, each-map, each-of_map, each-drop, filter-all, filter-map, find-skip, find-some, find-map, cond-map}
 use Rattle.skeen_core.proofs.Order.{key-asym, key-raise, same_id-sym}
 use Rattle.skeen_core.proofs.Entries.{AllBelow, HasOwnId, LacksId, with_entry-front, entries-filter, entries-with, entries-clock, lacks-without, below-over, apart-over}
-use Rattle.skeen_core.proofs.Delivering.{ready_keys, ready_things, left, queue-delivered, queued-delivered}
+use Rattle.skeen_core.proofs.Delivering.{queue-delivered, queued-delivered}
 use Rattle.skeen_core.proofs.Settling.{opens, opens-parts}
 
 -- they are still entries

@@ -1,5 +1,5 @@
 -- What contracts see of a stamp board, and what its calls make of it.
-use Rattle.std.specs.Prelude.{◌≡◌, ◌<◌, ◌≤◌, ℕ, Bool, true, List, [], ◌∷◌, ◌++◌, replicate, map, length, slice_get, slice_index_or, slice_set, Option, Some, None, if◌then◌else◌}
+use Rattle.std.specs.Prelude.{◌≡◌, ◌<◌, ℕ, ◌-◌, Bool, true, false, List, [], ◌∷◌, ◌++◌, replicate, map, length, slice_get, slice_index_or, slice_set, Option, Some, None, if◌then◌else◌}
 use Rattle.std.specs.List.{All, filter, range_with_len}
 use Rattle.log_node.specs.declared.ids.Id.{Id}
 use Rattle.log_node.specs.declared.ids.Colours.{Colours}
@@ -25,9 +25,9 @@ pub record Board : Type 0 where
 abbrev pub mark_at : BoardRow → ℕ → Mark
 mark_at row colour = slice_index_or row.marks colour marks.None
 
--- the marks of so many colours from one on, of those that the row has
-unfoldable pub marks_from : BoardRow → ℕ → ℕ → List Mark
-marks_from row from count = map (mark_at row) (filter (has row.colours) (range_with_len from count))
+-- the marks of the row's colours from one on
+unfoldable pub marks_above : BoardRow → ℕ → List Mark
+marks_above row from = map (mark_at row) (filter (has row.colours) (range_with_len from (MAX_COLOURS - from)))
 
 -- the marks of the row's colours, the smallest colour first
 unfoldable pub row_marks : BoardRow → List Mark
@@ -42,6 +42,22 @@ pub record RowsOfClient : Type 0 where
 abbrev pub rows_of : Board → ℕ → List BoardRow
 rows_of board client = slice_index_or board.begun client []
 
+-- how many rows a client has begun
+abbrev pub used : Board → ℕ → ℕ
+used board client = length (rows_of board client)
+
+-- the row that a client begins next
+abbrev pub next_of : Board → ℕ → Row
+next_of board client = record { client = client; number = used board client }
+
+-- a client may begin one more row
+abbrev pub HasRow : Board → ℕ → Type 0
+HasRow board client = used board client < board.rows
+
+-- it may begin none, and this many are used
+abbrev pub IsFull : Board → ℕ → ℕ → Type 0
+IsFull board client count = (count ≡ used board client) × (used board client ≡ board.rows)
+
 -- what is begun under a row's name
 abbrev pub begun_at : Board → Row → Option BoardRow
 begun_at board row = slice_get (rows_of board row.client) row.number
@@ -50,9 +66,14 @@ begun_at board row = slice_get (rows_of board row.client) row.number
 abbrev pub IsRow : Board → Row → Type 0
 IsRow board row = (row.client < length board.begun) × (row.number < board.rows)
 
+-- a row that is not begun has no colour
+abbrev pub has_in : Option BoardRow → ℕ → Bool
+has_in None colour = false
+has_in (Some r) colour = has r.colours colour
+
 -- the row is begun for a node with this colour
 abbrev pub IsBegunWith : Board → Row → ℕ → Type 0
-IsBegunWith board row colour = (r : BoardRow) × (begun_at board row ≡ Some r) × (has r.colours colour ≡ true)
+IsBegunWith board row colour = has_in (begun_at board row) colour ≡ true
 
 -- a row that is not begun has no mark, and neither has a colour that the row lacks
 abbrev pub mark_in : Option BoardRow → ℕ → Mark

@@ -1,8 +1,12 @@
 -- What a delivery queue keeps true of its fields.
-use Rattle.std.specs.Prelude.{◌≡◌, ◌≤◌, ℕ, ◌+◌, ◌-◌, true, false, List, [], ◌∷◌, ◌++◌, map, drop, length}
-use Rattle.std.specs.List.{AllByRecursion}
+use Rattle.std.specs.Prelude.{if◌then◌else◌, ◌≡◌, ◌≤◌, ℕ, ◌+◌, ◌-◌, true, false, List, [], ◌∷◌, ◌++◌, map, take, drop, length}
+use Rattle.std.specs.List.{AllByRecursion, prefix_len}
 use Rattle.log_node.specs.declared.ids.Key.{Key}
 use Rattle.log_node.specs.Order.{same_id, key_below}
+use Rattle.skeen_core.specs.declared.marks.Why.TheVariants.{Memory, StampEnd}
+use Rattle.skeen_core.specs.declared.marks.Outcome.{Outcome}
+use Rattle.skeen_core.specs.declared.marks.Outcome.TheVariants.{Open, Gone, Final}
+use Rattle.skeen_core.specs.declared.outcomes.Tally.{Tally}
 use Rattle.skeen_core.specs.declared.stamps.TheConstants.{MAX_STAMP}
 use Rattle.skeen_core.specs.declared.waiting.Waiting.{Waiting}
 use Rattle.skeen_core.specs.Standings.{Standing}
@@ -57,7 +61,21 @@ abbrev pub StartsOpen : {T : Type 0} → List (Waiting T) → Type 0
 StartsOpen [] = Unit {0}
 StartsOpen (w ∷ ws) = w.settled ≡ false
 
--- the same of entries with their things
+-- how many entries in front are final
+abbrev pub ready : {T : Type 0} → List (Waiting T) → ℕ
+ready waiting = prefix_len (λ w. w.settled) waiting
+
+-- their keys and their things, and what is left behind them
+abbrev pub ready_keys : {T : Type 0} → List (Waiting T) → List Key
+ready_keys waiting = map (λ w. w.key) (take (ready waiting) waiting)
+
+abbrev pub ready_things : {T : Type 0} → List (Waiting T) → List T
+ready_things waiting = map (λ w. w.thing) (take (ready waiting) waiting)
+
+abbrev pub left : {T : Type 0} → List (Waiting T) → List (Waiting T)
+left waiting = drop (ready waiting) waiting
+
+-- the keys of these entries rise
 abbrev pub IsRisingStored : {T : Type 0} → List (Waiting T) → Type 0
 IsRisingStored ws = IsRising (map standing_of ws)
 
@@ -70,3 +88,11 @@ pub record IsQueue {T : Type 0} (clock spare : ℕ) (line : List Key) (kept : Li
   pub in_line : length line + (length waiting + spare) ≤ line_room
   pub in_kept : length kept + (length waiting + spare) ≤ kept_room
   pub in_waiting : length waiting + spare ≤ waiting_room
+
+-- the outcome of marks that have this among them
+abbrev pub outcome_among : Tally → Outcome
+outcome_among all =
+    if all.missing then Open
+    else (if all.stamp_end then Gone StampEnd
+    else (if all.memory then Gone Memory
+    else Final all.greatest))

@@ -1,10 +1,11 @@
 -- What contracts see of a delivery queue, and what its calls make of it.
-use Rattle.std.specs.Prelude.{◌≡◌, ◌≤◌, ℕ, ◌-◌, max, Bool, true, false, List, [], ◌∷◌, ◌++◌, map, take, drop, length, not, ◌&&◌, Option, Some, None, if◌then◌else◌, refl}
+use Rattle.std.specs.Prelude.{◌≡◌, ◌<◌, ◌≤◌, ℕ, ◌+◌, ◌-◌, max, Bool, true, false, List, [], ◌∷◌, ◌++◌, map, take, drop, length, not, ◌&&◌, Option, Some, None, if◌then◌else◌, refl}
 use Rattle.std.specs.Coded.{Coded, code_by, coded×, coded_ℕ, coded_bool, coded_list}
 use Rattle.std.specs.List.{list_any, filter, find}
 use Rattle.log_node.specs.declared.ids.Id.{Id}
 use Rattle.log_node.specs.declared.ids.Key.{Key}
 use Rattle.log_node.specs.Order.{same_id, key_below}
+use Rattle.skeen_core.specs.declared.stamps.TheConstants.{MAX_STAMP}
 use Rattle.skeen_core.specs.declared.marks.Outcome.{Outcome}
 use Rattle.skeen_core.specs.declared.marks.Outcome.TheVariants.{Open, Gone, Final}
 use Rattle.skeen_core.specs.declared.waiting.Waiting.{Waiting}
@@ -55,9 +56,27 @@ queued_code {T} code =
 abbrev pub standing_of : {T : Type 0} → Waiting T → Standing
 standing_of w = record { key = w.key; settled = w.settled }
 
+-- the stamp that comes next for a floor
+abbrev pub stamp_after : ℕ → ℕ → ℕ
+stamp_after clock floor = max clock floor + 1
+
+-- a stamp is left for a floor
+abbrev pub HasStamp : ℕ → ℕ → Type 0
+HasStamp clock floor = max clock floor < MAX_STAMP
+
+-- none is left
+abbrev pub IsAtEnd : ℕ → ℕ → Type 0
+IsAtEnd clock floor = max clock floor ≡ MAX_STAMP
+
+-- an entry with its thing
+abbrev pub entry_under : {T : Type 0} → ℕ → Id → Bool → T → Waiting T
+entry_under stamp id settled thing = record { key = record { stamp = stamp; id = id }; settled = settled; thing = thing }
+
+-- an entry has this id
 abbrev pub has_id : Id → List Standing → Bool
 has_id id entries = list_any (λ e. same_id e.key.id id) entries
 
+-- an entry is open under this id
 abbrev pub has_open : Id → List Standing → Bool
 has_open id entries = list_any (is_open_id id) entries
 
@@ -67,7 +86,7 @@ is_decided Open = false
 is_decided (Gone why) = true
 is_decided (Final f) = true
 
--- the entry, final under a number
+-- the entry made final under a number
 abbrev pub final_entry : {T : Type 0} → ℕ → Waiting T → Waiting T
 final_entry f w = record { key = record { stamp = f; id = w.key.id }; settled = true; thing = w.thing }
 

@@ -2,8 +2,9 @@
 ghost use Rattle.std.specs.Prelude.{◌≡◌, ◌+◌, ◌-◌, ◌<◌, ◌≤◌, ◌||◌, ◌==◌, map, length};
 ghost use Rattle.std.specs.List.{list_any};
 ghost use Rattle.log_node.specs.Sets.{has};
-ghost use Rattle.skeen_core.specs.Outcomes.{outcome_of, is_missing, is_stamp_end_fence, is_memory_fence, number_of, greatest};
-ghost use Rattle.skeen_core.specs.Boards.{row_marks, marks_from};
+ghost use Rattle.skeen_core.specs.Outcomes.{outcome_of, is_missing, is_stamp_end_fence, is_memory_fence};
+ghost use Rattle.skeen_core.specs.Outcomes.{number_of, greatest};
+ghost use Rattle.skeen_core.specs.Boards.{row_marks, marks_above};
 
 use crate::marks::{Mark, Outcome};
 use crate::outcomes::{Tally, outcome_of_tally, with_mark};
@@ -32,13 +33,13 @@ fn has_colour(colours: Colours, colour: u8) -> bool
 }
 
 // What the marks of the row's colours have among them, from a colour on.
-#[tactic(auto, unfolding(crate::specs::Boards::marks_from))]
+#[tactic(auto, unfolding(crate::specs::Boards::marks_above))]
 fn tally_from(row: &BoardRow, colour: u8) -> Tally
     requires { colour ≤ MAX_COLOURS }
-    ensures missing { result.missing ≡ list_any is_missing (marks_from row.now colour (MAX_COLOURS - colour)) }
-    ensures stamp_end { result.stamp_end ≡ list_any is_stamp_end_fence (marks_from row.now colour (MAX_COLOURS - colour)) }
-    ensures memory { result.memory ≡ list_any is_memory_fence (marks_from row.now colour (MAX_COLOURS - colour)) }
-    ensures greatest { result.greatest ≡ greatest (map number_of (marks_from row.now colour (MAX_COLOURS - colour))) }
+    ensures missing { result.missing ≡ list_any is_missing (marks_above row.now colour) }
+    ensures stamp_end { result.stamp_end ≡ list_any is_stamp_end_fence (marks_above row.now colour) }
+    ensures memory { result.memory ≡ list_any is_memory_fence (marks_above row.now colour) }
+    ensures greatest { result.greatest ≡ greatest (map number_of (marks_above row.now colour)) }
 {
     if colour as usize == MAX_COLOURS {
         return Tally::NOTHING;

@@ -1,7 +1,9 @@
 // The outcome of a row's marks.
-ghost use Rattle.std.specs.Prelude.{◌≡◌, ◌<◌, ◌||◌, max, map, length, if◌then◌else◌};
+ghost use Rattle.std.specs.Prelude.{◌≡◌, ◌<◌, ◌||◌, max, map, length};
 ghost use Rattle.std.specs.List.{list_any};
-ghost use Rattle.skeen_core.specs.Outcomes.{outcome_of, is_missing, is_stamp_end_fence, is_memory_fence, number_of, greatest, final_number};
+ghost use Rattle.skeen_core.specs.Outcomes.{outcome_of, is_missing, is_stamp_end_fence, is_memory_fence};
+ghost use Rattle.skeen_core.specs.Outcomes.{number_of, greatest, final_number};
+ghost use Rattle.skeen_core.specs.Inside.{outcome_among};
 
 use crate::marks::{Mark, Outcome, Why};
 
@@ -74,7 +76,7 @@ pub fn outcome(marks: &[Mark]) -> Outcome
 
 // The outcome of marks that have this among them.
 pub(crate) fn outcome_of_tally(all: Tally) -> Outcome
-    ensures { result ≡ (if all.missing then Outcome.Open else (if all.stamp_end then Outcome.Gone Why.StampEnd else (if all.memory then Outcome.Gone Why.Memory else Outcome.Final all.greatest))) }
+    ensures { result ≡ outcome_among all }
 {
     if all.missing {
         Outcome::Open

@@ -1,10 +1,13 @@
 // The delivery queue of one destination. Its clock is that of Lamport, "Time, Clocks, and the Ordering of Events in a
 // Distributed System" (1978); stamps and delivery are those of Skeen's multicast, as in Birman and Joseph, "Reliable
 // Communication in the Presence of Failures" (1987). That things can be dropped and keys stay is this project's own.
-ghost use Rattle.std.specs.Prelude.{◌≡◌, ◌+◌, ◌-◌, ◌<◌, ◌≤◌, ◌&&◌, max, nat_lt, false, true, [], ◌∷◌, ◌++◌, map, take, drop, length, vec_len, vec_capacity, if◌then◌else◌, IfOk, IfErr, OnOk, OnErr};
-ghost use Rattle.std.specs.List.{prefix_len};
+ghost use Rattle.std.specs.Prelude.{◌≡◌, ◌+◌, ◌-◌, ◌<◌, ◌≤◌, ◌&&◌, max, nat_lt, false, true, [], ◌++◌};
+ghost use Rattle.std.specs.Prelude.{map, drop, length, vec_len, vec_capacity, if◌then◌else◌, IfOk, IfErr, OnOk, OnErr};
 ghost use Rattle.skeen_core.specs.Standings.{line_of, queue_of};
-ghost use Rattle.skeen_core.specs.Queues.{Queued, standing_of, has_id, has_open, is_decided, entered_queue, settled_queue, dropped_queue, kept_entries, waiting_entries, IsContinued, MaySettle};
+ghost use Rattle.skeen_core.specs.Queues.{Queued, standing_of, entry_under, has_id, has_open, is_decided, IsContinued};
+ghost use Rattle.skeen_core.specs.Queues.{stamp_after, HasStamp, IsAtEnd, MaySettle};
+ghost use Rattle.skeen_core.specs.Queues.{entered_queue, settled_queue, dropped_queue, kept_entries, waiting_entries};
+ghost use Rattle.skeen_core.specs.Inside.{ready_keys, ready_things, left};
 
 use crate::marks::Outcome;
 use crate::outcomes::final_number;
@@ -37,16 +40,17 @@ impl<T> Model for Queue<T> {
 
     ghost view = { λ a. queued a.clock a.spare a.line.items a.kept.items a.waiting.items };
 
-    ghost invariant = { λ a. IsQueue a.clock a.spare a.line.items a.kept.items a.waiting.items (vec_capacity a.line) (vec_capacity a.kept) (vec_capacity a.waiting) };
+    ghost invariant = { λ a. IsQueue a.clock a.spare a.line.items a.kept.items a.waiting.items
+        (vec_capacity a.line) (vec_capacity a.kept) (vec_capacity a.waiting) };
 }
 
 // Moves the final entries at the front of those that wait to the end of the line.
 fn deliver<T: Drop>(waiting: &mut Vec<Waiting<T>>, line: &mut Vec<Key>, kept: &mut Vec<T>)
     requires line_room { vec_len line.old + vec_len waiting.old ≤ vec_capacity line.old }
     requires kept_room { vec_len kept.old + vec_len waiting.old ≤ vec_capacity kept.old }
-    ensures waiting { waiting.new.items ≡ drop (prefix_len (λ w. w.settled) waiting.old.items) waiting.old.items }
-    ensures line { line.new.items ≡ line.old.items ++ map (λ w. w.key) (take (prefix_len (λ w. w.settled) waiting.old.items) waiting.old.items) }
-    ensures kept { kept.new.items ≡ kept.old.items ++ map (λ w. w.thing) (take (prefix_len (λ w. w.settled) waiting.old.items) waiting.old.items) }
+    ensures waiting { waiting.new.items ≡ left waiting.old.items }
+    ensures line { line.new.items ≡ line.old.items ++ ready_keys waiting.old.items }
+    ensures kept { kept.new.items ≡ kept.old.items ++ ready_things waiting.old.items }
     ensures capacity { vec_capacity waiting.new ≡ vec_capacity waiting.old }
     ensures line_capacity { vec_capacity line.old ≤ vec_capacity line.new }
     ensures kept_capacity { vec_capacity kept.old ≤ vec_capacity kept.new }
@@ -103,8 +107,8 @@ impl<T: Drop> Queue<T> {
     /// The stamp that comes next for a floor.
     pub fn next(&self, floor: u64) -> Result<u64, StampEnd>
         requires { floor ≤ MAX_STAMP }
-        ensures ok { IfOk result (λ stamp. (stamp ≡ max self.now.clock floor + 1) × (max self.now.clock floor < MAX_STAMP)) }
-        ensures stamp_end { IfErr result (λ end. (end.clock ≡ max self.now.clock floor) × (max self.now.clock floor ≡ MAX_STAMP)) }
+        ensures ok { IfOk result (λ stamp. (stamp ≡ stamp_after self.now.clock floor) × HasStamp self.now.clock floor) }
+        ensures stamp_end { IfErr result (λ end. (end.clock ≡ max self.now.clock floor) × IsAtEnd self.now.clock floor) }
     {
         let clock = self.clock.max(floor);
         if clock == MAX_STAMP {
@@ -130,10 +134,10 @@ impl<T: Drop> Queue<T> {
     /// A final entry under the next stamp, which is the answer.
     pub fn enter(&mut self, id: Id, floor: u64, thing: T) -> u64
         requires room { 0 < self.old.spare }
-        requires stamp { max self.old.clock floor < MAX_STAMP }
+        requires stamp { HasStamp self.old.clock floor }
         requires fresh { has_id id self.old.entries ≡ false }
-        ensures stamp { result ≡ max self.old.clock floor + 1 }
-        ensures queue { self.new ≡ entered_queue (record { key = record { stamp = result; id = id }; settled = true; thing = thing }) self.old }
+        ensures stamp { result ≡ stamp_after self.old.clock floor }
+        ensures queue { self.new ≡ entered_queue (entry_under result id true thing) self.old }
         ensures line { IsContinued (line_of self.old.entries) (line_of self.new.entries) }
     {
         self.add(id, floor, true, thing)
@@ -142,10 +146,10 @@ impl<T: Drop> Queue<T> {
     /// An open entry under the next stamp, which is the answer.
     pub fn propose(&mut self, id: Id, floor: u64, thing: T) -> u64
         requires room { 0 < self.old.spare }
-        requires stamp { max self.old.clock floor < MAX_STAMP }
+        requires stamp { HasStamp self.old.clock floor }
         requires fresh { has_id id self.old.entries ≡ false }
-        ensures stamp { result ≡ max self.old.clock floor + 1 }
-        ensures queue { self.new ≡ entered_queue (record { key = record { stamp = result; id = id }; settled = false; thing = thing }) self.old }
+        ensures stamp { result ≡ stamp_after self.old.clock floor }
+        ensures queue { self.new ≡ entered_queue (entry_under result id false thing) self.old }
         ensures line { line_of self.new.entries ≡ line_of self.old.entries }
     {
         self.add(id, floor, false, thing)
@@ -154,10 +158,10 @@ impl<T: Drop> Queue<T> {
     // An entry under the next stamp, which is above all keys; the line takes it if nothing waits.
     fn add(&mut self, id: Id, floor: u64, settled: bool, thing: T) -> u64
         requires room { 0 < self.old.spare }
-        requires stamp { max self.old.clock floor < MAX_STAMP }
+        requires stamp { HasStamp self.old.clock floor }
         requires fresh { has_id id self.old.entries ≡ false }
-        ensures stamp { result ≡ max self.old.clock floor + 1 }
-        ensures queue { self.new ≡ entered_queue (record { key = record { stamp = result; id = id }; settled = settled; thing = thing }) self.old }
+        ensures stamp { result ≡ stamp_after self.old.clock floor }
+        ensures queue { self.new ≡ entered_queue (entry_under result id settled thing) self.old }
         ensures line { IsContinued (line_of self.old.entries) (line_of self.new.entries) }
         ensures still { settled ≡ false → line_of self.new.entries ≡ line_of self.old.entries }
     {

@@ -1,8 +1,9 @@
 // The stamp board of one thread: the rows of a region's clients, each with a mark for every colour.
-ghost use Rattle.std.specs.Prelude.{◌≡◌, ◌+◌, ◌<◌, ◌≤◌, [], length, replicate, Some, IfOk, IfErr, OnErr};
-ghost use Rattle.log_node.specs.declared.ids.Row.{Row};
+ghost use Rattle.std.specs.Prelude.{◌≡◌, ◌<◌, ◌≤◌, [], length, replicate, Some, IfOk, IfErr, OnOk, OnErr};
 ghost use Rattle.skeen_core.specs.Marks.{IsStamp};
-ghost use Rattle.skeen_core.specs.Boards.{Board, rows_of, begun_at, IsRow, IsBegunWith, mark_in, outcome_in, last_in, first_mark, marked, with_mark, decided, with_changed, with_begun, fresh_row};
+ghost use Rattle.skeen_core.specs.Boards.{Board, begun_at, next_of, HasRow, IsFull, IsRow, IsBegunWith};
+ghost use Rattle.skeen_core.specs.Boards.{mark_in, outcome_in, last_in, first_mark, marked};
+ghost use Rattle.skeen_core.specs.Boards.{with_mark, decided, with_changed, with_begun, fresh_row};
 
 use crate::board_row::{BoardRow, MAX_COLOURS};
 use crate::client_rows::{ClientRows, MAX_ROWS};
@@ -57,8 +58,8 @@ impl Rows {
     /// The row that the client begins next.
     pub fn next_row(&self, client: u8) -> Result<Row, Full>
         requires { client < length self.now.begun }
-        ensures ok { IfOk result (λ row. (row ≡ record { client = client; number = length (rows_of self.now client) }) × (length (rows_of self.now client) < self.now.rows)) }
-        ensures full { IfErr result (λ full. (full.used ≡ length (rows_of self.now client)) × (length (rows_of self.now client) ≡ self.now.rows)) }
+        ensures ok { IfOk result (λ row. (row ≡ next_of self.now client) × HasRow self.now client) }
+        ensures full { IfErr result (λ full. IsFull self.now client full.used) }
     {
         let used = self.clients[client as usize].used();
         if used == self.rows {
@@ -74,9 +75,10 @@ impl Rows {
     /// Begins the client's next row for a node.
     pub fn begin(&mut self, client: u8, node: &Arc<Node>) -> Result<Row, Full>
         requires client { client < length self.old.begun }
-        requires row { length (rows_of self.old client) < self.old.rows → node.now.value.row ≡ Some (record { client = client; number = length (rows_of self.old client) }) }
-        ensures ok { IfOk result (λ row. (node.now.value.row ≡ Some row) × (self.new ≡ with_begun self.old client (fresh_row node.now.value.id node.now.value.colours))) }
-        ensures full { IfErr result (λ full. (full.used ≡ length (rows_of self.old client)) × (length (rows_of self.old client) ≡ self.old.rows)) }
+        requires row { HasRow self.old client → node.now.value.row ≡ Some (next_of self.old client) }
+        ensures ok { IfOk result (λ row. (row ≡ next_of self.old client) × HasRow self.old client) }
+        ensures rows { let node = node.now.value in OnOk result (self.new ≡ with_begun self.old client (fresh_row node.id node.colours)) }
+        ensures full { IfErr result (λ full. IsFull self.old client full.used) }
         ensures err { OnErr result (self.new ≡ self.old) }
     {
         let row = self.next_row(client)?;

@@ -1,10 +1,11 @@
 // Entries that wait in a delivery queue, and the steps on their list, which is in rising key.
-ghost use Rattle.std.specs.Prelude.{◌≡◌, ◌+◌, ◌<◌, ◌≤◌, ◌&&◌, if◌then◌else◌, true, map, take, drop, length, slice_index_or, vec_len, vec_capacity, ◌++◌, ◌∷◌, []};
-ghost use Rattle.std.specs.List.{list_any, position, prefix_len, insert, remove};
+ghost use Rattle.std.specs.Prelude.{◌≡◌, ◌<◌, ◌≤◌, ◌&&◌, ◌++◌, ◌∷◌, []};
+ghost use Rattle.std.specs.Prelude.{if◌then◌else◌, map, length, slice_index_or, vec_len, vec_capacity};
+ghost use Rattle.std.specs.List.{list_any, position, remove};
 ghost use Rattle.log_node.specs.Order.{key_below};
 ghost use Rattle.skeen_core.specs.Standings.{is_open_id};
 ghost use Rattle.skeen_core.specs.Queues.{standing_of, final_entry, with_stored, settled_stored, is_decided};
-ghost use Rattle.skeen_core.specs.Inside.{IsRisingStored, AreApart};
+ghost use Rattle.skeen_core.specs.Inside.{IsRisingStored, AreApart, ready};
 ghost use Rattle.skeen_core.specs.declared.waiting.Waiting.{Waiting};
 
 use crate::marks::Outcome;
@@ -42,7 +43,7 @@ fn open_place<T>(waiting: &[Waiting<T>], id: Id) -> Option<usize>
 
 // How many entries at the front are final.
 pub(crate) fn final_front<T>(waiting: &[Waiting<T>]) -> usize
-    ensures value { result ≡ prefix_len (λ w. w.settled) waiting.now }
+    ensures value { result ≡ ready waiting.now }
     ensures bound { result ≤ length waiting.now }
 {
     waiting.iter().take_while(|entry| entry.settled).count()
@@ -64,7 +65,8 @@ pub(crate) fn put<X>(list: &mut Vec<X>, item: X)
 fn final_under<T: Drop>(waiting: &mut Vec<Waiting<T>>, at: usize, stamp: u64)
     requires in_bounds { at < vec_len waiting.old }
     requires rising { IsRisingStored waiting.old.items }
-    ensures items { (d : Waiting T) → waiting.new.items ≡ with_stored (final_entry stamp (slice_index_or waiting.old.items at d)) (remove waiting.old.items at) }
+    ensures items { (d : Waiting T) → let entry = slice_index_or waiting.old.items at d in
+        waiting.new.items ≡ with_stored (final_entry stamp entry) (remove waiting.old.items at) }
     ensures len { vec_len waiting.new ≡ vec_len waiting.old }
     ensures capacity { vec_capacity waiting.old ≤ vec_capacity waiting.new }
 {

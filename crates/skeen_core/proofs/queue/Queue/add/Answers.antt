@@ -2,8 +2,8 @@ use Rattle.std.proofs.Common.{◌≡◌, ◌<◌, ◌≤◌, ◌++◌, ◌+◌, 
 use Rattle.skeen_core.specs.declared.waiting.Waiting.{Waiting}
 use Rattle.skeen_core.specs.Standings.{line_of}
 use Rattle.skeen_core.specs.Queues.{has_id, entered_queue}
-use Rattle.skeen_core.specs.Inside.{all_entries}
-use Rattle.skeen_core.proofs.Delivering.{ready_keys, ready_things, left, queued-delivered}
+use Rattle.skeen_core.specs.Inside.{all_entries, ready_keys, ready_things, left}
+use Rattle.skeen_core.proofs.Delivering.{queued-delivered}
 use Rattle.skeen_core.proofs.Stored.{line-queued}
 use Rattle.skeen_core.proofs.Adding.{queue-added, view-added, line-still, entries-added}
 use Rattle.skeen_core.proofs.queue.Queue.add.Goals as goal

@@ -6,8 +6,7 @@ use Rattle.skeen_core.specs.declared.stamps.TheConstants.{MAX_STAMP}
 use Rattle.skeen_core.specs.Outcomes.{final_number}
 use Rattle.skeen_core.specs.Standings.{line_of}
 use Rattle.skeen_core.specs.Queues.{MaySettle, standing_of, has_open, is_decided, settled_stored, settled_queue}
-use Rattle.skeen_core.specs.Inside.{all_entries, final_at, IsRisingStored}
-use Rattle.skeen_core.proofs.Delivering.{ready_keys, ready_things, left}
+use Rattle.skeen_core.specs.Inside.{all_entries, final_at, IsRisingStored, ready_keys, ready_things, left}
 use Rattle.skeen_core.proofs.Entries.{rising-right, apart-right}
 use Rattle.skeen_core.proofs.Settling.{opens, open-waits}
 use Rattle.skeen_core.proofs.Settled.{queue-settled, view-settled}
