@@ -1,9 +1,11 @@
 -- What contracts see of a stamp board, and what its calls make of it.
-use Rattle.std.specs.Prelude.{◌≡◌, ◌<◌, ℕ, ◌-◌, Bool, true, false, List, [], ◌∷◌, ◌++◌, replicate, map, length, slice_get, slice_index_or, slice_set, Option, Some, None, if◌then◌else◌}
+use Rattle.std.specs.Prelude.{◌≡◌, ◌<◌, ℕ, ◌-◌, Bool, true, false, Option, Some, None}
+use Rattle.std.specs.Prelude.{List, [], ◌∷◌, ◌++◌, replicate, map, length, slice_get, slice_index_or, slice_set}
 use Rattle.std.specs.List.{All, filter, range_with_len}
 use Rattle.log_node.specs.declared.ids.Id.{Id}
 use Rattle.log_node.specs.declared.ids.Colours.{Colours}
 use Rattle.log_node.specs.declared.ids.Row.{Row}
+use Rattle.log_node.specs.declared.node.Node.{Node}
 use Rattle.log_node.specs.Sets.{has, members}
 use Rattle.skeen_core.specs.declared.marks.Mark.{Mark}
 use Rattle.skeen_core.specs.declared.marks.Mark.TheVariants as marks
@@ -119,7 +121,9 @@ changed_at rows n f = changed_by rows n f (slice_get rows n)
 
 -- the board with a begun row changed
 abbrev pub with_changed : Board → Row → (BoardRow → BoardRow) → Board
-with_changed board row f = record board { begun = slice_set board.begun row.client (changed_at (rows_of board row.client) row.number f) }
+with_changed board row f = record board {
+  begun = slice_set board.begun row.client (changed_at (rows_of board row.client) row.number f);
+}
 
 -- the board with one more begun row of a client
 abbrev pub with_begun : Board → ℕ → BoardRow → Board
@@ -128,6 +132,13 @@ with_begun board client r = record board { begun = slice_set board.begun client 
 -- a row of which nothing is said yet
 abbrev pub fresh_row : Id → Colours → BoardRow
 fresh_row id colours = record { id = id; colours = colours; marks = replicate MAX_COLOURS marks.None; last = Open }
+
+abbrev pub fresh_row_of : Node → BoardRow
+fresh_row_of node = fresh_row node.id node.colours
+
+-- a board on which no row is begun
+abbrev pub empty_board : ℕ → ℕ → ℕ → Board
+empty_board clients colours rows = record { colours = colours; rows = rows; begun = replicate clients [] }
 
 -- each client may begin so many rows
 abbrev pub HaveRows : ℕ → List RowsOfClient → Type 0

@@ -1,5 +1,6 @@
 -- What a delivery queue keeps true of its fields.
-use Rattle.std.specs.Prelude.{if◌then◌else◌, ◌≡◌, ◌≤◌, ℕ, ◌+◌, ◌-◌, true, false, List, [], ◌∷◌, ◌++◌, map, take, drop, length}
+use Rattle.std.specs.Prelude.{◌≡◌, ◌≤◌, ℕ, ◌+◌, ◌-◌, true, false, if◌then◌else◌}
+use Rattle.std.specs.Prelude.{List, [], ◌∷◌, ◌++◌, map, take, drop, length}
 use Rattle.std.specs.List.{AllByRecursion, prefix_len}
 use Rattle.log_node.specs.declared.ids.Key.{Key}
 use Rattle.log_node.specs.Order.{same_id, key_below}
@@ -80,7 +81,8 @@ abbrev pub IsRisingStored : {T : Type 0} → List (Waiting T) → Type 0
 IsRisingStored ws = IsRising (map standing_of ws)
 
 -- the fields of a queue: the room in each vector is for all that wait and for the spare places
-pub record IsQueue {T : Type 0} (clock spare : ℕ) (line : List Key) (kept : List T) (waiting : List (Waiting T)) (line_room kept_room waiting_room : ℕ) : Type 0 where
+pub record IsQueue {T : Type 0} (clock spare : ℕ) (line : List Key) (kept : List T) (waiting : List (Waiting T))
+    (line_room kept_room waiting_room : ℕ) : Type 0 where
   pub entries : AreEntries clock (all_entries line waiting)
   pub front : StartsOpen waiting
   pub bounded : clock ≤ MAX_STAMP

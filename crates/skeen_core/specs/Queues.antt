@@ -1,6 +1,7 @@
 -- What contracts see of a delivery queue, and what its calls make of it.
-use Rattle.std.specs.Prelude.{◌≡◌, ◌<◌, ◌≤◌, ℕ, ◌+◌, ◌-◌, max, Bool, true, false, List, [], ◌∷◌, ◌++◌, map, take, drop, length, not, ◌&&◌, Option, Some, None, if◌then◌else◌, refl}
-use Rattle.std.specs.Coded.{Coded, code_by, coded×, coded_ℕ, coded_bool, coded_list}
+use Rattle.std.specs.Prelude.{◌≡◌, ◌<◌, ◌≤◌, ℕ, ◌+◌, ◌-◌, max, Bool, true, false, not, if◌then◌else◌, refl}
+use Rattle.std.specs.Prelude.{List, [], ◌∷◌, ◌++◌, take, drop, length, Option, Some, None}
+use Rattle.std.specs.Coded.{Coded, code_by, coded×, coded_ℕ, coded_list}
 use Rattle.std.specs.List.{list_any, filter, find}
 use Rattle.log_node.specs.declared.ids.Id.{Id}
 use Rattle.log_node.specs.declared.ids.Key.{Key}
@@ -10,6 +11,7 @@ use Rattle.skeen_core.specs.declared.marks.Outcome.{Outcome}
 use Rattle.skeen_core.specs.declared.marks.Outcome.TheVariants.{Open, Gone, Final}
 use Rattle.skeen_core.specs.declared.waiting.Waiting.{Waiting}
 use Rattle.skeen_core.specs.Outcomes.{final_number}
+use Rattle.skeen_core.specs.Codes.{standing_code, waiting_code}
 use Rattle.skeen_core.specs.Standings.{Standing, is_open_id, open_entry, settled_entries, with_entry, line_of}
 
 -- a delivery queue: its clock, all its entries in rising key, how many things of its line are dropped, the entries
@@ -21,34 +23,13 @@ pub record Queued (T : Type 0) : Type 0 where
   pub stored : List (Waiting T)
   pub spare : ℕ
 
--- a key is stored as the tuple of its fields, and so are entries
-abbrev pub key_code : Coded Key
-key_code =
-    code_by
-    (ℕ × (ℕ × ℕ))
-    (coded× coded_ℕ (coded× coded_ℕ coded_ℕ))
-    (λ k. (k.stamp, (k.id.client, k.id.count)))
-    (λ p. record { stamp = p.0; id = record { client = p.1.0; count = p.1.1 } })
-    (λ _. refl)
-
-abbrev pub standing_code : Coded Standing
-standing_code = code_by (Key × Bool) (coded× key_code coded_bool) (λ e. (e.key, e.settled)) (λ p. record { key = p.0; settled = p.1 }) (λ _. refl)
-
-abbrev pub waiting_code : {T : Type 0} → Coded T → Coded (Waiting T)
-waiting_code {T} code =
-    code_by
-    (Key × (Bool × T))
-    (coded× key_code (coded× coded_bool code))
-    (λ w. (w.key, (w.settled, w.thing)))
-    (λ p. record { key = p.0; settled = p.1.0; thing = p.1.1 })
-    (λ _. refl)
-
 -- a queue is stored as the tuple of its fields
 abbrev pub queued_code : {T : Type 0} → Coded T → Coded (Queued T)
 queued_code {T} code =
     code_by
     (ℕ × (List Standing × (ℕ × (List (Waiting T) × ℕ))))
-    (coded× coded_ℕ (coded× (coded_list standing_code) (coded× coded_ℕ (coded× (coded_list (waiting_code code)) coded_ℕ))))
+    (coded× coded_ℕ (coded× (coded_list standing_code)
+    (coded× coded_ℕ (coded× (coded_list (waiting_code code)) coded_ℕ))))
     (λ q. (q.clock, (q.entries, (q.base, (q.stored, q.spare)))))
     (λ p. record { clock = p.0; entries = p.1.0; base = p.1.1.0; stored = p.1.1.1.0; spare = p.1.1.1.1 })
     (λ _. refl)
@@ -70,7 +51,11 @@ IsAtEnd clock floor = max clock floor ≡ MAX_STAMP
 
 -- an entry with its thing
 abbrev pub entry_under : {T : Type 0} → ℕ → Id → Bool → T → Waiting T
-entry_under stamp id settled thing = record { key = record { stamp = stamp; id = id }; settled = settled; thing = thing }
+entry_under stamp id settled thing = record {
+  key = record { stamp = stamp; id = id };
+  settled = settled;
+  thing = thing;
+}
 
 -- an entry has this id
 abbrev pub has_id : Id → List Standing → Bool
@@ -107,7 +92,8 @@ with_found f (Some w) stored = with_stored (final_entry f w) stored
 abbrev pub settled_stored : {T : Type 0} → Id → Outcome → List (Waiting T) → List (Waiting T)
 settled_stored id Open stored = stored
 settled_stored id (Gone why) stored = stored_without id stored
-settled_stored id (Final f) stored = with_found f (find (λ w. is_open_id id (standing_of w)) stored) (stored_without id stored)
+settled_stored id (Final f) stored =
+    with_found f (find (λ w. is_open_id id (standing_of w)) stored) (stored_without id stored)
 
 -- the queue after an id was settled
 abbrev pub settled_queue : {T : Type 0} → Id → Outcome → Queued T → Queued T

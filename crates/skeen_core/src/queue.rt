@@ -107,8 +107,8 @@ impl<T: Drop> Queue<T> {
     /// The stamp that comes next for a floor.
     pub fn next(&self, floor: u64) -> Result<u64, StampEnd>
         requires { floor ≤ MAX_STAMP }
-        ensures ok { IfOk result (λ stamp. (stamp ≡ stamp_after self.now.clock floor) × HasStamp self.now.clock floor) }
-        ensures stamp_end { IfErr result (λ end. (end.clock ≡ max self.now.clock floor) × IsAtEnd self.now.clock floor) }
+        ensures ok { IfOk result (λ s. (s ≡ stamp_after self.now.clock floor) × HasStamp self.now.clock floor) }
+        ensures stamp_end { IfErr result (λ e. (e.clock ≡ max self.now.clock floor) × IsAtEnd self.now.clock floor) }
     {
         let clock = self.clock.max(floor);
         if clock == MAX_STAMP {

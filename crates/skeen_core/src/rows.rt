@@ -1,9 +1,9 @@
 // The stamp board of one thread: the rows of a region's clients, each with a mark for every colour.
-ghost use Rattle.std.specs.Prelude.{◌≡◌, ◌<◌, ◌≤◌, [], length, replicate, Some, IfOk, IfErr, OnOk, OnErr};
+ghost use Rattle.std.specs.Prelude.{◌≡◌, ◌<◌, ◌≤◌, length, Some, IfOk, IfErr, OnOk, OnErr};
 ghost use Rattle.skeen_core.specs.Marks.{IsStamp};
 ghost use Rattle.skeen_core.specs.Boards.{Board, begun_at, next_of, HasRow, IsFull, IsRow, IsBegunWith};
 ghost use Rattle.skeen_core.specs.Boards.{mark_in, outcome_in, last_in, first_mark, marked};
-ghost use Rattle.skeen_core.specs.Boards.{with_mark, decided, with_changed, with_begun, fresh_row};
+ghost use Rattle.skeen_core.specs.Boards.{with_mark, decided, with_changed, with_begun, fresh_row_of, empty_board};
 
 use crate::board_row::{BoardRow, MAX_COLOURS};
 use crate::client_rows::{ClientRows, MAX_ROWS};
@@ -42,7 +42,7 @@ impl Rows {
         requires clients { clients ≤ MAX_CLIENTS }
         requires colours { colours ≤ MAX_COLOURS }
         requires rows { rows ≤ MAX_ROWS }
-        ensures { IfOk result (λ board. board ≡ record { colours = colours; rows = rows; begun = replicate clients [] }) }
+        ensures { IfOk result (λ board. board ≡ empty_board clients colours rows) }
     {
         let mut all = Vec::with_capacity(alloc, clients as usize)?;
         for _ in 0..clients {
@@ -77,7 +77,7 @@ impl Rows {
         requires client { client < length self.old.begun }
         requires row { HasRow self.old client → node.now.value.row ≡ Some (next_of self.old client) }
         ensures ok { IfOk result (λ row. (row ≡ next_of self.old client) × HasRow self.old client) }
-        ensures rows { let node = node.now.value in OnOk result (self.new ≡ with_begun self.old client (fresh_row node.id node.colours)) }
+        ensures rows { OnOk result (self.new ≡ with_begun self.old client (fresh_row_of node.now.value)) }
         ensures full { IfErr result (λ full. IsFull self.old client full.used) }
         ensures err { OnErr result (self.new ≡ self.old) }
     {

@@ -108,7 +108,9 @@ fn the_end_of_the_stamps_is_told_before_want_of_memory(rt: HostRuntime) -> Resul
 
 // A node of the client 0 with the colours 0 and 1.
 fn node(alloc: Global) -> Result<Arc<Node, Global>, AllocError>
-    ensures { IfOk result (λ node. (node.value.id ≡ record { client = 0; count = 0 }) × (node.value.colours ≡ record { 0 = 3 }) × (node.value.row ≡ Some (record { client = 0; number = 0 }))) }
+    ensures id { IfOk result (λ node. node.value.id ≡ record { client = 0; count = 0 }) }
+    ensures colours { IfOk result (λ node. node.value.colours ≡ record { 0 = 3 }) }
+    ensures row { IfOk result (λ node. node.value.row ≡ Some (record { client = 0; number = 0 })) }
 {
     let node = Node {
         id: id(0),
@@ -124,7 +126,8 @@ fn node(alloc: Global) -> Result<Arc<Node, Global>, AllocError>
 
 // A board with one row, which is begun.
 fn begun_board(alloc: Global) -> Result<Rows, AllocError>
-    ensures { IfOk result (λ board. board ≡ record { colours = 2; rows = 1; begun = (fresh_row (record { client = 0; count = 0 }) (record { 0 = 3 }) ∷ []) ∷ [] }) }
+    ensures { let row = fresh_row (record { client = 0; count = 0 }) (record { 0 = 3 }) in
+        IfOk result (λ board. board ≡ record { colours = 2; rows = 1; begun = (row ∷ []) ∷ [] }) }
 {
     let mut board = Rows::open(alloc, 1, 2, 1)?;
     let node = node(alloc)?;

@@ -87,7 +87,8 @@ pub(crate) fn settle_entry<T: Drop>(waiting: &mut Vec<Waiting<T>>, id: Id, outco
     requires rising { IsRisingStored waiting.old.items }
     requires apart { AreApart (map standing_of waiting.old.items) }
     ensures answer { result ≡ (list_any (λ w. is_open_id id (standing_of w)) waiting.old.items && is_decided outcome) }
-    ensures items { waiting.new.items ≡ (if result then settled_stored id outcome waiting.old.items else waiting.old.items) }
+    ensures items { let old = waiting.old.items in
+        waiting.new.items ≡ (if result then settled_stored id outcome old else old) }
     ensures len { vec_len waiting.new ≤ vec_len waiting.old }
     ensures capacity { vec_capacity waiting.old ≤ vec_capacity waiting.new }
 {

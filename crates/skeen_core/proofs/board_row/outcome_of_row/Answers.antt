@@ -9,5 +9,6 @@ returns c =
     let row = c.args.row.now in
     let t = c.tally_from.result in
     c.outcome_of_tally.ensures
-    ∙ outcome-from (marks_above row 0) t.missing t.stamp_end t.memory t.greatest c.tally_from.ensures.missing c.tally_from.ensures.stamp_end c.tally_from.ensures.memory c.tally_from.ensures.greatest
+    ∙ outcome-from (marks_above row 0) t.missing t.stamp_end t.memory t.greatest c.tally_from.ensures.missing
+    c.tally_from.ensures.stamp_end c.tally_from.ensures.memory c.tally_from.ensures.greatest
     ∙ ap outcome_of (marks-are row (omega arith))

@@ -19,12 +19,17 @@ returns-clause-items g c d =
     let key : Key = record { stamp = c.args.stamp; id = entry.key.id } in
     let removed = c.remove-entry.ensures.items in
     let seen = c.deref.ensures.value in
-    let rising : IsRisingStored c.deref.result.now = rw (seen, removed) (rising-remove c.args.waiting.now.items c.args.at c.requires.rising) in
-    let point = c.partition_point-place.ensures.partitioned (λ w. not (key_below key w.key)) (always_returns_same _ _ _ (λ a r f k. search (rules, of_calls))) (not-above-first key c.deref.result.now rising) in
+    let rising : IsRisingStored c.deref.result.now = rw (seen, removed)
+    (rising-remove c.args.waiting.now.items c.args.at c.requires.rising) in
+    let point = c.partition_point-place.ensures.partitioned (λ w. not (key_below key w.key))
+    (always_returns_same _ _ _ (λ a r f k. search (rules, of_calls)))
+    (not-above-first key c.deref.result.now rising) in
     let at = rw seen at point in
     let bound = rw seen at c.partition_point-place.ensures.bound in
-    let read = get_or_read c.args.waiting.now.items c.args.at entry (omega (arith, c.args.waiting.now.ok.0)) c.remove-entry.ensures.value d in
+    let read = get_or_read c.args.waiting.now.items c.args.at entry (omega (arith, c.args.waiting.now.ok.0))
+    c.remove-entry.ensures.value d in
     c.in-Ok.ensures.items
-    ∙ insert-is (final_entry c.args.stamp entry) ws place bound (λ k e l m. not-true _ (at.0 k e l m)) (λ k e l m. not-false _ (at.1 k e l m))
+    ∙ insert-is (final_entry c.args.stamp entry) ws place bound (λ k e l m. not-true _ (at.0 k e l m))
+    (λ k e l m. not-false _ (at.1 k e l m))
     ∙ ap (λ w. with_stored (final_entry c.args.stamp w) ws) read
     ∙ ap (λ vs. with_stored (final_entry c.args.stamp (get_or c.args.waiting.now.items c.args.at d)) vs) removed

@@ -13,8 +13,12 @@ returns-in_default c =
     let there = ap (λ q. q.begun) c.self.view_is in
     let begun = slice_get_read rows _ c.args.number r refl (omega (arith, ap length there)) c.index.ensures in
     let within : c.args.number < length rows = omega (arith, ap length there) in
-    let same = subst (λ (b : List BoardRow). changed_at b c.args.number (with_mark c.args.colour c.args.mark) ≡ b) there (still-marked rows c.args.number c.args.colour c.args.mark r within c.index.ensures c.in_default.not-None) in
+    let same = subst (λ (b : List BoardRow). changed_at b c.args.number (with_mark c.args.colour c.args.mark) ≡ b)
+    there (still-marked rows c.args.number c.args.colour c.args.mark r within c.index.ensures
+    c.in_default.not-None) in
     record {
-      before = ap (λ o. mark_in o c.args.colour) (sym begun) ∙ ap (λ b. mark_in (slice_get b c.args.number) c.args.colour) there;
-      rows = ap (λ (b : List BoardRow). let q : RowsOfClient = record { begun = b; rows = c.args.self.now.rows } in q) (sym same);
+      before = ap (λ o. mark_in o c.args.colour) (sym begun)
+          ∙ ap (λ b. mark_in (slice_get b c.args.number) c.args.colour) there;
+      rows = ap (λ (b : List BoardRow). let q : RowsOfClient = record { begun = b; rows = c.args.self.now.rows } in q)
+          (sym same);
     }

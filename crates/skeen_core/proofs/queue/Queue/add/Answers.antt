@@ -11,7 +11,12 @@ use Rattle.skeen_core.proofs.queue.Queue.add.Goals as goal
 pub invariant_of-self : goal.invariant_of-self
 invariant_of-self g c =
     let i = c.self.inside in
-    let w : Waiting g.row.T.Denot = record { key = record { stamp = c.max-stamp.result + 1; id = c.args.id }; settled = c.args.settled; thing = c.args.thing } in
+    let w : Waiting g.row.T.Denot = record {
+      key = record { stamp = c.max-stamp.result + 1; id = c.args.id };
+      settled
+          = c.args.settled;
+      thing = c.args.thing;
+    } in
     let put = c.put.ensures.items in
     let line = c.deliver.ensures.line ∙ ap (λ ws. i.line.items ++ ready_keys ws) put in
     let kept = c.deliver.ensures.kept ∙ ap (λ ws. i.kept.items ++ ready_things ws) put in
@@ -20,19 +25,26 @@ invariant_of-self g c =
     let clock = ap (λ q. q.clock) c.self.view_is in
     let spare = ap (λ q. q.spare) c.self.view_is in
     rw (line, kept, waiting)
-    (queue-added w _ _ _ c.self.invariant (omega (arith, spare)) (omega (arith, clock)) (omega (arith, clock, c.requires.stamp)) fresh
+    (queue-added w _ _ _ c.self.invariant (omega (arith, spare)) (omega (arith, clock))
+    (omega (arith, clock, c.requires.stamp)) fresh
     (omega arith) (omega arith) (omega arith))
 
 pub returns-clause-queue : goal.returns-clause-queue
 returns-clause-queue g c =
     let i = c.self.inside in
-    let w : Waiting g.row.T.Denot = record { key = record { stamp = c.max-stamp.result + 1; id = c.args.id }; settled = c.args.settled; thing = c.args.thing } in
+    let w : Waiting g.row.T.Denot = record {
+      key = record { stamp = c.max-stamp.result + 1; id = c.args.id };
+      settled
+          = c.args.settled;
+      thing = c.args.thing;
+    } in
     let put = c.put.ensures.items in
     let line = c.deliver.ensures.line ∙ ap (λ ws. i.line.items ++ ready_keys ws) put in
     let kept = c.deliver.ensures.kept ∙ ap (λ ws. i.kept.items ++ ready_things ws) put in
     let waiting = c.deliver.ensures.waiting ∙ ap left put in
     let clock = ap (λ q. q.clock) c.self.view_is in
-    rw (line, kept, waiting) (view-added w c.self.invariant (omega (arith, clock)) ∙ ap (entered_queue w) c.self.view_is)
+    rw (line, kept, waiting) (view-added w c.self.invariant (omega (arith, clock))
+    ∙ ap (entered_queue w) c.self.view_is)
 
 pub returns-clause-line : goal.returns-clause-line
 returns-clause-line g c =
@@ -43,12 +55,19 @@ returns-clause-line g c =
 pub returns-clause-still : goal.returns-clause-still
 returns-clause-still g c first =
     let i = c.self.inside in
-    let w : Waiting g.row.T.Denot = record { key = record { stamp = c.max-stamp.result + 1; id = c.args.id }; settled = c.args.settled; thing = c.args.thing } in
+    let w : Waiting g.row.T.Denot = record {
+      key = record { stamp = c.max-stamp.result + 1; id = c.args.id };
+      settled
+          = c.args.settled;
+      thing = c.args.thing;
+    } in
     let put = c.put.ensures.items in
     let line = c.deliver.ensures.line ∙ ap (λ ws. i.line.items ++ ready_keys ws) put in
     let waiting = c.deliver.ensures.waiting ∙ ap left put in
     let fresh = ap (λ q. has_id c.args.id q.entries) c.self.view_is ∙ c.requires.fresh in
     let clock = ap (λ q. q.clock) c.self.view_is in
-    let more = queued-delivered w.key.stamp i.spare i.line.items i.kept.items (i.waiting.items ++ w ∷ []) c.self.invariant.fewer in
+    let more = queued-delivered w.key.stamp i.spare i.line.items i.kept.items (i.waiting.items ++ w ∷ [])
+    c.self.invariant.fewer in
     rw (line, waiting)
-    (ap (λ q. line_of q.entries) more ∙ line-still w c.self.invariant (omega (arith, clock)) fresh first ∙ ap (λ q. line_of q.entries) c.self.view_is)
+    (ap (λ q. line_of q.entries) more ∙ line-still w c.self.invariant (omega (arith, clock)) fresh first
+    ∙ ap (λ q. line_of q.entries) c.self.view_is)

@@ -10,7 +10,8 @@ returns-clause-things g c =
     let i = c.self.inside in
     let base = length i.line.items - length i.kept.items in
     c.as_slice.ensures.value
-    ∙ sym (things-with_things (drop base i.line.items) i.kept.items (left-of i.line.items i.kept.items c.self.invariant.fewer))
+    ∙ sym (things-with_things (drop base i.line.items) i.kept.items
+    (left-of i.line.items i.kept.items c.self.invariant.fewer))
     ∙ ap (map (λ w. w.thing)) (sym (kept-queued c.self.invariant) ∙ ap kept_entries c.self.view_is)
 
 pub returns-clause-keys : goal.returns-clause-keys

@@ -14,21 +14,25 @@ use Rattle.skeen_core.proofs.Stored.{line-queued}
 use Rattle.skeen_core.proofs.queue.Queue.settle.Goals as goal
 
 pub settle_entry-requires-clause-rising : goal.settle_entry-requires-clause-rising
-settle_entry-requires-clause-rising g c = let i = c.self.inside in rising-right (map final_at i.line.items) (map standing_of i.waiting.items) c.self.invariant.entries.rising
+settle_entry-requires-clause-rising g c = let i = c.self.inside in
+    rising-right (map final_at i.line.items) (map standing_of i.waiting.items) c.self.invariant.entries.rising
 
 pub settle_entry-requires-clause-apart : goal.settle_entry-requires-clause-apart
-settle_entry-requires-clause-apart g c = let i = c.self.inside in apart-right (map final_at i.line.items) (map standing_of i.waiting.items) c.self.invariant.entries.apart
+settle_entry-requires-clause-apart g c = let i = c.self.inside in
+    apart-right (map final_at i.line.items) (map standing_of i.waiting.items) c.self.invariant.entries.apart
 
 pub returns-then-not-settle_entry-clause-answer : goal.returns-then-not-settle_entry-clause-answer
 returns-then-not-settle_entry-clause-answer g c =
     let i = c.self.inside in
-    let any = sym (open-waits c.args.id i.line.items i.waiting.items) ∙ ap (λ q. has_open c.args.id q.entries) c.self.view_is in
+    let any = sym (open-waits c.args.id i.line.items i.waiting.items)
+    ∙ ap (λ q. has_open c.args.id q.entries) c.self.view_is in
     c.if-not-settle_entry.ensures.answer ∙ ap (λ b. b && is_decided c.args.outcome) any
 
 pub returns-clause-answer : goal.returns-clause-answer
 returns-clause-answer g c =
     let i = c.self.inside in
-    let any = sym (open-waits c.args.id i.line.items i.waiting.items) ∙ ap (λ q. has_open c.args.id q.entries) c.self.view_is in
+    let any = sym (open-waits c.args.id i.line.items i.waiting.items)
+    ∙ ap (λ q. has_open c.args.id q.entries) c.self.view_is in
     c.if-not-settle_entry.ensures.answer ∙ ap (λ b. b && is_decided c.args.outcome) any
 
 pub invariant_of-self-2 : goal.invariant_of-self-2
@@ -37,14 +41,17 @@ invariant_of-self-2 g c =
     let id = c.args.id in
     let outcome = c.args.outcome in
     let items = c.if-not-settle_entry.ensures.items in
-    let some = (and_parts (list_any (opens id) i.waiting.items) (is_decided outcome) (sym c.if-not-settle_entry.ensures.answer)).0 in
+    let some = (and_parts (list_any (opens id) i.waiting.items) (is_decided outcome)
+    (sym c.if-not-settle_entry.ensures.answer)).0 in
     let may = subst (λ es. MaySettle id outcome es MAX_STAMP) (sym (ap (λ q. q.entries) c.self.view_is)) c.requires in
     let clock = c.max-self-inside.ensures ∙ ap (max i.clock) c.final_number.ensures in
     let line = c.deliver.ensures.line ∙ ap (λ ws. i.line.items ++ ready_keys ws) items in
     let kept = c.deliver.ensures.kept ∙ ap (λ ws. i.kept.items ++ ready_things ws) items in
     let waiting = c.deliver.ensures.waiting ∙ ap left items in
     rw (clock, line, kept, waiting)
-    (queue-settled id outcome _ _ _ c.self.invariant some may (omega (arith, ap length items, i.waiting.ok.0, c.settle_entry.new.waiting.ok.0)) (omega arith) (omega arith) (omega arith))
+    (queue-settled id outcome _ _ _ c.self.invariant some may
+    (omega (arith, ap length items, i.waiting.ok.0, c.settle_entry.new.waiting.ok.0)) (omega arith) (omega arith)
+    (omega arith))
 
 pub returns-clause-queue : goal.returns-clause-queue
 returns-clause-queue g c =
@@ -52,13 +59,15 @@ returns-clause-queue g c =
     let id = c.args.id in
     let outcome = c.args.outcome in
     let items = c.if-not-settle_entry.ensures.items in
-    let some = (and_parts (list_any (opens id) i.waiting.items) (is_decided outcome) (sym c.if-not-settle_entry.ensures.answer)).0 in
+    let some = (and_parts (list_any (opens id) i.waiting.items) (is_decided outcome)
+    (sym c.if-not-settle_entry.ensures.answer)).0 in
     let may = subst (λ es. MaySettle id outcome es MAX_STAMP) (sym (ap (λ q. q.entries) c.self.view_is)) c.requires in
     let clock = c.max-self-inside.ensures ∙ ap (max i.clock) c.final_number.ensures in
     let line = c.deliver.ensures.line ∙ ap (λ ws. i.line.items ++ ready_keys ws) items in
     let kept = c.deliver.ensures.kept ∙ ap (λ ws. i.kept.items ++ ready_things ws) items in
     let waiting = c.deliver.ensures.waiting ∙ ap left items in
-    rw (clock, line, kept, waiting) (view-settled id outcome c.self.invariant some may ∙ ap (settled_queue id outcome) c.self.view_is)
+    rw (clock, line, kept, waiting) (view-settled id outcome c.self.invariant some may
+    ∙ ap (settled_queue id outcome) c.self.view_is)
 
 pub returns-clause-line : goal.returns-clause-line
 returns-clause-line g c =

@@ -7,7 +7,8 @@ use Rattle.skeen_core.proofs.Delivery.{queue-is}
 use Rattle.skeen_core.proofs.queue.Queue.waiting.Goals as goal
 
 pub returns-clause-value : goal.returns-clause-value
-returns-clause-value g c = c.as_slice.ensures.value ∙ sym (waiting-queued c.self.invariant) ∙ ap waiting_entries c.self.view_is
+returns-clause-value g c = c.as_slice.ensures.value ∙ sym (waiting-queued c.self.invariant)
+    ∙ ap waiting_entries c.self.view_is
 
 pub returns-clause-entries : goal.returns-clause-entries
 returns-clause-entries g c =

@@ -10,4 +10,5 @@ returns c =
     let client : RowsOfClient = record { begun = []; rows = c.args.rows } in
     let all : c.loop.counter ≡ c.args.clients = omega arith in
     ap (board_of c.args.colours c.args.rows) (c.loop.invariant ∙ ap (λ n. replicate n client) all)
-    ∙ ap (λ (bs : List (List BoardRow)). let b : Board = record { colours = c.args.colours; rows = c.args.rows; begun = bs } in b) (map-replicate c.args.clients client)
+    ∙ ap (λ (bs : List (List BoardRow)). let b : Board = record
+    { colours = c.args.colours; rows = c.args.rows; begun = bs } in b) (map-replicate c.args.clients client)

@@ -8,9 +8,12 @@ pub mark-requires-clause-begun : goal.mark-requires-clause-begun
 mark-requires-clause-begun c =
     let i = c.self.inside in
     let begun = some-begun (begun_at c.args.self.now c.args.row) c.args.colour c.requires.row in
-    let within = client-within i.colours i.rows i.clients.items c.args.self.now c.args.row begun.0 c.self.view_is begun.1 in
-    let rows = board-rows i.colours i.rows i.clients.items c.args.self.now c.args.row.client c.index_mut.result.now c.self.view_is within c.index_mut.ensures.value in
-    some-within c.index_mut.result.now.begun c.args.row.number begun.0 (ap (λ rs. slice_get rs c.args.row.number) rows ∙ begun.1)
+    let within = client-within i.colours i.rows i.clients.items c.args.self.now c.args.row begun.0 c.self.view_is
+    begun.1 in
+    let rows = board-rows i.colours i.rows i.clients.items c.args.self.now c.args.row.client c.index_mut.result.now
+    c.self.view_is within c.index_mut.ensures.value in
+    some-within c.index_mut.result.now.begun c.args.row.number begun.0
+    (ap (λ rs. slice_get rs c.args.row.number) rows ∙ begun.1)
 
 pub mark-requires-clause-colour : goal.mark-requires-clause-colour
 mark-requires-clause-colour c =
@@ -22,6 +25,8 @@ pub returns-clause-rows : goal.returns-clause-rows
 returns-clause-rows c =
     let i = c.self.inside in
     let begun = some-begun (begun_at c.args.self.now c.args.row) c.args.colour c.requires.row in
-    let within = client-within i.colours i.rows i.clients.items c.args.self.now c.args.row begun.0 c.self.view_is begun.1 in
+    let within = client-within i.colours i.rows i.clients.items c.args.self.now c.args.row begun.0 c.self.view_is
+    begun.1 in
     board-set i.colours i.rows i.clients.items c.args.self.now c.args.row.client c.index_mut.result.now c.mark.new.self
-    (λ rs. changed_at rs c.args.row.number (with_mark c.args.colour c.args.mark)) c.self.view_is within c.index_mut.ensures.value (ap (λ r. r.begun) c.mark.ensures.rows)
+    (λ rs. changed_at rs c.args.row.number (with_mark c.args.colour c.args.mark)) c.self.view_is within
+    c.index_mut.ensures.value (ap (λ r. r.begun) c.mark.ensures.rows)
