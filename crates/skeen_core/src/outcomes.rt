@@ -1,20 +1,33 @@
 // The outcome of a row's marks.
 ghost use Rattle.std.specs.Prelude.{◌≡◌, ◌<◌, ◌||◌, max, map, length};
 ghost use Rattle.std.specs.List.{list_any};
-ghost use Rattle.skeen_core.specs.Outcomes.{outcome_of, is_missing, is_stamp_end_fence, is_memory_fence, number_of, greatest};
+ghost use Rattle.skeen_core.specs.Outcomes.{outcome_of, is_missing, is_stamp_end_fence, is_memory_fence};
+ghost use Rattle.skeen_core.specs.Outcomes.{number_of, greatest, final_number};
+ghost use Rattle.skeen_core.specs.Inside.{outcome_among};
 
 use crate::marks::{Mark, Outcome, Why};
 
 // What the marks seen so far have among them.
 #[derive(Clone, Copy)]
-struct Tally {
+pub(crate) struct Tally {
     missing: bool,
     stamp_end: bool,
     memory: bool,
     greatest: u64,
 }
 
-fn with_mark(tally: Tally, mark: Mark) -> Tally
+impl Tally {
+    // What no mark at all has.
+    pub(crate) const NOTHING: Tally = Tally {
+        missing: false,
+        stamp_end: false,
+        memory: false,
+        greatest: 0,
+    };
+}
+
+// One more mark.
+pub(crate) fn with_mark(tally: Tally, mark: Mark) -> Tally
     ensures missing { result.missing ≡ (is_missing mark || tally.missing) }
     ensures stamp_end { result.stamp_end ≡ (is_stamp_end_fence mark || tally.stamp_end) }
     ensures memory { result.memory ≡ (is_memory_fence mark || tally.memory) }
@@ -47,12 +60,7 @@ fn tally_of(marks: &[Mark]) -> Tally
     ensures greatest { result.greatest ≡ greatest (map number_of marks.now) }
 {
     match marks.split_first() {
-        None => Tally {
-            missing: false,
-            stamp_end: false,
-            memory: false,
-            greatest: 0,
-        },
+        None => Tally::NOTHING,
         Some((mark, rest)) => with_mark(tally_of(rest), *mark),
     }
 }
@@ -63,7 +71,13 @@ pub fn outcome(marks: &[Mark]) -> Outcome
     requires { 0 < length marks.now }
     ensures { result ≡ outcome_of marks.now }
 {
-    let all = tally_of(marks);
+    outcome_of_tally(tally_of(marks))
+}
+
+// The outcome of marks that have this among them.
+pub(crate) fn outcome_of_tally(all: Tally) -> Outcome
+    ensures { result ≡ outcome_among all }
+{
     if all.missing {
         Outcome::Open
     } else if all.stamp_end {
@@ -72,5 +86,16 @@ pub fn outcome(marks: &[Mark]) -> Outcome
         Outcome::Gone(Why::Memory)
     } else {
         Outcome::Final(all.greatest)
+    }
+}
+
+// The number to which an outcome raises the clock.
+pub(crate) fn final_number(outcome: Outcome) -> u64
+    ensures { result ≡ final_number outcome }
+{
+    match outcome {
+        Outcome::Open => 0,
+        Outcome::Gone(_) => 0,
+        Outcome::Final(stamp) => stamp,
     }
 }

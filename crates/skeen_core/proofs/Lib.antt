@@ -1,0 +1,13 @@
+pub mod Order
+pub mod Lists
+pub mod Entries
+pub mod Delivery
+pub mod Stored
+pub mod Delivering
+pub mod Placing
+pub mod Adding
+pub mod Settling
+pub mod Settled
+pub mod RowMarks
+pub mod Marking
+pub mod Clients

@@ -1,0 +1,61 @@
+// A begun row: its marks, one after another, and the outcome that they have.
+ghost use Rattle.std.specs.Prelude.{◌≡◌, ◌+◌, ◌-◌, ◌<◌, ◌≤◌, ◌||◌, ◌==◌, map, length};
+ghost use Rattle.std.specs.List.{list_any};
+ghost use Rattle.log_node.specs.Sets.{has};
+ghost use Rattle.skeen_core.specs.Outcomes.{outcome_of, is_missing, is_stamp_end_fence, is_memory_fence};
+ghost use Rattle.skeen_core.specs.Outcomes.{number_of, greatest};
+ghost use Rattle.skeen_core.specs.Boards.{row_marks, marks_above};
+
+use crate::marks::{Mark, Outcome};
+use crate::outcomes::{Tally, outcome_of_tally, with_mark};
+use log_node::{Colours, Id};
+
+/// The most colours that a board may have.
+pub const MAX_COLOURS: usize = 16;
+
+/// A begun row: the id and the colours of its node, the mark of each colour, and the outcome that is kept for it.
+#[derive(Clone, Copy, Debug, PartialEq, Eq)]
+pub struct BoardRow {
+    pub id: Id,
+    pub colours: Colours,
+    /// By colour. `None` for a colour that the node lacks, too.
+    pub marks: [Mark; MAX_COLOURS],
+    /// `Open` as long as none is kept.
+    pub last: Outcome,
+}
+
+// Whether the set has the colour.
+fn has_colour(colours: Colours, colour: u8) -> bool
+    requires { colour < MAX_COLOURS }
+    ensures { result ≡ has colours colour }
+{
+    (colours.0 >> colour) % 2 == 1
+}
+
+// What the marks of the row's colours have among them, from a colour on.
+#[tactic(auto, unfolding(crate::specs::Boards::marks_above))]
+fn tally_from(row: &BoardRow, colour: u8) -> Tally
+    requires { colour ≤ MAX_COLOURS }
+    ensures missing { result.missing ≡ list_any is_missing (marks_above row.now colour) }
+    ensures stamp_end { result.stamp_end ≡ list_any is_stamp_end_fence (marks_above row.now colour) }
+    ensures memory { result.memory ≡ list_any is_memory_fence (marks_above row.now colour) }
+    ensures greatest { result.greatest ≡ greatest (map number_of (marks_above row.now colour)) }
+{
+    if colour as usize == MAX_COLOURS {
+        return Tally::NOTHING;
+    }
+    let rest = tally_from(row, colour + 1);
+    if has_colour(row.colours, colour) {
+        with_mark(rest, row.marks[colour as usize])
+    } else {
+        rest
+    }
+}
+
+// The outcome that the marks of the row's colours have.
+pub(crate) fn outcome_of_row(row: &BoardRow) -> Outcome
+    ensures { result ≡ outcome_of (row_marks row.now) }
+{
+    let _bits = row.colours.0;
+    outcome_of_tally(tally_from(row, 0))
+}
