@@ -2,7 +2,7 @@
 use Rattle.std.proofs.Common.{◌≡◌, ℕ, zero, suc, ◌+◌, ◌<◌, ◌≤◌, max, List, [], ◌∷◌, ◌++◌, length, take, Some, Bool, true, false, refl, subst, ap, sym, ◌∙◌, inl, inr, ◌⊎◌, arith, append_assoc, append-nil}
 use Rattle.std.specs.Prelude.{◌==◌, ◌||◌, slice_get, map, reverse}
 use mathlib.Core.List.{IsPrefix}
-use Rattle.std.specs.List.{flat_map}
+use Rattle.std.specs.List.{filter, flat_map}
 use Rattle.std.proofs.lemmas.Grind.{flat_map-append}
 use Rattle.std.proofs.lemmas.List.{map-append, reverse-append, reverse-reverse, length-append}
 use Rattle.std.proofs.lemmas.Bool.{true≢false}
@@ -11,7 +11,8 @@ use Rattle.log_node.specs.declared.ids.Key.{Key}
 use Rattle.log_node.specs.declared.ids.Counts.{Counts}
 use Rattle.log_node.specs.declared.node.Head.{Head}
 use Rattle.log_node.specs.Vectors.{at, vector, IsWithin, one_more}
-use Rattle.skeen_core.specs.Standings.{line_of}
+use Rattle.log_node.specs.Order.{key_below}
+use Rattle.skeen_core.specs.Standings.{Standing, is_delivered, line_of}
 use Rattle.col_core.specs.declared.Entry.{Entry}
 use Rattle.col_core.specs.History as History
 use Rattle.col_core.specs.History.{line, enters, has_entered}
@@ -21,7 +22,7 @@ use Rattle.col_core.specs.Legal.{IsColumnHistory}
 use Rattle.col_core.proofs.CutLaws.{cut-is_greatest, within}
 use Rattle.col_core.proofs.Basics.{by_test, if_true, if_false}
 use Rattle.col_core.proofs.Pasts.{entries, IsLawfulPast}
-use Rattle.col_core.proofs.Members.{In, in_line}
+use Rattle.col_core.proofs.Members.{In, in_line, Rises, rises, rises-filter}
 use Rattle.col_core.proofs.Growth.{line_later}
 use Rattle.col_core.proofs.LawfulPasts.{past_of, lawful_past, lawful_front, entries-of, shown_entered}
 
@@ -130,3 +131,29 @@ base_longer own regions region before (d ∷ ds) more = let h = base_longer own 
 
 pub base_grows : (own regions : ℕ) (ds more : List Dated) → IsWithin (base own regions ds) (base own regions (ds ++ more))
 base_grows own regions ds more = vector_grows (λ r. base_from own regions r [] ds) (λ r. base_from own regions r [] (ds ++ more)) (λ r. base_longer own regions r [] ds more)
+
+-- the keys of rising entries rise
+in_keys : (es : List Standing) (j : ℕ) (l : Key) → slice_get (map (λ (e : Standing). e.key) es) j ≡ Some l → (f : Standing) × In f es × (f.key ≡ l)
+in_keys [] j l h = absurd (let f : ⊥ = cc in f)
+in_keys (e ∷ es) zero l h = (e, inl refl, let s : Some e.key ≡ Some l = h in cc)
+in_keys (e ∷ es) (suc j) l h = let r = in_keys es j l h in (r.0, inr r.1, r.2)
+
+keys_rise : (es : List Standing) → Rises es → (i j : ℕ) (k l : Key) → i < j → slice_get (map (λ (e : Standing). e.key) es) i ≡ Some k → slice_get (map (λ (e : Standing). e.key) es) j ≡ Some l → key_below k l ≡ true
+unfolding Rises
+keys_rise [] h i j k l lt a b = absurd (let f : ⊥ = cc in f)
+keys_rise (e ∷ es) h zero zero k l lt a b = absurd (let f : ⊥ = omega (arith, lt) in f)
+keys_rise (e ∷ es) h zero (suc j) k l lt a b =
+    let r = in_keys es j l b in
+    let s : Some e.key ≡ Some k = a in
+    let first : e.key ≡ k = cc in
+    subst (λ (x : Key). key_below x l ≡ true) first (subst (λ (x : Key). key_below e.key x ≡ true) r.2 (h.0 r.0 r.1))
+keys_rise (e ∷ es) h (suc i) zero k l lt a b = absurd (let f : ⊥ = omega (arith, lt) in f)
+keys_rise (e ∷ es) h (suc i) (suc j) k l lt a b = keys_rise es h.1 i j k l (omega (arith, lt)) a b
+
+pub line_rises : (own regions : ℕ) (history : List Dated) → IsColumnHistory own regions history → (i j : ℕ) (k l : Key) → i < j
+    → slice_get (line (entries_of history)) i ≡ Some k → slice_get (line (entries_of history)) j ≡ Some l → key_below k l ≡ true
+line_rises own regions history h i j k l lt a b =
+    let es = entries (past_of history) in
+    let is : line (entries_of history) ≡ line_of es = ap line_of (entries-of (entries_of history)) in
+    keys_rise (filter (is_delivered es) es) (rises-filter (is_delivered es) es (rises (past_of history) (lawful_past own regions history h))) i j k l lt
+    (subst (λ (x : List Key). slice_get x i ≡ Some k) is a) (subst (λ (x : List Key). slice_get x j ≡ Some l) is b)

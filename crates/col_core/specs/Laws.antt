@@ -1,9 +1,10 @@
 -- What the definitions have for consequences, on which the layers above rest.
-use Rattle.std.specs.Prelude.{◌≡◌, ℕ, ◌≤◌, List, ◌++◌, length, Some, slice_get}
+use Rattle.std.specs.Prelude.{◌≡◌, IsTrue, ℕ, ◌<◌, ◌≤◌, List, ◌++◌, length, Some, slice_get}
 use mathlib.Core.List.{IsPrefix}
 use Rattle.log_node.specs.declared.ids.Id.{Id}
 use Rattle.log_node.specs.declared.ids.Key.{Key}
 use Rattle.log_node.specs.declared.ids.Counts.{Counts}
+use Rattle.log_node.specs.Order.{key_below}
 use Rattle.log_node.specs.Vectors.{IsWithin}
 use Rattle.col_core.specs.declared.Entry.{Entry}
 use Rattle.col_core.specs.History.{line}
@@ -73,3 +74,17 @@ pub record StaysTrue (old new : Log) : Type 0 where
 
 abbrev pub SeenStaysTrue : Type 0
 SeenStaysTrue = (old new : Log) → IsLater old new → StaysTrue old new
+
+-- A line rises in key, so no node stands in it twice.
+abbrev pub LinesRise : Type 0
+LinesRise = (own regions : ℕ) (history : List Dated) → IsColumnHistory own regions history
+    → (i j : ℕ) (k l : Key) → i < j → slice_get (line (entries_of history)) i ≡ Some k
+    → slice_get (line (entries_of history)) j ≡ Some l → IsTrue (key_below k l)
+
+-- A log whose histories and nodes begin as those of another is later, where its histories are lawful.
+abbrev pub GrowthIsLater : Type 0
+GrowthIsLater = (regions : ℕ) (old new : Log)
+    → ((region colour : ℕ) → IsPrefix (old.histories region colour) (new.histories region colour))
+    → ((client : ℕ) → IsPrefix (old.nodes client) (new.nodes client))
+    → ((region colour : ℕ) → IsColumnHistory region regions (dated region (new.histories region colour)))
+    → IsLater old new

@@ -1,5 +1,5 @@
 //! Laws of the definitions. Each function does nothing, and its contract is the law.
-ghost use Rattle.col_core.specs.Laws.{CutIsUnique, CutIsGreatest, DatesAreGreatest, DatesAreUnique, LinesGrow, ChainsGrow, ReachedStays, CutsGrow, PlayOrderIsUnique, SeenStaysTrue};
+ghost use Rattle.col_core.specs.Laws.{CutIsUnique, CutIsGreatest, DatesAreGreatest, DatesAreUnique, LinesGrow, ChainsGrow, ReachedStays, CutsGrow, GrowthIsLater, LinesRise, PlayOrderIsUnique, SeenStaysTrue};
 
 /// Two greatest vectors that can be reached are equal.
 pub fn cut_is_unique()
@@ -49,4 +49,14 @@ pub fn play_order_is_unique()
 /// What a client was told of a log stays true of a later one.
 pub fn seen_stays_true()
     ensures { SeenStaysTrue }
+{}
+
+/// The line of a lawful history rises in key.
+pub fn lines_rise()
+    ensures { LinesRise }
+{}
+
+/// A log whose lawful histories and nodes begin as those of another is later.
+pub fn growth_is_later()
+    ensures { GrowthIsLater }
 {}

@@ -370,13 +370,3 @@ next_agrees chains other same played to place g = record {
 
 pub none_agrees : (chains other : Chains) → Agree chains other → (played to : Counts) → IsNextPlace chains played to None → IsNextPlace other played to None
 none_agrees chains other same played to none = λ region head f. none region head (free_agrees chains other same played to region head f)
-
--- fewer are left to play
-pub fewer_left : (v to : Counts) (region : ℕ) → region < 4 → at v region < at to region
-    → (at to 0 - at (one_more v region) 0) + (at to 1 - at (one_more v region) 1) + (at to 2 - at (one_more v region) 2) + (at to 3 - at (one_more v region) 3)
-    < (at to 0 - at v 0) + (at to 1 - at v 1) + (at to 2 - at v 2) + (at to 3 - at v 3)
-fewer_left v to zero lt h = omega (arith, h)
-fewer_left v to (suc zero) lt h = omega (arith, h)
-fewer_left v to (suc (suc zero)) lt h = omega (arith, h)
-fewer_left v to (suc (suc (suc zero))) lt h = omega (arith, h)
-fewer_left v to (suc (suc (suc (suc r)))) lt h = absurd (let f : ⊥ = omega (arith, lt) in f)

@@ -6,7 +6,7 @@ use Rattle.col_core.specs.Computed.{dated}
 use Rattle.col_core.specs.PlayOrder.{Place, IsPlayOrder}
 use Rattle.plain_log.specs.Inside.{chain_at, with_cuts}
 use Rattle.plain_log.proofs.FourChains.{Agree}
-use Rattle.plain_log.proofs.PlayedTo.{IsPlayedTo, nothing_played, plays_on, all_played, next_agrees, none_agrees, fewer_left}
+use Rattle.plain_log.proofs.PlayedTo.{IsPlayedTo, nothing_played, plays_on, all_played, next_agrees, none_agrees}
 use Rattle.plain_log.proofs.orders.order_of.Goals as goal
 
 pub loop-place-init : goal.loop-place-init
