@@ -22,7 +22,8 @@ CutIsUnique = (chains : Chains) (v w : Counts) → IsGreatestReachable chains v 
 abbrev pub CutIsGreatest : Type 0
 CutIsGreatest = (own : ℕ) (history : List Dated) → IsGreatestReachable (chain own history) (cut own history)
 
--- The cuts that are computed for a history are the greatest vectors that could be reached after each of its beginnings.
+-- The cuts that are computed for a history are the greatest vectors that could be reached after each of its
+-- beginnings.
 abbrev pub DatesAreGreatest : Type 0
 DatesAreGreatest = (own : ℕ) (history : List Entry) → IsDated own history (dated own history)
 
@@ -60,8 +61,8 @@ abbrev pub PlayOrderIsUnique : Type 0
 PlayOrderIsUnique = (chains : Chains) (from to : Counts) (one other : List Place) → Reachable chains to
     → IsPlayOrder chains from to one → IsPlayOrder chains from to other → one ≡ other
 
--- What a client was told of a log stays true of a later one: the event at a place, the key at a position of a line, what a
--- look after some number of events saw, and the text of an id.
+-- What a client was told of a log stays true of a later one: the event at a place, the key at a position of a line,
+-- what a look after some number of events saw, and the text of an id.
 pub record StaysTrue (old new : Log) : Type 0 where
   pub event : (region colour place : ℕ) (e : Entry)
       → slice_get (old.histories region colour) place ≡ Some e → slice_get (new.histories region colour) place ≡ Some e

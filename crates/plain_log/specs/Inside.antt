@@ -1,4 +1,4 @@
--- What the functions of this crate say of each other: a history beside its cuts, four chains, and the next place in play.
+-- What the functions of this crate say of each other: a history beside its cuts, four chains, the next place in play.
 use Rattle.std.specs.Prelude.{◌≡◌, Bool, false, ℕ, zero, suc, ◌<◌, ◌==◌, nat_lt, ◌&&◌, min, List, [], ◌∷◌, map, Option, Some, None, slice_get, if◌then◌else◌}
 use Rattle.std.specs.List.{fold, flat_map, range_with_len}
 use Rattle.log_node.specs.declared.ids.Key.{Key}

@@ -103,7 +103,8 @@ pub(crate) fn chains_under(
     cuts: &[Counts],
 ) -> Result<Chains, AllocError>
     requires { length cuts.now ≡ length journal.now }
-    ensures { IfOk result (λ chains. (r : ℕ) → r < 4 → chain_at chains r ≡ chain own (with_cuts journal.now cuts.now) r) }
+    ensures { IfOk result (λ chains. (region : ℕ) → region < 4
+        → chain_at chains region ≡ chain own (with_cuts journal.now cuts.now) region) }
 {
     Ok(Chains {
         first: chain_under(alloc, own, journal, cuts, 0)?,

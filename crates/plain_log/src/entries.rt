@@ -1,5 +1,5 @@
-// The entries of a column: its line and its queue, by Skeen's multicast as in Birman and Joseph, "Reliable Communication in
-// the Presence of Failures" (1987).
+// The entries of a column, its line and its queue. Delivery is by Skeen's multicast, as in Birman and Joseph, "Reliable
+// Communication in the Presence of Failures" (1987).
 ghost use Rattle.std.specs.Prelude.{◌≡◌, ◌≤◌, ◌||◌, length, IfOk, OnOk, not};
 ghost use Rattle.std.specs.List.{list_all, prefix_len};
 ghost use Rattle.log_node.specs.Order.{key_below};
@@ -46,7 +46,8 @@ fn place_of(standings: &[Standing], key: Key) -> usize
 
 // Puts an entry in at its place.
 fn put(standings: &mut Vec<Standing>, key: Key, settled: bool) -> Result<(), AllocError>
-    ensures { OnOk result (standings.new.items ≡ with_entry (record { key = key; settled = settled }) standings.old.items) }
+    ensures { OnOk result
+        (standings.new.items ≡ with_entry (record { key = key; settled = settled }) standings.old.items) }
 {
     let place = place_of(standings.as_slice(), key);
     standings.insert(place, Standing { key, settled })?;

@@ -80,8 +80,8 @@ fn next_place(chains: &Chains, played: Counts, to: Counts) -> Option<Place>
     }
 }
 
-/// The nodes from one vector to another in the order in which they are played, where the second can be reached and the first
-/// is within it.
+/// The nodes from one vector to another in the order in which they are played, where the second can be reached and the
+/// first is within it.
 pub fn order_of(
     alloc: Global,
     own: u8,
