@@ -42,9 +42,11 @@ lawful_before own regions before more h = lawful_front (past_of more) (past_of b
 pub line_grows : (own regions : ℕ) (before more : List Dated) → IsColumnHistory own regions (before ++ more) → IsPrefix (line (entries_of before)) (line (entries_of (before ++ more)))
 line_grows own regions before more h =
     let l : IsLawfulPast (past_of more ++ past_of before) = subst IsLawfulPast (past_of-append before more) (lawful_past own regions (before ++ more) h) in
-    let r = line_later (past_of more) (past_of before) l in
-    (r.0, ap (λ es. line_of es ++ r.0) (entries-of (entries_of before))
-        ∙ (sym r.1 ∙ (ap (λ (p : List Entry). line_of (entries p)) (sym (past_of-append before more)) ∙ sym (ap line_of (entries-of (entries_of (before ++ more)))))))
+    let r = line_later (past_of more) (past_of before) l in (
+      r.0,
+      ap (λ es. line_of es ++ r.0) (entries-of (entries_of before))
+          ∙ (sym r.1 ∙ (ap (λ (p : List Entry). line_of (entries p)) (sym (past_of-append before more)) ∙ sym (ap line_of (entries-of (entries_of (before ++ more)))))),
+    )
 
 -- the ids of a line have entered
 pub line_entered : (own regions : ℕ) (before more : List Dated) → IsColumnHistory own regions (before ++ more) → (k : Key) → In k (line (entries_of before)) → has_entered k.id (entries_of before) ≡ true

@@ -95,7 +95,7 @@ same_key-sym a b e =
     let p = and_parts (a.stamp == b.stamp) (same_id a.id b.id) e in
     let q = and_parts (a.id.client == b.id.client) (a.id.count == b.id.count) p.1 in
     and_from (b.stamp == a.stamp) (same_id b.id a.id) (eq-eqb b.stamp a.stamp (sym (eqb-true a.stamp b.stamp p.0)))
-        (and_from (b.id.client == a.id.client) (b.id.count == a.id.count) (eq-eqb b.id.client a.id.client (sym (eqb-true a.id.client b.id.client q.0))) (eq-eqb b.id.count a.id.count (sym (eqb-true a.id.count b.id.count q.1))))
+    (and_from (b.id.client == a.id.client) (b.id.count == a.id.count) (eq-eqb b.id.client a.id.client (sym (eqb-true a.id.client b.id.client q.0))) (eq-eqb b.id.count a.id.count (sym (eqb-true a.id.count b.id.count q.1))))
 
 -- of two nodes of different regions one goes first
 pub one_goes_first : (a b : Head) (p q : Place) → p.region ≢ q.region → (goes_first a p b q ≡ true) ⊎ (goes_first b q a p ≡ true)

@@ -14,7 +14,6 @@ four_numbers : {chains : Chains} {v : Counts} → Reachable chains v → v ≡ v
 four_numbers nothing = refl
 four_numbers (next region head before lt there needs) = refl
 
-
 four : ℕ → ℕ → ℕ → ℕ → Counts
 four a b c d = record { 0 = a ∷ b ∷ c ∷ d ∷ [] }
 
