@@ -22,7 +22,15 @@ pub record Kept : Type 0 where
 
 -- what each client keeps before its first command
 abbrev pub nothing_kept : Kept
-nothing_kept = record { floor = 0; starts = λ _. zeros; seen = λ _ _. 0; known = λ _. 0; named = λ _ _. []; ids = 0; rows = 0 }
+nothing_kept = record {
+  floor = 0;
+  starts = λ _. zeros;
+  seen = λ _ _. 0;
+  known = λ _. 0;
+  named = λ _ _. [];
+  ids = 0;
+  rows = 0;
+}
 
 -- the function, with another value at one number
 abbrev pub updated : {A : Type 0} → (ℕ → A) → ℕ → A → ℕ → A

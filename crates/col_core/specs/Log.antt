@@ -19,7 +19,8 @@ pub record Log : Type 0 where
 -- a later log: each history and each own line begins as before, and so do each client's nodes
 pub record IsLater (old new : Log) : Type 0 where
   pub histories : (region colour : ℕ) → IsPrefix (old.histories region colour) (new.histories region colour)
-  pub lines : (region colour : ℕ) → IsPrefix (line (old.histories region colour)) (line (new.histories region colour))
+  pub lines : (region colour : ℕ)
+      → IsPrefix (line (old.histories region colour)) (line (new.histories region colour))
   pub nodes : (client : ℕ) → IsPrefix (old.nodes client) (new.nodes client)
 
 -- the first events of a column, each with the cut before it
@@ -28,9 +29,11 @@ first log region colour count = dated region (take count (log.histories region c
 
 -- the node with this id was appended, and has this text
 abbrev pub HasText : Log → Id → List ℕ → Type 0
-HasText log id text = (node : Node) × (slice_get (log.nodes id.client) id.count ≡ Some node) × (node.id ≡ id) × (node.text ≡ text)
+HasText log id text =
+    (node : Node) × (slice_get (log.nodes id.client) id.count ≡ Some node) × (node.id ≡ id) × (node.text ≡ text)
 
--- The replies of its maker name such an event. The others are steps of appends to several colours, which helpers may take.
+-- The replies of its maker name such an event. The others are steps of appends to several colours, which helpers may
+-- take.
 abbrev pub is_named : Event → Bool
 is_named (Single _ _ _) = true
 is_named (Propose _ _ _) = false
@@ -44,7 +47,9 @@ is_named (Trim _) = true
 abbrev pub places_from : ℕ → ℕ → List Entry → List ℕ
 places_from place client [] = []
 places_from place client (e ∷ es) =
-    if (e.by == client) && is_named e.event then place ∷ places_from (place + 1) client es else places_from (place + 1) client es
+    if (e.by == client) && is_named e.event then place ∷ places_from (place + 1) client es
+    else places_from (place + 1) client es
 
+-- the places of the named events of a client
 abbrev pub places_of : ℕ → List Entry → List ℕ
 places_of client history = places_from 0 client history

@@ -4,6 +4,7 @@ use Rattle.std.specs.List.{filter, range_with_len}
 use Rattle.std.specs.Int.{bit_at}
 use Rattle.log_node.specs.declared.ids.Colours.{Colours}
 
+-- the bit of the colour is set
 abbrev pub has : Colours → ℕ → Bool
 has set colour = bit_at set.0 colour == 1
 

@@ -1,0 +1,60 @@
+-- What was seen of a log stays true of a later log.
+use Rattle.std.proofs.Common.{◌≡◌, ℕ, ◌≤◌, List, [], ◌++◌, length, take, Some, refl, subst, ap, sym, ◌∙◌, arith}
+use Rattle.std.specs.Prelude.{slice_get}
+use mathlib.Core.List.{IsPrefix}
+use Rattle.std.proofs.lemmas.List.{take-append-le}
+use Rattle.std.proofs.lemmas.Grind.{fold-append}
+use Rattle.log_node.specs.declared.ids.Id.{Id}
+use Rattle.log_node.specs.declared.ids.Key.{Key}
+use Rattle.log_node.specs.declared.node.Node.{Node}
+use Rattle.col_core.specs.declared.Entry.{Entry}
+use Rattle.col_core.specs.History.{line}
+use Rattle.col_core.specs.Cuts.{Dated}
+use Rattle.col_core.specs.Computed.{dated}
+use Rattle.col_core.specs.Log.{Log, IsLater, first, HasText}
+use Rattle.col_core.specs.Legal.{IsColumnHistory}
+use Rattle.col_core.specs.Cuts.{entries_of}
+use Rattle.col_core.proofs.ChainGrowth.{slice_longer, line_grows}
+use Rattle.col_core.proofs.DatedLaws.{later, with_date, fold-later, dated-is_dated}
+
+stays_at : {A : Type 0} (xs ys : List A) → IsPrefix xs ys → (n : ℕ) (x : A) → slice_get xs n ≡ Some x → slice_get ys n ≡ Some x
+stays_at xs ys p n x h = subst (λ l. slice_get l n ≡ Some x) p.1 (slice_longer xs p.0 n x h)
+
+pub event_stays : (old new : Log) → IsLater old new → (region colour place : ℕ) (e : Entry) → slice_get (old.histories region colour) place ≡ Some e → slice_get (new.histories region colour) place ≡ Some e
+event_stays old new l region colour place e h = stays_at (old.histories region colour) (new.histories region colour) (l.histories region colour) place e h
+
+pub position_stays : (old new : Log) → IsLater old new → (region colour position : ℕ) (key : Key) → slice_get (line (old.histories region colour)) position ≡ Some key → slice_get (line (new.histories region colour)) position ≡ Some key
+position_stays old new l region colour position key h = stays_at (line (old.histories region colour)) (line (new.histories region colour)) (l.lines region colour) position key h
+
+pub look_stays : (old new : Log) → IsLater old new → (region colour events : ℕ) → events ≤ length (old.histories region colour) → first new region colour events ≡ first old region colour events
+look_stays old new l region colour events le =
+    let p = l.histories region colour in
+    ap (dated region) (ap (take events) (sym p.1) ∙ take-append-le events (old.histories region colour) p.0 le)
+
+pub text_stays : (old new : Log) → IsLater old new → (id : Id) (text : List ℕ) → HasText old id text → HasText new id text
+text_stays old new l id text h = (h.0, stays_at (old.nodes id.client) (new.nodes id.client) (l.nodes id.client) id.count h.0 h.1, h.2, h.3)
+
+-- the dates of a longer history begin as before
+dates_longer : (own : ℕ) (history more : List Entry) → dated own (history ++ more) ≡ dated own history ++ later own (dated own history) more
+dates_longer own history more = fold-append (with_date own) [] history more ∙ fold-later own (dated own history) more
+
+entries_dated : (own : ℕ) (history : List Entry) → entries_of (dated own history) ≡ history
+entries_dated own history = (dated-is_dated own history).same
+
+line_longer : (own regions : ℕ) (history more : List Entry) → IsColumnHistory own regions (dated own (history ++ more)) → IsPrefix (line history) (line (history ++ more))
+line_longer own regions history more lawful =
+    let g = line_grows own regions (dated own history) (later own (dated own history) more) (subst (IsColumnHistory own regions) (dates_longer own history more) lawful) in
+    let whole : entries_of (dated own history ++ later own (dated own history) more) ≡ history ++ more = ap entries_of (sym (dates_longer own history more)) ∙ entries_dated own (history ++ more) in
+    (g.0, ap (λ (h : List Entry). line h ++ g.0) (sym (entries_dated own history)) ∙ (g.1 ∙ ap line whole))
+
+pub later_by_growth : (regions : ℕ) (old new : Log)
+    → ((region colour : ℕ) → IsPrefix (old.histories region colour) (new.histories region colour)) → ((client : ℕ) → IsPrefix (old.nodes client) (new.nodes client))
+    → ((region colour : ℕ) → IsColumnHistory region regions (dated region (new.histories region colour))) → IsLater old new
+later_by_growth regions old new histories nodes lawful = record {
+  histories = histories;
+  lines = λ region colour.
+      let p = histories region colour in
+      subst (λ (h : List Entry). IsPrefix (line (old.histories region colour)) (line h)) p.1
+      (line_longer region regions (old.histories region colour) p.0 (subst (λ (h : List Entry). IsColumnHistory region regions (dated region h)) (sym p.1) (lawful region colour)));
+  nodes = nodes;
+}

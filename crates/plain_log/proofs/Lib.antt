@@ -1,0 +1,5 @@
+pub mod Placing
+pub mod FourChains
+pub mod Dates
+pub mod Playing
+pub mod PlayedTo
