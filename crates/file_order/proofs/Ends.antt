@@ -78,7 +78,7 @@ shown_is script state region colour small grown =
     let column = state.columns region colour in
     let lines : map (λ (item : PlacedNode). item.head.key) column.nodes ≡ line column.history = keys_of column.nodes ∙ sym own.line_is in
     let none : [] ≡ map (λ (s : Standing). let q : QueueKey = record { key = s.key; settled = s.settled } in q) (queue_of (entries column.history)) =
-        sym (ap (map (λ (s : Standing). let q : QueueKey = record { key = s.key; settled = s.settled } in q)) own.queue_is) in
+    sym (ap (map (λ (s : Standing). let q : QueueKey = record { key = s.key; settled = s.settled } in q)) own.queue_is) in
     let cuts : alone region (length column.nodes) ≡ cut region (dated region column.history) = sym (own.cut_is ∙ ap (alone region) (length-heads column.nodes)) in
     let bases : zeros ≡ base region script.shape.regions (dated region column.history) = sym (own.base_is script.shape.regions) in
     cc (lines, none, cuts, bases)
@@ -90,17 +90,17 @@ module _ (script : Script) (fits : IsFitting script) (built : All (λ (c : Comma
   all_columns = flat_map_range_same (region_shown script columns) (λ region. map (column_report script run.state region) (range_with_len 0 script.shape.colours)) 0 script.shape.regions
       (λ region low high. map_range_same (λ colour. column_shown script region colour (column_at columns region colour)) (column_report script run.state region) 0 script.shape.colours
       (λ colour low' high'.
-        let few = fits.shape.few_regions in
-        let few_colours = fits.shape.few_colours in
-        let within : region < script.shape.regions = omega (arith, high) in
-        ap (λ (x : ColumnState). column_shown script region colour x) (run.columns_are region colour within (omega (arith, few_colours, high')))
-        ∙ shown_is script run.state region colour (omega (arith, few, within)) (((run_of script fits built (length script.commands) run.state run.leads).columns region colour).grown)))
+      let few = fits.shape.few_regions in
+      let few_colours = fits.shape.few_colours in
+      let within : region < script.shape.regions = omega (arith, high) in
+      ap (λ (x : ColumnState). column_shown script region colour x) (run.columns_are region colour within (omega (arith, few_colours, high')))
+      ∙ shown_is script run.state region colour (omega (arith, few, within)) (((run_of script fits built (length script.commands) run.state run.leads).columns region colour).grown)))
 
   all_clients : map (client_shown clients) (enumerate_from 0 script.clients) ≡ map (λ (c : ℕ × List ℕ). let r : ClientReport = record { name = c.1; replies = run.state.replies c.0 } in r) (enumerate_from 0 script.clients)
   all_clients = numbered_same (client_shown clients) (λ (c : ℕ × List ℕ). let r : ClientReport = record { name = c.1; replies = run.state.replies c.0 } in r) 0 script.clients
       (λ number name low high.
-        let many = fits.clients in
-        ap (λ (l : List ReplyLine). let r : ClientReport = record { name = name; replies = l } in r) ((run.clients_are number (omega (arith, many, high))).same_replies))
+      let many = fits.clients in
+      ap (λ (l : List ReplyLine). let r : ClientReport = record { name = name; replies = l } in r) ((run.clients_are number (omega (arith, many, high))).same_replies))
 
   -- the report shows the state to which all commands lead
   pub closes : (report : Report) → report ≡ report_shown script columns clients → IsStepReport script report

@@ -77,7 +77,7 @@ module _ (script : Script) (fits : IsFitting script) (built : All (λ (c : Comma
       let few = fits.shape.few_regions in
       let at_home : home script u < 4 = omega arith in
       let same : from.0 ≡ slice_index client.starts colour = same-alone (home script u) from.0 (slice_index client.starts colour) at_home
-          (sym from.2 ∙ (sym (ap (λ (c : ClientState). c.starts colour) mine.mine_is) ∙ is.starts colour lc)) in
+      (sym from.2 ∙ (sym (ap (λ (c : ClientState). c.starts colour) mine.mine_is) ∙ is.starts colour lc)) in
       let within = from.1 in
       omega (arith, same, within)
 
@@ -174,7 +174,7 @@ module _ (script : Script) (n : ℕ) (columns : List ColumnState) (clients : Lis
         subst (IsClientOf (home script m) (after.clients m) (after.replies m)) (sym (get_or-set_other clients u m (with_reply client' reply) (new_client 0) other))
         (subst (λ (mine : ClientState). IsClientOf (home script m) mine (after.replies m) (client_at clients m)) (sym (made.others m other))
         (subst (λ (l : List ReplyLine). IsClientOf (home script m) (state.clients m) l (client_at clients m))
-            (sym (made.replies m ∙ updated-other state.replies u (state.replies u ++ reply ∷ []) m other)) (run.clients_are m h)))
+        (sym (made.replies m ∙ updated-other state.replies u (state.replies u ++ reply ∷ []) m other)) (run.clients_are m h)))
 
   -- the rooms after the reply
   more_asked : (m : ℕ) → asks m (drop n script.commands) ≡ cond (command.client == m) 1 0 + asks m (drop (n + 1) script.commands)

@@ -33,7 +33,9 @@ pub fn append(
 {
     let last = column.clock().max(client.floor());
     if last == MAX_STAMP {
-        return Ok(Answer::StampEnd { colour: request.colour });
+        return Ok(Answer::StampEnd {
+            colour: request.colour,
+        });
     }
     let stamp = last + 1;
     let caller = client.caller(request.client, request.region, request.colour);

@@ -40,12 +40,7 @@ pub fn list_of_one<T: Drop>(alloc: Global, item: T) -> Result<ListOf<T>, AllocEr
     Ok(list)
 }
 
-fn node_of(
-    alloc: Global,
-    caller: Caller,
-    colours: Colours,
-    text: &Text,
-) -> Result<Node, AllocError>
+fn node_of(alloc: Global, caller: Caller, colours: Colours, text: &Text) -> Result<Node, AllocError>
     ensures { IfOk result (λ node. node ≡ node_of caller colours text.now) }
 {
     Ok(Node {

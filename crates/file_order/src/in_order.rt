@@ -10,8 +10,8 @@ ghost use Rattle.file_order.specs.Run.{asks, IsRunAt};
 
 use crate::answers::{answer, reply_of};
 use crate::client::Client;
-use crate::reports::report;
 use crate::column::Column;
+use crate::reports::report;
 use crate::request::PLACES;
 use report_text::Report;
 use script_text::{Command, Script};

@@ -7,8 +7,8 @@ ghost use Rattle.file_order.specs.Meaning.{is_built};
 
 use super::*;
 use col_core::{Entry, Event};
-use log_node::{At, Colours, Counts, Id, Key, ListOf, Names, Shape, Text};
-use report_text::{Answer, PointPiece, ReplyLine, SyncPiece};
+use log_node::{At, Colours, Counts, Id, Item, Key, ListOf, Names, Shape, Text};
+use report_text::{Answer, ColumnReport, PointPiece, ReplyLine, SyncPiece};
 use script_text::{Command, Script, What};
 use std::alloc::{AllocError, Global};
 use std::process::Abort;
@@ -88,7 +88,13 @@ fn id(client: u8, count: u64) -> Id {
     Id { client, count }
 }
 
-fn check_stood(rt: &impl Abort, reply: &ReplyLine, want_stamp: u64, place: u64, want_position: u64) {
+fn check_stood(
+    rt: &impl Abort,
+    reply: &ReplyLine,
+    want_stamp: u64,
+    place: u64,
+    want_position: u64,
+) {
     let want = PointPiece {
         colour: 0,
         at: At::Event(place),
@@ -132,27 +138,78 @@ fn check_single(rt: &impl Abort, entry: &Entry, want: Id, want_floor: u64, want_
     }
 }
 
+fn check_played(rt: &impl Abort, nodes: &[Item]) {
+    match nodes {
+        [node] => {
+            assert_eq!(rt;
+                node.head.key,
+                Key {
+                    stamp: 1,
+                    id: id(0, 0)
+                }
+            );
+            assert_eq!(rt; node.node().text.as_bytes(), b"hi".as_slice());
+        }
+        _ => assert!(rt; false),
+    }
+}
+
+fn check_a(rt: &impl Abort, replies: &[ReplyLine]) {
+    match replies {
+        [first, played, last] => {
+            check_stood(rt, first, 1, 0, 0);
+            check_synced(rt, played, 1, [1, 0, 0, 0]);
+            check_played(rt, played.nodes.as_slice());
+            check_stood(rt, last, 2, 1, 1);
+        }
+        _ => assert!(rt; false),
+    }
+}
+
+fn check_b(rt: &impl Abort, replies: &[ReplyLine]) {
+    match replies {
+        [played, last] => {
+            check_synced(rt, played, 0, [0; 4]);
+            check_stood(rt, last, 1, 0, 0);
+        }
+        _ => assert!(rt; false),
+    }
+}
+
+fn check_r(rt: &impl Abort, column: &ColumnReport) {
+    assert_eq!(rt; column.region_name.as_bytes(), b"r".as_slice());
+    assert_eq!(rt; column.clock, 2);
+    assert_eq!(rt; column.cut, Counts([2, 0, 0, 0]));
+    match column.journal.as_slice() {
+        [first, last] => {
+            check_single(rt, first, id(0, 0), 0, [0; 4]);
+            check_single(rt, last, id(0, 1), 1, [1, 0, 0, 0]);
+        }
+        _ => assert!(rt; false),
+    }
+}
+
+fn check_s(rt: &impl Abort, column: &ColumnReport) {
+    assert_eq!(rt; column.region_name.as_bytes(), b"s".as_slice());
+    assert_eq!(rt; column.clock, 1);
+    assert_eq!(rt; column.cut, Counts([0, 1, 0, 0]));
+    match column.journal.as_slice() {
+        [only] => check_single(rt, only, id(1, 0), 0, [0; 4]),
+        _ => assert!(rt; false),
+    }
+}
+
 #[test]
 fn each_client_plays_its_own_region(rt: HostRuntime) -> Result<(), Fail> {
     let script = two_clients(rt.alloc())?;
     let report = step(rt.alloc(), &script)?;
-    assert_eq!(rt; report.clients.len(), 2);
-    assert!(rt; report.rows.is_empty());
-    let a = report.clients.get(0).ok_or("no client")?;
-    let b = report.clients.get(1).ok_or("no client")?;
-    assert_eq!(rt; a.name.as_bytes(), b"a".as_slice());
-    assert_eq!(rt; a.replies.len(), 3);
-    assert_eq!(rt; b.replies.len(), 2);
-    check_stood(&rt, a.replies.get(0).ok_or("no reply")?, 1, 0, 0);
-    let synced = a.replies.get(1).ok_or("no reply")?;
-    check_synced(&rt, synced, 1, [1, 0, 0, 0]);
-    assert_eq!(rt; synced.nodes.len(), 1);
-    let played = synced.nodes.get(0).ok_or("no node")?;
-    assert_eq!(rt; played.head.key, Key { stamp: 1, id: id(0, 0) });
-    assert_eq!(rt; played.node().text.as_bytes(), b"hi".as_slice());
-    check_stood(&rt, a.replies.get(2).ok_or("no reply")?, 2, 1, 1);
-    check_synced(&rt, b.replies.get(0).ok_or("no reply")?, 0, [0; 4]);
-    check_stood(&rt, b.replies.get(1).ok_or("no reply")?, 1, 0, 0);
+    match report.clients.as_slice() {
+        [a, b] => {
+            check_a(&rt, a.replies.as_slice());
+            check_b(&rt, b.replies.as_slice());
+        }
+        _ => assert!(rt; false),
+    }
     Ok(())
 }
 
@@ -160,19 +217,12 @@ fn each_client_plays_its_own_region(rt: HostRuntime) -> Result<(), Fail> {
 fn columns_are_told_region_by_region(rt: HostRuntime) -> Result<(), Fail> {
     let script = two_clients(rt.alloc())?;
     let report = step(rt.alloc(), &script)?;
-    assert_eq!(rt; report.columns.len(), 2);
-    let r = report.columns.get(0).ok_or("no column")?;
-    let s = report.columns.get(1).ok_or("no column")?;
-    assert_eq!(rt; r.region_name.as_bytes(), b"r".as_slice());
-    assert_eq!(rt; s.region_name.as_bytes(), b"s".as_slice());
-    assert_eq!(rt; r.clock, 2);
-    assert_eq!(rt; s.clock, 1);
-    assert_eq!(rt; r.cut, Counts([2, 0, 0, 0]));
-    assert_eq!(rt; s.cut, Counts([0, 1, 0, 0]));
-    assert_eq!(rt; r.journal.len(), 2);
-    check_single(&rt, r.journal.get(0).ok_or("no entry")?, id(0, 0), 0, [0; 4]);
-    check_single(&rt, r.journal.get(1).ok_or("no entry")?, id(0, 1), 1, [1, 0, 0, 0]);
-    let line = [Key { stamp: 1, id: id(0, 0) }, Key { stamp: 2, id: id(0, 1) }];
-    assert_eq!(rt; r.line.as_slice(), line.as_slice());
+    match report.columns.as_slice() {
+        [r, s] => {
+            check_r(&rt, r);
+            check_s(&rt, s);
+        }
+        _ => assert!(rt; false),
+    }
     Ok(())
 }

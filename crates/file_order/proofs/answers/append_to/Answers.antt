@@ -18,7 +18,7 @@ below region colour place n is small many = omega (arith, is, small, many)
 pub index_mut-column-requires : goal.index_mut-column-requires
 index_mut-column-requires c =
     let lt = below c.args.region c.only_member.result c.place.result (length c.args.columns.now.items) c.place.ensures
-        (only_below (members c.args.colours) c.only_member.result 16 c.only_member.ensures c.requires.colour) c.requires.range.column_count in
+    (only_below (members c.args.colours) c.only_member.result 16 c.only_member.ensures c.requires.colour) c.requires.range.column_count in
     let ok = c.args.columns.now.ok in
     omega (arith, lt, ok)
 
@@ -26,8 +26,8 @@ pub append-requires-clause-clock : goal.append-requires-clause-clock
 append-requires-clause-clock c =
     let small = only_below (members c.args.colours) c.only_member.result 16 c.only_member.ensures c.requires.colour in
     let is = read_at c.args.columns.now.items c.args.region c.only_member.result c.place.result c.index_mut-column.result.now c.place.ensures
-        (below c.args.region c.only_member.result c.place.result (length c.args.columns.now.items) c.place.ensures small c.requires.range.column_count)
-        c.index_mut-column.ensures.value in
+    (below c.args.region c.only_member.result c.place.result (length c.args.columns.now.items) c.place.ensures small c.requires.range.column_count)
+    c.index_mut-column.ensures.value in
     subst (λ (x : ColumnState). clock x.history ≤ last_stamp) (sym is) (c.requires.range.clocks c.only_member.result small)
 
 on_err : {T E : Type 0} (r : Result T E) (P : Type 0) → P → OnErr r P
@@ -40,15 +40,15 @@ returns-in_err-answer-clause-err c =
     on_err c.from_residual.result _ (
       e.0,
       ap (set c.args.columns.now.items c.place.result) (e.1 ∙ c.index_mut-column.ensures.value)
-      ∙ set-get_or c.args.columns.now.items c.place.result c.index_mut-column.result.now,
+          ∙ set-get_or c.args.columns.now.items c.place.result c.index_mut-column.result.now,
     )
 
 pub returns-clause-ok : goal.returns-clause-ok
 returns-clause-ok c =
     let small = only_below (members c.args.colours) c.only_member.result 16 c.only_member.ensures c.requires.colour in
     let is = read_at c.args.columns.now.items c.args.region c.only_member.result c.place.result c.index_mut-column.result.now c.place.ensures
-        (below c.args.region c.only_member.result c.place.result (length c.args.columns.now.items) c.place.ensures small c.requires.range.column_count)
-        c.index_mut-column.ensures.value in
+    (below c.args.region c.only_member.result c.place.result (length c.args.columns.now.items) c.place.ensures small c.requires.range.column_count)
+    c.index_mut-column.ensures.value in
     record {
       colour = c.only_member.result;
       column = c.append.new.column;

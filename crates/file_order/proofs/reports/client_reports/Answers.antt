@@ -27,7 +27,7 @@ loop-number-preserved c =
       reports_are = c.in_ok-push.ensures.ok
           ∙ (ap (λ (l : List ClientReport). l ++ record { name = c.in_ok-copied.field-0; replies = c.take_replies.result } ∷ []) was.reports_are
           ∙ (ap (λ (r : ClientReport). map (client_shown c.args.clients.items) (enumerate_from 0 (take number c.args.names.now)) ++ r ∷ [])
-              (shown c.in_ok-copied.field-0 c.name-item.result c.take_replies.result (client_at c.args.clients.items number).replies (c.in_ok-copied.ensures ∙ c.as_bytes.ensures) replies)
+          (shown c.in_ok-copied.field-0 c.name-item.result c.take_replies.result (client_at c.args.clients.items number).replies (c.in_ok-copied.ensures ∙ c.as_bytes.ensures) replies)
           ∙ sym (numbered_more (client_shown c.args.clients.items) c.args.names.now number c.name-item.result within name_is)));
       count = length-set clients number c.take_replies.new.self ∙ was.count;
       others = λ m later. get_or-set_other clients number m c.take_replies.new.self (new_client 0) (λ e. omega (arith, e, later)) ∙ was.others m (omega (arith, later));

@@ -12,8 +12,8 @@ loop-region-preserved c =
     let region = c.loop-region.region in
     let was = c.loop-region.invariant in
     let same = map_range_same (λ (k : ℕ). column_shown script region k (column_at c.loop-region.columns.items region k))
-        (λ (k : ℕ). column_shown script region k (column_at c.args.columns.items region k)) 0 script.shape.colours
-        (λ k low high. ap (λ (x : ColumnState). column_shown script region k x) (was.others region k (let few = c.requires.few in omega (arith, few, high)) (omega arith))) in
+    (λ (k : ℕ). column_shown script region k (column_at c.args.columns.items region k)) 0 script.shape.colours
+    (λ k low high. ap (λ (x : ColumnState). column_shown script region k x) (was.others region k (let few = c.requires.few in omega (arith, few, high)) (omega arith))) in
     record {
       reports_are = c.in_ok-push_region.ensures.ok
           ∙ (ap (λ (l : List ColumnReport). l ++ region_shown script c.loop-region.columns.items region) was.reports_are

@@ -14,10 +14,10 @@ loop-colour-preserved c =
     let colour = c.loop-colour.colour in
     let was = c.loop-colour.invariant in
     let range = below region colour c.place.result script.shape.colours (length c.loop-colour.columns.items) (length c.args.columns.now.items)
-        c.place.ensures c.loop-colour-test.true c.requires.few c.requires.columns was.count in
+    c.place.ensures c.loop-colour-test.true c.requires.few c.requires.columns was.count in
     let column = c.replace-column.ensures.value
-        ∙ (read_at c.loop-colour.columns.items region colour c.place.result c.index_mut.result.now c.place.ensures range.1 c.index_mut.ensures.value
-        ∙ was.others region colour range.0 (inr (omega arith))) in
+    ∙ (read_at c.loop-colour.columns.items region colour c.place.result c.index_mut.result.now c.place.ensures range.1 c.index_mut.ensures.value
+    ∙ was.others region colour range.0 (inr (omega arith))) in
     record {
       reports_are = region_more (λ (k : ℕ). column_shown script region k (column_at c.args.columns.now.items region k))
           c.args.reports.now c.loop-colour.reports c.push.new.self colour c.in_ok-column_report.field-0 was.reports_are c.in_ok-push.ensures.ok

@@ -9,10 +9,10 @@ use Rattle.file_order.proofs.column.Column.append.Goals as goal
 pub invariant_of-self-2 : goal.invariant_of-self-2
 invariant_of-self-2 c =
     let m : clock c.push_reserved.new.self.items ≡ max (clock c.reserve.new.self.items) c.args.stamp =
-      ap clock c.push_reserved.ensures.items
-      ∙ (ap (λ (e : Entry). clock (c.reserve.new.self.items ++ e ∷ [])) c.single_of.ensures
-      ∙ clock-append c.reserve.new.self.items (single_of c.args.caller c.args.stamp)) in
+    ap clock c.push_reserved.ensures.items
+    ∙ (ap (λ (e : Entry). clock (c.reserve.new.self.items ++ e ∷ [])) c.single_of.ensures
+    ∙ clock-append c.reserve.new.self.items (single_of c.args.caller c.args.stamp)) in
     let k : clock c.reserve.new.self.items ≡ clock c.args.self.now.history =
-      ap clock c.reserve.ensures.items ∙ ap (λ (column : ColumnState). clock column.history) c.self.view_is in
+    ap clock c.reserve.ensures.items ∙ ap (λ (column : ColumnState). clock column.history) c.self.view_is in
     let above : clock c.args.self.now.history < c.args.stamp = c.requires in
     omega (arith, m, k, above)
