@@ -187,9 +187,14 @@ module _ (script : Script) (columns : Columns) (nodes : ℕ → List Node) (comm
     reply = line_of command (answers.Stood stamp None (point ∷ [])) []
 
     explains : Explains (log_of columns' nodes') (caller_of script u) kept (whats.Append colours text) (answers.Stood stamp None (point ∷ [])) [] kept'
-    explains = (one, refl, length column.history, refl,
-        subst (λ (n : Node). AppendsOne (log_of columns' nodes') (caller_of script u) kept n colour stamp (length column.history) (length column.nodes)) (node_is one) appends,
-        refl)
+    explains = (
+      one,
+      refl,
+      length column.history,
+      refl,
+      subst (λ (n : Node). AppendsOne (log_of columns' nodes') (caller_of script u) kept n colour stamp (length column.history) (length column.nodes)) (node_is one) appends,
+      refl,
+    )
 
     pub own_after : Keeps script columns' nodes' u (commands ++ command ∷ []) (replies ++ line_of command (answers.Stood stamp None (point ∷ [])) [] ∷ []) kept'
     own_after = record {

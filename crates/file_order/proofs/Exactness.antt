@@ -75,12 +75,12 @@ exact : (script : Script) {commands : List Command} {state : State} → AreFit s
 exact script fit nothing found = refl
 exact script fit (one_done {commands} {state} command before) found =
     ap (λ s. done script s command) (exact script (λ i c e. fit i c (get-append commands (command ∷ []) i c e)) before
-        (λ client i r lt e. found client i r lt (prefix_get _ _ i r (done_grows script state command command.what client) e)))
+    (λ client i r lt e. found client i r lt (prefix_get _ _ i r (done_grows script state command command.what client) e)))
     ∙ sym (fold-append (done script) opening commands command)
 exact script fit (one_refused {commands} {state} command before) found =
     absurd (found command.client (length (state.replies command.client)) (line_of command answers.NoMemory []) (fit (length commands) command (got_end commands command (length commands) refl)).caller
-        (ap (λ (l : List ReplyLine). slice_get l (length (state.replies command.client))) (updated-same state.replies command.client (state.replies command.client ++ line_of command answers.NoMemory [] ∷ []))
-        ∙ got_end (state.replies command.client) (line_of command answers.NoMemory []) (length (state.replies command.client)) refl) refl)
+    (ap (λ (l : List ReplyLine). slice_get l (length (state.replies command.client))) (updated-same state.replies command.client (state.replies command.client ++ line_of command answers.NoMemory [] ∷ []))
+    ∙ got_end (state.replies command.client) (line_of command answers.NoMemory []) (length (state.replies command.client)) refl) refl)
 
 -- an item with its number
 abbrev numbered_as : {A : Type 0} → ℕ → A → Option (ℕ × A)
@@ -101,8 +101,8 @@ exact_report script fits fit state leads found = ap (report_of script) (exact sc
       let zero_less : 0 + client ≡ client = omega arith in
       let number : slice_get (enumerate_from 0 script.clients) client ≡ Some (client, c.0) = c.1 ∙ ap (λ (m : ℕ). numbered_as m c.0) zero_less in
       let shown : slice_get (report_of script state).clients client ≡ Some (record { name = c.0; replies = state.replies client })
-              = slice_get-map (λ (p : ℕ × List ℕ). record { name = p.1; replies = state.replies p.0 }) (enumerate_from 0 script.clients) client
-              ∙ ap (option_map (λ (p : ℕ × List ℕ). record { name = p.1; replies = state.replies p.0 })) number in
+      = slice_get-map (λ (p : ℕ × List ℕ). record { name = p.1; replies = state.replies p.0 }) (enumerate_from 0 script.clients) client
+      ∙ ap (option_map (λ (p : ℕ × List ℕ). record { name = p.1; replies = state.replies p.0 })) number in
       at_place (λ (x : ReplyLine). x.answer ≢ answers.NoMemory) (state.replies client)
       (at_place (λ (d : ClientReport). All (λ (x : ReplyLine). x.answer ≢ answers.NoMemory) d.replies) (report_of script state).clients found client (record { name = c.0; replies = state.replies client }) shown) i r there
 

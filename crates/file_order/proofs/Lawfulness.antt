@@ -102,8 +102,8 @@ module _ (script : Script) (fits : IsFitting script) (state : State) (is : IsRun
         ∙ ap (λ (f : ℕ → List (ℕ × ℕ)). flat_map f (range_with_len 0 regions)) (λ i region. map-map (λ (c : ColumnReport). (c.region, c.colour)) (column_report script state region) (range_with_len 0 colours) i);
     each = flat_map-all (IsColumnReport log script) (λ region. map (column_report script state region) (range_with_len 0 colours)) (range_with_len 0 regions)
         (range-all (λ region. All (IsColumnReport log script) (map (column_report script state region) (range_with_len 0 colours))) 0 regions (λ region _ lt.
-            All-map (IsColumnReport log script) (column_report script state region) (range_with_len 0 colours)
-            (range-all (λ colour. IsColumnReport log script (column_report script state region colour)) 0 colours (λ colour _ lc. column region colour (omega arith) (omega arith)))));
+        All-map (IsColumnReport log script) (column_report script state region) (range_with_len 0 colours)
+        (range-all (λ colour. IsColumnReport log script (column_report script state region colour)) 0 colours (λ colour _ lc. column region colour (omega arith) (omega arith)))));
   }
 
   begun : AreRows log script (λ _. []) []

@@ -60,9 +60,10 @@ greatest_bounded f bound (x ∷ xs) all = let a = all 0 x refl in let b = greate
 beside : {A : Type 0} (R : Place → A → Type 0) (own from : ℕ) (xs : List A) → ((i : ℕ) (x : A) → slice_get xs i ≡ Some x → R (record { region = own; position = from + i }) x) → AllZip R (map (λ position. record { region = own; position = position }) (range_with_len from (length xs))) xs
 beside R own from [] all = tt
 beside R own from (x ∷ xs) all =
-    let e : from + 0 ≡ from = omega arith in
-    (subst (λ (n : ℕ). R (record { region = own; position = n }) x) e (all 0 x refl),
-    beside R own (from + 1) xs (λ i y there. let f : from + suc i ≡ from + 1 + i = omega arith in subst (λ (n : ℕ). R (record { region = own; position = n }) y) f (all (suc i) y there)))
+    let e : from + 0 ≡ from = omega arith in (
+      subst (λ (n : ℕ). R (record { region = own; position = n }) x) e (all 0 x refl),
+      beside R own (from + 1) xs (λ i y there. let f : from + suc i ≡ from + 1 + i = omega arith in subst (λ (n : ℕ). R (record { region = own; position = n }) y) f (all (suc i) y there)),
+    )
 
 length-drop : {A : Type 0} (k : ℕ) (xs : List A) → k ≤ length xs → length (drop k xs) ≡ length xs - k
 length-drop zero xs h = omega arith

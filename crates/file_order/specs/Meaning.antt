@@ -133,7 +133,7 @@ appended script state command colours text colour =
     let stamp = next_stamp column.history floor in
     if max (clock column.history) floor == last_stamp then replied state command (answers.StampEnd colour) []
     else replied (entered script state command colour (node_made script state command colours text) stamp) command
-        (answers.Stood stamp None (point_made column colour ∷ [])) []
+    (answers.Stood stamp None (point_made column colour ∷ [])) []
 
 -- a sync: all nodes of the own line from the client's last snapshot on, up to the cut
 abbrev pub synced : Script → State → Command → ℕ → State

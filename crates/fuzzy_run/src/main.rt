@@ -24,7 +24,14 @@ fn main(rt: HostRuntime) -> ExitCode {
     let mut source = ReadSource::open(rt.stdin());
     let mut sink = WriteSink::open(rt.stdout());
     let status = match words_of(&rt) {
-        Ok(words) => run(rt.alloc(), &rt, words.as_slice(), &mut source, &mut sink, &OpenGate),
+        Ok(words) => run(
+            rt.alloc(),
+            &rt,
+            words.as_slice(),
+            &mut source,
+            &mut sink,
+            &OpenGate,
+        ),
         // A word that is no text is none that the program knows.
         Err(_) => Status::BadWords,
     };

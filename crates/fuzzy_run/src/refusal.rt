@@ -30,8 +30,5 @@ impl Cause {
 pub fn first_unbuilt(commands: &[Command]) -> Option<u32>
     ensures { result ≡ first_unbuilt commands.now }
 {
-    commands
-        .iter()
-        .find(|c| !is_built(&c.what))
-        .map(|c| c.line)
+    commands.iter().find(|c| !is_built(&c.what)).map(|c| c.line)
 }

@@ -97,26 +97,46 @@ best_step : (chains : Chains) (played to : Counts) (n : ℕ) → n < 4 → (best
 best_step chains played to n lt None None e h =
     λ region head less f. up_to (λ r. (x : Head) → IsFree chains played to r x → ⊥) n (λ r l x g. h r x l g) (free_missed chains played to n e) region less head f
 best_step chains played to n lt None (Some k) e h =
-    let f = free_found chains played to n k lt e in
-    (f.0, f.1, f.2, omega arith, λ region other less g. up_to (λ r. (x : Head) → IsFree chains played to r x → goes_first x (next_in played r) f.0 (next_in played n) ≡ false) n
-    (λ r l x y. absurd (h r x l y)) (λ x y. not_itself chains played to n x f.0 y f.1) region less other g)
+    let f = free_found chains played to n k lt e in (
+      f.0,
+      f.1,
+      f.2,
+      omega arith,
+      λ region other less g. up_to (λ r. (x : Head) → IsFree chains played to r x → goes_first x (next_in played r) f.0 (next_in played n) ≡ false) n
+          (λ r l x y. absurd (h r x l y)) (λ x y. not_itself chains played to n x f.0 y f.1) region less other g,
+    )
 best_step chains played to n lt (Some (r, k)) None e h =
-    let less = h.3 in
-    (h.0, h.1, h.2, omega (arith, less), λ region other less g. up_to (λ s. (x : Head) → IsFree chains played to s x → goes_first x (next_in played s) h.0 (next_in played r) ≡ false) n
-    (λ s l x y. h.4 s x l y) (λ x y. absurd (free_missed chains played to n e x y)) region less other g)
+    let less = h.3 in (
+      h.0,
+      h.1,
+      h.2,
+      omega (arith, less),
+      λ region other less g. up_to (λ s. (x : Head) → IsFree chains played to s x → goes_first x (next_in played s) h.0 (next_in played r) ≡ false) n
+          (λ s l x y. h.4 s x l y) (λ x y. absurd (free_missed chains played to n e x y)) region less other g,
+    )
 best_step chains played to n lt (Some (r, k)) (Some new) e h =
     let f = free_found chains played to n new lt e in
     let less = h.3 in
     by_test _ (key_below new k)
-    (λ t. subst (IsBest chains played to (n + 1)) (sym (ap Some (cond-true (key_below new k) (n, new) (r, k) t)))
-    (f.0, f.1, f.2, omega arith, λ region other l g. up_to (λ s. (x : Head) → IsFree chains played to s x → goes_first x (next_in played s) f.0 (next_in played n) ≡ false) n
-    (λ s m x y. through x f.0 h.0 (next_in played s) (next_in played n) (next_in played r) (h.4 s x m y) (subst (λ (j : Key). key_below j h.0.key ≡ true) (sym f.2) (subst (λ (j : Key). key_below new j ≡ true) (sym h.2) t)))
-    (λ x y. not_itself chains played to n x f.0 y f.1) region l other g))
-    (λ no_less. subst (IsBest chains played to (n + 1)) (sym (ap Some (cond-false (key_below new k) (n, new) (r, k) no_less)))
-    (h.0, h.1, h.2, omega (arith, less), λ region other l g. up_to (λ s. (x : Head) → IsFree chains played to s x → goes_first x (next_in played s) h.0 (next_in played r) ≡ false) n
-    (λ s m x y. h.4 s x m y)
-    (λ x y. let u : Some x ≡ Some f.0 = sym y.stands ∙ f.1.stands in let v : x ≡ f.0 = cc in
-    not_before x h.0 (next_in played n) (next_in played r) (subst (λ (j : Key). key_below j h.0.key ≡ false) (sym (ap (λ (z : Head). z.key) v ∙ f.2)) (subst (λ (j : Key). key_below new j ≡ false) (sym h.2) no_less)) (omega (arith, less))) region l other g))
+    (λ t. subst (IsBest chains played to (n + 1)) (sym (ap Some (cond-true (key_below new k) (n, new) (r, k) t))) (
+      f.0,
+      f.1,
+      f.2,
+      omega arith,
+      λ region other l g. up_to (λ s. (x : Head) → IsFree chains played to s x → goes_first x (next_in played s) f.0 (next_in played n) ≡ false) n
+          (λ s m x y. through x f.0 h.0 (next_in played s) (next_in played n) (next_in played r) (h.4 s x m y) (subst (λ (j : Key). key_below j h.0.key ≡ true) (sym f.2) (subst (λ (j : Key). key_below new j ≡ true) (sym h.2) t)))
+          (λ x y. not_itself chains played to n x f.0 y f.1) region l other g,
+    ))
+    (λ no_less. subst (IsBest chains played to (n + 1)) (sym (ap Some (cond-false (key_below new k) (n, new) (r, k) no_less))) (
+      h.0,
+      h.1,
+      h.2,
+      omega (arith, less),
+      λ region other l g. up_to (λ s. (x : Head) → IsFree chains played to s x → goes_first x (next_in played s) h.0 (next_in played r) ≡ false) n
+          (λ s m x y. h.4 s x m y)
+          (λ x y. let u : Some x ≡ Some f.0 = sym y.stands ∙ f.1.stands in let v : x ≡ f.0 = cc in
+          not_before x h.0 (next_in played n) (next_in played r) (subst (λ (j : Key). key_below j h.0.key ≡ false) (sym (ap (λ (z : Head). z.key) v ∙ f.2)) (subst (λ (j : Key). key_below new j ≡ false) (sym h.2) no_less)) (omega (arith, less))) region l other g,
+    ))
 
 pub best_of_four : (chains : Chains) (played to : Counts)
     → IsBest chains played to 4 (better_of (better_of (better_of (better_of None 0 (free_key (chains 0) played to 0)) 1 (free_key (chains 1) played to 1)) 2 (free_key (chains 2) played to 2)) 3 (free_key (chains 3) played to 3))

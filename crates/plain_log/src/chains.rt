@@ -46,7 +46,12 @@ fn carry(heads: &mut Vec<Head>, region: u8, event: &Event) -> Result<(), AllocEr
 }
 
 // Nodes with these keys, and their needs.
-fn heads_of(alloc: Global, journal: &[Entry], cuts: &[Counts], keys: &[Key]) -> Result<Vec<Head>, AllocError>
+fn heads_of(
+    alloc: Global,
+    journal: &[Entry],
+    cuts: &[Counts],
+    keys: &[Key],
+) -> Result<Vec<Head>, AllocError>
     ensures { IfOk result (λ heads. heads.items ≡ heads_at (with_cuts journal.now cuts.now) keys.now) }
 {
     let mut heads = Vec::new(alloc);

@@ -41,7 +41,10 @@ fn place_of(standings: &[Standing], key: Key) -> usize
     ensures value { result ≡ prefix_len (λ other. not (key_below key other.key)) standings.now }
     ensures bound { result ≤ length standings.now }
 {
-    standings.iter().take_while(|other| !is_below(key, other.key)).count()
+    standings
+        .iter()
+        .take_while(|other| !is_below(key, other.key))
+        .count()
 }
 
 // Puts an entry in at its place.
@@ -135,7 +138,9 @@ pub fn standings_of(alloc: Global, journal: &[Entry]) -> Result<Vec<Standing>, A
 fn is_below_open(standings: &[Standing], key: Key) -> bool
     ensures { result ≡ list_all (λ other. other.settled || key_below key other.key) standings.now }
 {
-    standings.iter().all(|other| other.settled || is_below(key, other.key))
+    standings
+        .iter()
+        .all(|other| other.settled || is_below(key, other.key))
 }
 
 // Whether an entry is final and below every open one.

@@ -13,8 +13,8 @@ answer-given-requires-clause-range c =
 pub answer-given-requires-clause-one : goal.answer-given-requires-clause-one
 answer-given-requires-clause-one c =
     next_one c.args.script.now c.requires.fits c.requires.built c.args.place c.args.columns.now.items c.args.clients.now.items c.requires.place c.requires.run
-        c.as_slice.result.now c.as_slice-2.result.now c.as_slice.ensures c.as_slice-2.ensures
-        c.index-as_slice-place.result c.index-as_slice-place.is c.index_mut-client.result.now c.index_mut-client.ensures.value
+    c.as_slice.result.now c.as_slice-2.result.now c.as_slice.ensures c.as_slice-2.ensures
+    c.index-as_slice-place.result c.index-as_slice-place.is c.index_mut-client.result.now c.index_mut-client.ensures.value
 
 pub reply-requires : goal.reply-requires
 reply-requires c =

@@ -20,8 +20,8 @@ returns c =
     let run = subst (λ (k : ℕ). IsRunAt c.args.script.now k c.loop-place.columns.items c.loop-place.clients.items) all c.loop-place.invariant in
     let script = c.args.script.now in
     let ok : IfOk c.report.result (IsStepReport script)
-            = IfOk-weaker c.report.result (λ (r : Report). r ≡ report_shown script c.loop-place.columns.items c.loop-place.clients.items) (IsStepReport script)
-            (λ r e. closes script c.requires.fits c.requires.built c.loop-place.columns.items c.loop-place.clients.items run r e) c.report.ensures in
+    = IfOk-weaker c.report.result (λ (r : Report). r ≡ report_shown script c.loop-place.columns.items c.loop-place.clients.items) (IsStepReport script)
+    (λ r e. closes script c.requires.fits c.requires.built c.loop-place.columns.items c.loop-place.clients.items run r e) c.report.ensures in
     record {
       ok = ok;
       lawful = IfOk-weaker c.report.result (IsStepReport script) (LawfulRun script) (lawful_step script c.requires.fits c.requires.built) ok;

@@ -81,18 +81,18 @@ returns-clause-fits c =
     let second = c.in_ok-append-2.ensures.what in
     let third = c.in_ok-append-3.ensures.what in
     fitting c.push-2.new.self c.in_ok-two_names.field-0 c.in_ok-one_name.field-0 c.in_ok-two_names-2.field-0 c.new.result c.push-7.new.self
-        c.in_ok-append.field-0 c.sync.result c.sync-2.result c.in_ok-append-2.field-0 c.in_ok-append-3.field-0
-        (two_pushed c.new-homes.result c.push.new.self c.push-2.new.self 0 1 c.new-homes.ensures c.in_ok-push.ensures.ok c.in_ok-push-2.ensures.ok)
-        c.in_ok-two_names.ensures c.in_ok-one_name.ensures c.in_ok-two_names-2.ensures
-        (pushed c.new-commands.result c.push-3.new.self c.push-4.new.self c.push-5.new.self c.push-6.new.self c.push-7.new.self
-          c.in_ok-append.field-0 c.sync.result c.sync-2.result c.in_ok-append-2.field-0 c.in_ok-append-3.field-0
-          c.new-commands.ensures c.in_ok-push-3.ensures.ok c.in_ok-push-4.ensures.ok c.in_ok-push-5.ensures.ok c.in_ok-push-6.ensures.ok c.in_ok-push-7.ensures.ok)
-        (all_suit c.in_ok-append.field-0 c.sync.result c.sync-2.result c.in_ok-append-2.field-0 c.in_ok-append-3.field-0
-          (append_suits c.in_ok-append.field-0 0 first.0 (lit< tt) c.in_ok-append.ensures.client first.1)
-          (sync_suits c.sync.result 7 0 (lit< tt) c.sync.ensures)
-          (sync_suits c.sync-2.result 8 1 (lit< tt) c.sync-2.ensures)
-          (append_suits c.in_ok-append-2.field-0 1 second.0 (lit< tt) c.in_ok-append-2.ensures.client second.1)
-          (append_suits c.in_ok-append-3.field-0 0 third.0 (lit< tt) c.in_ok-append-3.ensures.client third.1))
+    c.in_ok-append.field-0 c.sync.result c.sync-2.result c.in_ok-append-2.field-0 c.in_ok-append-3.field-0
+    (two_pushed c.new-homes.result c.push.new.self c.push-2.new.self 0 1 c.new-homes.ensures c.in_ok-push.ensures.ok c.in_ok-push-2.ensures.ok)
+    c.in_ok-two_names.ensures c.in_ok-one_name.ensures c.in_ok-two_names-2.ensures
+    (pushed c.new-commands.result c.push-3.new.self c.push-4.new.self c.push-5.new.self c.push-6.new.self c.push-7.new.self
+    c.in_ok-append.field-0 c.sync.result c.sync-2.result c.in_ok-append-2.field-0 c.in_ok-append-3.field-0
+    c.new-commands.ensures c.in_ok-push-3.ensures.ok c.in_ok-push-4.ensures.ok c.in_ok-push-5.ensures.ok c.in_ok-push-6.ensures.ok c.in_ok-push-7.ensures.ok)
+    (all_suit c.in_ok-append.field-0 c.sync.result c.sync-2.result c.in_ok-append-2.field-0 c.in_ok-append-3.field-0
+    (append_suits c.in_ok-append.field-0 0 first.0 (lit< tt) c.in_ok-append.ensures.client first.1)
+    (sync_suits c.sync.result 7 0 (lit< tt) c.sync.ensures)
+    (sync_suits c.sync-2.result 8 1 (lit< tt) c.sync-2.ensures)
+    (append_suits c.in_ok-append-2.field-0 1 second.0 (lit< tt) c.in_ok-append-2.ensures.client second.1)
+    (append_suits c.in_ok-append-3.field-0 0 third.0 (lit< tt) c.in_ok-append-3.ensures.client third.1))
 
 pub returns-clause-built : goal.returns-clause-built
 returns-clause-built c =
@@ -100,12 +100,12 @@ returns-clause-built c =
     let second = c.in_ok-append-2.ensures.what in
     let third = c.in_ok-append-3.ensures.what in
     subst (λ (l : List Command). All (λ (d : Command). IsTrue (is_built d.what)) l)
-        (sym (pushed c.new-commands.result c.push-3.new.self c.push-4.new.self c.push-5.new.self c.push-6.new.self c.push-7.new.self
-          c.in_ok-append.field-0 c.sync.result c.sync-2.result c.in_ok-append-2.field-0 c.in_ok-append-3.field-0
-          c.new-commands.ensures c.in_ok-push-3.ensures.ok c.in_ok-push-4.ensures.ok c.in_ok-push-5.ensures.ok c.in_ok-push-6.ensures.ok c.in_ok-push-7.ensures.ok))
-        (λ k x h. ((all_suit c.in_ok-append.field-0 c.sync.result c.sync-2.result c.in_ok-append-2.field-0 c.in_ok-append-3.field-0
-          (append_suits c.in_ok-append.field-0 0 first.0 (lit< tt) c.in_ok-append.ensures.client first.1)
-          (sync_suits c.sync.result 7 0 (lit< tt) c.sync.ensures)
-          (sync_suits c.sync-2.result 8 1 (lit< tt) c.sync-2.ensures)
-          (append_suits c.in_ok-append-2.field-0 1 second.0 (lit< tt) c.in_ok-append-2.ensures.client second.1)
-          (append_suits c.in_ok-append-3.field-0 0 third.0 (lit< tt) c.in_ok-append-3.ensures.client third.1)) k x h).built)
+    (sym (pushed c.new-commands.result c.push-3.new.self c.push-4.new.self c.push-5.new.self c.push-6.new.self c.push-7.new.self
+    c.in_ok-append.field-0 c.sync.result c.sync-2.result c.in_ok-append-2.field-0 c.in_ok-append-3.field-0
+    c.new-commands.ensures c.in_ok-push-3.ensures.ok c.in_ok-push-4.ensures.ok c.in_ok-push-5.ensures.ok c.in_ok-push-6.ensures.ok c.in_ok-push-7.ensures.ok))
+    (λ k x h. ((all_suit c.in_ok-append.field-0 c.sync.result c.sync-2.result c.in_ok-append-2.field-0 c.in_ok-append-3.field-0
+    (append_suits c.in_ok-append.field-0 0 first.0 (lit< tt) c.in_ok-append.ensures.client first.1)
+    (sync_suits c.sync.result 7 0 (lit< tt) c.sync.ensures)
+    (sync_suits c.sync-2.result 8 1 (lit< tt) c.sync-2.ensures)
+    (append_suits c.in_ok-append-2.field-0 1 second.0 (lit< tt) c.in_ok-append-2.ensures.client second.1)
+    (append_suits c.in_ok-append-3.field-0 0 third.0 (lit< tt) c.in_ok-append-3.ensures.client third.1)) k x h).built)
