@@ -4,6 +4,8 @@
 mod asked;
 mod refusal;
 mod status;
+#[cfg(test)]
+mod tests;
 mod top;
 
 use fuzzy_io::{OpenGate, ReadSource, WriteSink};

@@ -2,3 +2,4 @@ pub mod Callers
 pub mod Columns
 pub mod Explains
 pub mod Lawful
+pub mod Laws

@@ -1,7 +1,7 @@
-// Laws.
-ghost use Rattle.std.specs.Prelude.{◌≡◌, ℕ};
+// Laws of explanations.
+ghost use Rattle.lawful_run.specs.Laws.{ExplanationsLast};
 
-/// A law.
-pub fn law()
-    ensures { (n : ℕ) → n ≡ n }
+/// What a log explains to a client, each later log explains as well.
+pub fn explanations_last()
+    ensures { ExplanationsLast }
 {}
