@@ -7,7 +7,7 @@ use Rattle.script_text.specs.declared.script.Reason.TheVariants as reasons
 use Rattle.script_text.specs.declared.fault.Fault.{Fault}
 use Rattle.script_text.specs.declared.fault.Fault.TheVariants as faults
 use Rattle.script_text.specs.Pieces.{is_among, is_name}
-use Rattle.script_text.specs.Inside.{◌>>=◌, refuse, Fails, each_at, new_name_at, fields_in}
+use Rattle.script_text.specs.Readings.{◌>>=◌, refuse, Fails, each_at, new_name_at, fields_in}
 
 abbrev pub Reader : Type 0 → Type 0
 Reader X = List (List ℕ) → List ℕ → Result X Reason

@@ -12,7 +12,8 @@ use Rattle.script_text.specs.declared.known.Known.{Known}
 use Rattle.script_text.specs.Pieces.{is_name, is_among, is_between}
 use Rattle.script_text.specs.Items.{last_said, commands, commands_in, is_stop, has_stopped, stage_of, stage_after, may_come, region_names, colour_names, client_names, objects, object_names}
 use Rattle.script_text.specs.Grammar.{are_new_names, may_follow, is_region, is_kind, kind_word}
-use Rattle.script_text.specs.Inside.{known_of, known_after, with_item, stops_in, stopped_in, IsSmall}
+use Rattle.script_text.specs.Kept.{known_of, known_after, with_item, stops_in, stopped_in, IsSmall}
+use Rattle.script_text.proofs.ReadLaws.{held_push}
 
 last_or-push : {A : Type 0} (o : Option A) (xs : List A) (x : A) → last_or o (xs ++ x ∷ []) ≡ Some x
 last_or-push o [] x = refl
@@ -33,7 +34,7 @@ known_push before (items.Rows number) = simp (filter_map-append, append-nil, las
 known_push before (items.Client name home) = simp (filter_map-append, append-nil, last_or-push, map-append)
 known_push before (items.Declared object) = simp (filter_map-append, append-nil, last_or-push)
 known_push before items.Begin = simp (filter_map-append, append-nil, last_or-push)
-known_push before (items.Asks command) = simp (filter_map-append, append-nil, last_or-push, stopped_push command)
+known_push before (items.Asks command) = simp (filter_map-append, append-nil, last_or-push, stopped_push command, held_push)
 
 pub stopped_among : (said : List Command) (client : ℕ) → list_any (λ c. eqb c client) (filter_map stopped_in said) ≡ list_any (λ (c : Command). eqb c.client client && is_stop c.what) said
 stopped_among [] client = refl
@@ -72,16 +73,16 @@ client_lawful known name home l few fresh = record {
   colours = l.colours;
   clients = new_push [] known.script.clients name l.clients fresh;
   objects = l.objects;
-  small = record { regions = l.small.regions; colours = l.small.colours; clients = omega (arith, length-append known.script.clients (name ∷ []), few) };
+  small = record { regions = l.small.regions; colours = l.small.colours; clients = omega (arith, length-append known.script.clients (name ∷ []), few); objects = l.small.objects };
 }
 
-object_lawful : (known : Known) (object : Object) → IsLawful known → are_new_names (map (λ (o : Object). o.name) known.script.objects) (object.name ∷ []) ≡ true → IsLawful (known_after known (items.Declared object))
-object_lawful known object l fresh = record {
+object_lawful : (known : Known) (object : Object) → IsLawful known → length known.script.objects < 16 → are_new_names (map (λ (o : Object). o.name) known.script.objects) (object.name ∷ []) ≡ true → IsLawful (known_after known (items.Declared object))
+object_lawful known object l few fresh = record {
   regions = l.regions;
   colours = l.colours;
   clients = l.clients;
   objects = rw map-append (new_push [] (map (λ (o : Object). o.name) known.script.objects) object.name l.objects fresh);
-  small = record { regions = l.small.regions; colours = l.small.colours; clients = l.small.clients };
+  small = record { regions = l.small.regions; colours = l.small.colours; clients = l.small.clients; objects = omega (arith, length-append known.script.objects (object ∷ []), few) };
 }
 
 as_before : (known : Known) (item : Item) → IsLawful known → with_item known.script item ≡ known.script → IsLawful (known_after known item)
@@ -90,7 +91,7 @@ as_before known item l same = record {
   colours = rw same l.colours;
   clients = rw same l.clients;
   objects = rw same l.objects;
-  small = record { regions = rw same l.small.regions; colours = rw same l.small.colours; clients = rw same l.small.clients };
+  small = record { regions = rw same l.small.regions; colours = rw same l.small.colours; clients = rw same l.small.clients; objects = rw same l.small.objects };
 }
 
 pub lawful_after : (before : List Item) (item : Item) → IsLawful (known_of before) → may_follow before item ≡ true → IsLawful (known_after (known_of before) item)
@@ -104,7 +105,7 @@ lawful_after before (items.Regions names) l h =
       colours = l.colours;
       clients = l.clients;
       objects = l.objects;
-      small = record { regions = omega (arith, few); colours = l.small.colours; clients = l.small.clients };
+      small = record { regions = omega (arith, few); colours = l.small.colours; clients = l.small.clients; objects = l.small.objects };
     }
 lawful_after before (items.Colours names) l h =
     let a = and_parts (may_come before (codes "colours") && is_between 1 16 (length names)) (are_new_names [] names) h in
@@ -115,14 +116,14 @@ lawful_after before (items.Colours names) l h =
       colours = a.1;
       clients = l.clients;
       objects = l.objects;
-      small = record { regions = l.small.regions; colours = few; clients = l.small.clients };
+      small = record { regions = l.small.regions; colours = few; clients = l.small.clients; objects = l.small.objects };
     }
 lawful_after before (items.Rows number) l h = record {
   regions = l.regions;
   colours = l.colours;
   clients = l.clients;
   objects = l.objects;
-  small = record { regions = l.small.regions; colours = l.small.colours; clients = l.small.clients };
+  small = record { regions = l.small.regions; colours = l.small.colours; clients = l.small.clients; objects = l.small.objects };
 }
 lawful_after before (items.Client name home) l h =
     let a = and_parts (may_come before (codes "client") && ltb (length (client_names before)) 16 && are_new_names (client_names before) (name ∷ [])) (is_region before home) h in
@@ -132,14 +133,15 @@ lawful_after before (items.Client name home) l h =
 lawful_after before (items.Declared object) l h =
     let a = and_parts (may_come before (kind_word object.kind) && ltb (length (objects before)) 16 && are_new_names (object_names before) (object.name ∷ [])) (is_kind before object.kind) h in
     let b = and_parts (may_come before (kind_word object.kind) && ltb (length (objects before)) 16) (are_new_names (object_names before) (object.name ∷ [])) a.0 in
-    object_lawful (known_of before) object l b.1
+    let few = ltb-true (length (objects before)) 16 (and_parts (may_come before (kind_word object.kind)) (ltb (length (objects before)) 16) b.0).1 in
+    object_lawful (known_of before) object l few b.1
 lawful_after before items.Begin l h = as_before (known_of before) items.Begin l refl
 lawful_after before (items.Asks command) l h = record {
   regions = l.regions;
   colours = l.colours;
   clients = l.clients;
   objects = l.objects;
-  small = record { regions = l.small.regions; colours = l.small.colours; clients = l.small.clients };
+  small = record { regions = l.small.regions; colours = l.small.colours; clients = l.small.clients; objects = l.small.objects };
 }
 
 pub lawful_start : IsLawful (known_of [])
@@ -148,7 +150,7 @@ lawful_start = record {
   colours = refl;
   clients = refl;
   objects = refl;
-  small = record { regions = lit≤ tt; colours = lit≤ tt; clients = lit≤ tt };
+  small = record { regions = lit≤ tt; colours = lit≤ tt; clients = lit≤ tt; objects = lit≤ tt };
 }
 
 pub lawful_push : (before : List Item) (item : Item) → IsLawful (known_of before) → may_follow before item ≡ true → IsLawful (known_of (before ++ item ∷ []))

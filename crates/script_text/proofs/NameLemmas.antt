@@ -1,19 +1,25 @@
 -- What the numbers of names are, and the colours that a line names.
-use Rattle.std.proofs.Common.{◌≡◌, ℕ, zero, suc, ◌+◌, ◌<◌, ◌≤◌, ◌⊎◌, inl, inr, Bool, true, false, not, ◌&&◌, cond, eqb, ltb, ◌||◌, IsTrue, List, [], ◌∷◌, ◌++◌, length, map, Option, Some, None, Result, Ok, Err, All, refl, sym, ap, ◌∙◌, arith}
+use Rattle.std.proofs.Common.{◌≡◌, ℕ, zero, suc, ◌+◌, ◌<◌, ◌≤◌, ◌⊎◌, inl, inr, Bool, true, false, not, ◌&&◌, cond, eqb, ltb, ◌||◌, IsTrue, List, [], ◌∷◌, ◌++◌, length, map, Option, Some, None, Result, Ok, Err, All, refl, sym, ap, subst, ◌∙◌, append_assoc, arith}
 use Rattle.std.specs.Borrow.{Bor}
 use Rattle.std.specs.List.{list_any, list_all, AllByRecursion}
 use Rattle.std.specs.Str.{bytes_eq}
 use Rattle.std.specs.Option.{option_map}
-use Rattle.std.proofs.lemmas.Bool.{cases_Bool, and_parts, or_parts, not-true, not-false, both_ways, false_from_ne_true, ne_eqb, eq-eqb, lt-ltb, ltb-true}
-use Rattle.std.proofs.lemmas.List.{map_push}
+use Rattle.std.proofs.lemmas.Bool.{cases_Bool, and_parts, or_parts, not-true, not-false, both_ways, false_from_ne_true, ne_eqb, eq-eqb, eqb-true, eqb-false, lt-ltb, ltb-true}
+use Rattle.std.proofs.lemmas.List.{append-nil, map_push}
 use Rattle.std.proofs.lemmas.List.Folds.{list_any-append, list_all-append}
 use Rattle.std.proofs.lemmas.List.Elements.{All-from_recursion}
 use Rattle.std.proofs.lemmas.Slice.Eq.{bytes_eq-Decides}
+use Rattle.std.specs.Prelude.{IfOk}
+use Rattle.std.specs.List.{IsDistinct}
+use Rattle.std.specs.Cmp.{IsEquivalence}
+use Rattle.std.proofs.lemmas.Map.Keys.{IsDistinct-push}
+use Rattle.std.proofs.lemmas.Map.Steps.{length-le_from_distinct_below}
+use Rattle.script_text.specs.declared.fault.Fault.{Fault}
 use Rattle.script_text.specs.declared.script.Reason.{Reason}
 use Rattle.script_text.specs.declared.script.Reason.TheVariants as reasons
 use Rattle.script_text.specs.Pieces.{is_among, is_name, number_of, name_of}
 use Rattle.script_text.specs.Grammar.{are_new_names, are_new_numbers}
-use Rattle.script_text.specs.Inside.{◌>>=◌, refuse, found_or, fields_in, number_at, new_name_at, each_at, colour_at, colours_at}
+use Rattle.script_text.specs.Readings.{◌>>=◌, refuse, Gives, found_or, fields_in, number_at, new_name_at, each_at, colour_at, colours_at}
 use Rattle.script_text.proofs.EachLemmas.{Reader, refused_ok, bind_ok, ok_is, done}
 
 pub any_fields : (field : List ℕ) (fields : List (Bor (List ℕ))) → list_any (λ (o : Bor (List ℕ)). bytes_eq field o.now) fields ≡ is_among (fields_in fields) field
@@ -29,10 +35,10 @@ suc_some (Some m) n e = (m, refl, cc)
 pub number_found : (names : List (List ℕ)) (field : List ℕ) (n : ℕ) → number_of names field ≡ Some n → (n < length names) × (name_of names n ≡ field)
 number_found [] field n e = absurd cc
 number_found (first ∷ names) field n e =
-    elim (cases_Bool (bytes_eq first field)) [
+    elim (cases_Bool (bytes_eq field first)) [
       | inl same ↦
           let zero-is : n ≡ 0 = let h = rw same at e in cc in
-          rw zero-is (omega arith, (bytes_eq-Decides first field).0 same)
+          rw zero-is (omega arith, sym ((bytes_eq-Decides field first).0 same))
       | inr apart ↦
           let h = suc_some (number_of names field) n (rw apart at e) in
           let r = number_found names field h.0 h.1 in
@@ -98,7 +104,7 @@ new_name_ok names field name e =
     let h = name_ok names field name e in
     (rw (h.0, h.1) refl, h.2)
 
-new_parts : (names fields : List (List ℕ)) (field : List ℕ) → are_new_names names (field ∷ fields) ≡ true
+pub new_parts : (names fields : List (List ℕ)) (field : List ℕ) → are_new_names names (field ∷ fields) ≡ true
     → (is_name field ≡ true) × (is_among names field ≡ false) × (are_new_names (names ++ field ∷ []) fields ≡ true)
 new_parts names fields field h =
     let a = and_parts (is_name field && not (is_among names field)) (are_new_names (names ++ field ∷ []) fields) h in
@@ -140,14 +146,11 @@ apart earlier (first ∷ names) (suc n) h lt =
     let later = apart (earlier ++ first ∷ []) names n (new_parts earlier names first h).2 (omega arith) in
     (or_parts (is_among earlier (name_of names n)) (bytes_eq (name_of names n) first || false) (sym (list_any-append (bytes_eq (name_of names n)) earlier (first ∷ [])) ∙ later)).0
 
-first_apart : (earlier names : List (List ℕ)) (first : List ℕ) (n : ℕ) → are_new_names earlier (first ∷ names) ≡ true → n < length names → bytes_eq first (name_of names n) ≡ false
+pub first_apart : (earlier names : List (List ℕ)) (first : List ℕ) (n : ℕ) → are_new_names earlier (first ∷ names) ≡ true → n < length names → bytes_eq (name_of names n) first ≡ false
 first_apart earlier names first n h lt =
     let later = apart (earlier ++ first ∷ []) names n (new_parts earlier names first h).2 lt in
     let last = (or_parts (is_among earlier (name_of names n)) (bytes_eq (name_of names n) first || false) (sym (list_any-append (bytes_eq (name_of names n)) earlier (first ∷ [])) ∙ later)).1 in
-    let unlike = (or_parts (bytes_eq (name_of names n) first) false last).0 in
-    false_from_ne_true (bytes_eq first (name_of names n)) (λ same.
-    let e = (bytes_eq-Decides first (name_of names n)).0 same in
-    both_ways (bytes_eq (name_of names n) first) unlike ((bytes_eq-Decides (name_of names n) first).1 (sym e)))
+    (or_parts (bytes_eq (name_of names n) first) false last).0
 
 pub number_again : (earlier names : List (List ℕ)) (n : ℕ) → are_new_names earlier names ≡ true → n < length names → number_of names (name_of names n) ≡ Some n
 number_again earlier [] n h lt = absurd (omega arith)
@@ -215,3 +218,66 @@ colours_again names before (n ∷ ns) h below fresh all =
     let below_more : list_all (λ m. ltb m (length names)) (before ++ n ∷ []) ≡ true = list_all-append (λ m. ltb m (length names)) before (n ∷ []) ∙ rw (below, b.0) refl in
     let later = colours_again names (before ++ n ∷ []) ns h below_more f.1 b.1 in
     each_cons (colour_at names) (named names before) (name_of names n) (named names ns) n ns one (rw map_push at later)
+
+-- ---- lists of things with names, and how many colours there may be
+
+pub any_named : {X : Type 0} (name : X → List ℕ) (field : List ℕ) (xs : List X) → list_any (λ x. bytes_eq field (name x)) xs ≡ is_among (map name xs) field
+any_named name field [] = refl
+any_named name field (x ∷ xs) = rw (any_named name field xs) refl
+
+pub gives_ok : {X : Type 0} (P : X → Type 0) (r : Result X Fault) (reading : Result X Reason) → Gives r reading → ((x : X) → reading ≡ Ok x → P x) → IfOk r P
+gives_ok P (Ok x) reading given h = h x given
+gives_ok P (Err fault) reading given h = tt
+
+turned : (n : ℕ) (ns : List ℕ) → list_any (λ m. eqb m n) ns ≡ false → list_any (eqb n) ns ≡ false
+turned n [] h = refl
+turned n (m ∷ ns) h =
+    let p = or_parts (eqb m n) (list_any (λ m. eqb m n) ns) h in
+    let a : eqb n m ≡ false = ne_eqb n m (λ e. eqb-false m n p.0 (sym e)) in
+    rw (a, turned n ns p.1) refl
+
+eqb_turn : (a b : ℕ) → eqb a b ≡ eqb b a
+eqb_turn a b =
+    elim (cases_Bool (eqb a b)) [
+      | inl e ↦ e ∙ sym (eq-eqb b a (sym (eqb-true a b e)))
+      | inr e ↦ e ∙ sym (ne_eqb b a (λ k. eqb-false a b e (sym k)))
+    ]
+
+eqb_equivalence : IsEquivalence eqb
+eqb_equivalence = record {
+  refl = λ x. eq-eqb x x refl;
+  symm = eqb_turn;
+  congr = λ x y z e. rw (eqb-true x y e) refl;
+}
+
+nothing : IsDistinct eqb []
+unfolding IsDistinct
+nothing = tt
+
+distinct : (before ns : List ℕ) → IsDistinct eqb before → are_new_numbers before ns ≡ true → IsDistinct eqb (before ++ ns)
+distinct before [] d h = rw append-nil d
+distinct before (n ∷ ns) d h =
+    let f = and_parts (not (list_any (λ m. eqb m n) before)) (are_new_numbers (before ++ n ∷ []) ns) h in
+    let one = IsDistinct-push eqb_equivalence before n d (turned n before (not-true (list_any (λ m. eqb m n) before) f.0)) in
+    subst (IsDistinct eqb) (append_assoc before (n ∷ []) ns) (distinct (before ++ n ∷ []) ns one f.1)
+
+below_all : (ns : List ℕ) (most q : ℕ) → list_all (λ n. ltb n most) ns ≡ true → list_any (eqb q) ns ≡ true → q < most
+below_all [] most q h e = absurd cc
+below_all (n ∷ ns) most q h e =
+    let b = and_parts (ltb n most) (list_all (λ n. ltb n most) ns) h in
+    elim (cases_Bool (eqb q n)) [
+      | inl same ↦ rw (eqb-true q n same) (ltb-true n most b.0)
+      | inr apart ↦ below_all ns most q b.1 (rw apart at e)
+    ]
+
+pub few_numbers : (ns : List ℕ) (most : ℕ) → are_new_numbers [] ns ≡ true → list_all (λ n. ltb n most) ns ≡ true → length ns ≤ most
+few_numbers ns most fresh below = length-le_from_distinct_below ns most (distinct [] ns nothing fresh) (λ q e. below_all ns most q below e)
+
+pub few_colours : (names fields : List (List ℕ)) (ns : List ℕ) → length names ≤ 16 → colours_at names fields ≡ Ok ns → length ns ≤ 16
+few_colours names fields ns few e =
+    let c = colours_ok names [] fields ns e in
+    omega (arith, few_numbers ns (length names) c.1 c.2)
+
+pub any_in : (p : List ℕ → Bool) (fields : List (Bor (List ℕ))) → list_any (λ (o : Bor (List ℕ)). p o.now) fields ≡ list_any p (fields_in fields)
+any_in p [] = refl
+any_in p (o ∷ fields) = rw (any_in p fields) refl

@@ -59,7 +59,7 @@ is_among names name = list_any (bytes_eq name) names
 -- the number of a name, counted from 0
 abbrev pub number_of : List (List ℕ) → List ℕ → Option ℕ
 number_of [] name = None
-number_of (first ∷ names) name = if bytes_eq first name then Some 0 else option_map suc (number_of names name)
+number_of (first ∷ names) name = if bytes_eq name first then Some 0 else option_map suc (number_of names name)
 
 -- the name of a number
 abbrev pub name_of : List (List ℕ) → ℕ → List ℕ

@@ -2,12 +2,19 @@
 ghost use Rattle.std.specs.Prelude.{◌≡◌, ◌==◌};
 ghost use Rattle.std.specs.List.{list_any};
 ghost use Rattle.script_text.specs.Faults.{word_at};
-ghost use Rattle.script_text.specs.Inside.{Gives, IsSmall, fields_in, appended_at, append_at, sync_at, what_at, worded_at, asked_at, caller_at, command_at};
+ghost use Rattle.script_text.specs.Kept.{IsSmall};
+ghost use Rattle.script_text.specs.Readings.{Gives, fields_in};
+ghost use Rattle.script_text.specs.CommandReadings.{what_at, worded_at, asked_at, caller_at, command_at};
 
 use crate::fault::Fault;
 use crate::item::Item;
 use crate::known::Known;
-use crate::names::{colour_set, number_at, text_at};
+use crate::log_command::{append_line, pull_line, scan_line, stop_line, sync_line, trim_line};
+use crate::names::number_at;
+use crate::object_command::{
+    commit_line, del_line, deq_line, enq_line, get_line, getall_line, put_line, putall_line,
+    read_line,
+};
 use crate::script::{Command, Reason, What, Word};
 use std::alloc::Global;
 
@@ -49,63 +56,45 @@ fn word_at(field: &[u8]) -> Option<Word>
     }
 }
 
-#[tactic(auto, unfolding(crate::specs::Inside::appended_at))]
-fn appended(alloc: Global, known: &Known, cols: &[u8], field: &[u8]) -> Result<What, Fault>
+#[tactic(auto, unfolding(crate::specs::CommandReadings::what_at))]
+fn what_of(
+    alloc: Global,
+    known: &Known,
+    client: u8,
+    word: Word,
+    args: &[&[u8]],
+) -> Result<What, Fault>
     requires { IsSmall known.now }
-    ensures { Gives result (appended_at known.now cols.now field.now) }
-{
-    let colours = colour_set(alloc, known.script.colours.as_slice(), cols)?;
-    let text = text_at(alloc, field)?;
-    Ok(What::Append { colours, text })
-}
-
-#[tactic(auto, unfolding(crate::specs::Inside::append_at))]
-fn append_what(alloc: Global, known: &Known, args: &[&[u8]]) -> Result<What, Fault>
-    requires { IsSmall known.now }
-    ensures { Gives result (append_at known.now (fields_in args.now)) }
-{
-    match args {
-        [cols, field] => appended(alloc, known, cols, field),
-        _ => Err(Fault::Refused(Reason::BadForm)),
-    }
-}
-
-#[tactic(auto, unfolding(crate::specs::Inside::sync_at))]
-fn sync_what(known: &Known, args: &[&[u8]]) -> Result<What, Fault>
-    requires { IsSmall known.now }
-    ensures { Gives result (sync_at known.now (fields_in args.now)) }
-{
-    match args {
-        [field] => {
-            let colours = known.script.colours.as_slice();
-            let colour = number_at(colours, field, Reason::UnknownColour)?;
-            Ok(What::Sync { colour })
-        }
-        _ => Err(Fault::Refused(Reason::BadForm)),
-    }
-}
-
-#[tactic(auto, unfolding(crate::specs::Inside::what_at))]
-fn what_of(alloc: Global, known: &Known, word: Word, args: &[&[u8]]) -> Result<What, Fault>
-    requires { IsSmall known.now }
-    ensures { Gives result (what_at known.now word (fields_in args.now)) }
+    ensures { Gives result (what_at known.now client word (fields_in args.now)) }
 {
     match word {
-        Word::Append => append_what(alloc, known, args),
-        Word::Sync => sync_what(known, args),
-        _ => Err(Fault::Refused(Reason::BadForm)),
+        Word::Append => append_line(alloc, known, args),
+        Word::Stop => stop_line(alloc, known, args),
+        Word::Sync => sync_line(known, args),
+        Word::Scan => scan_line(alloc, known, args),
+        Word::Pull => pull_line(known, args),
+        Word::Trim => trim_line(known, args),
+        Word::Put => put_line(alloc, known, args),
+        Word::Get => get_line(alloc, known, args),
+        Word::Del => del_line(alloc, known, args),
+        Word::PutAll => putall_line(alloc, known, args),
+        Word::GetAll => getall_line(alloc, known, args),
+        Word::Read => read_line(alloc, known, args),
+        Word::Commit => commit_line(alloc, known, client, args),
+        Word::Enq => enq_line(alloc, known, args),
+        Word::Deq => deq_line(known, args),
     }
 }
 
-#[tactic(auto, unfolding(crate::specs::Inside::asked_at, crate::specs::Inside::worded_at))]
-fn asked(alloc: Global, known: &Known, fields: &[&[u8]]) -> Result<What, Fault>
+#[tactic(auto, unfolding(crate::specs::CommandReadings::asked_at, crate::specs::CommandReadings::worded_at))]
+fn asked(alloc: Global, known: &Known, client: u8, fields: &[&[u8]]) -> Result<What, Fault>
     requires { IsSmall known.now }
-    ensures { Gives result (asked_at known.now (fields_in fields.now)) }
+    ensures { Gives result (asked_at known.now client (fields_in fields.now)) }
 {
     match fields {
         [] => Err(Fault::Refused(Reason::UnknownCommand)),
         [field, args @ ..] => match word_at(field) {
-            Some(word) => what_of(alloc, known, word, args),
+            Some(word) => what_of(alloc, known, client, word, args),
             None => Err(Fault::Refused(Reason::UnknownCommand)),
         },
     }
@@ -117,7 +106,7 @@ fn is_stopped(stopped: &[u8], client: u8) -> bool
     stopped.iter().any(|c| *c == client)
 }
 
-#[tactic(auto, unfolding(crate::specs::Inside::caller_at))]
+#[tactic(auto, unfolding(crate::specs::CommandReadings::caller_at))]
 fn caller(known: &Known, name: &[u8]) -> Result<u8, Fault>
     requires { IsSmall known.now }
     ensures { Gives result (caller_at known.now name.now) }
@@ -131,7 +120,7 @@ fn caller(known: &Known, name: &[u8]) -> Result<u8, Fault>
 }
 
 /// What a command line says.
-#[tactic(auto, unfolding(crate::specs::Inside::command_at))]
+#[tactic(auto, unfolding(crate::specs::CommandReadings::command_at))]
 pub fn command_line(
     alloc: Global,
     known: &Known,
@@ -143,7 +132,7 @@ pub fn command_line(
     ensures { Gives result (command_at known.now number name.now (fields_in fields.now)) }
 {
     let client = caller(known, name)?;
-    let what = asked(alloc, known, fields)?;
+    let what = asked(alloc, known, client, fields)?;
     Ok(Item::Asks {
         command: Command {
             line: number,

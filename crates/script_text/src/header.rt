@@ -1,17 +1,22 @@
-// The header's lines.
-ghost use Rattle.std.specs.Prelude.{◌≡◌, [], ◌∷◌, codes};
+// The header's lines, but for those of objects.
+ghost use Rattle.std.specs.Prelude.{◌≡◌, [], ◌∷◌, codes, Ok};
+ghost use Rattle.script_text.specs.declared.item.Item.TheVariants.{Begin};
 ghost use Rattle.script_text.specs.Pieces.{is_among};
 ghost use Rattle.script_text.specs.Items.{header_words};
-ghost use Rattle.script_text.specs.Inside.{Gives, IsSmall, fields_in, version_at, regions_at, colour_line_at, client_named_at, client_at, begin_at, headed_at, header_at};
+ghost use Rattle.script_text.specs.Kept.{IsSmall};
+ghost use Rattle.script_text.specs.Readings.{Gives, fields_in, with_none, with_one, with_two};
+ghost use Rattle.script_text.specs.HeaderReadings.{version_at, regions_at, colour_line_at, rows_at, client_named_at, client_at, headed_at, header_at};
 
+use crate::declared::declared_line;
 use crate::fault::Fault;
 use crate::item::{Item, Stage};
 use crate::known::Known;
 use crate::names::{new_name, new_names, number_at};
+use crate::pieces::{is_number, number_value};
 use crate::script::Reason;
 use std::alloc::Global;
 
-#[tactic(auto, unfolding(crate::specs::Inside::version_at))]
+#[tactic(auto, unfolding(crate::specs::HeaderReadings::version_at))]
 fn version_line(args: &[&[u8]]) -> Result<Item, Fault>
     ensures { Gives result (version_at (fields_in args.now)) }
 {
@@ -21,7 +26,7 @@ fn version_line(args: &[&[u8]]) -> Result<Item, Fault>
     }
 }
 
-#[tactic(auto, unfolding(crate::specs::Inside::regions_at))]
+#[tactic(auto, unfolding(crate::specs::HeaderReadings::regions_at))]
 fn regions_line(alloc: Global, args: &[&[u8]]) -> Result<Item, Fault>
     ensures { Gives result (regions_at (fields_in args.now)) }
 {
@@ -32,7 +37,7 @@ fn regions_line(alloc: Global, args: &[&[u8]]) -> Result<Item, Fault>
     Ok(Item::Regions { names })
 }
 
-#[tactic(auto, unfolding(crate::specs::Inside::colour_line_at))]
+#[tactic(auto, unfolding(crate::specs::HeaderReadings::colour_line_at))]
 fn colours_line(alloc: Global, args: &[&[u8]]) -> Result<Item, Fault>
     ensures { Gives result (colour_line_at (fields_in args.now)) }
 {
@@ -43,7 +48,32 @@ fn colours_line(alloc: Global, args: &[&[u8]]) -> Result<Item, Fault>
     Ok(Item::Colours { names })
 }
 
-#[tactic(auto, unfolding(crate::specs::Inside::client_named_at))]
+#[tactic(auto, unfolding(crate::specs::HeaderReadings::rows_at))]
+fn rows(field: &[u8]) -> Result<Item, Fault>
+    ensures { Gives result (rows_at field.now) }
+{
+    if !is_number(10, field) {
+        return Err(Fault::Refused(Reason::BadNumber));
+    }
+    let number = number_value(field);
+    if number < 1 || number > 4096 {
+        return Err(Fault::Refused(Reason::BadNumber));
+    }
+    Ok(Item::Rows {
+        number: number as u32,
+    })
+}
+
+fn rows_line(args: &[&[u8]]) -> Result<Item, Fault>
+    ensures { Gives result (with_one rows_at (fields_in args.now)) }
+{
+    match args {
+        [field] => rows(field),
+        _ => Err(Fault::Refused(Reason::BadForm)),
+    }
+}
+
+#[tactic(auto, unfolding(crate::specs::HeaderReadings::client_named_at))]
 fn client_named(alloc: Global, known: &Known, field: &[u8], region: &[u8]) -> Result<Item, Fault>
     requires { IsSmall known.now }
     ensures { Gives result (client_named_at known.now field.now region.now) }
@@ -54,25 +84,29 @@ fn client_named(alloc: Global, known: &Known, field: &[u8], region: &[u8]) -> Re
     Ok(Item::Client { name, home })
 }
 
-#[tactic(auto, unfolding(crate::specs::Inside::client_at))]
+#[tactic(auto, unfolding(crate::specs::HeaderReadings::client_at))]
+fn client(alloc: Global, known: &Known, field: &[u8], region: &[u8]) -> Result<Item, Fault>
+    requires { IsSmall known.now }
+    ensures { Gives result (client_at known.now field.now region.now) }
+{
+    if known.script.clients.len() >= 16 {
+        return Err(Fault::Refused(Reason::BadForm));
+    }
+    client_named(alloc, known, field, region)
+}
+
 fn client_line(alloc: Global, known: &Known, args: &[&[u8]]) -> Result<Item, Fault>
     requires { IsSmall known.now }
-    ensures { Gives result (client_at known.now (fields_in args.now)) }
+    ensures { Gives result (with_two (client_at known.now) (fields_in args.now)) }
 {
     match args {
-        [field, region] => {
-            if known.script.clients.len() >= 16 {
-                return Err(Fault::Refused(Reason::BadForm));
-            }
-            client_named(alloc, known, field, region)
-        }
+        [field, region] => client(alloc, known, field, region),
         _ => Err(Fault::Refused(Reason::BadForm)),
     }
 }
 
-#[tactic(auto, unfolding(crate::specs::Inside::begin_at))]
 fn begin_line(args: &[&[u8]]) -> Result<Item, Fault>
-    ensures { Gives result (begin_at (fields_in args.now)) }
+    ensures { Gives result (with_none (Ok Begin) (fields_in args.now)) }
 {
     match args {
         [] => Ok(Item::Begin),
@@ -81,7 +115,8 @@ fn begin_line(args: &[&[u8]]) -> Result<Item, Fault>
 }
 
 fn opens_object(word: &[u8]) -> bool
-    ensures { result ≡ is_among (codes "map" ∷ codes "tx" ∷ codes "causal" ∷ codes "queue" ∷ []) word.now }
+    ensures { result ≡ is_among (codes "map" ∷ codes "tx" ∷ codes "causal" ∷ codes "queue" ∷ [])
+        word.now }
 {
     word == b"map".as_slice()
         || word == b"tx".as_slice()
@@ -98,15 +133,15 @@ fn may_come(stage: Stage, word: &[u8]) -> bool
         Stage::Regions => word == b"colours".as_slice(),
         Stage::Colours => word == b"rows".as_slice() || word == b"client".as_slice(),
         Stage::Rows => word == b"client".as_slice(),
-        Stage::Clients => word == b"client".as_slice()
-            || opens_object(word)
-            || word == b"begin".as_slice(),
+        Stage::Clients => {
+            word == b"client".as_slice() || opens_object(word) || word == b"begin".as_slice()
+        }
         Stage::Objects => opens_object(word) || word == b"begin".as_slice(),
         Stage::Commands => false,
     }
 }
 
-#[tactic(auto, unfolding(crate::specs::Inside::headed_at))]
+#[tactic(auto, unfolding(crate::specs::HeaderReadings::headed_at))]
 fn headed(alloc: Global, known: &Known, word: &[u8], args: &[&[u8]]) -> Result<Item, Fault>
     requires { IsSmall known.now }
     ensures { Gives result (headed_at known.now word.now (fields_in args.now)) }
@@ -117,17 +152,19 @@ fn headed(alloc: Global, known: &Known, word: &[u8], args: &[&[u8]]) -> Result<I
         regions_line(alloc, args)
     } else if word == b"colours".as_slice() {
         colours_line(alloc, args)
+    } else if word == b"rows".as_slice() {
+        rows_line(args)
     } else if word == b"client".as_slice() {
         client_line(alloc, known, args)
     } else if word == b"begin".as_slice() {
         begin_line(args)
     } else {
-        Err(Fault::Refused(Reason::BadForm))
+        declared_line(alloc, known, word, args)
     }
 }
 
 /// What a header line says.
-#[tactic(auto, unfolding(crate::specs::Inside::header_at))]
+#[tactic(auto, unfolding(crate::specs::HeaderReadings::header_at))]
 pub fn header_line(alloc: Global, known: &Known, word: &[u8], args: &[&[u8]]) -> Result<Item, Fault>
     requires { IsSmall known.now }
     ensures { Gives result (header_at known.now word.now (fields_in args.now)) }

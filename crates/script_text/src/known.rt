@@ -1,8 +1,9 @@
 // What is kept of the lines so far.
 ghost use Rattle.std.specs.Prelude.{◌≡◌, [], OnOk};
-ghost use Rattle.script_text.specs.Inside.{known_of, known_after, IsSmall};
+ghost use Rattle.script_text.specs.Kept.{known_of, known_after, known_with, IsSmall};
 
 use crate::item::{Item, Stage};
+use crate::reads::HeldReads;
 use crate::script::{Script, What};
 use log_node::{ListOf, Shape};
 use std::alloc::{AllocError, Global};
@@ -14,6 +15,8 @@ pub struct Known {
     pub script: Script,
     /// The clients whose last command has come.
     pub stopped: ListOf<u8>,
+    /// The reads that commits may use up.
+    pub held: HeldReads,
 }
 
 impl Known {
@@ -36,6 +39,7 @@ impl Known {
                 commands: ListOf::new(alloc),
             },
             stopped: ListOf::new(alloc),
+            held: HeldReads::new(alloc),
         }
     }
 
@@ -75,9 +79,21 @@ impl Known {
                 if matches!(command.what, What::Stop { .. }) {
                     self.stopped.push(command.client)?;
                 }
+                self.held.follow(command.client, &command.what)?;
                 self.script.commands.push(command)?;
             }
         }
         Ok(())
+    }
+
+    /// What is known after a line, which may say nothing.
+    pub fn follow(&mut self, said: Option<Item>) -> Result<(), AllocError>
+        requires { IsSmall (known_with self.old said) }
+        ensures { OnOk result (self.new ≡ known_with self.old said) }
+    {
+        match said {
+            Some(item) => self.take(item),
+            None => Ok(()),
+        }
     }
 }

@@ -1,13 +1,17 @@
 // A line of a script, and what its fields say.
-ghost use Rattle.std.specs.Prelude.{◌≡◌};
+ghost use Rattle.std.specs.Prelude.{◌≡◌, ◌==◌, length};
+ghost use Rattle.std.specs.List.{list_any};
 ghost use Rattle.script_text.specs.Grammar.{is_passed_over};
-ghost use Rattle.script_text.specs.Inside.{Gives, IsSmall, fields_in, item_at};
+ghost use Rattle.script_text.specs.Kept.{IsSmall};
+ghost use Rattle.script_text.specs.Readings.{Gives, fields_in};
+ghost use Rattle.script_text.specs.LineReadings.{item_at, full_item_at, kept_at, line_at};
 
 use crate::command::command_line;
 use crate::fault::Fault;
 use crate::header::header_line;
 use crate::item::{Item, Stage};
 use crate::known::Known;
+use crate::pieces::{is_ascii_line, parts_of};
 use crate::script::Reason;
 use std::alloc::Global;
 
@@ -30,8 +34,14 @@ pub fn is_passed_over(number: u32, line: &[u8]) -> bool
     }
 }
 
+fn has_empty(fields: &[&[u8]]) -> bool
+    ensures { result ≡ list_any (λ field. length field == 0) (fields_in fields.now) }
+{
+    fields.iter().any(|field| field.is_empty())
+}
+
 /// What a line's fields say.
-#[tactic(auto, unfolding(crate::specs::Inside::item_at))]
+#[tactic(auto, unfolding(crate::specs::LineReadings::item_at))]
 pub fn item_of(alloc: Global, known: &Known, number: u32, fields: &[&[u8]]) -> Result<Item, Fault>
     requires { IsSmall known.now }
     ensures { Gives result (item_at known.now number (fields_in fields.now)) }
@@ -43,4 +53,49 @@ pub fn item_of(alloc: Global, known: &Known, number: u32, fields: &[&[u8]]) -> R
             _ => header_line(alloc, known, word, args),
         },
     }
+}
+
+/// What a line's fields say, of which none may be empty.
+#[tactic(auto, unfolding(crate::specs::LineReadings::full_item_at))]
+fn full_item_of(alloc: Global, known: &Known, number: u32, fields: &[&[u8]]) -> Result<Item, Fault>
+    requires { IsSmall known.now }
+    ensures { Gives result (full_item_at known.now number (fields_in fields.now)) }
+{
+    if has_empty(fields) {
+        return Err(Fault::Refused(Reason::BadForm));
+    }
+    item_of(alloc, known, number, fields)
+}
+
+#[tactic(auto, unfolding(crate::specs::LineReadings::kept_at))]
+fn kept_line(alloc: Global, known: &Known, number: u32, line: &[u8]) -> Result<Option<Item>, Fault>
+    requires { IsSmall known.now }
+    ensures { Gives result (kept_at known.now number line.now) }
+{
+    if is_passed_over(number, line) {
+        return Ok(None);
+    }
+    let fields = parts_of(alloc, line, b' ')?;
+    let item = full_item_of(alloc, known, number, &fields)?;
+    Ok(Some(item))
+}
+
+/// What a line says, or nothing where it is passed over.
+#[tactic(auto, unfolding(crate::specs::LineReadings::line_at))]
+pub fn line_of(
+    alloc: Global,
+    known: &Known,
+    number: u32,
+    line: &[u8],
+) -> Result<Option<Item>, Fault>
+    requires { IsSmall known.now }
+    ensures { Gives result (line_at known.now number line.now) }
+{
+    if !is_ascii_line(line) {
+        return Err(Fault::Refused(Reason::NotAscii));
+    }
+    if number == 1 && line != b"fuzzylog 1".as_slice() {
+        return Err(Fault::Refused(Reason::BadVersion));
+    }
+    kept_line(alloc, known, number, line)
 }

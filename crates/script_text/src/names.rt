@@ -1,8 +1,8 @@
 // Names in a line: new ones, and those that the header has named.
-ghost use Rattle.std.specs.Prelude.{◌≡◌, ◌≤◌, ◌<◌, [], length, All};
-ghost use Rattle.script_text.specs.Pieces.{is_among};
+ghost use Rattle.std.specs.Prelude.{◌≡◌, ◌≤◌, ◌<◌, [], length, All, IfOk};
+ghost use Rattle.script_text.specs.Pieces.{is_among, names_in};
 ghost use Rattle.script_text.specs.Items.{set_of};
-ghost use Rattle.script_text.specs.Inside.{Gives, fields_in, number_at, new_name_at, new_names_at, colour_at, colours_at, colour_set_at, text_at};
+ghost use Rattle.script_text.specs.Readings.{Gives, fields_in, number_at, new_name_at, new_names_at, colour_at, colours_at, colour_set_at, text_at};
 
 use crate::fault::Fault;
 use crate::pieces::{is_among, is_name, is_text, number_of, parts_of};
@@ -11,7 +11,7 @@ use log_node::{ColourList, Colours, ListOf, Names, Text};
 use std::alloc::Global;
 
 /// A name that is new among these.
-#[tactic(auto, unfolding(crate::specs::Inside::new_name_at))]
+#[tactic(auto, unfolding(crate::specs::Readings::new_name_at))]
 pub fn new_name(alloc: Global, names: &[Text], field: &[u8]) -> Result<Text, Fault>
     ensures { Gives result (new_name_at names.now field.now) }
 {
@@ -37,7 +37,7 @@ pub fn new_names(alloc: Global, fields: &[&[u8]]) -> Result<Names, Fault>
 }
 
 /// The number of a name among these, or else the reason.
-#[tactic(auto, unfolding(crate::specs::Inside::number_at))]
+#[tactic(auto, unfolding(crate::specs::Readings::number_at))]
 pub fn number_at(names: &[Text], field: &[u8], why: Reason) -> Result<u8, Fault>
     requires { length names.now ≤ 256 }
     ensures { Gives result (number_at why names.now field.now) }
@@ -55,7 +55,7 @@ fn is_repeated(earlier: &[&[u8]], field: &[u8]) -> bool
 }
 
 /// The number of a colour that none of the earlier fields names.
-#[tactic(auto, unfolding(crate::specs::Inside::colour_at))]
+#[tactic(auto, unfolding(crate::specs::Readings::colour_at))]
 fn colour_at(names: &[Text], earlier: &[&[u8]], field: &[u8]) -> Result<u8, Fault>
     requires { length names.now ≤ 256 }
     ensures { Gives result (colour_at names.now (fields_in earlier.now) field.now) }
@@ -80,7 +80,8 @@ pub fn colour_numbers(alloc: Global, names: &[Text], fields: &[&[u8]]) -> Result
     Ok(colours)
 }
 
-fn set_of(colours: &[u8]) -> Colours
+/// The set of these colours.
+pub fn set_of(colours: &[u8]) -> Colours
     requires { All (λ c. c < 16) colours.now }
     ensures { result ≡ set_of colours.now }
 {
@@ -91,19 +92,29 @@ fn set_of(colours: &[u8]) -> Colours
     Colours(set)
 }
 
+/// The numbers of the colours whose names stand between commas.
+pub fn cols_at(alloc: Global, names: &[Text], cols: &[u8]) -> Result<ColourList, Fault>
+    requires { length names.now ≤ 16 }
+    ensures value { Gives result (colours_at names.now (names_in cols.now)) }
+    ensures below { IfOk result (All (λ c. c < 16)) }
+    ensures few { IfOk result (λ colours. length colours ≤ 16) }
+{
+    let fields = parts_of(alloc, cols, b',')?;
+    colour_numbers(alloc, names, &fields)
+}
+
 /// The set of the colours whose names stand between commas.
-#[tactic(auto, unfolding(crate::specs::Inside::colour_set_at))]
+#[tactic(auto, unfolding(crate::specs::Readings::colour_set_at))]
 pub fn colour_set(alloc: Global, names: &[Text], cols: &[u8]) -> Result<Colours, Fault>
     requires { length names.now ≤ 16 }
     ensures { Gives result (colour_set_at names.now cols.now) }
 {
-    let fields = parts_of(alloc, cols, b',')?;
-    let colours = colour_numbers(alloc, names, &fields)?;
+    let colours = cols_at(alloc, names, cols)?;
     Ok(set_of(colours.as_slice()))
 }
 
 /// A node's text.
-#[tactic(auto, unfolding(crate::specs::Inside::text_at))]
+#[tactic(auto, unfolding(crate::specs::Readings::text_at))]
 pub fn text_at(alloc: Global, field: &[u8]) -> Result<Text, Fault>
     ensures { Gives result (text_at field.now) }
 {

@@ -1,7 +1,8 @@
 // The pieces of a script's bytes: lines, fields, and what a field may be.
-ghost use Rattle.std.specs.Prelude.{◌≡◌, ◌<◌, ◌≤◌, ◌==◌, ◌∷◌, length, map, IfOk};
+ghost use Rattle.std.specs.Prelude.{◌≡◌, ◌<◌, ◌≤◌, ◌==◌, ◌↔◌, ◌∷◌, false, length, map, IfOk, IsNone, IfSome, IsTrue};
 ghost use Rattle.std.specs.List.{slice_split, list_all};
-ghost use Rattle.script_text.specs.Pieces.{lines_of, is_between, is_ascii_line, is_letter_or_digit, is_name, is_key, is_text, is_among, number_of};
+ghost use Rattle.script_text.specs.Pieces.{lines_of, is_between, is_ascii_line, is_letter_or_digit, is_name, is_key, is_text, is_among, is_digit, is_number, number_value, number_of};
+ghost use Rattle.script_text.specs.Grammar.{has_equals, key_in, value_in};
 
 use log_node::Text;
 use std::alloc::{AllocError, Global};
@@ -91,9 +92,56 @@ pub fn number_of(names: &[Text], name: &[u8]) -> Option<u8>
     ensures { result ≡ number_of names.now name.now }
 {
     for (number, other) in names.iter().enumerate() {
-        if other.as_bytes() == name {
+        if name == other.as_bytes() {
             return Some(number as u8);
         }
     }
     None
+}
+
+/// The key and the value about the first `=`.
+pub fn split_pair(field: &[u8]) -> Option<(&[u8], &[u8])>
+    ensures none { IsNone result ↔ (has_equals field.now ≡ false) }
+    ensures parts { IfSome result (λ pair. (pair.0.now ≡ key_in field.now)
+        × (pair.1.now ≡ value_in field.now)) }
+{
+    for (end, b) in field.iter().enumerate() {
+        if *b == b'=' {
+            return Some((&field[..end], &field[end + 1..]));
+        }
+    }
+    None
+}
+
+fn are_digits(bytes: &[u8]) -> bool
+    ensures { result ≡ list_all is_digit bytes.now }
+{
+    bytes.iter().all(|b| b.is_ascii_digit())
+}
+
+/// A number of at most so many digits: 0, or digits of which the first is none.
+pub fn is_number(most: usize, field: &[u8]) -> bool
+    ensures { result ≡ is_number most field.now }
+{
+    match field {
+        [] => false,
+        [first, others @ ..] => {
+            are_digits(field)
+                && (matches!(*first, b'1'..=b'9') || others.is_empty())
+                && others.len() < most
+        }
+    }
+}
+
+/// The number that the digits are.
+pub fn number_value(digits: &[u8]) -> u64
+    requires digits { IsTrue (list_all is_digit digits.now) }
+    requires few { length digits.now ≤ 10 }
+    ensures { result ≡ number_value digits.now }
+{
+    let mut value = 0;
+    for b in digits {
+        value = 10 * value + u64::from(*b - b'0');
+    }
+    value
 }

@@ -1,5 +1,5 @@
 use Rattle.std.proofs.Common.{refl, sym, ◌∙◌}
-use Rattle.script_text.specs.Inside.{caller_at}
+use Rattle.script_text.specs.CommandReadings.{caller_at}
 use Rattle.script_text.proofs.command.caller.Goals as goal
 
 pub returns-then-is_stopped : goal.returns-then-is_stopped

@@ -1,5 +1,5 @@
 use Rattle.std.proofs.Common.{◌≡◌, [], take, drop}
-use Rattle.script_text.specs.Inside.{each_at, colour_at, fields_in}
+use Rattle.script_text.specs.Readings.{each_at, colour_at, fields_in}
 use Rattle.script_text.proofs.EachLemmas.{with_front}
 use Rattle.script_text.proofs.names.colour_numbers.Given as goal
 

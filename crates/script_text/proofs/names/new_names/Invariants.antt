@@ -1,5 +1,5 @@
 use Rattle.std.proofs.Common.{◌≡◌, [], drop}
-use Rattle.script_text.specs.Inside.{each_at, new_name_at, fields_in}
+use Rattle.script_text.specs.Readings.{each_at, new_name_at, fields_in}
 use Rattle.script_text.proofs.EachLemmas.{with_front}
 use Rattle.script_text.proofs.names.new_names.Given as goal
 

@@ -8,7 +8,7 @@ pub returns-then-eq : goal.returns-then-eq
 returns-then-eq c =
     let within : c.loop-number.number < length c.args.names.now = omega arith in
     let read = get_or_read c.args.names.now c.loop-number.number c.index-names-number.result within c.index-names-number.is [] in
-    let here : bytes_eq (get_or c.args.names.now c.loop-number.number []) c.args.name.now ≡ true = cc (read, c.as_bytes.ensures, c.eq.ensures, c.if-eq.true) in
+    let here : bytes_eq c.args.name.now (get_or c.args.names.now c.loop-number.number []) ≡ true = cc (read, c.as_bytes.ensures, c.eq.ensures, c.if-eq.true) in
     sym (number_first c.args.names.now c.args.name.now c.loop-number.number within c.loop-number.invariant here)
 
 pub returns : goal.returns
