@@ -38,7 +38,7 @@ fn node(alloc: Global) -> Result<Arc<Node, Global>, AllocError>
         },
         region: 0,
         colours: Colours(3),
-        text: Text::make(alloc, b"p")?,
+        text: Text::copied(alloc, b"p")?,
         floor: 0,
         wants: ListOf::new(alloc),
         row: Some(Row {
