@@ -114,10 +114,22 @@ fn each_word_is_its_own_command(rt: HostRuntime) -> Result<(), Fail> {
             What::Put { object, .. } => 13 + u32::from(*object),
             What::Get { object, .. } => 14 + u32::from(*object),
             What::Del { object, .. } => 15 + u32::from(*object),
-            What::PutAll { object, pairs } => 14 + pairs.len() as u32 + u32::from(*object),
-            What::GetAll { object, keys } => 15 + keys.len() as u32 + u32::from(*object),
-            What::Read { object, keys } => 15 + keys.len() as u32 + u32::from(*object),
-            What::Commit { object, pairs } => 17 + pairs.len() as u32 + u32::from(*object),
+            What::PutAll { object, pairs } => {
+                assert_eq!(rt; pairs.len(), 2);
+                16 + u32::from(*object)
+            }
+            What::GetAll { object, keys } => {
+                assert_eq!(rt; keys.len(), 2);
+                17 + u32::from(*object)
+            }
+            What::Read { object, keys } => {
+                assert_eq!(rt; keys.len(), 2);
+                17 + u32::from(*object)
+            }
+            What::Commit { object, pairs } => {
+                assert_eq!(rt; pairs.len(), 1);
+                18 + u32::from(*object)
+            }
             What::Enq { object, .. } => 18 + u32::from(*object),
             What::Deq { object } => 19 + u32::from(*object),
         };

@@ -5,7 +5,7 @@ const SHORT: &str = "fuzzylog 1\nregions r\ncolours x\nclient a r\nbegin\n";
 /// A script with a comment at its end, of so many bytes.
 fn with_bytes(alloc: std::alloc::Global, most: usize) -> Result<Vec<u8>, Fail> {
     let mut bytes = SHORT.as_bytes().to_vec(alloc)?;
-    while bytes.len() < most {
+    for _ in bytes.len()..most {
         bytes.push(b'#')?;
     }
     Ok(bytes)
