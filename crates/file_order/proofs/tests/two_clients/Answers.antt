@@ -10,7 +10,7 @@ use Rattle.script_text.specs.declared.script.Command.{Command}
 use Rattle.script_text.specs.declared.script.Object.{Object}
 use Rattle.script_text.specs.declared.script.Script.{Script}
 use Rattle.script_text.specs.Fitting.{IsShape, IsWithin, IsFitting}
-use Rattle.file_order.specs.Meaning.{is_built}
+use Rattle.file_order.specs.Meaning.{is_built, is_one}
 use Rattle.file_order.proofs.tests.two_clients.Goals as goal
 
 abbrev only_first : Colours
@@ -22,6 +22,7 @@ record Suits (c : Command) : Type 0 where
   built : IsTrue (is_built c.what)
 
 append_suits : (c : Command) (u : ℕ) (t : List ℕ) → u < 2 → c.client ≡ u → c.what ≡ whats.Append only_first t → Suits c
+  unfolding is_one
 append_suits c u t h e f = record {
   client = omega (arith, h, e);
   within = subst (IsWithin 2 1) (sym f) (All-cons (λ (k : ℕ). k < 1) 0 [] (lit< tt) (All-nil (λ (k : ℕ). k < 1)));
