@@ -22,7 +22,7 @@ record Suits (c : Command) : Type 0 where
   built : IsTrue (is_built c.what)
 
 append_suits : (c : Command) (u : ℕ) (t : List ℕ) → u < 2 → c.client ≡ u → c.what ≡ whats.Append only_first t → Suits c
-  unfolding is_one
+unfolding is_one
 append_suits c u t h e f = record {
   client = omega (arith, h, e);
   within = subst (IsWithin 2 1) (sym f) (All-cons (λ (k : ℕ). k < 1) 0 [] (lit< tt) (All-nil (λ (k : ℕ). k < 1)));
