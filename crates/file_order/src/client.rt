@@ -36,6 +36,7 @@ impl Model for Client {
 }
 
 impl Client {
+    /// A client that has done nothing, with memory for so many replies.
     pub fn new(alloc: Global, room: usize) -> Result<Client, AllocError>
         ensures { IfOk result (λ client. client ≡ new_client room) }
     {
@@ -64,6 +65,7 @@ impl Client {
         }
     }
 
+    /// The greatest stamp on its own nodes and on those that it played; 0 before.
     pub fn floor(&self) -> u64
         ensures { result ≡ self.now.floor }
     {
@@ -98,6 +100,7 @@ impl Client {
         self.starts[colour as usize] = position;
     }
 
+    /// Keeps one reply more, for which there is memory.
     pub fn reply(&mut self, reply: ReplyLine)
         requires { 0 < self.old.room }
         ensures { self.new ≡ with_reply self.old reply }

@@ -45,6 +45,7 @@ impl Model for Column {
 }
 
 impl Column {
+    /// A column without events; takes no memory.
     pub fn new(alloc: Global) -> Column
         ensures { result ≡ new_column }
     {
@@ -55,6 +56,7 @@ impl Column {
         }
     }
 
+    /// Lamport's clock of its history; 0 before the first event.
     pub fn clock(&self) -> u64
         ensures { result ≡ clock self.now.history }
     {

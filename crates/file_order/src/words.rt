@@ -4,6 +4,7 @@ ghost use Rattle.script_text.specs.Words.{word_of};
 
 use script_text::{What, Word};
 
+/// The word by which the script asks for it.
 pub fn word_of(what: &What) -> Word
     ensures { result ≡ word_of what.now }
 {

@@ -13,6 +13,7 @@ pub struct ReadSource<R> {
 }
 
 impl<R: Read> ReadSource<R> {
+    /// A source over a reader; takes no memory.
     pub fn open(reader: R) -> ReadSource<R>
         ensures { result ≡ record { reader = reader; faults = 0 } }
     {
@@ -44,6 +45,7 @@ pub struct WriteSink<W> {
 }
 
 impl<W: Write> WriteSink<W> {
+    /// A sink over a writer; takes no memory.
     pub fn open(writer: W) -> WriteSink<W>
         ensures { result ≡ record { writer = writer; faults = 0 } }
     {

@@ -1,3 +1,4 @@
+// Ids, keys, sets of colours, counts by region, and rows.
 /// A node's id: its client, and that client's count.
 #[derive(Clone, Copy, Debug, PartialEq, Eq, PartialOrd, Ord)]
 pub struct Id {

@@ -84,24 +84,28 @@ impl<'r> Names<'r> {
         }
     }
 
+    /// How many regions there are.
     pub fn regions(&self) -> usize
         ensures { result ≡ region_count self.now }
     {
         self.regions
     }
 
+    /// Puts out the name of a region; nothing where the number names none.
     pub fn put_region<O: Output>(&self, number: u8, out: &mut O)
         ensures { Adds (O.state out.old) (O.state out.new) (region_name self.now number) }
     {
         out.put(self.region(number));
     }
 
+    /// Puts out the name of a colour; nothing where the number names none.
     pub fn put_colour<O: Output>(&self, number: u8, out: &mut O)
         ensures { Adds (O.state out.old) (O.state out.new) (colour_name self.now number) }
     {
         out.put(self.colour(number));
     }
 
+    /// Puts out the name of a client; nothing where the number names none.
     pub fn put_client<O: Output>(&self, number: u8, out: &mut O)
         ensures { Adds (O.state out.old) (O.state out.new) (client_name self.now number) }
     {

@@ -24,6 +24,7 @@ impl Model for Pending {
 }
 
 impl Pending {
+    /// A page with nothing on it.
     pub fn new() -> Pending
         ensures { result ≡ [] }
     {
@@ -33,6 +34,7 @@ impl Pending {
         }
     }
 
+    /// How many bytes wait.
     pub fn len(&self) -> usize
         ensures len { result ≡ length self.now }
         ensures limit { result ≤ PAGE }
@@ -40,12 +42,14 @@ impl Pending {
         self.used
     }
 
+    /// The bytes that wait.
     pub fn as_slice(&self) -> &[u8]
         ensures { result.now ≡ self.now }
     {
         &self.bytes[..self.used]
     }
 
+    /// A piece more, for which there is room.
     pub fn push(&mut self, piece: &[u8])
         requires { length self.old + length piece.now ≤ PAGE }
         ensures { self.new ≡ self.old ++ piece.now }
@@ -55,6 +59,7 @@ impl Pending {
         self.used = end;
     }
 
+    /// Nothing waits afterwards.
     pub fn clear(&mut self)
         ensures { self.new ≡ [] }
     {

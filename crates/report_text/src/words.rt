@@ -6,6 +6,7 @@ ghost use Rattle.script_text.specs.Words.{word_text};
 use crate::output::Output;
 use script_text::Word;
 
+/// Puts out the word of a command.
 pub fn put_word<O: Output>(word: Word, out: &mut O)
     ensures { Adds (O.state out.old) (O.state out.new) (word_text word) }
 {

@@ -1,15 +1,14 @@
 // The header's lines of objects.
 ghost use Rattle.std.specs.Prelude.{◌≡◌, map};
-ghost use Rattle.script_text.specs.declared.script.Reason.TheVariants as reasons;
 ghost use Rattle.script_text.specs.Pieces.{is_among};
 ghost use Rattle.script_text.specs.Kept.{IsSmall};
-ghost use Rattle.script_text.specs.Readings.{Gives, fields_in, number_at, with_two, with_three, with_two_others};
+ghost use Rattle.script_text.specs.Readings.{Gives, fields_in, with_two, with_three, with_two_others};
 ghost use Rattle.script_text.specs.HeaderReadings.{object_names_in, object_name_at, sharded_at, map_at, tx_at, causal_at, queue_at, declared_at};
 
 use crate::fault::Fault;
 use crate::item::Item;
 use crate::known::Known;
-use crate::names::{colour_numbers, number_at};
+use crate::names::colour_numbers;
 use crate::pieces::is_name;
 use crate::script::{Kind, Object, Reason};
 use log_node::{ColourList, Text};
@@ -38,28 +37,6 @@ fn object_name(alloc: Global, known: &Known, field: &[u8]) -> Result<Text, Fault
     Ok(Text::copied(alloc, field)?)
 }
 
-fn region_at(known: &Known, field: &[u8]) -> Result<u8, Fault>
-    requires { IsSmall known.now }
-    ensures { Gives result (number_at reasons.UnknownRegion known.now.script.regions field.now) }
-{
-    number_at(
-        known.script.regions.as_slice(),
-        field,
-        Reason::UnknownRegion,
-    )
-}
-
-fn colour_at(known: &Known, field: &[u8]) -> Result<u8, Fault>
-    requires { IsSmall known.now }
-    ensures { Gives result (number_at reasons.UnknownColour known.now.script.colours field.now) }
-{
-    number_at(
-        known.script.colours.as_slice(),
-        field,
-        Reason::UnknownColour,
-    )
-}
-
 /// The name, home and colours of an object.
 #[tactic(auto, unfolding(crate::specs::HeaderReadings::sharded_at))]
 fn sharded(
@@ -73,7 +50,7 @@ fn sharded(
     ensures { Gives result (sharded_at known.now field.now region.now (fields_in colours.now)) }
 {
     let name = object_name(alloc, known, field)?;
-    let home = region_at(known, region)?;
+    let home = known.region_at(region)?;
     let colours = colour_numbers(alloc, known.script.colours.as_slice(), colours)?;
     Ok((name, home, colours))
 }
@@ -120,7 +97,7 @@ fn causal(alloc: Global, known: &Known, field: &[u8], colour: &[u8]) -> Result<I
     ensures { Gives result (causal_at known.now field.now colour.now) }
 {
     let name = object_name(alloc, known, field)?;
-    let colour = colour_at(known, colour)?;
+    let colour = known.colour_at(colour)?;
     let kind = Kind::Causal { colour };
     Ok(Item::Declared {
         object: Object { name, kind },
@@ -139,8 +116,8 @@ fn queue(
     ensures { Gives result (queue_at known.now field.now region.now colour.now) }
 {
     let name = object_name(alloc, known, field)?;
-    let home = region_at(known, region)?;
-    let colour = colour_at(known, colour)?;
+    let home = known.region_at(region)?;
+    let colour = known.colour_at(colour)?;
     let kind = Kind::Queue { home, colour };
     Ok(Item::Declared {
         object: Object { name, kind },

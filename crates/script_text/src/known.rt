@@ -1,10 +1,14 @@
 // What is kept of the lines so far.
 ghost use Rattle.std.specs.Prelude.{◌≡◌, [], OnOk};
+ghost use Rattle.script_text.specs.declared.script.Reason.TheVariants as reasons;
 ghost use Rattle.script_text.specs.Kept.{known_of, known_after, known_with, IsSmall};
+ghost use Rattle.script_text.specs.Readings.{Gives, number_at};
 
+use crate::fault::Fault;
 use crate::item::{Item, Stage};
+use crate::names::number_at;
 use crate::reads::HeldReads;
-use crate::script::{Script, What};
+use crate::script::{Reason, Script, What};
 use log_node::{ListOf, Shape};
 use std::alloc::{AllocError, Global};
 
@@ -20,6 +24,7 @@ pub struct Known {
 }
 
 impl Known {
+    /// What is known before the first line: nothing.
     pub fn new(alloc: Global) -> Known
         ensures { result ≡ known_of [] }
     {
@@ -41,6 +46,30 @@ impl Known {
             stopped: ListOf::new(alloc),
             held: HeldReads::new(alloc),
         }
+    }
+
+    /// The number of the region that a field names.
+    pub fn region_at(&self, field: &[u8]) -> Result<u8, Fault>
+        requires { IsSmall self.now }
+        ensures { Gives result (number_at reasons.UnknownRegion self.now.script.regions field.now) }
+    {
+        number_at(
+            self.script.regions.as_slice(),
+            field,
+            Reason::UnknownRegion,
+        )
+    }
+
+    /// The number of the colour that a field names.
+    pub fn colour_at(&self, field: &[u8]) -> Result<u8, Fault>
+        requires { IsSmall self.now }
+        ensures { Gives result (number_at reasons.UnknownColour self.now.script.colours field.now) }
+    {
+        number_at(
+            self.script.colours.as_slice(),
+            field,
+            Reason::UnknownColour,
+        )
     }
 
     /// What is known after one more item.

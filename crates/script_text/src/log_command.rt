@@ -1,28 +1,16 @@
 // What commands ask of the log itself.
 ghost use Rattle.std.specs.Prelude.{◌≡◌, ◌<◌, ◌≤◌, length, All};
-ghost use Rattle.script_text.specs.declared.script.Reason.TheVariants as reasons;
 ghost use Rattle.script_text.specs.Kept.{IsSmall};
-ghost use Rattle.script_text.specs.Readings.{Gives, fields_in, number_at, with_one, with_two, with_three};
+ghost use Rattle.script_text.specs.Readings.{Gives, fields_in, with_one, with_two, with_three};
 ghost use Rattle.script_text.specs.CommandReadings.{append_at, stop_with, stop_at, sync_at, scan_at, pull_at, trim_at};
 
 use crate::fault::Fault;
 use crate::keys::digits_at;
 use crate::known::Known;
-use crate::names::{colour_set, cols_at, number_at, set_of, text_at};
+use crate::names::{colour_set, cols_at, set_of, text_at};
 use crate::script::{Reason, What};
 use log_node::Text;
 use std::alloc::Global;
-
-fn colour_at(known: &Known, field: &[u8]) -> Result<u8, Fault>
-    requires { IsSmall known.now }
-    ensures { Gives result (number_at reasons.UnknownColour known.now.script.colours field.now) }
-{
-    number_at(
-        known.script.colours.as_slice(),
-        field,
-        Reason::UnknownColour,
-    )
-}
 
 #[tactic(auto, unfolding(crate::specs::CommandReadings::append_at))]
 fn append(alloc: Global, known: &Known, cols: &[u8], field: &[u8]) -> Result<What, Fault>
@@ -34,6 +22,7 @@ fn append(alloc: Global, known: &Known, cols: &[u8], field: &[u8]) -> Result<Wha
     Ok(What::Append { colours, text })
 }
 
+/// The fields behind `append`: colours and a text.
 pub fn append_line(alloc: Global, known: &Known, args: &[&[u8]]) -> Result<What, Fault>
     requires { IsSmall known.now }
     ensures { Gives result (with_two (append_at known.now) (fields_in args.now)) }
@@ -81,6 +70,7 @@ fn stop(
     stop_with(steps, colours.as_slice(), text)
 }
 
+/// The fields behind `stop`: a number of steps, colours and a text.
 pub fn stop_line(alloc: Global, known: &Known, args: &[&[u8]]) -> Result<What, Fault>
     requires { IsSmall known.now }
     ensures { Gives result (with_three (stop_at known.now) (fields_in args.now)) }
@@ -96,10 +86,11 @@ fn sync(known: &Known, field: &[u8]) -> Result<What, Fault>
     requires { IsSmall known.now }
     ensures { Gives result (sync_at known.now field.now) }
 {
-    let colour = colour_at(known, field)?;
+    let colour = known.colour_at(field)?;
     Ok(What::Sync { colour })
 }
 
+/// The field behind `sync`: a colour.
 pub fn sync_line(known: &Known, args: &[&[u8]]) -> Result<What, Fault>
     requires { IsSmall known.now }
     ensures { Gives result (with_one (sync_at known.now) (fields_in args.now)) }
@@ -119,6 +110,7 @@ fn scan(alloc: Global, known: &Known, cols: &[u8]) -> Result<What, Fault>
     Ok(What::Scan { colours })
 }
 
+/// The field behind `scan`: colours.
 pub fn scan_line(alloc: Global, known: &Known, args: &[&[u8]]) -> Result<What, Fault>
     requires { IsSmall known.now }
     ensures { Gives result (with_one (scan_at known.now) (fields_in args.now)) }
@@ -134,12 +126,12 @@ fn pull(known: &Known, region: &[u8], field: &[u8]) -> Result<What, Fault>
     requires { IsSmall known.now }
     ensures { Gives result (pull_at known.now region.now field.now) }
 {
-    let regions = known.script.regions.as_slice();
-    let region = number_at(regions, region, Reason::UnknownRegion)?;
-    let colour = colour_at(known, field)?;
+    let region = known.region_at(region)?;
+    let colour = known.colour_at(field)?;
     Ok(What::Pull { region, colour })
 }
 
+/// The fields behind `pull`: a region and a colour.
 pub fn pull_line(known: &Known, args: &[&[u8]]) -> Result<What, Fault>
     requires { IsSmall known.now }
     ensures { Gives result (with_two (pull_at known.now) (fields_in args.now)) }
@@ -155,10 +147,11 @@ fn trim(known: &Known, field: &[u8]) -> Result<What, Fault>
     requires { IsSmall known.now }
     ensures { Gives result (trim_at known.now field.now) }
 {
-    let colour = colour_at(known, field)?;
+    let colour = known.colour_at(field)?;
     Ok(What::Trim { colour })
 }
 
+/// The field behind `trim`: a colour.
 pub fn trim_line(known: &Known, args: &[&[u8]]) -> Result<What, Fault>
     requires { IsSmall known.now }
     ensures { Gives result (with_one (trim_at known.now) (fields_in args.now)) }

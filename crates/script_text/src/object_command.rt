@@ -30,6 +30,7 @@ fn put(
     Ok(What::Put { object, key, value })
 }
 
+/// The fields behind `put`: an object, a key and a value.
 pub fn put_line(alloc: Global, known: &Known, args: &[&[u8]]) -> Result<What, Fault>
     requires { IsSmall known.now }
     ensures { Gives result (with_three (put_at known.now) (fields_in args.now)) }
@@ -50,6 +51,7 @@ fn get(alloc: Global, known: &Known, name: &[u8], field: &[u8]) -> Result<What, 
     Ok(What::Get { object, key })
 }
 
+/// The fields behind `get`: an object and a key.
 pub fn get_line(alloc: Global, known: &Known, args: &[&[u8]]) -> Result<What, Fault>
     requires { IsSmall known.now }
     ensures { Gives result (with_two (get_at known.now) (fields_in args.now)) }
@@ -70,6 +72,7 @@ fn del(alloc: Global, known: &Known, name: &[u8], field: &[u8]) -> Result<What, 
     Ok(What::Del { object, key })
 }
 
+/// The fields behind `del`: an object and a key.
 pub fn del_line(alloc: Global, known: &Known, args: &[&[u8]]) -> Result<What, Fault>
     requires { IsSmall known.now }
     ensures { Gives result (with_two (del_at known.now) (fields_in args.now)) }
@@ -90,6 +93,7 @@ fn putall(alloc: Global, known: &Known, name: &[u8], fields: &[&[u8]]) -> Result
     Ok(What::PutAll { object, pairs })
 }
 
+/// The fields behind `putall`: an object and pairs of distinct keys.
 pub fn putall_line(alloc: Global, known: &Known, args: &[&[u8]]) -> Result<What, Fault>
     requires { IsSmall known.now }
     ensures { Gives result (with_others 4 (putall_at known.now) (fields_in args.now)) }
@@ -115,6 +119,7 @@ fn getall(alloc: Global, known: &Known, name: &[u8], fields: &[&[u8]]) -> Result
     Ok(What::GetAll { object, keys })
 }
 
+/// The fields behind `getall`: an object and distinct keys.
 pub fn getall_line(alloc: Global, known: &Known, args: &[&[u8]]) -> Result<What, Fault>
     requires { IsSmall known.now }
     ensures { Gives result (with_others 4 (getall_at known.now) (fields_in args.now)) }
@@ -140,6 +145,7 @@ fn read(alloc: Global, known: &Known, name: &[u8], fields: &[&[u8]]) -> Result<W
     Ok(What::Read { object, keys })
 }
 
+/// The fields behind `read`: an object and distinct keys.
 pub fn read_line(alloc: Global, known: &Known, args: &[&[u8]]) -> Result<What, Fault>
     requires { IsSmall known.now }
     ensures { Gives result (with_others 2 (read_at known.now) (fields_in args.now)) }
@@ -182,6 +188,7 @@ fn commit(
     commit_with(&known.held, client, object, pairs)
 }
 
+/// The fields behind `commit`: an object of which the client has a read, and pairs of distinct keys.
 pub fn commit_line(alloc: Global, known: &Known, client: u8, args: &[&[u8]]) -> Result<What, Fault>
     requires { IsSmall known.now }
     ensures { Gives result (with_others 2 (commit_at known.now client) (fields_in args.now)) }
@@ -207,6 +214,7 @@ fn enq(alloc: Global, known: &Known, name: &[u8], content: &[u8]) -> Result<What
     Ok(What::Enq { object, value })
 }
 
+/// The fields behind `enq`: an object and a value.
 pub fn enq_line(alloc: Global, known: &Known, args: &[&[u8]]) -> Result<What, Fault>
     requires { IsSmall known.now }
     ensures { Gives result (with_two (enq_at known.now) (fields_in args.now)) }
@@ -226,6 +234,7 @@ fn deq(known: &Known, name: &[u8]) -> Result<What, Fault>
     Ok(What::Deq { object })
 }
 
+/// The field behind `deq`: an object.
 pub fn deq_line(known: &Known, args: &[&[u8]]) -> Result<What, Fault>
     requires { IsSmall known.now }
     ensures { Gives result (with_one (deq_at known.now) (fields_in args.now)) }

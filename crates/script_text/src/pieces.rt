@@ -33,6 +33,7 @@ pub fn parts_of<'a>(
     bytes.split(|b| *b == separator).collect(alloc)
 }
 
+/// Whether each byte is from 0x20 to 0x7E.
 pub fn is_ascii_line(line: &[u8]) -> bool
     ensures { result ≡ is_ascii_line line.now }
 {

@@ -41,6 +41,7 @@ impl Model for HeldReads {
 }
 
 impl HeldReads {
+    /// No read is held.
     pub fn new(alloc: Global) -> HeldReads
         ensures { result ≡ [] }
     {
@@ -49,6 +50,7 @@ impl HeldReads {
         }
     }
 
+    /// Whether this read is held: no commit has used it up yet.
     pub fn holds(&self, read: HeldRead) -> bool
         ensures { result ≡ holds self.now read }
     {

@@ -1,3 +1,4 @@
+// Scripts that are taken, and faulty ones with their lines and reasons.
 use super::*;
 use std::process::Abort;
 use std::test::Fail;

@@ -8,6 +8,7 @@ use crate::view::{Size, View};
 use atomic_table::{Join, Play, Split, TableRule};
 use log_node::Node;
 
+/// The rule of a board's words: which steps there are, and what a seat knows before the first. No value of it is made.
 pub struct Law;
 
 impl TableRule<Node, View, Size> for Law {

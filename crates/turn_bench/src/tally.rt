@@ -33,6 +33,7 @@ impl Kept for Tally {
 }
 
 impl Tally {
+    /// A tally without entries.
     pub fn new() -> Tally
         ensures { Stands result [] }
     {
