@@ -1,6 +1,9 @@
 -- What a client keeps of its region's colours, and what it has seen of all columns.
-use Rattle.std.specs.Prelude.{ℕ, ◌+◌, ◌==◌, max, List, [], ◌∷◌, ◌++◌, if◌then◌else◌}
+use Rattle.std.specs.Prelude.{ℕ, ◌+◌, ◌==◌, max, List, [], ◌∷◌, ◌++◌, Option, None, if◌then◌else◌}
 use Rattle.log_node.specs.declared.ids.Counts.{Counts}
+use Rattle.log_node.specs.declared.node.At.{At}
+use Rattle.log_node.specs.declared.node.At.TheVariants as ats
+use Rattle.log_node.specs.declared.forms.Version.{Version}
 use Rattle.log_node.specs.Vectors.{at, zeros}
 
 -- what a client keeps after some of its commands
@@ -13,12 +16,14 @@ pub record Kept : Type 0 where
   pub seen : ℕ → ℕ → ℕ
   -- for each colour how many nodes it knows to stand in the own line
   pub known : ℕ → ℕ
-  -- for each region and colour the places of its events that its replies named, in order
-  pub named : ℕ → ℕ → List ℕ
+  -- for each region and colour the places of the events that its commands made, in order
+  pub made : ℕ → ℕ → List ℕ
   -- how many ids it has used
   pub ids : ℕ
   -- how many rows it has begun
   pub rows : ℕ
+  -- for each object what its last read found, until a commit uses it up: for each key the last committed writer
+  pub reads : ℕ → Option (List Version)
 
 -- what each client keeps before its first command
 abbrev pub nothing_kept : Kept
@@ -27,9 +32,10 @@ nothing_kept = record {
   starts = λ _. zeros;
   seen = λ _ _. 0;
   known = λ _. 0;
-  named = λ _ _. [];
+  made = λ _ _. [];
   ids = 0;
   rows = 0;
+  reads = λ _. None;
 }
 
 -- the function, with another value at one number
@@ -40,11 +46,11 @@ updated f k value n = if n == k then value else f n
 abbrev pub updated_at : {A : Type 0} → (ℕ → ℕ → A) → ℕ → ℕ → A → ℕ → ℕ → A
 updated_at f region colour value = updated f region (updated (f region) colour value)
 
--- after an event of its own that the reply names
+-- after an event of its own, which the reply names
 abbrev pub kept_after_event : Kept → ℕ → ℕ → ℕ → Kept
 kept_after_event kept region colour place = record kept {
   seen = updated_at kept.seen region colour (place + 1);
-  named = updated_at kept.named region colour (kept.named region colour ++ place ∷ []);
+  made = updated_at kept.made region colour (kept.made region colour ++ place ∷ []);
 }
 
 -- after a look at a number of events
@@ -66,3 +72,37 @@ kept_after_sync kept own colour events snapshot stamp = record (kept_after_look 
   starts = updated kept.starts colour snapshot;
   known = updated kept.known colour (at snapshot own);
 }
+
+-- how many events are seen where a reply names this place
+abbrev pub seen_after : At → ℕ
+seen_after (ats.Event place) = place + 1
+seen_after (ats.Look events) = events
+
+-- after a point of an append to several colours: where its entry was seen, and at which position its node stands
+abbrev pub kept_after_point : Kept → ℕ → ℕ → At → ℕ → Kept
+kept_after_point kept own colour at position = record kept {
+  seen = updated_at kept.seen own colour (seen_after at);
+  known = updated kept.known colour (position + 1);
+}
+
+-- with events made at these places of its region's columns, by colour
+abbrev pub with_made : Kept → ℕ → (ℕ → List ℕ) → Kept
+with_made kept own places = record kept {
+  made = updated kept.made own (λ colour. kept.made own colour ++ places colour);
+}
+
+-- with the floor at this stamp or above
+abbrev pub with_floor : Kept → ℕ → Kept
+with_floor kept stamp = record kept { floor = max kept.floor stamp }
+
+-- with one more node of its own
+abbrev pub with_node : Kept → Kept
+with_node kept = record kept { ids = kept.ids + 1 }
+
+-- with one more node of its own, on a row
+abbrev pub with_row : Kept → Kept
+with_row kept = record kept { ids = kept.ids + 1; rows = kept.rows + 1 }
+
+-- with what a read of an object found, or with none
+abbrev pub with_read : Kept → ℕ → Option (List Version) → Kept
+with_read kept object found = record kept { reads = updated kept.reads object found }

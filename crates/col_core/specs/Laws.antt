@@ -1,18 +1,26 @@
 -- What the definitions have for consequences, on which the layers above rest.
-use Rattle.std.specs.Prelude.{◌≡◌, IsTrue, ℕ, ◌<◌, ◌≤◌, List, ◌++◌, length, Some, slice_get}
+use Rattle.std.specs.Prelude.{◌≡◌, ◌≢◌, IsTrue, ℕ, ◌<◌, ◌≤◌, List, ◌++◌, length, Some, slice_get}
+use Rattle.std.specs.List.{Contains}
 use mathlib.Core.List.{IsPrefix}
 use Rattle.log_node.specs.declared.ids.Id.{Id}
 use Rattle.log_node.specs.declared.ids.Key.{Key}
 use Rattle.log_node.specs.declared.ids.Counts.{Counts}
+use Rattle.log_node.specs.declared.node.Node.{Node}
 use Rattle.log_node.specs.Order.{key_below}
 use Rattle.log_node.specs.Vectors.{IsWithin}
+use Rattle.skeen_core.specs.declared.marks.Mark.{Mark}
+use Rattle.skeen_core.specs.declared.marks.Mark.TheVariants as marks
+use Rattle.skeen_core.specs.declared.marks.Outcome.{Outcome}
+use Rattle.skeen_core.specs.declared.marks.Outcome.TheVariants.{Open}
 use Rattle.col_core.specs.declared.Entry.{Entry}
 use Rattle.col_core.specs.History.{line}
 use Rattle.col_core.specs.Cuts.{Chains, Dated, Reachable, IsGreatestReachable, IsDated, entries_of, chain, held, base}
 use Rattle.col_core.specs.Computed.{cut, dated}
 use Rattle.col_core.specs.PlayOrder.{Place, IsPlayOrder}
 use Rattle.col_core.specs.Legal.{IsColumnHistory}
-use Rattle.col_core.specs.Log.{Log, IsLater, first, HasText}
+use Rattle.col_core.specs.Rows.{BegunRow}
+use Rattle.col_core.specs.Log.{Log, IsLater, IsLaterRow, first, HasText, HasMark, HasOutcome}
+use Rattle.col_core.specs.RegionOrder.{IsRegionOrder}
 
 -- Two greatest vectors that can be reached are equal: the order of the steps does not matter.
 abbrev pub CutIsUnique : Type 0
@@ -62,7 +70,7 @@ PlayOrderIsUnique = (chains : Chains) (from to : Counts) (one other : List Place
     → IsPlayOrder chains from to one → IsPlayOrder chains from to other → one ≡ other
 
 -- What a client was told of a log stays true of a later one: the event at a place, the key at a position of a line,
--- what a look after some number of events saw, and the text of an id.
+-- what a look after some number of events saw, the text of an id, a mark that was set, and an outcome that was kept.
 pub record StaysTrue (old new : Log) : Type 0 where
   pub event : (region colour place : ℕ) (e : Entry)
       → slice_get (old.histories region colour) place ≡ Some e → slice_get (new.histories region colour) place ≡ Some e
@@ -72,6 +80,10 @@ pub record StaysTrue (old new : Log) : Type 0 where
   pub look : (region colour events : ℕ) → events ≤ length (old.histories region colour)
       → first new region colour events ≡ first old region colour events
   pub text : (id : Id) (text : List ℕ) → HasText old id text → HasText new id text
+  pub mark : (node : Node) (colour : ℕ) (mark : Mark) → mark ≢ marks.None
+      → HasMark old node colour mark → HasMark new node colour mark
+  pub outcome : (node : Node) (outcome : Outcome) → outcome ≢ Open
+      → HasOutcome old node outcome → HasOutcome new node outcome
 
 abbrev pub SeenStaysTrue : Type 0
 SeenStaysTrue = (old new : Log) → IsLater old new → StaysTrue old new
@@ -82,10 +94,18 @@ LinesRise = (own regions : ℕ) (history : List Dated) → IsColumnHistory own r
     → (i j : ℕ) (k l : Key) → i < j → slice_get (line (entries_of history)) i ≡ Some k
     → slice_get (line (entries_of history)) j ≡ Some l → IsTrue (key_below k l)
 
--- A log whose histories and nodes begin as those of another is later, where its histories are lawful.
+-- A log whose histories and nodes begin as those of another, and which has its rows, is later, where its histories are
+-- lawful.
 abbrev pub GrowthIsLater : Type 0
 GrowthIsLater = (regions : ℕ) (old new : Log)
     → ((region colour : ℕ) → IsPrefix (old.histories region colour) (new.histories region colour))
     → ((client : ℕ) → IsPrefix (old.nodes client) (new.nodes client))
+    → ((region : ℕ) (r : BegunRow) → Contains (old.rows region) r
+    → (s : BegunRow) × Contains (new.rows region) s × IsLaterRow r s)
     → ((region colour : ℕ) → IsColumnHistory region regions (dated region (new.histories region colour)))
     → IsLater old new
+
+-- There is one order of a region up to a stamp.
+abbrev pub RegionOrderIsUnique : Type 0
+RegionOrderIsUnique = (lines : List (List Key)) (stamp : ℕ) (one other : List Key)
+    → IsRegionOrder lines stamp one → IsRegionOrder lines stamp other → one ≡ other

@@ -1,5 +1,5 @@
 //! Laws of the definitions. Each function does nothing, and its contract is the law.
-ghost use Rattle.col_core.specs.Laws.{CutIsUnique, CutIsGreatest, DatesAreGreatest, DatesAreUnique, LinesGrow, ChainsGrow, ReachedStays, CutsGrow, GrowthIsLater, LinesRise, PlayOrderIsUnique, SeenStaysTrue};
+ghost use Rattle.col_core.specs.Laws.{CutIsUnique, CutIsGreatest, DatesAreGreatest, DatesAreUnique, LinesGrow, ChainsGrow, ReachedStays, CutsGrow, GrowthIsLater, LinesRise, PlayOrderIsUnique, RegionOrderIsUnique, SeenStaysTrue};
 
 /// Two greatest vectors that can be reached are equal.
 pub fn cut_is_unique()
@@ -59,4 +59,9 @@ pub fn lines_rise()
 /// A log whose lawful histories and nodes begin as those of another is later.
 pub fn growth_is_later()
     ensures { GrowthIsLater }
+{}
+
+/// There is one order of a region up to a stamp.
+pub fn region_order_is_unique()
+    ensures { RegionOrderIsUnique }
 {}

@@ -1,4 +1,4 @@
-use Rattle.col_core.proofs.Facts.{event_stays, position_stays, look_stays, text_stays}
+use Rattle.col_core.proofs.Facts.{event_stays, position_stays, look_stays, text_stays, mark_stays, outcome_stays}
 use Rattle.col_core.proofs.laws.seen_stays_true.Goals as goal
 
 pub returns : goal.returns
@@ -7,4 +7,6 @@ returns c = λ old new later. record {
   position = position_stays old new later;
   look = look_stays old new later;
   text = text_stays old new later;
+  mark = mark_stays old new later;
+  outcome = outcome_stays old new later;
 }
