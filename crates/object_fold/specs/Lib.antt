@@ -1,0 +1,5 @@
+pub mod Nodes
+pub mod Maps
+pub mod Transactions
+pub mod Queues
+pub mod Causal
