@@ -1,5 +1,5 @@
 -- Beginnings of lists.
-use Rattle.std.proofs.Common.{◌≡◌, ℕ, zero, suc, ◌+◌, ◌≤◌, List, [], ◌∷◌, ◌++◌, length, take, Option, Some, None, slice_get, refl, ap, sym, ◌∙◌, arith, length-append, append_assoc}
+use Rattle.std.proofs.Common.{◌≡◌, ℕ, zero, suc, ◌+◌, ◌<◌, ◌≤◌, List, [], ◌∷◌, ◌++◌, length, take, Option, Some, None, slice_get, refl, ap, sym, ◌∙◌, arith, length-append, append_assoc}
 use Rattle.std.proofs.lemmas.List.{take-append-le}
 use mathlib.Core.List.{IsPrefix, append-nil}
 
@@ -26,3 +26,9 @@ module _ {A : Type 0} where
 
   pub prefix_take : (xs ys : List A) (n : ℕ) → IsPrefix xs ys → n ≤ length xs → take n ys ≡ take n xs
   prefix_take xs ys n p l = ap (take n) (sym p.1) ∙ take-append-le n xs p.0 l
+
+  -- a place that has an item is within the list
+  pub get_within : (xs : List A) (k : ℕ) (x : A) → slice_get xs k ≡ Some x → k < length xs
+  get_within [] k x e = absurd cc
+  get_within (y ∷ xs) zero x e = omega arith
+  get_within (y ∷ xs) (suc k) x e = let l = get_within xs k x e in omega (arith, l)

@@ -7,16 +7,25 @@ use Rattle.log_node.specs.declared.node.Node.{Node}
 use Rattle.log_node.specs.Sets.{members}
 use Rattle.col_core.specs.Keeping.{Kept}
 use Rattle.script_text.specs.declared.script.Command.{Command}
+use Rattle.script_text.specs.declared.script.Object.{Object}
 use Rattle.script_text.specs.declared.script.Script.{Script}
 
--- a client, its region, and how many regions there are
+-- a client and its region; how many regions there are, how many rows each client may begin, and the objects
 pub record Caller : Type 0 where
   pub client : ℕ
   pub own : ℕ
   pub regions : ℕ
+  pub rows : ℕ
+  pub objects : List Object
 
 abbrev pub caller_of : Script → ℕ → Caller
-caller_of script client = record { client = client; own = slice_index script.shape.homes client; regions = script.shape.regions }
+caller_of script client = record {
+  client = client;
+  own = slice_index script.shape.homes client;
+  regions = script.shape.regions;
+  rows = script.shape.rows;
+  objects = script.objects;
+}
 
 -- the commands of a client, in order
 abbrev pub commands_of : Script → ℕ → List Command

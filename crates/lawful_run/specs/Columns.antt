@@ -48,10 +48,10 @@ abbrev pub row_report : ℕ → BegunRow → RowReport
 row_report region r = record { region = region; row = r.row; id = r.node.id; marks = r.marks; last = r.last }
 
 -- all begun rows are there, lawful beside the histories
-pub record AreRows (log : Log) (script : Script) (rows : ℕ → List BegunRow) (reports : List RowReport) : Type 0 where
-  pub all : reports ≡ flat_map (λ region. map (row_report region) (rows region)) (range_with_len 0 script.shape.regions)
-  pub by_client : (region : ℕ) → region < script.shape.regions → IsNonDecreasing (map (λ (r : BegunRow). r.row.client) (rows region))
-  pub lawful : (region : ℕ) → region < script.shape.regions → AreLawfulRows region script.shape.colours (log.histories region) (rows region)
+pub record AreRows (log : Log) (script : Script) (reports : List RowReport) : Type 0 where
+  pub all : reports ≡ flat_map (λ region. map (row_report region) (log.rows region)) (range_with_len 0 script.shape.regions)
+  pub by_client : (region : ℕ) → region < script.shape.regions → IsNonDecreasing (map (λ (r : BegunRow). r.row.client) (log.rows region))
+  pub lawful : (region : ℕ) → region < script.shape.regions → AreLawfulRows region script.shape.colours (log.histories region) (log.rows region)
 
 -- what each region holds of another's chain is a true copy
 abbrev pub AreCopies : Log → Script → Type 0

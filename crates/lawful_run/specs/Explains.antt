@@ -1,99 +1,146 @@
 -- What the reply to a command says of the log, to a client that keeps what its earlier replies told.
-use Rattle.std.specs.Prelude.{◌≡◌, ℕ, ◌<◌, ◌≤◌, List, [], ◌∷◌, ◌++◌, length, take, map, Some, None, slice_get}
-use Rattle.std.specs.List.{AllZip}
+use Rattle.std.specs.Prelude.{◌≡◌, ◌≢◌, ◌⊎◌, ℕ, List, [], ◌∷◌, ◌++◌, length, Some, None}
+use Rattle.std.specs.List.{AllZip, Contains}
 use Rattle.log_node.specs.declared.ids.Colours.{Colours}
-use Rattle.log_node.specs.declared.ids.Counts.{Counts}
+use Rattle.log_node.specs.declared.ids.Key.{Key}
 use Rattle.log_node.specs.declared.node.At.TheVariants.{Event}
-use Rattle.log_node.specs.declared.node.Head.{Head}
-use Rattle.log_node.specs.declared.node.Node.{Node}
 use Rattle.log_node.specs.Seen.{PlacedNode}
 use Rattle.log_node.specs.Sets.{members}
-use Rattle.log_node.specs.Vectors.{at, IsWithin}
-use Rattle.skeen_core.specs.Outcomes.{greatest}
-use Rattle.col_core.specs.declared.Event.TheVariants.{Single}
-use Rattle.col_core.specs.History.{IsAtEnd, line, entry_key}
-use Rattle.col_core.specs.Cuts.{IsGreatestReachable, chain, base}
-use Rattle.col_core.specs.PlayOrder.{Place, Stands, IsPlayOrder}
-use Rattle.col_core.specs.Log.{Log, first, HasText}
-use Rattle.col_core.specs.Keeping.{Kept, nothing_kept, kept_after_single, kept_after_sync}
+use Rattle.object_fold.specs.Nodes.{ObjectNode}
+use Rattle.object_fold.specs.Maps.{values_among}
+use Rattle.object_fold.specs.Transactions.{values_after, versions_after, verdict_of}
+use Rattle.col_core.specs.History.{entry_key}
+use Rattle.col_core.specs.Log.{Log}
+use Rattle.col_core.specs.Keeping.{Kept, nothing_kept, kept_after_event, kept_after_sync, with_read}
+use Rattle.script_text.specs.declared.script.Kind.TheVariants as kinds
 use Rattle.script_text.specs.declared.script.What.{What}
 use Rattle.script_text.specs.declared.script.What.TheVariants as whats
 use Rattle.script_text.specs.declared.script.Command.{Command}
 use Rattle.script_text.specs.Words.{word_of}
-use Rattle.report_text.specs.declared.report.SyncPiece.{SyncPiece}
 use Rattle.report_text.specs.declared.report.Answer.{Answer}
 use Rattle.report_text.specs.declared.report.Answer.TheVariants as answers
 use Rattle.report_text.specs.declared.report.ReplyLine.{ReplyLine}
 use Rattle.lawful_run.specs.Callers.{Caller, node_of}
+use Rattle.lawful_run.specs.Asks.{kind_of, home_of, colours_of, home_asked, AsksToAppend, colours_synced, Appending, Committing, Dequeuing, Syncing, Getting, Reading, manner_of}
+use Rattle.lawful_run.specs.Appends.{Appends, AppendsUnshown, HasNoStamp, IsFull, Stops}
+use Rattle.lawful_run.specs.Reads.{Syncs, ShowsPlayed, greatest_stamp, kept_after_piece, IsTrimmed, ReadsAt, AreRead, ShowsKey}
+use Rattle.lawful_run.specs.Moves.{Pulls, kept_after_pull, Trims}
+use Rattle.lawful_run.specs.Objects.{AreObjectNodes, GetsValue, GetsValues, AreAnswers, Takes, shown_verdict}
+use Rattle.lawful_run.specs.Refusals.{FindsNoMemory, Hides, IsAway, IsHomeRefusal, kept_before, kept_behind}
 
--- An append to one colour: the node that the client's command makes over what it keeps is the next of its nodes. It entered
--- by an event at the place, which was not seen before, and stands under its stamp at the position of the line, behind all
--- nodes that were known to stand there.
-pub record AppendsOne (log : Log) (caller : Caller) (kept : Kept) (node : Node) (colour stamp place position : ℕ) : Type 0 where
-  pub next : slice_get (log.nodes caller.client) kept.ids ≡ Some node
-  pub entered : slice_get (log.histories caller.own colour) place
-      ≡ Some (record { by = caller.client; event = Single node.id kept.floor (kept.starts colour); stamp = stamp })
-  pub unseen : kept.seen caller.own colour ≤ place
-  pub stands : slice_get (line (log.histories caller.own colour)) position ≡ Some (entry_key stamp node.id)
-  pub behind : kept.known colour ≤ position
-  pub above : kept.floor < stamp
+-- the command is no stop before the first step, which is answered before anything is tried
+abbrev pub IsNoStopAtOnce : What → Type 0
+IsNoStopAtOnce what = (colours : Colours) (text : List ℕ) → what ≢ whats.Stop 0 colours text
 
--- No stamp was left for the client's floor, after some number of events from what was seen.
-pub record HadNoStamp (log : Log) (caller : Caller) (kept : Kept) (colour : ℕ) : Type 0 where
-  pub events : ℕ
-  pub unseen : kept.seen caller.own colour ≤ events
-  pub there : events ≤ length (log.histories caller.own colour)
-  pub ended : IsAtEnd (take events (log.histories caller.own colour)) kept.floor
-
--- A sync: after a number of events, no fewer than were seen, the snapshot is the greatest vector that can be reached; no
--- node that was not yet played is below the base, and all own nodes that were known to stand are within.
-pub record Syncs (log : Log) (caller : Caller) (kept : Kept) (colour events : ℕ) (snapshot : Counts) : Type 0 where
-  pub unseen : kept.seen caller.own colour ≤ events
-  pub there : events ≤ length (log.histories caller.own colour)
-  pub cut : IsGreatestReachable (chain caller.own (first log caller.own colour events)) snapshot
-  pub not_trimmed : IsWithin (base caller.own caller.regions (first log caller.own colour events)) (kept.starts colour)
-  pub within : kept.known colour ≤ at snapshot caller.own
-
--- A node line shows the node that stands at the place, by its key, and the text that its node was appended with.
-pub record ShowsNode (log : Log) (caller : Caller) (colour events : ℕ) (place : Place) (item : PlacedNode) : Type 0 where
-  pub head : Head
-  pub stands : Stands (chain caller.own (first log caller.own colour events)) place head
-  pub key : item.head.key ≡ head.key
-  pub text : HasText log head.key.id item.node.text
-
--- The node lines of a sync show the nodes from the start to the snapshot, each once, in the order of play.
-pub record ShowsPlayed (log : Log) (caller : Caller) (kept : Kept) (colour events : ℕ) (snapshot : Counts) (nodes : List PlacedNode) : Type 0 where
-  pub order : List Place
-  pub played : IsPlayOrder (chain caller.own (first log caller.own colour events)) (kept.starts colour) snapshot order
-  pub lines : AllZip (ShowsNode log caller colour events) order nodes
-
--- the greatest stamp of some nodes
-abbrev pub greatest_stamp : List PlacedNode → ℕ
-greatest_stamp nodes = greatest (map (λ (item : PlacedNode). item.head.key.stamp) nodes)
+-- the command appends this over what the client keeps
+abbrev pub AppendsBy : Caller → Kept → What → (Colours → List ℕ → Type 0) → Type 0
+AppendsBy caller kept what Says =
+    (colours : Colours) × (text : List ℕ) × AsksToAppend caller kept what colours text × Says colours text
 
 -- The answer, with its node lines, to what a client asked: what it says of the log, and what the client keeps afterwards.
--- An answer that a command cannot have says what is never so.
 abbrev pub Explains : Log → Caller → Kept → What → Answer → List PlacedNode → Kept → Type 0
-Explains log caller kept what answers.NoMemory nodes after = (nodes ≡ []) × (after ≡ kept)
-Explains log caller kept (whats.Append colours text) (answers.Stood stamp None (point ∷ [])) nodes after =
-    (members colours ≡ point.colour ∷ []) × (nodes ≡ [])
-    × (place : ℕ) × (point.at ≡ Event place)
-    × AppendsOne log caller kept (node_of caller kept colours text) point.colour stamp place point.position
-    × (after ≡ kept_after_single kept caller.own point.colour place stamp point.position)
-Explains log caller kept (whats.Append colours text) (answers.StampEnd colour) nodes after =
-    (members colours ≡ colour ∷ []) × (nodes ≡ []) × HadNoStamp log caller kept colour × (after ≡ kept)
-Explains log caller kept (whats.Sync colour) (answers.Synced sync plays) nodes after =
-    (sync.colour ≡ colour) × (plays ≡ length nodes)
-    × Syncs log caller kept colour sync.events sync.counts
-    × ShowsPlayed log caller kept colour sync.events sync.counts nodes
-    × (after ≡ kept_after_sync kept caller.own colour sync.events sync.counts (greatest_stamp nodes))
-Explains log caller kept what answer nodes after = ⊥
+Explains log caller kept what answers.NoMemory nodes after = (nodes ≡ []) × FindsNoMemory log caller kept what after
+Explains log caller kept what (answers.Stood stamp row points) nodes after =
+    (nodes ≡ []) × (manner_of what ≡ Appending)
+    × AppendsBy caller kept what (λ colours text.
+    Appends log caller kept (node_of caller kept colours text) stamp row points after)
+Explains log caller kept what (answers.StampEnd colour) nodes after =
+    (nodes ≡ []) × IsNoStopAtOnce what
+    × AppendsBy caller kept what (λ colours text.
+    HasNoStamp log caller kept (node_of caller kept colours text) colour after)
+Explains log caller kept what (answers.Full used) nodes after =
+    (nodes ≡ []) × IsNoStopAtOnce what × (after ≡ kept)
+    × AppendsBy caller kept what (λ colours text. IsFull caller kept colours used)
+Explains log caller kept what (answers.Stopped steps) nodes after =
+    (nodes ≡ []) × (colours : Colours) × (text : List ℕ) × (what ≡ whats.Stop steps colours text)
+    × Stops log caller kept (node_of caller kept colours text) steps after
+Explains log caller kept what (answers.Synced sync plays) nodes after =
+    (what ≡ whats.Sync sync.colour) × (plays ≡ length nodes)
+    × Syncs log caller kept sync.colour sync.events sync.counts
+    × ShowsPlayed log caller kept sync.colour sync.events sync.counts nodes
+    × (after ≡ kept_after_sync kept caller.own sync.colour sync.events sync.counts (greatest_stamp nodes))
+Explains log caller kept what (answers.Scanned stamp count raises syncs) nodes after =
+    (colours : Colours) × (what ≡ whats.Scan colours) × (count ≡ length nodes)
+    × ReadsAt log caller kept (members colours) stamp raises syncs after
+    × (keys : List Key) × AreRead log caller stamp syncs keys × AllZip (ShowsKey log) keys nodes
+Explains log caller kept what (answers.Pulled count give carry) nodes after =
+    (nodes ≡ []) × (region : ℕ) × (colour : ℕ) × (what ≡ whats.Pull region colour)
+    × (place : ℕ) × (give ≡ Event place) × (too_low : List ℕ)
+    × Pulls log caller kept region colour count place carry too_low
+    × (after ≡ kept_after_pull kept caller.own region colour place carry too_low)
+Explains log caller kept what answers.SameRegion nodes after =
+    (nodes ≡ []) × (after ≡ kept) × (colour : ℕ) × (what ≡ whats.Pull caller.own colour)
+Explains log caller kept what (answers.Based at base) nodes after =
+    (nodes ≡ []) × (colour : ℕ) × (what ≡ whats.Trim colour) × (place : ℕ) × (at ≡ Event place)
+    × Trims log caller kept colour place base × (after ≡ kept_after_event kept caller.own colour place)
+Explains log caller kept what (answers.Got value sync) nodes after =
+    (nodes ≡ []) × (object : ℕ) × (key : List ℕ) × (what ≡ whats.Get object key)
+    × (home : ℕ) × (colours : List ℕ) × (kind_of caller object ≡ Some (kinds.Map home colours))
+    × (colours_synced caller what ≡ sync.colour ∷ [])
+    × Syncs log caller kept sync.colour sync.events sync.counts
+    × GetsValue log caller colours sync key value
+    × (after ≡ kept_after_piece log caller kept sync)
+Explains log caller kept what (answers.GotMany values sync) nodes after =
+    (nodes ≡ []) × (object : ℕ) × (key : List ℕ) × (what ≡ whats.Get object key)
+    × (kind_of caller object ≡ Some (kinds.Causal sync.colour))
+    × Syncs log caller kept sync.colour sync.events sync.counts
+    × GetsValues log caller sync key values
+    × (after ≡ kept_after_piece log caller kept sync)
+Explains log caller kept what (answers.GotKeys stamp shown raises syncs) nodes after =
+    (nodes ≡ []) × (read : Kept) × ReadsAt log caller kept (colours_synced caller what) stamp raises syncs read
+    × (keys : List Key) × AreRead log caller stamp syncs keys
+    × (objects : List ObjectNode) × AreObjectNodes log keys objects
+    × (((object : ℕ) × (asked : List (List ℕ)) × (what ≡ whats.GetAll object asked)
+    × AreAnswers asked (values_among (colours_of caller object) objects asked) shown × (after ≡ read))
+    ⊎ ((object : ℕ) × (asked : List (List ℕ)) × (what ≡ whats.Read object asked)
+    × AreAnswers asked (values_after objects asked) shown
+    × (after ≡ with_read read object (Some (versions_after objects asked)))))
+Explains log caller kept what (answers.Ruled conflict stamp row points read_stamp raises syncs) nodes after =
+    (nodes ≡ []) × (manner_of what ≡ Committing)
+    × AppendsBy caller kept what (λ colours text. (own : ℕ) × (stood : Kept)
+    × Appends log caller kept (node_of caller kept colours text) own row points stood
+    × ReadsAt log caller stood (colours_synced caller what) read_stamp raises syncs after
+    × (keys : List Key) × AreRead log caller read_stamp syncs keys
+    × (objects : List ObjectNode) × AreObjectNodes log keys objects
+    × (verdict_of objects (entry_key own (node_of caller kept colours text).id) ≡ Some (shown_verdict conflict stamp)))
+Explains log caller kept what answers.NoTx nodes after =
+    (nodes ≡ []) × (after ≡ kept) × (object : ℕ) × (pairs : _) × (what ≡ whats.Commit object pairs)
+    × (home_of caller object ≡ Some caller.own) × (kept.reads object ≡ None)
+Explains log caller kept what (answers.Took value point sync) nodes after =
+    (nodes ≡ []) × (manner_of what ≡ Dequeuing) × (sync.colour ≡ point.colour)
+    × AppendsBy caller kept what (λ colours text. (own : ℕ) × (stood : Kept)
+    × Appends log caller kept (node_of caller kept colours text) own None (point ∷ []) stood
+    × Syncs log caller stood sync.colour sync.events sync.counts
+    × Takes log caller point value
+    × (after ≡ kept_after_piece log caller stood sync))
+Explains log caller kept what (answers.UnreadTrimmed stamp colour base) nodes after =
+    (nodes ≡ []) × ((manner_of what ≡ Committing) ⊎ (manner_of what ≡ Dequeuing))
+    × Contains (colours_synced caller what) colour
+    × AppendsBy caller kept what (λ colours text. (stood : Kept)
+    × AppendsUnshown log caller kept (node_of caller kept colours text) stamp stood
+    × IsTrimmed log caller stood colour base
+    × Hides log caller stood (colours_synced caller what) (manner_of what) after)
+Explains log caller kept what (answers.UnreadNoMemory stamp) nodes after =
+    (nodes ≡ []) × ((manner_of what ≡ Committing) ⊎ (manner_of what ≡ Dequeuing))
+    × AppendsBy caller kept what (λ colours text. (stood : Kept)
+    × AppendsUnshown log caller kept (node_of caller kept colours text) stamp stood
+    × Hides log caller stood (colours_synced caller what) (manner_of what) after)
+Explains log caller kept what (answers.Trimmed colour base) nodes after =
+    (nodes ≡ []) × ((manner_of what ≡ Syncing) ⊎ ((manner_of what ≡ Getting) ⊎ (manner_of what ≡ Reading)))
+    × Contains (colours_synced caller what) colour × IsTrimmed log caller kept colour base
+    × Hides log caller kept (colours_synced caller what) (manner_of what) after
+Explains log caller kept what (answers.NotHome home) nodes after =
+    (nodes ≡ []) × (after ≡ kept) × (home_asked caller what ≡ Some home) × (caller.own ≢ home)
 
--- a reply line stands for its command: with the line's number, the command's word, and an answer that the log explains
+-- A reply line stands for its command: with the line's number, the command's word, and an answer that the log explains.
+-- Away from its object's home a client is answered so.
 pub record Answers (log : Log) (caller : Caller) (kept : Kept) (command : Command) (reply : ReplyLine) (after : Kept) : Type 0 where
   pub line : reply.line ≡ command.line
   pub word : reply.word ≡ word_of command.what
-  pub explained : Explains log caller kept command.what reply.answer reply.nodes after
+  pub answered : Kept
+  pub explained : Explains log caller (kept_before command.what kept) command.what reply.answer reply.nodes answered
+  pub after_is : after ≡ kept_behind command.what answered
+  pub away : IsAway caller (home_asked caller command.what) → IsHomeRefusal reply.answer
 
 -- The log explains a client's replies, one for each of its commands in their order, and it then keeps this.
 pub data Explained (log : Log) (caller : Caller) : List Command → List ReplyLine → Kept → Type 0 where

@@ -1,5 +1,11 @@
 pub mod Callers
-pub mod Columns
+pub mod Asks
+pub mod Appends
+pub mod Reads
+pub mod Moves
+pub mod Objects
+pub mod Refusals
 pub mod Explains
+pub mod Columns
 pub mod Lawful
 pub mod Laws

@@ -1,0 +1,202 @@
+-- What the answer to an append says of the log.
+use Rattle.std.specs.Prelude.{◌≡◌, ◌≢◌, ◌⊎◌, IsTrue, ℕ, ◌+◌, ◌==◌, ◌<◌, ◌≤◌, List, [], ◌∷◌, length, take, map, Option, Some, None, slice_get, if◌then◌else◌}
+use Rattle.std.specs.List.{All, fold}
+use Rattle.log_node.specs.declared.ids.Id.{Id}
+use Rattle.log_node.specs.declared.ids.Colours.{Colours}
+use Rattle.log_node.specs.declared.node.At.{At}
+use Rattle.log_node.specs.declared.node.At.TheVariants.{Event, Look}
+use Rattle.log_node.specs.declared.node.Node.{Node}
+use Rattle.log_node.specs.Sets.{members}
+use Rattle.skeen_core.specs.declared.marks.Why.{Why}
+use Rattle.skeen_core.specs.declared.marks.Why.TheVariants.{Memory, StampEnd}
+use Rattle.skeen_core.specs.declared.marks.Mark.{Mark}
+use Rattle.skeen_core.specs.declared.marks.Mark.TheVariants as marks
+use Rattle.skeen_core.specs.declared.marks.Outcome.{Outcome}
+use Rattle.skeen_core.specs.declared.marks.Outcome.TheVariants.{Open, Gone, Final}
+use Rattle.skeen_core.specs.Standings.{open_entry}
+use Rattle.col_core.specs.declared.Event as events
+use Rattle.col_core.specs.declared.Event.TheVariants.{Single, Propose, Settle, Raise, Give, Carry, Trim}
+use Rattle.col_core.specs.declared.Entry.{Entry}
+use Rattle.col_core.specs.History.{IsAtEnd, entries, line, entry_key, has_entered}
+use Rattle.col_core.specs.Rows.{BegunRow, node_wants}
+use Rattle.col_core.specs.Log.{Log, IsBegunFor, HasMark, HasOutcome}
+use Rattle.col_core.specs.Keeping.{Kept, kept_after_single, kept_after_point, with_made, with_floor, with_node, with_row}
+use Rattle.report_text.specs.declared.report.PointPiece.{PointPiece}
+use Rattle.lawful_run.specs.Callers.{Caller}
+
+-- An append to one colour: the node that the client's command makes over what it keeps is the next of its nodes. It entered
+-- by an event at the place, which was not seen before, and stands under its stamp at the position of the line, behind all
+-- nodes that were known to stand there.
+pub record AppendsOne (log : Log) (caller : Caller) (kept : Kept) (node : Node) (colour stamp place position : ℕ) : Type 0 where
+  pub next : slice_get (log.nodes caller.client) kept.ids ≡ Some node
+  pub entered : slice_get (log.histories caller.own colour) place
+      ≡ Some (record { by = caller.client; event = Single node.id kept.floor (kept.starts colour); stamp = stamp })
+  pub unseen : kept.seen caller.own colour ≤ place
+  pub stands : slice_get (line (log.histories caller.own colour)) position ≡ Some (entry_key stamp node.id)
+  pub behind : kept.known colour ≤ position
+  pub above : kept.floor < stamp
+
+-- No stamp was left for the client's floor, after some number of events from what was seen.
+pub record HadNoStamp (log : Log) (caller : Caller) (kept : Kept) (colour : ℕ) : Type 0 where
+  pub events : ℕ
+  pub unseen : kept.seen caller.own colour ≤ events
+  pub there : events ≤ length (log.histories caller.own colour)
+  pub ended : IsAtEnd (take events (log.histories caller.own colour)) kept.floor
+
+-- the event proposes or settles the id
+abbrev pub IsStepOf : Id → events.Event → Type 0
+IsStepOf id (Single other floor wants) = ⊥
+IsStepOf id (Propose other floor wants) = other ≡ id
+IsStepOf id (Settle other outcome) = other ≡ id
+IsStepOf id (Raise to) = ⊥
+IsStepOf id (Give region from) = ⊥
+IsStepOf id (Carry region start heads) = ⊥
+IsStepOf id (Trim counts) = ⊥
+
+-- at the places, by colour, stand proposals and settlings of the node by the client itself
+abbrev pub AreSteps : Log → Caller → Node → (ℕ → List ℕ) → Type 0
+AreSteps log caller node places = (colour : ℕ) → All (λ place.
+    (e : Entry) × (slice_get (log.histories caller.own colour) place ≡ Some e)
+    × (e.by ≡ caller.client) × IsStepOf node.id e.event) (places colour)
+
+-- An append to several colours has begun: its node is the next of the client's nodes, a row was left and is begun for
+-- it, and the client itself took steps of it at these places.
+pub record BeginsRow (log : Log) (caller : Caller) (kept : Kept) (node : Node) (places : ℕ → List ℕ) : Type 0 where
+  pub several : 2 ≤ length (members node.colours)
+  pub next : slice_get (log.nodes caller.client) kept.ids ≡ Some node
+  pub room : kept.rows < caller.rows
+  pub row : BegunRow
+  pub begun : IsBegunFor log node row
+  pub steps : AreSteps log caller node places
+
+-- The node entered a colour where the point says: by the client's own proposal, which was not seen before, or by
+-- another client's, before a look of the client's.
+abbrev pub EntersAt : Log → Caller → Kept → Node → ℕ → At → Type 0
+EntersAt log caller kept node colour (Event place) =
+    (kept.seen caller.own colour ≤ place)
+    × (e : Entry) × (slice_get (log.histories caller.own colour) place ≡ Some e) × (e.by ≡ caller.client)
+    × (e.event ≡ Propose node.id node.floor (node_wants node colour))
+EntersAt log caller kept node colour (Look events) =
+    (kept.seen caller.own colour ≤ events) × (events ≤ length (log.histories caller.own colour))
+    × (place : ℕ) × (place < events)
+    × (e : Entry) × (slice_get (log.histories caller.own colour) place ≡ Some e) × (e.by ≢ caller.client)
+    × (e.event ≡ Propose node.id node.floor (node_wants node colour))
+
+-- the node stands under the stamp in the line of the colour, at this position
+abbrev pub StandsUnder : Log → Caller → Node → ℕ → ℕ → ℕ → Type 0
+StandsUnder log caller node stamp colour position =
+    slice_get (line (log.histories caller.own colour)) position ≡ Some (entry_key stamp node.id)
+
+-- a point of an append to several colours: where the node entered, and where it stands
+pub record StandsAt (log : Log) (caller : Caller) (kept : Kept) (node : Node) (stamp : ℕ) (point : PointPiece) : Type 0 where
+  pub entered : EntersAt log caller kept node point.colour point.at
+  pub stands : StandsUnder log caller node stamp point.colour point.position
+  pub behind : kept.known point.colour ≤ point.position
+
+-- An append to several colours: its row is final under the stamp, and the node stands at each of the points, one for
+-- each of its colours.
+pub record AppendsSeveral (log : Log) (caller : Caller) (kept : Kept) (node : Node) (stamp : ℕ) (points : List PointPiece)
+    (places : ℕ → List ℕ) : Type 0 where
+  pub begins : BeginsRow log caller kept node places
+  pub outcome : HasOutcome log node (Final stamp)
+  pub colours : map (λ (p : PointPiece). p.colour) points ≡ members node.colours
+  pub each : All (StandsAt log caller kept node stamp) points
+  pub above : kept.floor < stamp
+
+-- after these points
+abbrev pub kept_after_points : Kept → ℕ → List PointPiece → Kept
+kept_after_points kept own points = fold (λ k (p : PointPiece). kept_after_point k own p.colour p.at p.position) kept points
+
+-- The append was answered with its stamp, its row where it took one, and its points; and what the client then keeps.
+abbrev pub Appends : Log → Caller → Kept → Node → ℕ → Option ℕ → List PointPiece → Kept → Type 0
+Appends log caller kept node stamp None [] after = ⊥
+Appends log caller kept node stamp None (point ∷ []) after =
+    (members node.colours ≡ point.colour ∷ []) × (place : ℕ) × (point.at ≡ Event place)
+    × AppendsOne log caller kept node point.colour stamp place point.position
+    × (after ≡ kept_after_single kept caller.own point.colour place stamp point.position)
+Appends log caller kept node stamp None (point ∷ other ∷ points) after = ⊥
+Appends log caller kept node stamp (Some number) points after =
+    (number ≡ kept.rows) × (places : ℕ → List ℕ) × AppendsSeveral log caller kept node stamp points places
+    × (after ≡ with_made (with_row (with_floor (kept_after_points kept caller.own points) stamp)) caller.own places)
+
+-- The node stands in all its colours under the stamp, and the answer does not show where.
+pub data AppendsUnshown (log : Log) (caller : Caller) (kept : Kept) (node : Node) (stamp : ℕ) : Kept → Type 0 where
+  one_unshown : (colour place position : ℕ) → members node.colours ≡ colour ∷ []
+      → AppendsOne log caller kept node colour stamp place position
+      → AppendsUnshown log caller kept node stamp
+      (with_made (with_node (with_floor kept stamp)) caller.own (λ c. if c == colour then place ∷ [] else []))
+  several_unshown : (places : ℕ → List ℕ) → BeginsRow log caller kept node places → HasOutcome log node (Final stamp)
+      → All (λ colour. (position : ℕ) × StandsUnder log caller node stamp colour position) (members node.colours)
+      → kept.floor < stamp
+      → AppendsUnshown log caller kept node stamp (with_made (with_row (with_floor kept stamp)) caller.own places)
+
+-- The row of an append to several colours is gone, since the colour had no stamp left; it is the least such colour.
+pub record IsGoneAtEnd (log : Log) (caller : Caller) (kept : Kept) (node : Node) (colour : ℕ) (places : ℕ → List ℕ) : Type 0 where
+  pub begins : BeginsRow log caller kept node places
+  pub outcome : HasOutcome log node (Gone StampEnd)
+  pub fence : HasMark log node colour (marks.Fenced StampEnd)
+  pub least : All (λ other. other < colour
+      → (mark : Mark) × (mark ≢ marks.None) × (mark ≢ marks.Fenced StampEnd) × HasMark log node other mark) (members node.colours)
+
+-- No stamp was left for the append in this colour; and what the client then keeps.
+pub data HasNoStamp (log : Log) (caller : Caller) (kept : Kept) (node : Node) (colour : ℕ) : Kept → Type 0 where
+  none_for_one : members node.colours ≡ colour ∷ [] → HadNoStamp log caller kept colour
+      → HasNoStamp log caller kept node colour kept
+  none_for_several : (places : ℕ → List ℕ) → IsGoneAtEnd log caller kept node colour places
+      → HasNoStamp log caller kept node colour (with_made (with_row kept) caller.own places)
+
+-- an append to several colours of a client that has begun as many rows as it may
+pub record IsFull (caller : Caller) (kept : Kept) (colours : Colours) (used : ℕ) : Type 0 where
+  pub several : 2 ≤ length (members colours)
+  pub shown : used ≡ kept.rows
+  pub all : kept.rows ≡ caller.rows
+
+-- a colour of the node's row has a mark
+abbrev pub IsMarked : Log → Node → ℕ → Type 0
+IsMarked log node colour = (mark : Mark) × (mark ≢ marks.None) × HasMark log node colour mark
+
+-- the node's row keeps an outcome
+abbrev pub IsDecided : Log → Node → Type 0
+IsDecided log node = (outcome : Outcome) × (outcome ≢ Open) × HasOutcome log node outcome
+
+-- the node is open in a colour no more: it never entered there, being fenced, or it has entered and is settled
+pub record IsSettledIn (log : Log) (caller : Caller) (node : Node) (colour : ℕ) : Type 0 where
+  pub events : ℕ
+  pub there : events ≤ length (log.histories caller.own colour)
+  pub not_open : open_entry node.id (entries (take events (log.histories caller.own colour))) ≡ None
+  pub for_good : ((why : Why) × HasMark log node colour (marks.Fenced why))
+      ⊎ IsTrue (has_entered node.id (take events (log.histories caller.own colour)))
+
+-- The n-th colour of k has its proposal among so many first steps of the append (after the beginning of the row), and
+-- its settling too (after all proposals and the decision).
+abbrev pub IsStepWithin : ℕ → ℕ → ℕ → events.Event → Type 0
+IsStepWithin n k steps (Single id floor wants) = ⊥
+IsStepWithin n k steps (Propose id floor wants) = n + 1 < steps
+IsStepWithin n k steps (Settle id outcome) = n + k + 2 < steps
+IsStepWithin n k steps (Raise to) = ⊥
+IsStepWithin n k steps (Give region from) = ⊥
+IsStepWithin n k steps (Carry region start heads) = ⊥
+IsStepWithin n k steps (Trim counts) = ⊥
+
+-- An append of several colours has stopped after so many steps, one or more: it has begun its row, then marked its
+-- colours in their order, then decided, then settled its colours in their order; and the client took no later step.
+pub record StopsAfter (log : Log) (caller : Caller) (kept : Kept) (node : Node) (steps : ℕ) (places : ℕ → List ℕ) : Type 0 where
+  pub begins : BeginsRow log caller kept node places
+  pub marked : (n colour : ℕ) → slice_get (members node.colours) n ≡ Some colour → n + 1 < steps → IsMarked log node colour
+  pub decided : length (members node.colours) + 2 ≤ steps → IsDecided log node
+  pub settled : (n colour : ℕ) → slice_get (members node.colours) n ≡ Some colour
+      → n + length (members node.colours) + 2 < steps → IsSettledIn log caller node colour
+  pub no_later : (n colour : ℕ) → slice_get (members node.colours) n ≡ Some colour → All (λ place.
+      (e : Entry) × (slice_get (log.histories caller.own colour) place ≡ Some e)
+      × IsStepWithin n (length (members node.colours)) steps e.event) (places colour)
+
+-- A stop, and what the client then keeps.
+pub data Stops (log : Log) (caller : Caller) (kept : Kept) (node : Node) : ℕ → Kept → Type 0 where
+  stopped_at_once : Stops log caller kept node 0 kept
+  stopped_after : (steps : ℕ) (places : ℕ → List ℕ) → StopsAfter log caller kept node (steps + 1) places
+      → Stops log caller kept node (steps + 1) (with_made (with_row kept) caller.own places)
+
+-- an append to several colours found no memory: its row is gone for that
+pub record IsGoneForMemory (log : Log) (caller : Caller) (kept : Kept) (node : Node) (places : ℕ → List ℕ) : Type 0 where
+  pub begins : BeginsRow log caller kept node places
+  pub outcome : HasOutcome log node (Gone Memory)

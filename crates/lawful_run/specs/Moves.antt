@@ -1,0 +1,70 @@
+-- What a pull and a trim say of the log.
+use Rattle.std.specs.Prelude.{◌≡◌, ◌≢◌, ℕ, ◌+◌, ◌<◌, ◌≤◌, min, List, [], ◌∷◌, ◌++◌, length, take, Some, slice_get}
+use Rattle.std.specs.List.{All}
+use Rattle.log_node.specs.declared.ids.Counts.{Counts}
+use Rattle.log_node.specs.declared.node.At.{At}
+use Rattle.log_node.specs.declared.node.At.TheVariants.{Event, Look}
+use Rattle.log_node.specs.declared.node.Head.{Head}
+use Rattle.log_node.specs.Vectors.{at}
+use Rattle.col_core.specs.declared.Event.TheVariants as events
+use Rattle.col_core.specs.History.{line}
+use Rattle.col_core.specs.Cuts.{chain, base}
+use Rattle.col_core.specs.Log.{Log, first}
+use Rattle.col_core.specs.Keeping.{Kept, updated_at, kept_after_event, seen_after}
+use Rattle.lawful_run.specs.Callers.{Caller}
+use Rattle.lawful_run.specs.Reads.{kept_after_place}
+
+-- the client gave, at the place, the other region's line from this number on to its own region
+abbrev pub GivesAt : Log → Caller → ℕ → ℕ → ℕ → ℕ → Type 0
+GivesAt log caller region colour place from =
+    slice_get (log.histories region colour) place
+    ≡ Some (record { by = caller.client; event = events.Give caller.own from; stamp = 0 })
+
+-- a give of a pull that was made again, since what it asked for was trimmed: its number was below the base by then
+abbrev pub GivesTooLow : Log → Caller → ℕ → ℕ → ℕ → Type 0
+GivesTooLow log caller region colour place =
+    (from : ℕ) × GivesAt log caller region colour place from
+    × (from < at (base region caller.regions (first log region colour place)) region)
+
+-- The client carried so many nodes of the other region, by an event at a place that was not seen before; or none, when
+-- it had looked at so many events.
+abbrev pub CarriesAt : Log → Caller → Kept → ℕ → ℕ → ℕ → At → Type 0
+CarriesAt log caller kept region colour nodes (Event place) =
+    (kept.seen caller.own colour ≤ place)
+    × (start : ℕ) × (heads : List Head)
+    × (slice_get (log.histories caller.own colour) place
+    ≡ Some (record { by = caller.client; event = events.Carry region start heads; stamp = 0 }))
+    × (nodes ≡ length heads)
+CarriesAt log caller kept region colour nodes (Look events) =
+    (kept.seen caller.own colour ≤ events) × (events ≤ length (log.histories caller.own colour)) × (nodes ≡ 0)
+
+-- A pull: a give at a place that was not seen before, from no lesser number than what the client had seen to be held, or
+-- the line's length; then a carry, after which all is held that stood in the line at the give.
+pub record Pulls (log : Log) (caller : Caller) (kept : Kept) (region colour nodes place : ℕ) (carry : At) (too_low : List ℕ) : Type 0 where
+  pub another : region ≢ caller.own
+  pub made_again : All (GivesTooLow log caller region colour) too_low
+  pub unseen : kept.seen region colour ≤ place
+  pub from : ℕ
+  pub gives : GivesAt log caller region colour place from
+  pub asks_on : min (length (line (take place (log.histories region colour))))
+      (length (chain caller.own (first log caller.own colour (kept.seen caller.own colour)) region)) ≤ from
+  pub carries : CarriesAt log caller kept region colour nodes carry
+  pub holds : length (line (take place (log.histories region colour)))
+      ≤ length (chain caller.own (first log caller.own colour (seen_after carry)) region)
+
+-- with events made at these places of a column
+abbrev pub with_places : Kept → ℕ → ℕ → List ℕ → Kept
+with_places kept region colour places =
+    record kept { made = updated_at kept.made region colour (kept.made region colour ++ places) }
+
+-- what a client keeps after a pull
+abbrev pub kept_after_pull : Kept → ℕ → ℕ → ℕ → ℕ → At → List ℕ → Kept
+kept_after_pull kept own region colour place carry too_low =
+    kept_after_place (kept_after_event (with_places kept region colour too_low) region colour place) own colour carry
+
+-- A trim by the client's last snapshot, at a place that was not seen before; the base afterwards is this one.
+pub record Trims (log : Log) (caller : Caller) (kept : Kept) (colour place : ℕ) (shown : Counts) : Type 0 where
+  pub unseen : kept.seen caller.own colour ≤ place
+  pub trimmed : slice_get (log.histories caller.own colour) place
+      ≡ Some (record { by = caller.client; event = events.Trim (kept.starts colour); stamp = 0 })
+  pub is_base : shown ≡ base caller.own caller.regions (first log caller.own colour (place + 1))

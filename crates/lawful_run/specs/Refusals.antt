@@ -1,0 +1,90 @@
+-- What a command that found no memory may have done, and when an object's home refuses.
+use Rattle.std.specs.Prelude.{◌≡◌, ◌≢◌, ◌⊎◌, ℕ, ◌≤◌, List, [], ◌∷◌, length, Option, Some, None}
+use Rattle.std.specs.List.{All}
+use Rattle.log_node.specs.declared.ids.Colours.{Colours}
+use Rattle.col_core.specs.Log.{Log}
+use Rattle.col_core.specs.Keeping.{Kept, with_made, with_row, with_read}
+use Rattle.script_text.specs.declared.script.What.{What}
+use Rattle.script_text.specs.declared.script.What.TheVariants as whats
+use Rattle.report_text.specs.declared.report.Answer.{Answer}
+use Rattle.report_text.specs.declared.report.Answer.TheVariants as answers
+use Rattle.lawful_run.specs.Callers.{Caller, node_of}
+use Rattle.lawful_run.specs.Asks.{AsksToAppend, colours_synced, Manner, Appending, Stopping, Syncing, Moving, Getting, Reading, Committing, Dequeuing, manner_of}
+use Rattle.lawful_run.specs.Appends.{IsGoneForMemory}
+use Rattle.lawful_run.specs.Reads.{HidesSyncs, HidesRead}
+use Rattle.lawful_run.specs.Moves.{GivesAt, GivesTooLow, with_places}
+
+-- What a command of this manner may have done in its syncs of these colours that its answer does not show, as where it
+-- was refused; and what its client then keeps.
+abbrev pub Hides : Log → Caller → Kept → List ℕ → Manner → Kept → Type 0
+Hides log caller kept colours Appending after = after ≡ kept
+Hides log caller kept colours Stopping after = after ≡ kept
+Hides log caller kept colours Syncing after = after ≡ kept
+Hides log caller kept colours Moving after = after ≡ kept
+Hides log caller kept colours Getting after = HidesSyncs log caller kept colours after
+Hides log caller kept colours Reading after = HidesRead log caller kept colours after
+Hides log caller kept colours Committing after = HidesRead log caller kept colours after
+Hides log caller kept colours Dequeuing after = HidesSyncs log caller kept colours after
+
+-- What a command may have done that was answered with want of memory, and what its client then keeps.
+pub data FindsNoMemory (log : Log) (caller : Caller) (kept : Kept) (what : What) : Kept → Type 0 where
+  -- nothing
+  nothing : FindsNoMemory log caller kept what kept
+  -- an append to several colours: its row is gone
+  gone : (colours : Colours) (text : List ℕ) (places : ℕ → List ℕ) → AsksToAppend caller kept what colours text
+      → IsGoneForMemory log caller kept (node_of caller kept colours text) places
+      → FindsNoMemory log caller kept what (with_made (with_row kept) caller.own places)
+  -- a pull: it gave, once or again and again, and carried nothing
+  gave : (region colour : ℕ) (too_low gives : List ℕ) → what ≡ whats.Pull region colour
+      → All (GivesTooLow log caller region colour) too_low → length gives ≤ 1
+      → All (λ place. (from : ℕ) × GivesAt log caller region colour place from) gives
+      → FindsNoMemory log caller kept what
+      (with_places (with_places kept region colour too_low) region colour gives)
+  -- a command that syncs or makes a stamped read
+  hidden : (after : Kept) → Hides log caller kept (colours_synced caller what) (manner_of what) after
+      → FindsNoMemory log caller kept what after
+
+-- The object of the command has a home, and the client is in another region.
+abbrev pub IsAway : Caller → Option ℕ → Type 0
+IsAway caller None = ⊥
+IsAway caller (Some home) = caller.own ≢ home
+
+-- what a client that is away is answered
+abbrev pub IsHomeRefusal : Answer → Type 0
+IsHomeRefusal answer = (answer ≡ answers.NoMemory) ⊎ ((home : ℕ) × (answer ≡ answers.NotHome home))
+
+-- A read lets the object's earlier read go.
+abbrev pub kept_before : What → Kept → Kept
+kept_before (whats.Append colours text) kept = kept
+kept_before (whats.Stop steps colours text) kept = kept
+kept_before (whats.Sync colour) kept = kept
+kept_before (whats.Scan colours) kept = kept
+kept_before (whats.Pull region colour) kept = kept
+kept_before (whats.Trim colour) kept = kept
+kept_before (whats.Put object key value) kept = kept
+kept_before (whats.Get object key) kept = kept
+kept_before (whats.Del object key) kept = kept
+kept_before (whats.PutAll object pairs) kept = kept
+kept_before (whats.GetAll object keys) kept = kept
+kept_before (whats.Read object keys) kept = with_read kept object None
+kept_before (whats.Commit object pairs) kept = kept
+kept_before (whats.Enq object value) kept = kept
+kept_before (whats.Deq object) kept = kept
+
+-- A commit uses its read up, whatever it is answered.
+abbrev pub kept_behind : What → Kept → Kept
+kept_behind (whats.Append colours text) kept = kept
+kept_behind (whats.Stop steps colours text) kept = kept
+kept_behind (whats.Sync colour) kept = kept
+kept_behind (whats.Scan colours) kept = kept
+kept_behind (whats.Pull region colour) kept = kept
+kept_behind (whats.Trim colour) kept = kept
+kept_behind (whats.Put object key value) kept = kept
+kept_behind (whats.Get object key) kept = kept
+kept_behind (whats.Del object key) kept = kept
+kept_behind (whats.PutAll object pairs) kept = kept
+kept_behind (whats.GetAll object keys) kept = kept
+kept_behind (whats.Read object keys) kept = kept
+kept_behind (whats.Commit object pairs) kept = with_read kept object None
+kept_behind (whats.Enq object value) kept = kept
+kept_behind (whats.Deq object) kept = kept
