@@ -286,10 +286,11 @@ module _ (old new : Log) (later : IsLater old new) (caller : Caller) where
 
   clear_later : (stamp : ℕ) (kept : Kept) (syncs : List SyncPiece) (after : Kept) → ClearSyncs old caller stamp kept syncs after → ClearSyncs new caller stamp kept syncs after
   clear_later stamp kept [] after c = c
-  clear_later stamp kept (sync ∷ syncs) after c =
-      (syncs_later kept sync.colour sync.events sync.counts c.0
-      , subst (IsClearUpTo stamp) (sym (taken_same old new later caller.own sync.colour sync.events c.0.there)) c.1
-      , subst (λ (k : Kept). ClearSyncs new caller stamp k syncs after) (sym (piece_same kept sync c.0.there)) (clear_later stamp (kept_after_piece old caller kept sync) syncs after c.2))
+  clear_later stamp kept (sync ∷ syncs) after c = (
+    syncs_later kept sync.colour sync.events sync.counts c.0,
+    subst (IsClearUpTo stamp) (sym (taken_same old new later caller.own sync.colour sync.events c.0.there)) c.1,
+    subst (λ (k : Kept). ClearSyncs new caller stamp k syncs after) (sym (piece_same kept sync c.0.there)) (clear_later stamp (kept_after_piece old caller kept sync) syncs after c.2),
+  )
 
   lines_same : (stamp : ℕ) (kept : Kept) (syncs : List SyncPiece) (after : Kept) → ClearSyncs old caller stamp kept syncs after → lines_read new caller syncs ≡ lines_read old caller syncs
   lines_same stamp kept [] after c = refl
@@ -475,47 +476,130 @@ module _ (old new : Log) (later : IsLater old new) (caller : Caller) where
       (e.0, e.1, e.2, e.3, stops_later old new later caller kept (node_of caller kept e.1 e.2) steps after e.4)
   explains_later kept what (answers.Synced sync plays) nodes after e =
       (e.0, e.1, syncs_later kept sync.colour sync.events sync.counts e.2, played_later kept sync.colour sync.events sync.counts nodes e.2.there e.3, e.4)
-  explains_later kept what (answers.Scanned stamp count raises syncs) nodes after e =
-      (e.0, e.1, e.2, read_later kept (members e.0) stamp raises syncs after e.3, e.4
-      , keys_later kept (members e.0) stamp raises syncs after e.4 e.3 e.5, all_zip_of (ShowsKey old) (ShowsKey new) shows_key_later e.4 nodes e.6)
+  explains_later kept what (answers.Scanned stamp count raises syncs) nodes after e = (
+    e.0,
+    e.1,
+    e.2,
+    read_later kept (members e.0) stamp raises syncs after e.3,
+    e.4,
+    keys_later kept (members e.0) stamp raises syncs after e.4 e.3 e.5,
+    all_zip_of (ShowsKey old) (ShowsKey new) shows_key_later e.4 nodes e.6,
+  )
   explains_later kept what (answers.Pulled count give carry) nodes after e =
       (e.0, e.1, e.2, e.3, e.4, e.5, e.6, pulls_later kept e.1 e.2 count e.4 carry e.6 e.7, e.8)
   explains_later kept what answers.SameRegion nodes after e = e
   explains_later kept what (answers.Based shown base) nodes after e =
       (e.0, e.1, e.2, e.3, e.4, trims_later kept e.1 e.3 base e.5, e.6)
-  explains_later kept what (answers.Got value sync) nodes after e =
-      (e.0, e.1, e.2, e.3, e.4, e.5, e.6, e.7, syncs_later kept sync.colour sync.events sync.counts e.8, gets_later e.5 sync e.2 value e.8.there e.9
-      , e.10 ∙ sym (piece_same kept sync e.8.there))
-  explains_later kept what (answers.GotMany values sync) nodes after e =
-      (e.0, e.1, e.2, e.3, e.4, syncs_later kept sync.colour sync.events sync.counts e.5, gets_values_later sync e.2 values e.5.there e.6
-      , e.7 ∙ sym (piece_same kept sync e.5.there))
-  explains_later kept what (answers.GotKeys stamp shown raises syncs) nodes after e =
-      (e.0, e.1, read_later kept (colours_synced caller what) stamp raises syncs e.1 e.2, e.3
-      , keys_later kept (colours_synced caller what) stamp raises syncs e.1 e.3 e.2 e.4, e.5, objects_later old new later e.3 e.5 e.6, e.7)
+  explains_later kept what (answers.Got value sync) nodes after e = (
+    e.0,
+    e.1,
+    e.2,
+    e.3,
+    e.4,
+    e.5,
+    e.6,
+    e.7,
+    syncs_later kept sync.colour sync.events sync.counts e.8,
+    gets_later e.5 sync e.2 value e.8.there e.9,
+    e.10 ∙ sym (piece_same kept sync e.8.there),
+  )
+  explains_later kept what (answers.GotMany values sync) nodes after e = (
+    e.0,
+    e.1,
+    e.2,
+    e.3,
+    e.4,
+    syncs_later kept sync.colour sync.events sync.counts e.5,
+    gets_values_later sync e.2 values e.5.there e.6,
+    e.7 ∙ sym (piece_same kept sync e.5.there),
+  )
+  explains_later kept what (answers.GotKeys stamp shown raises syncs) nodes after e = (
+    e.0,
+    e.1,
+    read_later kept (colours_synced caller what) stamp raises syncs e.1 e.2,
+    e.3,
+    keys_later kept (colours_synced caller what) stamp raises syncs e.1 e.3 e.2 e.4,
+    e.5,
+    objects_later old new later e.3 e.5 e.6,
+    e.7,
+  )
   explains_later kept what (answers.Ruled conflict stamp row points read_stamp raises syncs) nodes after e =
       let a = e.2 in
-      let s = a.3 in
-      (e.0, e.1, (a.0, a.1, a.2, (s.0, s.1, append_later old new later caller kept (node_of caller kept a.0 a.1) s.0 row points s.1 s.2
-      , read_later s.1 (colours_synced caller what) read_stamp raises syncs after s.3, s.4
-      , keys_later s.1 (colours_synced caller what) read_stamp raises syncs after s.4 s.3 s.5, s.6, objects_later old new later s.4 s.6 s.7, s.8)))
+      let s = a.3 in (
+        e.0,
+        e.1,
+        (
+          a.0,
+          a.1,
+          a.2,
+          (
+            s.0,
+            s.1,
+            append_later old new later caller kept (node_of caller kept a.0 a.1) s.0 row points s.1 s.2,
+            read_later s.1 (colours_synced caller what) read_stamp raises syncs after s.3,
+            s.4,
+            keys_later s.1 (colours_synced caller what) read_stamp raises syncs after s.4 s.3 s.5,
+            s.6,
+            objects_later old new later s.4 s.6 s.7,
+            s.8,
+          ),
+        ),
+      )
   explains_later kept what answers.NoTx nodes after e = e
   explains_later kept what (answers.Took value point sync) nodes after e =
       let a = e.3 in
-      let s = a.3 in
-      (e.0, e.1, e.2, (a.0, a.1, a.2, (s.0, s.1, append_later old new later caller kept (node_of caller kept a.0 a.1) s.0 None (point ∷ []) s.1 s.2
-      , syncs_later s.1 sync.colour sync.events sync.counts s.3
-      , takes_later point value (point_there kept (node_of caller kept a.0 a.1) s.0 point s.1 s.2) s.4
-      , s.5 ∙ sym (piece_same s.1 sync s.3.there))))
+      let s = a.3 in (
+        e.0,
+        e.1,
+        e.2,
+        (
+          a.0,
+          a.1,
+          a.2,
+          (
+            s.0,
+            s.1,
+            append_later old new later caller kept (node_of caller kept a.0 a.1) s.0 None (point ∷ []) s.1 s.2,
+            syncs_later s.1 sync.colour sync.events sync.counts s.3,
+            takes_later point value (point_there kept (node_of caller kept a.0 a.1) s.0 point s.1 s.2) s.4,
+            s.5 ∙ sym (piece_same s.1 sync s.3.there),
+          ),
+        ),
+      )
   explains_later kept what (answers.UnreadTrimmed stamp colour base) nodes after e =
       let a = e.3 in
-      let s = a.3 in
-      (e.0, e.1, e.2, (a.0, a.1, a.2, (s.0, unshown_later old new later caller kept (node_of caller kept a.0 a.1) stamp s.0 s.1
-      , trimmed_later s.0 colour base s.2, hides_later s.0 (colours_synced caller what) (manner_of what) after s.3)))
+      let s = a.3 in (
+        e.0,
+        e.1,
+        e.2,
+        (
+          a.0,
+          a.1,
+          a.2,
+          (
+            s.0,
+            unshown_later old new later caller kept (node_of caller kept a.0 a.1) stamp s.0 s.1,
+            trimmed_later s.0 colour base s.2,
+            hides_later s.0 (colours_synced caller what) (manner_of what) after s.3,
+          ),
+        ),
+      )
   explains_later kept what (answers.UnreadNoMemory stamp) nodes after e =
       let a = e.2 in
-      let s = a.3 in
-      (e.0, e.1, (a.0, a.1, a.2, (s.0, unshown_later old new later caller kept (node_of caller kept a.0 a.1) stamp s.0 s.1
-      , hides_later s.0 (colours_synced caller what) (manner_of what) after s.2)))
+      let s = a.3 in (
+        e.0,
+        e.1,
+        (
+          a.0,
+          a.1,
+          a.2,
+          (
+            s.0,
+            unshown_later old new later caller kept (node_of caller kept a.0 a.1) stamp s.0 s.1,
+            hides_later s.0 (colours_synced caller what) (manner_of what) after s.2,
+          ),
+        ),
+      )
   explains_later kept what (answers.Trimmed colour base) nodes after e =
       (e.0, e.1, e.2, trimmed_later kept colour base e.3, hides_later kept (colours_synced caller what) (manner_of what) after e.4)
   explains_later kept what (answers.NotHome home) nodes after e = e

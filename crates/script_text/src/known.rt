@@ -53,11 +53,7 @@ impl Known {
         requires { IsSmall self.now }
         ensures { Gives result (number_at reasons.UnknownRegion self.now.script.regions field.now) }
     {
-        number_at(
-            self.script.regions.as_slice(),
-            field,
-            Reason::UnknownRegion,
-        )
+        number_at(self.script.regions.as_slice(), field, Reason::UnknownRegion)
     }
 
     /// The number of the colour that a field names.
@@ -65,11 +61,7 @@ impl Known {
         requires { IsSmall self.now }
         ensures { Gives result (number_at reasons.UnknownColour self.now.script.colours field.now) }
     {
-        number_at(
-            self.script.colours.as_slice(),
-            field,
-            Reason::UnknownColour,
-        )
+        number_at(self.script.colours.as_slice(), field, Reason::UnknownColour)
     }
 
     /// What is known after one more item.
