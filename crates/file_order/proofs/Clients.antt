@@ -34,7 +34,9 @@ use Rattle.report_text.specs.declared.report.Answer.TheVariants as answers
 use Rattle.report_text.specs.declared.report.Answer.{Answer}
 use Rattle.report_text.specs.declared.report.ReplyLine.{ReplyLine}
 use Rattle.lawful_run.specs.Callers.{Caller, caller_of, node_of, row_of}
-use Rattle.lawful_run.specs.Explains.{AppendsOne, HadNoStamp, Syncs, ShowsNode, ShowsPlayed, Explains, Answers, Explained, next, greatest_stamp}
+use Rattle.lawful_run.specs.Appends.{AppendsOne}
+use Rattle.lawful_run.specs.Explains.{Explains, Explained, next}
+use Rattle.file_order.proofs.Answering.{line_of, plain_append, answers_plainly}
 use Rattle.lawful_run.proofs.Later.{explained_later}
 use Rattle.lawful_run.proofs.Prefixes.{prefix_length}
 use Rattle.file_order.specs.Meaning.{ColumnState, ClientState}
@@ -46,10 +48,6 @@ use Rattle.file_order.proofs.Entering as entering
 
 abbrev pub home : Script → ℕ → ℕ
 home script client = slice_index script.shape.homes client
-
--- a reply line of a command
-abbrev pub line_of : Command → Answer → List PlacedNode → ReplyLine
-line_of command answer nodes = record { line = command.line; word = word_of command.what; answer = answer; nodes = nodes }
 
 -- ANOTHER CLIENT'S NODE ENTERS
 module _ (script : Script) (columns : Columns) (nodes : ℕ → List Node) (own colour : ℕ) (id : Id) (floor : ℕ) (wants : Counts) (node : Node) where
@@ -78,9 +76,10 @@ module _ (script : Script) (columns : Columns) (nodes : ℕ → List Node) (own 
       explained = explained_later _ _ later (caller_of script client) was.explained;
       seen = λ r c. let a = was.seen r c in let b = longer r c in omega arith;
       known = λ c. let a = was.known c in let b = longer_line (home script client) c in omega arith;
-      named = columns-all (λ r c x. places_of client x.history ≡ is.kept.named r c)
-          (place_other client (columns own colour).history (entering.entry columns nodes own colour id floor wants node) (λ e. other (sym e)) ∙ was.named own colour)
-          (λ r c _. was.named r c);
+      made = columns-all (λ r c x. places_of client x.history ≡ is.kept.made r c)
+          (place_other client (columns own colour).history (entering.entry columns nodes own colour id floor wants node) (λ e. other (sym e)) ∙ was.made own colour)
+          (λ r c _. was.made r c);
+      rows = was.rows;
       nodes_are = ap length (entering.nodes-all columns nodes own colour id floor wants node (λ n x. n ≢ id.client → x ≡ nodes n) (λ ne. absurd (ne refl)) (λ n _ _. refl) client other) ∙ was.nodes_are;
       from = λ c. let f = was.from c in let b = longer_line (home script client) c in let l = f.1 in (f.0, omega arith, f.2);
       bounded = was.bounded;
@@ -188,22 +187,26 @@ module _ (script : Script) (columns : Columns) (nodes : ℕ → List Node) (comm
 
     explains : Explains (log_of columns' nodes') (caller_of script u) kept (whats.Append colours text) (answers.Stood stamp None (point ∷ [])) [] kept'
     explains = (
-      one,
       refl,
-      length column.history,
       refl,
-      subst (λ (n : Node). AppendsOne (log_of columns' nodes') (caller_of script u) kept n colour stamp (length column.history) (length column.nodes)) (node_is one) appends,
-      refl,
+      (colours, text, (refl, refl), (
+        one,
+        length column.history,
+        refl,
+        subst (λ (n : Node). AppendsOne (log_of columns' nodes') (caller_of script u) kept n colour stamp (length column.history) (length column.nodes)) (node_is one) appends,
+        refl,
+      )),
     )
 
     pub own_after : Keeps script columns' nodes' u (commands ++ command ∷ []) (replies ++ line_of command (answers.Stood stamp None (point ∷ [])) [] ∷ []) kept'
     own_after = record {
       explained = next command (line_of command (answers.Stood stamp None (point ∷ [])) []) (explained_later _ _ later (caller_of script u) keeps.explained)
-          (record { line = refl; word = refl; explained = subst (λ (w : What). Explains (log_of columns' nodes') (caller_of script u) kept w (answers.Stood stamp None (point ∷ [])) [] kept') (sym asked) explains });
+          (answers_plainly (log_of columns' nodes') (caller_of script u) kept command (answers.Stood stamp None (point ∷ [])) [] kept' (whats.Append colours text) asked plain_append explains);
       seen = updated_at-both columns kept.seen own colour column' (length column.history + 1) (λ r c x n. n ≤ length x.history) (let e = length-append column.history (entering.entry columns nodes own colour id kept.floor wants node ∷ []) in omega arith) (λ r c _. keeps.seen r c);
       known = known;
-      named = updated_at-both columns kept.named own colour column' (kept.named own colour ++ length column.history ∷ []) (λ r c x places. places_of u x.history ≡ places)
-          (place_more u column.history (entering.entry columns nodes own colour id kept.floor wants node) refl refl ∙ ap (λ (l : List ℕ). l ++ length column.history ∷ []) (keeps.named own colour)) (λ r c _. keeps.named r c);
+      made = updated_at-both columns kept.made own colour column' (kept.made own colour ++ length column.history ∷ []) (λ r c x places. places_of u x.history ≡ places)
+          (place_more u column.history (entering.entry columns nodes own colour id kept.floor wants node) refl refl ∙ ap (λ (l : List ℕ). l ++ length column.history ∷ []) (keeps.made own colour)) (λ r c _. keeps.made r c);
+      rows = keeps.rows;
       nodes_are = ap length (entering.own_nodes columns nodes own colour id kept.floor wants node) ∙ (length-append (nodes u) (node ∷ []) ∙ ap (λ n. n + 1) keeps.nodes_are);
       from = λ c. let f = keeps.from c in let l = f.1 in let b = longer_line script columns nodes own colour id kept.floor wants node own c in (f.0, omega arith, f.2);
       bounded = omega arith;

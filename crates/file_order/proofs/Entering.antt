@@ -81,6 +81,7 @@ module _ (columns : Columns) (nodes : ℕ → List Node) (own colour : ℕ) (id 
       histories = columns-all (λ r c x. IsPrefix (columns r c).history x.history) (prefix_more _ _) (λ r c _. prefix_self (columns r c).history);
       lines = columns-all (λ r c x. IsPrefix (line (columns r c).history) (line x.history)) (subst (λ (l : List Key). IsPrefix (line column.history) l) (sym line-more) (prefix_more _ _)) (λ r c _. prefix_self (line (columns r c).history));
       nodes = nodes_grow;
+      rows = λ region r among. absurd (let l = among.1 in omega (arith, l));
     }
 
     module _ (counted : length (nodes id.client) ≡ id.count) (its_id : node.id ≡ id) where

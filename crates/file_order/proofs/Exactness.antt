@@ -29,7 +29,8 @@ use Rattle.file_order.specs.Meaning.{State, opening, done, done_one, appended, a
 use Rattle.file_order.proofs.Updates.{updated-both, updated-same}
 use Rattle.file_order.proofs.Lists.{got_end}
 use Rattle.file_order.proofs.Closing.{at_place}
-use Rattle.file_order.proofs.Clients.{home, line_of}
+use Rattle.file_order.proofs.Clients.{home}
+use Rattle.file_order.proofs.Answering.{line_of}
 use Rattle.file_order.proofs.Leading.{AreFit}
 
 -- one line more

@@ -2,7 +2,7 @@
 use Rattle.std.proofs.Common.{◌≡◌, ◌≢◌, ◌⊎◌, inl, inr, ℕ, zero, suc, ◌+◌, ◌<◌, ◌≤◌, List, [], ◌∷◌, ◌++◌, length, map, Option, Some, None, slice_get, refl, ap, sym, subst, ◌∙◌, arith, cond, Bool, true, false, get_or, max}
 use Rattle.std.specs.Prelude.{IsTrue, slice_index, slice_index_or, unwrap_or, ◌==◌}
 use Rattle.std.specs.Option.{option_map}
-use Rattle.std.specs.List.{All, AllPairs, flat_map, range_with_len, enumerate_from}
+use Rattle.std.specs.List.{All, AllPairs, Contains, flat_map, range_with_len, enumerate_from}
 use Rattle.std.proofs.lemmas.List.{map-append}
 use Rattle.std.proofs.lemmas.List.Elements.{All-nil, All-map}
 use Rattle.std.proofs.lemmas.Option.{slice_get-get_or, slice_get-map}
@@ -30,9 +30,10 @@ use Rattle.report_text.specs.declared.report.ClientReport.{ClientReport}
 use Rattle.report_text.specs.declared.report.ColumnReport.{ColumnReport}
 use Rattle.report_text.specs.declared.report.Report.{Report}
 use Rattle.lawful_run.specs.Columns.{column_numbers, ShowsClosing, IsColumnReport, AreColumns, AreRows, AreCopies, row_report}
-use Rattle.lawful_run.specs.Lawful.{IsClientRun, LawfulRun}
+use Rattle.lawful_run.specs.Lawful.{IsClientRun, IsHelp, HasHelping, HasStopped, LeavesOpen, LawfulRun}
 use Rattle.file_order.specs.Meaning.{State, is_built, LeadTo, column_report, report_of, IsStepReport}
 use Rattle.file_order.proofs.OwnLines.{OwnHistory, none, more, single, own_line, IsOwnLine}
+use Rattle.file_order.proofs.OwnEntries.{settled_head}
 use Rattle.file_order.proofs.Lists.{got_last}
 use Rattle.file_order.proofs.Runs.{log_of, heads_of, IsColumn, IsRun}
 use Rattle.file_order.proofs.Leading.{IsFit, AreFit, runs}
@@ -45,6 +46,20 @@ no_rows own colour (more {history} {heads} by id floor wants before fresh room) 
   | inl t ↦ no_rows own colour before place e t
   | inr t ↦ subst (λ (d : Entry). FitsRows [] colour d.event) t.1 (All-nil (λ (r : BegunRow). r.node.id ≢ id))
 ]
+
+-- its events help nobody
+abbrev HelpsNobody : Entry → Type 0
+HelpsNobody e = IsHelp e.by e.event → ⊥
+
+no_help : (own : ℕ) {history : List Entry} {heads : List Head} → OwnHistory own history heads → (place : ℕ) (e : Entry) → slice_get history place ≡ Some e → HelpsNobody e
+no_help own none place e there = absurd (let f : ⊥ = cc in f)
+no_help own (more {history} {heads} by id floor wants before fresh room) place e there = elim (got_last history (single by id floor wants (next_stamp history floor)) e place there) [
+  | inl t ↦ no_help own before place e t
+  | inr t ↦ subst HelpsNobody t.1 (λ h. h)
+]
+
+no_help_at : (own : ℕ) {history : List Entry} {heads : List Head} → OwnHistory own history heads → (k : ℕ) (e : Entry) → k < length history → HelpsNobody (slice_index_or history k e)
+no_help_at own {history} grown k e lt = all_places HelpsNobody history (no_help own grown) k e lt
 
 none_noted : (own region : ℕ) {history : List Entry} {heads : List Head} → OwnHistory own history heads → noted (dated own history) region ≡ 0
 none_noted own region none = refl
@@ -106,7 +121,7 @@ module _ (script : Script) (fits : IsFitting script) (state : State) (is : IsRun
         (range-all (λ colour. IsColumnReport log script (column_report script state region colour)) 0 colours (λ colour _ lc. column region colour (omega arith) (omega arith)))));
   }
 
-  begun : AreRows log script (λ _. []) []
+  begun : AreRows log script []
   unfolding log
   begun = record {
     all = flat_map-nothing (range_with_len 0 regions);
@@ -146,19 +161,35 @@ module _ (script : Script) (fits : IsFitting script) (state : State) (is : IsRun
   client n c there = let k = is.clients n in subst (λ (replies : List ReplyLine). IsClientRun log script n replies) (replies_are n c there) (record {
     kept = k.kept;
     explained = k.keeps.explained;
-    named = λ region colour lt lc. k.keeps.named region colour;
+    made = λ region colour lt lc. k.keeps.made region colour;
     nodes = k.keeps.nodes_are;
+    rows = sym k.keeps.rows;
+    row_nodes = λ r among of_client. absurd (let l = among.1 in omega (arith, l));
   })
+
+  helpers : (region colour : ℕ) (e : Entry) → region < regions → colour < colours → Contains (log.histories region colour) e → IsHelp e.by e.event → HasHelping script e.by
+  unfolding log
+  helpers region colour e lt lc among help = absurd (subst HelpsNobody among.2
+      (no_help_at region (is.columns region colour).grown among.0 e among.1) help)
+
+  left_open : LeavesOpen log script (report_of script state)
+  unfolding log
+  left_open = record {
+    ids = λ region colour lt lc. subst (All (λ (s : Standing). IsTrue s.settled ⊎ HasStopped (report_of script state) s.key.id.client)) (sym (own region colour lt).entries_are)
+        (All-map (λ (s : Standing). IsTrue s.settled ⊎ HasStopped (report_of script state) s.key.id.client) settled_head (heads_of (state.columns region colour).nodes) (λ k d h. inl refl));
+    rows = λ region lt k d h. absurd (omega arith);
+  }
 
   lawful : LawfulRun script (report_of script state)
   lawful = record {
     log = log;
-    rows = λ _. [];
     names = names;
     clients = client;
     columns = columns;
     begun = begun;
     copies = copies;
+    helpers = helpers;
+    left_open = left_open;
   }
 
 -- the commands of a fitting script that are built fit

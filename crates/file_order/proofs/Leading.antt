@@ -23,7 +23,11 @@ use Rattle.report_text.specs.declared.report.Answer.TheVariants as answers
 use Rattle.report_text.specs.declared.report.Answer.{Answer}
 use Rattle.report_text.specs.declared.report.ReplyLine.{ReplyLine}
 use Rattle.lawful_run.specs.Callers.{caller_of}
-use Rattle.lawful_run.specs.Explains.{start, greatest_stamp}
+use Rattle.lawful_run.specs.Reads.{greatest_stamp}
+use Rattle.lawful_run.specs.Explains.{start}
+use Rattle.lawful_run.specs.Asks.{home_asked}
+use Rattle.lawful_run.specs.Refusals.{kept_before, kept_behind}
+use Rattle.file_order.proofs.Answering.{line_of, IsPlain, plain}
 use Rattle.file_order.specs.Meaning.{ColumnState, ClientState, State, opening, is_built, is_one, done, done_one, appended, appended_to, synced, refused, replied, LeadTo, nothing, one_done, one_refused}
 use Rattle.file_order.proofs.OwnLines.{OwnHistory, none, own_counts}
 use Rattle.file_order.proofs.Updates.{updated-both, updated_at-both}
@@ -32,7 +36,7 @@ use Rattle.file_order.proofs.Lists.{got_last, got_end, asked_by, asked-own, aske
 use Rattle.file_order.proofs.Runs.{Columns, log_of, heads_of, IsShown, IsColumn, part_of, Keeps, IsClient, IsRun}
 use Rattle.file_order.proofs.Entering as entering
 use Rattle.file_order.proofs.Clients as clients
-use Rattle.file_order.proofs.Clients.{home, line_of}
+use Rattle.file_order.proofs.Clients.{home}
 use Rattle.file_order.proofs.Syncing as syncing
 
 -- a command of a client of the script, whose region is one of four, and that is built
@@ -52,7 +56,8 @@ no_opening script client = record {
     explained = start;
     seen = λ r c. omega arith;
     known = λ c. omega arith;
-    named = λ r c. refl;
+    made = λ r c. refl;
+    rows = refl;
     nodes_are = refl;
     from = λ c. (0, omega arith, none_of (home script client));
     bounded = omega arith;
@@ -121,8 +126,9 @@ module _ (script : Script) (commands : List Command) (state : State) (command : 
     few_ids = λ k. let a = runs.few_ids k in let e = more_commands in omega arith;
   }
 
-  runs_refused : IsRun script (commands ++ command ∷ []) (refused state command)
-  runs_refused = runs_replied answers.NoMemory (λ kept same keeps. syncing.refusal_after script state.columns state.nodes command 0 (asked_by u commands) (state.replies u) kept keeps)
+  runs_refused : IsFit script command → IsRun script (commands ++ command ∷ []) (refused state command)
+  runs_refused fit = runs_replied answers.NoMemory (λ kept same keeps.
+      syncing.refusal_after script state.columns state.nodes command 0 (asked_by u commands) (state.replies u) kept command.what refl (plain command.what fit.built) keeps)
 
   module _ (fit : IsFit script command) (colour : ℕ) where
     abbrev column : ColumnState
@@ -277,4 +283,4 @@ runs script fit nothing = runs_opening script
 runs script fit (one_done {commands} {state} command before) = let f = fit (length commands) command (got_end commands command (length commands) refl) in
     runs_done_one script commands state command (runs script (λ i c e. fit i c (get-append commands (command ∷ []) i c e)) before) f command.what refl f.built
 runs script fit (one_refused {commands} {state} command before) =
-    runs_refused script commands state command (runs script (λ i c e. fit i c (get-append commands (command ∷ []) i c e)) before)
+    runs_refused script commands state command (runs script (λ i c e. fit i c (get-append commands (command ∷ []) i c e)) before) (fit (length commands) command (got_end commands command (length commands) refl))

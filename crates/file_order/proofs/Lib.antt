@@ -7,6 +7,7 @@ pub mod Updates
 pub mod Lists
 pub mod Runs
 pub mod Entering
+pub mod Answering
 pub mod Clients
 pub mod Syncing
 pub mod Leading

@@ -8,7 +8,7 @@ use Rattle.log_node.specs.declared.ids.Id.{Id}
 use Rattle.script_text.specs.declared.script.Command.{Command}
 use Rattle.col_core.specs.declared.Entry.{Entry}
 use Rattle.col_core.specs.History.{enters, has_entered}
-use Rattle.col_core.specs.Log.{is_named, places_from, places_of}
+use Rattle.col_core.specs.Log.{is_own, places_from, places_of}
 
 module _ {A : Type 0} where
   pub got_last : (xs : List A) (x y : A) (k : ℕ) → slice_get (xs ++ x ∷ []) k ≡ Some y → (slice_get xs k ≡ Some y) ⊎ ((k ≡ length xs) × (x ≡ y))
@@ -41,13 +41,13 @@ places_append : (k client : ℕ) (xs ys : List Entry) → places_from k client (
 places_append k client [] ys = let e : k ≡ k + 0 = omega arith in ap (λ n. places_from n client ys) e
 places_append k client (x ∷ xs) ys = let e : k + 1 + length xs ≡ k + length (x ∷ xs) = omega arith in
     let r : places_from (k + 1) client (xs ++ ys) ≡ places_from (k + 1) client xs ++ places_from (k + length (x ∷ xs)) client ys = places_append (k + 1) client xs ys ∙ ap (λ n. places_from (k + 1) client xs ++ places_from n client ys) e in
-    elim ((x.by == client) && is_named x.event) as (λ b. cond b (k ∷ places_from (k + 1) client (xs ++ ys)) (places_from (k + 1) client (xs ++ ys)) ≡ cond b (k ∷ places_from (k + 1) client xs) (places_from (k + 1) client xs) ++ places_from (k + length (x ∷ xs)) client ys) [ true ↦ ap (λ l. k ∷ l) r | false ↦ r ]
+    elim ((x.by == client) && is_own client x.event) as (λ b. cond b (k ∷ places_from (k + 1) client (xs ++ ys)) (places_from (k + 1) client (xs ++ ys)) ≡ cond b (k ∷ places_from (k + 1) client xs) (places_from (k + 1) client xs) ++ places_from (k + length (x ∷ xs)) client ys) [ true ↦ ap (λ l. k ∷ l) r | false ↦ r ]
 
-pub place_more : (client : ℕ) (xs : List Entry) (e : Entry) → e.by ≡ client → is_named e.event ≡ true → places_of client (xs ++ e ∷ []) ≡ places_of client xs ++ length xs ∷ []
-place_more client xs e is named = places_append 0 client xs (e ∷ []) ∙ (ap (λ b. places_of client xs ++ cond (b && is_named e.event) ((0 + length xs) ∷ []) []) (eq-eqb e.by client is) ∙ (ap (λ b. places_of client xs ++ cond b ((0 + length xs) ∷ []) []) named ∙ ap (λ n. places_of client xs ++ n ∷ []) (zero-add (length xs))))
+pub place_more : (client : ℕ) (xs : List Entry) (e : Entry) → e.by ≡ client → is_own client e.event ≡ true → places_of client (xs ++ e ∷ []) ≡ places_of client xs ++ length xs ∷ []
+place_more client xs e is named = places_append 0 client xs (e ∷ []) ∙ (ap (λ b. places_of client xs ++ cond (b && is_own client e.event) ((0 + length xs) ∷ []) []) (eq-eqb e.by client is) ∙ (ap (λ b. places_of client xs ++ cond b ((0 + length xs) ∷ []) []) named ∙ ap (λ n. places_of client xs ++ n ∷ []) (zero-add (length xs))))
 
 pub place_other : (client : ℕ) (xs : List Entry) (e : Entry) → e.by ≢ client → places_of client (xs ++ e ∷ []) ≡ places_of client xs
-place_other client xs e other = places_append 0 client xs (e ∷ []) ∙ (ap (λ b. places_of client xs ++ cond (b && is_named e.event) ((0 + length xs) ∷ []) []) (not_eqb e.by client other) ∙ append-nil (places_of client xs))
+place_other client xs e other = places_append 0 client xs (e ∷ []) ∙ (ap (λ b. places_of client xs ++ cond (b && is_own client e.event) ((0 + length xs) ∷ []) []) (not_eqb e.by client other) ∙ append-nil (places_of client xs))
 
 -- an id that has not entered, and is not the one that enters now
 or-false : (a b : Bool) → a ≡ false → b ≡ false → (a || b) ≡ false

@@ -5,7 +5,7 @@ use Rattle.std.proofs.lemmas.List.{take_more}
 use Rattle.log_node.specs.declared.ids.Counts.{Counts}
 use Rattle.log_node.specs.Seen.{PlacedNode}
 use Rattle.log_node.specs.Vectors.{at, zeros, least}
-use Rattle.lawful_run.specs.Explains.{greatest_stamp}
+use Rattle.lawful_run.specs.Reads.{greatest_stamp}
 use Rattle.file_order.specs.Inside.{alone}
 
 pub at-alone : (own n : ℕ) → own < 4 → at (alone own n) own ≡ n

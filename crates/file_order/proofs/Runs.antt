@@ -24,7 +24,7 @@ abbrev pub Columns : Type 0
 Columns = ℕ → ℕ → ColumnState
 
 abbrev pub log_of : Columns → (ℕ → List Node) → Log
-log_of columns nodes = record { histories = λ region colour. (columns region colour).history; nodes = nodes }
+log_of columns nodes = record { histories = λ region colour. (columns region colour).history; nodes = nodes; rows = λ _. [] }
 
 abbrev pub heads_of : List PlacedNode → List Head
 heads_of items = map (λ (item : PlacedNode). item.head) items
@@ -46,7 +46,8 @@ pub record Keeps (script : Script) (columns : Columns) (nodes : ℕ → List Nod
   pub explained : Explained (log_of columns nodes) (caller_of script client) commands replies kept
   pub seen : (region colour : ℕ) → kept.seen region colour ≤ length (columns region colour).history
   pub known : (colour : ℕ) → kept.known colour ≤ length (columns (slice_index script.shape.homes client) colour).nodes
-  pub named : (region colour : ℕ) → places_of client (columns region colour).history ≡ kept.named region colour
+  pub made : (region colour : ℕ) → places_of client (columns region colour).history ≡ kept.made region colour
+  pub rows : kept.rows ≡ 0
   pub nodes_are : length (nodes client) ≡ kept.ids
   pub from : (colour : ℕ) → (k : ℕ) × (k ≤ length (columns (slice_index script.shape.homes client) colour).nodes) × (kept.starts colour ≡ own_counts (slice_index script.shape.homes client) k)
   pub bounded : kept.floor ≤ last_stamp

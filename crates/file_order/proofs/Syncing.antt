@@ -32,12 +32,16 @@ use Rattle.report_text.specs.declared.report.Answer.TheVariants as answers
 use Rattle.report_text.specs.declared.report.Answer.{Answer}
 use Rattle.report_text.specs.declared.report.ReplyLine.{ReplyLine}
 use Rattle.lawful_run.specs.Callers.{Caller, caller_of}
-use Rattle.lawful_run.specs.Explains.{HadNoStamp, Syncs, ShowsNode, ShowsPlayed, Explains, Answers, Explained, next, greatest_stamp}
+use Rattle.lawful_run.specs.Appends.{HadNoStamp, none_for_one}
+use Rattle.lawful_run.specs.Reads.{Syncs, ShowsNode, ShowsPlayed, greatest_stamp}
+use Rattle.lawful_run.specs.Refusals.{nothing}
+use Rattle.lawful_run.specs.Explains.{Explains, Explained, next}
+use Rattle.file_order.proofs.Answering.{line_of, IsPlain, plain_append, plain_sync, answers_plainly}
 use Rattle.file_order.specs.Meaning.{ColumnState}
 use Rattle.file_order.proofs.OwnLines.{OwnHistory, none, more, own_line, IsOwnLine, own_counts, own_places}
 use Rattle.file_order.proofs.Updates.{updated-both, updated_at-both}
 use Rattle.file_order.proofs.Runs.{Columns, log_of, heads_of, IsShown, IsColumn, Keeps}
-use Rattle.file_order.proofs.Clients.{home, line_of, own-at, zeros-at}
+use Rattle.file_order.proofs.Clients.{home, own-at, zeros-at}
 
 -- no clock is past the last stamp
 pub clock_bounded : (own : ℕ) {history : List Entry} {heads : List Head} → OwnHistory own history heads → clock history ≤ last_stamp
@@ -174,22 +178,24 @@ module _ (script : Script) (columns : Columns) (nodes : ℕ → List Node) (comm
     pub sync_after : Keeps script columns nodes u (commands ++ command ∷ []) (replies ++ line_of command (answers.Synced sync (length played)) played ∷ []) kept'
     sync_after = record {
       explained = next command (line_of command (answers.Synced sync (length played)) played) keeps.explained
-          (record { line = refl; word = refl; explained = subst (λ (w : What). Explains log caller kept w (answers.Synced sync (length played)) played kept') (sym asked) (refl, refl, syncs, shows_played, refl) });
+          (answers_plainly log caller kept command (answers.Synced sync (length played)) played kept' (whats.Sync colour) asked plain_sync (refl, refl, syncs, shows_played, refl));
       seen = updated_at-both columns kept.seen own colour column (length column.history) (λ r c x m. m ≤ length (columns r c).history) (omega arith) (λ r c _. keeps.seen r c);
       known = updated-both kept.known kept.known colour (at snapshot own) (at snapshot own) (λ c x _. x ≤ length (columns own c).nodes) (let b = up_to in omega arith) (λ c _. keeps.known c);
-      named = keeps.named;
+      made = keeps.made;
+      rows = keeps.rows;
       nodes_are = keeps.nodes_are;
       from = updated-both kept.starts kept.starts colour snapshot snapshot (λ c x _. (m : ℕ) × (m ≤ length (columns own c).nodes) × (x ≡ own_counts own m)) (n, omega arith, snapshot_is) (λ c _. keeps.from c);
       bounded = let a = keeps.bounded in let b = stamps_bounded in omega arith;
     }
 
   -- a refusal for want of memory
-  pub refusal_after : Keeps script columns nodes u commands replies kept → Keeps script columns nodes u (commands ++ command ∷ []) (replies ++ line_of command answers.NoMemory [] ∷ []) kept
-  refusal_after keeps = record {
-    explained = next command (line_of command answers.NoMemory []) keeps.explained (record { line = refl; word = refl; explained = (refl, refl) });
+  pub refusal_after : (what : What) → command.what ≡ what → IsPlain what → Keeps script columns nodes u commands replies kept → Keeps script columns nodes u (commands ++ command ∷ []) (replies ++ line_of command answers.NoMemory [] ∷ []) kept
+  refusal_after what asked is_plain keeps = record {
+    explained = next command (line_of command answers.NoMemory []) keeps.explained (answers_plainly log caller kept command answers.NoMemory [] kept what asked is_plain (refl, nothing));
     seen = keeps.seen;
     known = keeps.known;
-    named = keeps.named;
+    made = keeps.made;
+      rows = keeps.rows;
     nodes_are = keeps.nodes_are;
     from = keeps.from;
     bounded = keeps.bounded;
@@ -200,10 +206,12 @@ module _ (script : Script) (columns : Columns) (nodes : ℕ → List Node) (comm
       → Keeps script columns nodes u commands replies kept → Keeps script columns nodes u (commands ++ command ∷ []) (replies ++ line_of command (answers.StampEnd colour) [] ∷ []) kept
   end_after colours text one asked ended keeps = record {
     explained = next command (line_of command (answers.StampEnd colour) []) keeps.explained
-        (record { line = refl; word = refl; explained = subst (λ (w : What). Explains log caller kept w (answers.StampEnd colour) [] kept) (sym asked) (one, refl, had_none, refl) });
+        (answers_plainly log caller kept command (answers.StampEnd colour) [] kept (whats.Append colours text) asked plain_append
+        (refl, (λ c t e. absurd cc), (colours, text, (refl, refl), none_for_one one had_none)));
     seen = keeps.seen;
     known = keeps.known;
-    named = keeps.named;
+    made = keeps.made;
+      rows = keeps.rows;
     nodes_are = keeps.nodes_are;
     from = keeps.from;
     bounded = keeps.bounded;

@@ -23,7 +23,7 @@ use Rattle.script_text.specs.Fitting.{IsFitting, IsWithin}
 use Rattle.report_text.specs.declared.report.Answer.TheVariants as answers
 use Rattle.report_text.specs.declared.report.Answer.{Answer}
 use Rattle.report_text.specs.declared.report.ReplyLine.{ReplyLine}
-use Rattle.lawful_run.specs.Explains.{greatest_stamp}
+use Rattle.lawful_run.specs.Reads.{greatest_stamp}
 use Rattle.lawful_run.proofs.Prefixes.{get-append}
 use Rattle.file_order.specs.Meaning.{ColumnState, ClientState, State, is_built, done, done_one, appended, appended_to, synced, refused, replied, entered, node_made, single_entry, placed, LeadTo, one_done, one_refused, is_one}
 use Rattle.file_order.specs.Inside.{ClientKept, alone, place_of, column_at, client_at, new_column, new_client, caller_of, single_of, item_of, with_node, with_id, with_start, with_reply, reply_of, HasAppended, HasAppendedTo, HasSynced, HasDone, IsInRange, IsOfOne}

@@ -25,7 +25,7 @@ use Rattle.report_text.specs.declared.report.ColumnReport.{ColumnReport}
 use Rattle.report_text.specs.declared.report.Report.{Report}
 use Rattle.file_order.specs.Meaning.{ColumnState}
 use Rattle.file_order.specs.declared.caller.Caller.{Caller}
-use Rattle.lawful_run.specs.Explains.{greatest_stamp}
+use Rattle.lawful_run.specs.Reads.{greatest_stamp}
 
 -- so many nodes of one region, and none of another
 abbrev pub alone : ℕ → ℕ → Counts

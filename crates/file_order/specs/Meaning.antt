@@ -28,7 +28,7 @@ use Rattle.report_text.specs.declared.report.ReplyLine.{ReplyLine}
 use Rattle.report_text.specs.declared.report.ClientReport.{ClientReport}
 use Rattle.report_text.specs.declared.report.ColumnReport.{ColumnReport}
 use Rattle.report_text.specs.declared.report.Report.{Report}
-use Rattle.lawful_run.specs.Explains.{greatest_stamp}
+use Rattle.lawful_run.specs.Reads.{greatest_stamp}
 
 -- a set of one colour
 unfoldable pub is_one : Colours → Bool

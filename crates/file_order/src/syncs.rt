@@ -1,6 +1,6 @@
 // A sync of one colour.
 ghost use Rattle.std.specs.Prelude.{◌≡◌, ◌<◌, ◌≤◌, length, slice_index, IfOk, OnErr};
-ghost use Rattle.lawful_run.specs.Explains.{greatest_stamp};
+ghost use Rattle.lawful_run.specs.Reads.{greatest_stamp};
 ghost use Rattle.file_order.specs.Inside.{HasSynced};
 
 use crate::client::Client;

@@ -1,5 +1,5 @@
 use Rattle.std.proofs.Common.{◌≡◌, take}
-use Rattle.lawful_run.specs.Explains.{greatest_stamp}
+use Rattle.lawful_run.specs.Reads.{greatest_stamp}
 use Rattle.file_order.proofs.syncs.greatest_stamp.Given as goal
 
 -- the greatest stamp of the nodes so far
