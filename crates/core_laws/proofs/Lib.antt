@@ -1,1 +1,5 @@
 pub mod SmallRuns
+mod Basics
+mod Held
+mod Marks
+mod Keeps
