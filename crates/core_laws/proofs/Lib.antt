@@ -3,3 +3,4 @@ mod Basics
 mod Held
 mod Marks
 mod Keeps
+mod Clients
