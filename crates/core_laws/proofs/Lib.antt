@@ -4,3 +4,5 @@ mod Held
 mod Marks
 mod Keeps
 mod Clients
+mod OfRows
+mod Runs
