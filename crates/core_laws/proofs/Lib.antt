@@ -6,3 +6,5 @@ mod Keeps
 mod Clients
 mod OfRows
 mod Runs
+mod Agreement
+mod Later

@@ -1,6 +1,10 @@
 //! The world of all columns, rows and clients, its steps, and the laws of every world that steps have made.
 #![tactic(auto)]
 
+mod laws;
 mod steps;
 
+pub use laws::{
+    can_complete, fenced_is_nowhere, none_gets_before, one_outcome, ordered_alike,
+};
 pub use steps::{Reply, Step};

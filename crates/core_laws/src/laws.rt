@@ -1,0 +1,29 @@
+//! The laws of every world that steps have made. Each function does nothing, and its contract is the law.
+ghost use Rattle.core_laws.specs.Laws.{Always, SettlesOnce, OneFinalStamp, EachLineRises, OrderedAlike, FencedIsNowhere, NoneGetsBefore, CanComplete, EachLineGrows, LogGrows, HaveLawfulHistories, HaveLawfulRows, IsBounded, StaysWithinCuts};
+
+/// All settlings of an id, in all columns, have one outcome, and an id is final under one stamp.
+pub fn one_outcome()
+    ensures settles { Always SettlesOnce }
+    ensures stamps { Always OneFinalStamp }
+{}
+
+/// Every line rises in key, and lines order the nodes that they share alike.
+pub fn ordered_alike()
+    ensures rise { Always EachLineRises }
+    ensures alike { Always OrderedAlike }
+{}
+
+/// The node of a row that bears a fence is final in no column, and stands in no line.
+pub fn fenced_is_nowhere()
+    ensures { Always FencedIsNowhere }
+{}
+
+/// No entry that comes after a single gets before it.
+pub fn none_gets_before()
+    ensures { Always NoneGetsBefore }
+{}
+
+/// Any begun append of k colours is completed by at most 2k + 1 steps, which anybody may take.
+pub fn can_complete()
+    ensures { Always CanComplete }
+{}
