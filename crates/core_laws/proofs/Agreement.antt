@@ -1,7 +1,6 @@
 -- One outcome of each id, lines that rise alike, and nothing of a fenced row.
 use Rattle.std.proofs.Common.{◌≡◌, ℕ, ◌<◌, ◌≤◌, List, [], ◌∷◌, Some, Bool, true, false, cond, refl, subst, ap, sym, ◌∙◌, inl, inr, ◌⊎◌, arith}
-use Rattle.std.specs.Prelude.{◌==◌, ◌&&◌, ◌≢◌, map, slice_get, reverse}
-use Rattle.std.specs.List.{filter, Contains}
+use Rattle.std.specs.Prelude.{◌==◌, ◌&&◌, ◌≢◌, slice_get, reverse}
 use Rattle.std.proofs.lemmas.Bool.{true≢false, ltb-true, cases_lt}
 use Rattle.log_node.specs.declared.ids.Id.{Id}
 use Rattle.log_node.specs.declared.ids.Row.{Row}
@@ -15,11 +14,11 @@ use Rattle.skeen_core.specs.declared.marks.Mark.TheVariants as marks
 use Rattle.skeen_core.specs.declared.marks.Outcome.{Outcome}
 use Rattle.skeen_core.specs.declared.marks.Outcome.TheVariants.{Open, Gone, Final}
 use Rattle.skeen_core.specs.Outcomes.{outcome_of, is_stamp_end_fence, is_memory_fence}
-use Rattle.skeen_core.specs.Standings.{Standing, line_of}
+use Rattle.skeen_core.specs.Standings.{Standing}
 use Rattle.col_core.specs.declared.Event.TheVariants as events
 use Rattle.col_core.specs.declared.Event.{Event}
 use Rattle.col_core.specs.declared.Entry.{Entry}
-use Rattle.col_core.specs.Cuts.{Dated, entries_of}
+use Rattle.col_core.specs.Cuts.{entries_of}
 use Rattle.col_core.specs.Computed.{dated}
 use Rattle.col_core.specs.History.{entries, line, entry_key, final_number}
 use Rattle.col_core.proofs.Basics.{choice, by_test, if_true, apart, same_id-refl, same_id-true}
@@ -29,7 +28,7 @@ use Rattle.col_core.proofs.LawfulPasts.{entries-of}
 use Rattle.col_core.proofs.Members.{In, shown, in_line}
 use Rattle.col_core.proofs.Pasts.{Status, Absent, Alone, Waits, Settled, status, after_event, standing_of, IsLawfulPast, IsLawfulNext}
 use Rattle.core_laws.specs.Worlds.{World, RowState, home_of, is_begun, row_of, marks_of, is_member}
-use Rattle.core_laws.specs.Laws.{IsFinal, StandsAt, SettlesOnce, OneFinalStamp, EachLineRises, OrderedAlike, IsNowhere, FencedIsNowhere}
+use Rattle.core_laws.specs.Laws.{IsFinal, SettlesOnce, OneFinalStamp, EachLineRises, OrderedAlike, FencedIsNowhere}
 use Rattle.core_laws.proofs.Basics.{in_contains, contains_in, in_reverse, slice_in}
 use Rattle.core_laws.proofs.Held.{status_in, Kind, Unborn, OfSingle, OfRow, Agrees, column_mark, Fits, Held}
 use Rattle.core_laws.proofs.Marks.{final_is, any_mark}

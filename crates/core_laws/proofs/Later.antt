@@ -1,5 +1,5 @@
 -- No entry that comes after a single gets before it.
-use Rattle.std.proofs.Common.{◌≡◌, ℕ, zero, suc, ◌+◌, ◌<◌, ◌≤◌, max, List, [], ◌∷◌, ◌++◌, take, Some, true, false, refl, subst, ap, sym, ◌∙◌, inl, inr, ◌⊎◌, arith, append_assoc}
+use Rattle.std.proofs.Common.{◌≡◌, ℕ, zero, suc, ◌+◌, ◌<◌, ◌≤◌, max, List, [], ◌∷◌, ◌++◌, take, Some, false, subst, ap, sym, ◌∙◌, inl, inr, ◌⊎◌, arith, append_assoc}
 use Rattle.std.specs.Prelude.{reverse, slice_get, drop}
 use Rattle.std.proofs.lemmas.List.{reverse-append, take-append-drop}
 use Rattle.log_node.specs.declared.ids.Id.{Id}

@@ -8,3 +8,4 @@ mod OfRows
 mod Runs
 mod Agreement
 mod Later
+mod Completion
