@@ -9,3 +9,4 @@ mod Runs
 mod Agreement
 mod Later
 mod Completion
+mod Growing

@@ -1,5 +1,5 @@
 -- The laws of every world that steps have made, whoever took them and in whatever order.
-use Rattle.std.specs.Prelude.{◌≡◌, IsTrue, true, false, ℕ, ◌+◌, ◌*◌, ◌<◌, ◌≤◌, ◌==◌, Bool, List, [], Some, slice_get, map, take, length, if◌then◌else◌}
+use Rattle.std.specs.Prelude.{◌≡◌, ◌≢◌, IsTrue, true, false, ℕ, ◌+◌, ◌*◌, ◌<◌, ◌≤◌, ◌==◌, Bool, List, [], Some, slice_get, map, take, length, if◌then◌else◌}
 use Rattle.std.specs.List.{Contains, flat_map, range_with_len}
 use mathlib.Core.List.{IsPrefix}
 use Rattle.log_node.specs.declared.ids.Id.{Id}
@@ -24,7 +24,7 @@ use Rattle.col_core.specs.Legal.{IsColumnHistory}
 use Rattle.col_core.specs.Rows.{BegunRow, AreLawfulRows, node_wants}
 use Rattle.col_core.specs.Log.{Log, IsLater}
 use Rattle.core_laws.specs.declared.steps.Step.{Step}
-use Rattle.core_laws.specs.Worlds.{World, opened, run_steps, home_of, home_history, is_begun, row_of, row_history, cut_after}
+use Rattle.core_laws.specs.Worlds.{World, RowState, opened, run_steps, home_of, home_history, is_begun, row_of, row_history, cut_after}
 use Rattle.core_laws.specs.Completing.{colours_of, complete_steps}
 
 -- the law holds of every world that steps have made
@@ -52,7 +52,8 @@ StandsAt history position id = (key : Key) × (slice_get (line history) position
 -- all settlings of an id, in all columns, have one outcome
 abbrev pub SettlesOnce : World → Type 0
 SettlesOnce w = (id : Id) (region colour region' colour' : ℕ) (outcome outcome' : Outcome)
-    → Settles (w.histories region colour) id outcome → Settles (w.histories region' colour') id outcome' → outcome ≡ outcome'
+    → Settles (w.histories region colour) id outcome → Settles (w.histories region' colour') id outcome'
+    → outcome ≡ outcome'
 
 -- an id is final under one stamp, in all columns
 abbrev pub OneFinalStamp : World → Type 0
@@ -124,6 +125,17 @@ EachLineGrows w = (region colour n : ℕ)
 -- more steps only add to histories, lines and nodes
 abbrev pub LogGrows : World → Type 0
 LogGrows w = (more : List Step) → IsLater (log_of w) (log_of (run_steps w more))
+
+-- a row keeps its node, each mark that it has, and the outcome that it keeps
+pub record RowGrows (old new : RowState) : Type 0 where
+  pub node : new.node ≡ old.node
+  pub marks : (colour : ℕ) → old.marks colour ≢ marks.None → new.marks colour ≡ old.marks colour
+  pub last : old.last ≢ Open → new.last ≡ old.last
+
+-- whatever steps come, a begun row stays begun and keeps what it has
+abbrev pub RowsStay : World → Type 0
+RowsStay w = (more : List Step) (row : Row) → IsTrue (is_begun w row)
+    → IsTrue (is_begun (run_steps w more) row) × RowGrows (row_of w row) (row_of (run_steps w more) row)
 
 -- What is lawful
 

@@ -1,5 +1,5 @@
 //! The laws of every world that steps have made. Each function does nothing, and its contract is the law.
-ghost use Rattle.core_laws.specs.Laws.{Always, SettlesOnce, OneFinalStamp, EachLineRises, OrderedAlike, FencedIsNowhere, NoneGetsBefore, CanComplete, EachLineGrows, LogGrows, HaveLawfulHistories, HaveLawfulRows, IsBounded, StaysWithinCuts};
+ghost use Rattle.core_laws.specs.Laws.{Always, SettlesOnce, OneFinalStamp, EachLineRises, OrderedAlike, FencedIsNowhere, NoneGetsBefore, CanComplete, EachLineGrows, LogGrows, RowsStay};
 
 /// All settlings of an id, in all columns, have one outcome, and an id is final under one stamp.
 pub fn one_outcome()
@@ -26,4 +26,11 @@ pub fn none_gets_before()
 /// Any begun append of k colours is completed by at most 2k + 1 steps, which anybody may take.
 pub fn can_complete()
     ensures { Always CanComplete }
+{}
+
+/// A line only grows at its end; more steps only add to histories, lines and nodes, and rows keep what they have.
+pub fn log_only_grows()
+    ensures lines { Always EachLineGrows }
+    ensures log { Always LogGrows }
+    ensures rows { Always RowsStay }
 {}
