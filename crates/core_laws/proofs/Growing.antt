@@ -160,14 +160,13 @@ grows_single w client colour text = record {
   nodes = node_longer w client (single_node w client colour text);
 }
 
-pub played_client : World → ℕ → ℕ → ClientState
+abbrev pub played_client : World → ℕ → ℕ → ClientState
 played_client w client colour = record (w.clients client) {
   floor = max (w.clients client).floor (played_stamp w client colour);
   played = updated (w.clients client).played colour (played_cut w client colour);
 }
 
 pub after_grows : (w : World) (s : Step) → Grows w (after w s)
-unfolding played_client
 after_grows w (steps.Begin client colours text) = choice (Grows w) (may_begin w client colours) _ w (λ _. grows_begin w client colours text) (λ _. grows-refl w)
 after_grows w (steps.Propose by row colour) = choice (Grows w) (may_propose w row colour) _ w (λ ok. grows_propose w by row colour ok) (λ _. grows-refl w)
 after_grows w (steps.Fence row colour why) = choice (Grows w) (may_fence w row colour why) _ w (λ ok. grows_mark w row colour (marks.Fenced why) (may_fence_marks w row colour why ok)) (λ _. grows-refl w)

@@ -10,3 +10,4 @@ mod Agreement
 mod Later
 mod Completion
 mod Growing
+mod Told
