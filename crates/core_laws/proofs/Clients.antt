@@ -226,7 +226,7 @@ in_take (suc n) [] x i = i
 in_take (suc n) (y ∷ xs) x (inl e) = inl e
 in_take (suc n) (y ∷ xs) x (inr i) = inr (in_take n xs x i)
 
-in_flat_map : {A B : Type 0} (f : A → List B) (xs : List A) (y : B) → In y (flat_map f xs) → (x : A) × In x xs × In y (f x)
+pub in_flat_map : {A B : Type 0} (f : A → List B) (xs : List A) (y : B) → In y (flat_map f xs) → (x : A) × In x xs × In y (f x)
 in_flat_map f [] y i = absurd i
 in_flat_map {A} {B} f (x ∷ xs) y i = turn (in_append y (f x) (flat_map f xs) i) (λ j. in_flat_map f xs y j) where
   turn : In y (f x) ⊎ In y (flat_map f xs) → (In y (flat_map f xs) → (z : A) × In z xs × In y (f z)) → (z : A) × In z (x ∷ xs) × In y (f z)

@@ -11,3 +11,4 @@ mod Later
 mod Completion
 mod Growing
 mod Told
+mod LawfulRows

@@ -1,5 +1,5 @@
 //! The laws of every world that steps have made. Each function does nothing, and its contract is the law.
-ghost use Rattle.core_laws.specs.Laws.{Always, SettlesOnce, OneFinalStamp, EachLineRises, OrderedAlike, FencedIsNowhere, NoneGetsBefore, CanComplete, EachLineGrows, LogGrows, RowsStay};
+ghost use Rattle.core_laws.specs.Laws.{Always, SettlesOnce, OneFinalStamp, EachLineRises, OrderedAlike, FencedIsNowhere, NoneGetsBefore, CanComplete, EachLineGrows, LogGrows, RowsStay, HaveLawfulHistories, HaveLawfulRows, IsBounded};
 
 /// All settlings of an id, in all columns, have one outcome, and an id is final under one stamp.
 pub fn one_outcome()
@@ -33,4 +33,12 @@ pub fn log_only_grows()
     ensures lines { Always EachLineGrows }
     ensures log { Always LogGrows }
     ensures rows { Always RowsStay }
+{}
+
+/// Each column's history is one that a column may have, the rows are lawful beside the histories, and clocks, floors,
+/// counts and rows keep their bounds.
+pub fn is_lawful()
+    ensures histories { Always HaveLawfulHistories }
+    ensures rows { Always HaveLawfulRows }
+    ensures bounds { Always IsBounded }
 {}
