@@ -233,12 +233,12 @@ in_flat_map {A} {B} f (x ∷ xs) y i = turn (in_append y (f x) (flat_map f xs) i
   turn (inl j) rest = (x, inl refl, j)
   turn (inr j) rest = let r = rest j in (r.0, inr r.1, r.2)
 
-abbrev head_with : List Dated → Key → Head
+abbrev pub head_with : List Dated → Key → Head
 head_with ds key = record { key = key; needs = needs_of ds key.id }
 
-in_heads : (ds : List Dated) (ks : List Key) (head : Head) → In head (map (head_with ds) ks) → (k : Key) × In k ks × (head.key ≡ k)
+pub in_heads : (ds : List Dated) (ks : List Key) (head : Head) → In head (map (head_with ds) ks) → (k : Key) × In k ks × (head_with ds k ≡ head)
 in_heads ds [] head i = absurd i
-in_heads ds (k ∷ ks) head (inl e) = (k, inl refl, sym (ap (λ (x : Head). x.key) e))
+in_heads ds (k ∷ ks) head (inl e) = (k, inl refl, e)
 in_heads ds (k ∷ ks) head (inr i) = let r = in_heads ds ks head i in (r.0, inr r.1, r.2)
 
 -- the heads that a dated history brings are those that its entries bring
@@ -263,7 +263,7 @@ chain_within w h r c region head =
     let l = lawful_past_in w h r c in
     let a = line_within (w.histories r c) l x.0 (subst (λ (e : List Entry). In x.0 (line e)) (entries_dated r (w.histories r c)) x.1) in
     let b = clock_within (w.histories r c) l in
-    let same : head.key.stamp ≡ x.0.stamp = ap (λ (k : Key). k.stamp) x.2 in
+    let same : x.0.stamp ≡ head.key.stamp = ap (λ (y : Head). y.key.stamp) x.2 in
     omega (arith, a, b, same))
     (λ _ i. h.heads r c region head (subst (λ (l : List Head). In head l) (dated_heads region ds ∙ ap (heads_of region) (entries_dated r (w.histories r c))) i))
 

@@ -46,7 +46,7 @@ pub status-last : (history : List Entry) (e : Entry) (id : Id) → status_in (hi
 status-last history e id = ap (status id) (reverse-push e history)
 
 -- an element of a list with one more, and what stands before it
-push_cases : {A : Type 0} (xs : List A) (d : A) (n : ℕ) (e : A) → slice_get (xs ++ d ∷ []) n ≡ Some e → ((slice_get xs n ≡ Some e) × (take n (xs ++ d ∷ []) ≡ take n xs)) ⊎ ((d ≡ e) × (take n (xs ++ d ∷ []) ≡ xs))
+pub push_cases : {A : Type 0} (xs : List A) (d : A) (n : ℕ) (e : A) → slice_get (xs ++ d ∷ []) n ≡ Some e → ((slice_get xs n ≡ Some e) × (take n (xs ++ d ∷ []) ≡ take n xs)) ⊎ ((d ≡ e) × (take n (xs ++ d ∷ []) ≡ xs))
 push_cases [] d zero e h = inr (let x : d ≡ e = cc in x, refl)
 push_cases [] d (suc n) e h = absurd (let x : ⊥ = cc in x)
 push_cases (x ∷ xs) d zero e h = inl (h, refl)

@@ -12,3 +12,4 @@ mod Completion
 mod Growing
 mod Told
 mod LawfulRows
+mod Wanted

@@ -1,5 +1,5 @@
 //! The laws of every world that steps have made. Each function does nothing, and its contract is the law.
-ghost use Rattle.core_laws.specs.Laws.{Always, SettlesOnce, OneFinalStamp, EachLineRises, OrderedAlike, FencedIsNowhere, NoneGetsBefore, CanComplete, EachLineGrows, LogGrows, RowsStay, HaveLawfulHistories, HaveLawfulRows, IsBounded};
+ghost use Rattle.core_laws.specs.Laws.{Always, SettlesOnce, OneFinalStamp, EachLineRises, OrderedAlike, FencedIsNowhere, NoneGetsBefore, CanComplete, EachLineGrows, LogGrows, RowsStay, HaveLawfulHistories, HaveLawfulRows, IsBounded, StaysWithinCuts};
 
 /// All settlings of an id, in all columns, have one outcome, and an id is final under one stamp.
 pub fn one_outcome()
@@ -41,4 +41,9 @@ pub fn is_lawful()
     ensures histories { Always HaveLawfulHistories }
     ensures rows { Always HaveLawfulRows }
     ensures bounds { Always IsBounded }
+{}
+
+/// What clients have played and what nodes want is within the cuts, and so is each own line.
+pub fn stays_within_cuts()
+    ensures { Always StaysWithinCuts }
 {}
