@@ -13,3 +13,4 @@ mod Growing
 mod Told
 mod LawfulRows
 mod Wanted
+mod Listed

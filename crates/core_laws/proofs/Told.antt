@@ -190,7 +190,7 @@ one_more_event w w' region colour e new r c d =
       turn er ec (inl i) = inl (subst (λ (x : ℕ). In d (w.histories x c)) (sym er) (subst (λ (x : ℕ). In d (w.histories region x)) (sym ec) i))
       turn er ec (inr is) = inr (subst (λ (x : ℕ). FitsEvent w' x c d.event d.stamp) (sym er) (subst (λ (x : ℕ). FitsEvent w' region x d.event d.stamp) (sym ec) (subst (λ (x : Entry). FitsEvent w' region colour x.event x.stamp) is new)))
 
-slice_last : (history : List Entry) (e : Entry) → slice_get (history ++ e ∷ []) (length history) ≡ Some e
+pub slice_last : {A : Type 0} (xs : List A) (x : A) → slice_get (xs ++ x ∷ []) (length xs) ≡ Some x
 slice_last [] e = refl
 slice_last (d ∷ ds) e = slice_last ds e
 

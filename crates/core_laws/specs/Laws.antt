@@ -1,11 +1,12 @@
 -- The laws of every world that steps have made, whoever took them and in whatever order.
-use Rattle.std.specs.Prelude.{◌≡◌, ◌≢◌, IsTrue, true, false, ℕ, ◌+◌, ◌*◌, ◌<◌, ◌≤◌, ◌==◌, Bool, List, [], Some, slice_get, map, take, length, if◌then◌else◌}
+use Rattle.std.specs.Prelude.{◌≡◌, ◌≢◌, IsTrue, true, false, ℕ, ◌+◌, ◌*◌, ◌^◌, ◌<◌, ◌≤◌, ◌==◌, Bool, List, [], ◌∷◌, Some, None, slice_get, map, take, length, if◌then◌else◌}
 use Rattle.std.specs.List.{Contains, flat_map, range_with_len}
 use mathlib.Core.List.{IsPrefix}
 use Rattle.log_node.specs.declared.ids.Id.{Id}
 use Rattle.log_node.specs.declared.ids.Key.{Key}
 use Rattle.log_node.specs.declared.ids.Row.{Row}
 use Rattle.log_node.specs.declared.ids.Counts.{Counts}
+use Rattle.log_node.specs.declared.node.Node.{Node}
 use Rattle.log_node.specs.declared.node.Shape.{Shape}
 use Rattle.log_node.specs.Order.{key_below}
 use Rattle.log_node.specs.Vectors.{at, zeros, IsWithin}
@@ -174,6 +175,30 @@ pub record IsBounded (w : World) : Type 0 where
   pub floors : (client : ℕ) → (w.clients client).floor ≤ last_stamp
   pub counts : (client : ℕ) → (w.clients client).count ≤ (w.clients client).floor + (w.clients client).used
   pub used : (client : ℕ) → (w.clients client).used ≤ w.shape.rows
+
+-- Nodes
+
+-- the node of a single that stands in the history of a column: its client made the entry, and it has what that says
+pub record HasSingleNode (w : World) (region colour by : ℕ) (id : Id) (floor : ℕ) (wants : Counts) : Type 0 where
+  pub node : Node
+  pub listed : slice_get (w.nodes id.client) id.count ≡ Some node
+  pub maker : by ≡ id.client
+  pub in_region : node.region ≡ region
+  pub of_colour : node.colours ≡ record { 0 = 2 ^ colour }
+  pub floor_is : node.floor ≡ floor
+  pub wants_is : node.wants ≡ wants ∷ []
+  pub no_row : node.row ≡ None
+
+-- each client's nodes are listed in the order of their ids, and rows and singles are of nodes that are listed
+pub record HasNodes (w : World) : Type 0 where
+  pub ids : (client n : ℕ) (node : Node) → slice_get (w.nodes client) n ≡ Some node
+      → node.id ≡ record { client = client; count = n }
+  pub counts : (client : ℕ) → length (w.nodes client) ≡ (w.clients client).count
+  pub rows : (row : Row) → IsTrue (is_begun w row)
+      → slice_get (w.nodes row.client) (row_of w row).node.id.count ≡ Some (row_of w row).node
+  pub singles : (region colour : ℕ) (e : Entry) (id : Id) (floor : ℕ) (wants : Counts)
+      → Contains (w.histories region colour) e → e.event ≡ events.Single id floor wants
+      → HasSingleNode w region colour e.by id floor wants
 
 -- Cuts
 
