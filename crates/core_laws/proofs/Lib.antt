@@ -1,11 +1,10 @@
-pub mod SmallRuns
-mod Basics
-mod Held
+pub mod Basics
+pub mod Held
 mod Marks
-mod Keeps
+pub mod Keeps
 mod Clients
 mod OfRows
-mod Runs
+pub mod Runs
 mod Agreement
 mod Later
 mod Completion
@@ -14,3 +13,6 @@ mod Told
 mod LawfulRows
 mod Wanted
 mod Listed
+mod Untrimmed
+pub mod CallerLemmas
+mod SmallRuns

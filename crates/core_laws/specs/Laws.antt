@@ -25,12 +25,18 @@ use Rattle.col_core.specs.Legal.{IsColumnHistory}
 use Rattle.col_core.specs.Rows.{BegunRow, AreLawfulRows, node_wants}
 use Rattle.col_core.specs.Log.{Log, IsLater}
 use Rattle.core_laws.specs.declared.steps.Step.{Step}
-use Rattle.core_laws.specs.Worlds.{World, RowState, opened, run_steps, home_of, home_history, is_begun, row_of, row_history, cut_after}
+use Rattle.core_laws.specs.Worlds.{World, RowState, opened, run_steps, home_of, home_history, is_begun, row_of, row_history, cut_after, base_after}
 use Rattle.core_laws.specs.Completing.{colours_of, complete_steps}
 
 -- the law holds of every world that steps have made
 abbrev pub Always : (World → Type 0) → Type 0
 Always Law = (shape : Shape) (steps : List Step) → Law (run_steps (opened shape) steps)
+
+-- steps have made this world
+pub record IsReached (w : World) : Type 0 where
+  pub shape : Shape
+  pub steps : List Step
+  pub is : run_steps (opened shape) steps ≡ w
 
 -- Outcomes and lines
 
@@ -226,3 +232,8 @@ pub record StaysWithinCuts (w : World) : Type 0 where
   -- each own line lies wholly within the cut
   pub own_line : (region colour : ℕ) → region < 4
       → at (cut_after region (w.histories region colour)) region ≡ length (line (w.histories region colour))
+
+-- no step trims, so every base is zero, and no play is refused for it
+abbrev pub NothingIsTrimmed : World → Type 0
+NothingIsTrimmed w =
+    (region colour : ℕ) → base_after w.shape.regions region (w.histories region colour) ≡ zeros
