@@ -249,8 +249,11 @@ keeps_settle w h by row colour ok =
           (subst (λ (x : ℕ). Agrees (column_mark home r0 x c) r0.last (Settled r0.last)) (sym er) (subst (λ (x : ℕ). Agrees (column_mark home r0 home x) r0.last (Settled r0.last)) (sym ec) at.1)))
           (λ f. old r c)));
       rows = h.rows;
-      lawful = lawful_last w h home colour e (refl, subst (λ (x : List Entry). IsSomeAnd (open_entry id0 (entries x)) (Legal.IsSettling r0.last)) (sym (entries_dated home history))
-          (may_settle_open history id0 r0.last g.stamp (lawful_past_in w h home colour) g.waits (settles_within w h row colour g.stamp r0.last g.begun refl g.decided (sym (mark-at_home home r0 colour) ∙ at.0))));
+      lawful = lawful_last w h home colour e (
+        refl,
+        subst (λ (x : List Entry). IsSomeAnd (open_entry id0 (entries x)) (Legal.IsSettling r0.last)) (sym (entries_dated home history))
+            (may_settle_open history id0 r0.last g.stamp (lawful_past_in w h home colour) g.waits (settles_within w h row colour g.stamp r0.last g.begun refl g.decided (sym (mark-at_home home r0 colour) ∙ at.0))),
+      );
       heads = heads_last w h home colour e (λ other. refl);
       floors = h.floors;
     }

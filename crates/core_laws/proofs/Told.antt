@@ -230,13 +230,16 @@ tells_begin w h t client colours text ok =
     let count = t.counts client in
     told_next w w' (keeps_begin w h client colours text) t (grows_begin w client colours text) (λ r c e i. inl i)
     (λ a n lt. at_updated_at (λ (x : RowState). ((n < (w.clients a).used) × (x ≡ w.rows a n)) ⊎ (RowTold w' a n x × (a < length w.shape.homes))) w.rows client (w.clients client).used (record { node = begun_node w client colours text; marks = λ _. marks.None; last = Open }) a n
-    (λ ea en. inr (record {
-      numbers = λ c k e. absurd (let x : ⊥ = cc in x);
-      at_end = λ c e. absurd (let x : ⊥ = cc in x);
-      row = ap (λ (x : ℕ). Some (row_at x (w.clients client).used)) (sym ea) ∙ ap (λ (x : ℕ). Some (row_at a x)) (sym en);
-      region = ap (λ (x : ℕ). home_of w x) (sym ea);
-      several = ltb-true 1 (length (members colours)) s.0;
-    }, subst (λ (x : ℕ). x < length w.shape.homes) (sym ea) (ltb-true client (length w.shape.homes) p.0)))
+    (λ ea en. inr (
+      record {
+        numbers = λ c k e. absurd (let x : ⊥ = cc in x);
+        at_end = λ c e. absurd (let x : ⊥ = cc in x);
+        row = ap (λ (x : ℕ). Some (row_at x (w.clients client).used)) (sym ea) ∙ ap (λ (x : ℕ). Some (row_at a x)) (sym en);
+        region = ap (λ (x : ℕ). home_of w x) (sym ea);
+        several = ltb-true 1 (length (members colours)) s.0;
+      },
+      subst (λ (x : ℕ). x < length w.shape.homes) (sym ea) (ltb-true client (length w.shape.homes) p.0),
+    ))
     (λ other. inl (used_before w client a n lt other, refl)))
     (client_changes w t client (begun_client w client) (omega (arith, count)) (omega (arith, free))) where
       row_at : ℕ → ℕ → Row
@@ -257,8 +260,8 @@ tells_propose w h t by row colour ok =
     let new : RowState = record (row_of w row) { marks = updated (row_of w row).marks colour m } in
     let here : w'.rows row.client row.number ≡ new = updated_at-here w.rows row.client row.number new in
     let own : Proposes (row_history w' row colour) (row_of w row).node.id stamp =
-      subst (λ (x : List Entry). Proposes x (row_of w row).node.id stamp) (sym (updated_at-here w.histories home colour (w.histories home colour ++ e ∷ [])))
-        (length (w.histories home colour), e, (row_of w row).node.floor, node_wants (row_of w row).node colour, slice_last (w.histories home colour) e, refl, refl) in
+    subst (λ (x : List Entry). Proposes x (row_of w row).node.id stamp) (sym (updated_at-here w.histories home colour (w.histories home colour ++ e ∷ [])))
+    (length (w.histories home colour), e, (row_of w row).node.floor, node_wants (row_of w row).node colour, slice_last (w.histories home colour) e, refl, refl) in
     let client : (row_of w row).node.id.client ≡ row.client = s.of_client in
     told_next w w' h' t g
     (one_more_event w w' home colour e (record {
