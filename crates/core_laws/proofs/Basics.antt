@@ -11,26 +11,32 @@ use Rattle.col_core.proofs.Members.{In}
 use Rattle.col_core.proofs.LawfulPasts.{reverse-cons}
 
 -- a fact of a changed function at any place
-pub at_updated : {A : Type 0} (P : A → Type 0) (f : ℕ → A) (n : ℕ) (x : A) (m : ℕ) → (m ≡ n → P x) → ((m == n) ≡ false → P (f m)) → P (updated f n x m)
+pub at_updated : {A : Type 0} (P : A → Type 0) (f : ℕ → A) (n : ℕ) (x : A) (m : ℕ) → (m ≡ n → P x)
+    → ((m == n) ≡ false → P (f m)) → P (updated f n x m)
 at_updated P f n x m here there = choice P (m == n) x (f m) (λ t. here (eqb-true m n t)) there
 
 pub updated-here : {A : Type 0} (f : ℕ → A) (n : ℕ) (x : A) → updated f n x n ≡ x
 updated-here f n x = if_true (n == n) x (f n) (eq-eqb n n refl)
 
-pub at_updated_at : {A : Type 0} (P : A → Type 0) (f : ℕ → ℕ → A) (a n : ℕ) (x : A) (b m : ℕ) → (b ≡ a → m ≡ n → P x) → (((b == a) && (m == n)) ≡ false → P (f b m)) → P (updated_at f a n x b m)
+pub at_updated_at : {A : Type 0} (P : A → Type 0) (f : ℕ → ℕ → A) (a n : ℕ) (x : A) (b m : ℕ) → (b ≡ a → m ≡ n → P x)
+    → (((b == a) && (m == n)) ≡ false → P (f b m)) → P (updated_at f a n x b m)
 at_updated_at {A} P f a n x b m here there =
     choice (λ (g : ℕ → A). P (g m)) (b == a) (updated (f a) n x) (f b)
     (λ t. let e = eqb-true b a t in
-    choice P (m == n) x (f a m) (λ s. here e (eqb-true m n s)) (λ s. subst (λ k. P (f k m)) e (there (ap (λ y. y && (m == n)) t ∙ s))))
+    choice P (m == n) x (f a m) (λ s. here e (eqb-true m n s))
+    (λ s. subst (λ k. P (f k m)) e (there (ap (λ y. y && (m == n)) t ∙ s))))
     (λ t. there (ap (λ y. y && (m == n)) t))
 
 pub updated_at-here : {A : Type 0} (f : ℕ → ℕ → A) (a n : ℕ) (x : A) → updated_at f a n x a n ≡ x
-updated_at-here f a n x = at_updated_at (λ y. y ≡ x) f a n x a n (λ _ _. refl) (λ other. absurd (apart ((a == a) && (n == n)) (both_same a n) other)) where
-  both_same : (a n : ℕ) → ((a == a) && (n == n)) ≡ true
-  both_same a n = rw (eq-eqb a a refl, eq-eqb n n refl) refl
+updated_at-here f a n x =
+    at_updated_at (λ y. y ≡ x) f a n x a n (λ _ _. refl)
+    (λ other. absurd (apart ((a == a) && (n == n)) (both_same a n) other)) where
+      both_same : (a n : ℕ) → ((a == a) && (n == n)) ≡ true
+      both_same a n = rw (eq-eqb a a refl, eq-eqb n n refl) refl
 
 -- at another place it is as before
-pub updated_at-not : {A : Type 0} (f : ℕ → ℕ → A) (a n : ℕ) (x : A) (b m : ℕ) → (b ≡ a → m ≡ n → ⊥) → updated_at f a n x b m ≡ f b m
+pub updated_at-not : {A : Type 0} (f : ℕ → ℕ → A) (a n : ℕ) (x : A) (b m : ℕ) → (b ≡ a → m ≡ n → ⊥)
+    → updated_at f a n x b m ≡ f b m
 updated_at-not f a n x b m ne = at_updated_at (λ y. y ≡ f b m) f a n x b m (λ e g. absurd (ne e g)) (λ _. refl)
 
 -- two places are one, or not
@@ -93,7 +99,8 @@ in_last {A} x xs y i = turn (in_append x xs (y ∷ []) i) where
 
 pub in_reverse : {A : Type 0} (x : A) (xs : List A) → In x xs → In x (reverse xs)
 in_reverse x [] i = absurd i
-in_reverse {A} x (y ∷ xs) i = subst (λ (l : List A). In x l) (sym (reverse-cons y xs)) (turn i (λ j. in_reverse x xs j)) where
-  turn : (y ≡ x) ⊎ In x xs → (In x xs → In x (reverse xs)) → In x (reverse xs ++ y ∷ [])
-  turn (inl e) rest = in_right x (reverse xs) (y ∷ []) (inl e)
-  turn (inr j) rest = in_left x (reverse xs) (y ∷ []) (rest j)
+in_reverse {A} x (y ∷ xs) i =
+    subst (λ (l : List A). In x l) (sym (reverse-cons y xs)) (turn i (λ j. in_reverse x xs j)) where
+      turn : (y ≡ x) ⊎ In x xs → (In x xs → In x (reverse xs)) → In x (reverse xs ++ y ∷ [])
+      turn (inl e) rest = in_right x (reverse xs) (y ∷ []) (inl e)
+      turn (inr j) rest = in_left x (reverse xs) (y ∷ []) (rest j)

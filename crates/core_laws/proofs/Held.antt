@@ -45,7 +45,8 @@ single_status region colour stamp r c = if (r == region) && (c == colour) then A
 pub record FitsRow (w : World) (id : Id) (number r c : ℕ) (st : Status) : Type 0 where
   pub begun : number < (w.clients id.client).used
   pub is : (w.rows id.client number).node.id ≡ id
-  pub agrees : Agrees (column_mark (home_of w id.client) (w.rows id.client number) r c) (w.rows id.client number).last st
+  pub agrees : Agrees (column_mark (home_of w id.client) (w.rows id.client number) r c)
+      (w.rows id.client number).last st
 
 -- a column's status of an id is as its kind has it
 abbrev pub Fits : World → Id → Kind → ℕ → ℕ → Status → Type 0

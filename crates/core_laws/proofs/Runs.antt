@@ -21,15 +21,24 @@ opened_held shape = record {
 }
 
 pub after_held : (w : World) → Held w → (s : Step) → Held (after w s)
-after_held w h (steps.Begin client colours text) = choice Held (may_begin w client colours) _ w (λ ok. keeps_begin w h client colours text) (λ other. h)
-after_held w h (steps.Propose by row colour) = choice Held (may_propose w row colour) _ w (λ ok. keeps_propose w h by row colour ok) (λ other. h)
-after_held w h (steps.Fence row colour why) = choice Held (may_fence w row colour why) _ w (λ ok. keeps_fence w h row colour why (may_fence_marks w row colour why ok)) (λ other. h)
+after_held w h (steps.Begin client colours text) =
+    choice Held (may_begin w client colours) _ w (λ ok. keeps_begin w h client colours text) (λ other. h)
+after_held w h (steps.Propose by row colour) =
+    choice Held (may_propose w row colour) _ w (λ ok. keeps_propose w h by row colour ok) (λ other. h)
+after_held w h (steps.Fence row colour why) =
+    choice Held (may_fence w row colour why) _ w
+    (λ ok. keeps_fence w h row colour why (may_fence_marks w row colour why ok)) (λ other. h)
 after_held w h (steps.Decide row) = choice Held (may_decide w row) _ w (λ ok. keeps_decide w h row ok) (λ other. h)
-after_held w h (steps.Settle by row colour) = choice Held (may_settle w row colour) _ w (λ ok. keeps_settle w h by row colour ok) (λ other. h)
-after_held w h (steps.Single client colour text) = choice Held (may_single w client colour) _ w (λ ok. keeps_single w h client colour text ok) (λ other. h)
-after_held w h (steps.Raise by region colour to) = choice Held (may_raise w region colour to) _ w (λ ok. keeps_raise w h by region colour to ok) (λ other. h)
-after_held w h (steps.Play client colour) = choice Held (may_play w client colour) _ w (λ ok. keeps_play w h client colour) (λ other. h)
-after_held w h (steps.Seen client to) = choice Held (may_see w client to) _ w (λ ok. keeps_seen w h client to ok) (λ other. h)
+after_held w h (steps.Settle by row colour) =
+    choice Held (may_settle w row colour) _ w (λ ok. keeps_settle w h by row colour ok) (λ other. h)
+after_held w h (steps.Single client colour text) =
+    choice Held (may_single w client colour) _ w (λ ok. keeps_single w h client colour text ok) (λ other. h)
+after_held w h (steps.Raise by region colour to) =
+    choice Held (may_raise w region colour to) _ w (λ ok. keeps_raise w h by region colour to ok) (λ other. h)
+after_held w h (steps.Play client colour) =
+    choice Held (may_play w client colour) _ w (λ ok. keeps_play w h client colour) (λ other. h)
+after_held w h (steps.Seen client to) =
+    choice Held (may_see w client to) _ w (λ ok. keeps_seen w h client to ok) (λ other. h)
 
 pub run_held : (w : World) → Held w → (steps : List Step) → Held (run_steps w steps)
 run_held w h [] = h

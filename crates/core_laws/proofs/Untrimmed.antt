@@ -31,23 +31,34 @@ NoTrim (events.Trim _) = ⊥
 Untrimmed : World → Type 0
 Untrimmed w = (r c : ℕ) (e : Entry) → In e (w.histories r c) → NoTrim e.event
 
-last_untrimmed : (w : World) → Untrimmed w → (region colour : ℕ) (e : Entry) → NoTrim e.event → (r c : ℕ) (d : Entry) → In d ((with_last w region colour e).histories r c) → NoTrim d.event
+last_untrimmed : (w : World) → Untrimmed w → (region colour : ℕ) (e : Entry) → NoTrim e.event → (r c : ℕ) (d : Entry)
+    → In d ((with_last w region colour e).histories r c) → NoTrim d.event
 unfolding Untrimmed
 last_untrimmed w u region colour e new r c d =
-    at_last (λ (x : List Entry). In d x → NoTrim d.event) w region colour e r c (λ er ec i. turn (in_last d (w.histories region colour) e i)) (λ _ i. u r c d i) where
+    at_last (λ (x : List Entry). In d x → NoTrim d.event) w region colour e r c
+    (λ er ec i. turn (in_last d (w.histories region colour) e i)) (λ _ i. u r c d i) where
       turn : In d (w.histories region colour) ⊎ (e ≡ d) → NoTrim d.event
       turn (inl i) = u region colour d i
       turn (inr is) = subst (λ (x : Entry). NoTrim x.event) is new
 
 after_untrimmed : (w : World) → Untrimmed w → (s : Step) → Untrimmed (after w s)
 unfolding Untrimmed NoTrim
-after_untrimmed w u (steps.Begin client colours text) = choice Untrimmed (may_begin w client colours) _ w (λ _. u) (λ _. u)
-after_untrimmed w u (steps.Propose by row colour) = choice Untrimmed (may_propose w row colour) _ w (λ _. last_untrimmed w u (home_of w row.client) colour (proposed_entry w by row colour) tt) (λ _. u)
+after_untrimmed w u (steps.Begin client colours text) =
+    choice Untrimmed (may_begin w client colours) _ w (λ _. u) (λ _. u)
+after_untrimmed w u (steps.Propose by row colour) =
+    choice Untrimmed (may_propose w row colour) _ w
+    (λ _. last_untrimmed w u (home_of w row.client) colour (proposed_entry w by row colour) tt) (λ _. u)
 after_untrimmed w u (steps.Fence row colour why) = choice Untrimmed (may_fence w row colour why) _ w (λ _. u) (λ _. u)
 after_untrimmed w u (steps.Decide row) = choice Untrimmed (may_decide w row) _ w (λ _. u) (λ _. u)
-after_untrimmed w u (steps.Settle by row colour) = choice Untrimmed (may_settle w row colour) _ w (λ _. last_untrimmed w u (home_of w row.client) colour (settled_entry w by row) tt) (λ _. u)
-after_untrimmed w u (steps.Single client colour text) = choice Untrimmed (may_single w client colour) _ w (λ _. last_untrimmed w u (home_of w client) colour (single_entry w client colour) tt) (λ _. u)
-after_untrimmed w u (steps.Raise by region colour to) = choice Untrimmed (may_raise w region colour to) _ w (λ _. last_untrimmed w u region colour (raise_entry by to) tt) (λ _. u)
+after_untrimmed w u (steps.Settle by row colour) =
+    choice Untrimmed (may_settle w row colour) _ w
+    (λ _. last_untrimmed w u (home_of w row.client) colour (settled_entry w by row) tt) (λ _. u)
+after_untrimmed w u (steps.Single client colour text) =
+    choice Untrimmed (may_single w client colour) _ w
+    (λ _. last_untrimmed w u (home_of w client) colour (single_entry w client colour) tt) (λ _. u)
+after_untrimmed w u (steps.Raise by region colour to) =
+    choice Untrimmed (may_raise w region colour to) _ w (λ _. last_untrimmed w u region colour (raise_entry by to) tt)
+    (λ _. u)
 after_untrimmed w u (steps.Play client colour) = choice Untrimmed (may_play w client colour) _ w (λ _. u) (λ _. u)
 after_untrimmed w u (steps.Seen client to) = choice Untrimmed (may_see w client to) _ w (λ _. u) (λ _. u)
 
@@ -55,7 +66,8 @@ run_untrimmed : (w : World) → Untrimmed w → (steps : List Step) → Untrimme
 run_untrimmed w u [] = u
 run_untrimmed w u (s ∷ steps) = run_untrimmed (after w s) (after_untrimmed w u s) steps
 
-trimmed_zero : (own regions : ℕ) (before : List Dated) (ev : Event) (cut : Counts) (region : ℕ) → NoTrim ev → trimmed_to own regions before ev cut region ≡ 0
+trimmed_zero : (own regions : ℕ) (before : List Dated) (ev : Event) (cut : Counts) (region : ℕ) → NoTrim ev
+    → trimmed_to own regions before ev cut region ≡ 0
 unfolding NoTrim
 trimmed_zero own regions before (events.Single _ _ _) cut region h = refl
 trimmed_zero own regions before (events.Propose _ _ _) cut region h = refl
@@ -65,7 +77,8 @@ trimmed_zero own regions before (events.Give _ _) cut region h = refl
 trimmed_zero own regions before (events.Carry _ _ _) cut region h = refl
 trimmed_zero own regions before (events.Trim _) cut region h = absurd h
 
-base_zero : (own regions region : ℕ) (before ds : List Dated) → ((e : Entry) → In e (entries_of ds) → NoTrim e.event) → base_from own regions region before ds ≡ 0
+base_zero : (own regions region : ℕ) (before ds : List Dated) → ((e : Entry) → In e (entries_of ds) → NoTrim e.event)
+    → base_from own regions region before ds ≡ 0
 base_zero own regions region before [] h = refl
 base_zero own regions region before (d ∷ ds) h =
     let a = trimmed_zero own regions before d.entry.event d.cut_before region (h d.entry (inl refl)) in

@@ -43,7 +43,8 @@ use Rattle.core_laws.proofs.Growing.{Grows, played_client, grows_begin, grows_ma
 use Rattle.core_laws.proofs.Runs.{after_held, opened_held}
 
 within-trans : (u v w : Counts) → IsWithin u v → IsWithin v w → IsWithin u w
-within-trans u v w a b = within u w (λ r lt. let x = within-at u v a r lt in let y = within-at v w b r lt in omega (arith, x, y))
+within-trans u v w a b =
+    within u w (λ r lt. let x = within-at u v a r lt in let y = within-at v w b r lt in omega (arith, x, y))
 
 within-zeros : (v : Counts) → IsWithin zeros v
 within-zeros v = within zeros v (λ r lt. zero_at r lt) where
@@ -68,19 +69,25 @@ least-within u v = within (least u v) v (λ r lt. least_at r lt) where
 
 -- Cuts grow
 
-dates_longer : (own : ℕ) (history more : List Entry) → dated own (history ++ more) ≡ dated own history ++ later own (dated own history) more
+dates_longer : (own : ℕ) (history more : List Entry)
+    → dated own (history ++ more) ≡ dated own history ++ later own (dated own history) more
 dates_longer own history more = fold-append (with_date own) [] history more ∙ fold-later own (dated own history) more
 
-cut_longer : (own regions : ℕ) (history longer : List Entry) → IsPrefix history longer → IsColumnHistory own regions (dated own longer) → IsWithin (cut_after own history) (cut_after own longer)
+cut_longer : (own regions : ℕ) (history longer : List Entry) → IsPrefix history longer
+    → IsColumnHistory own regions (dated own longer) → IsWithin (cut_after own history) (cut_after own longer)
 cut_longer own regions history longer p lawful =
-    let e : dated own longer ≡ dated own history ++ later own (dated own history) p.0 = ap (dated own) (sym p.1) ∙ dates_longer own history p.0 in
+    let e : dated own longer ≡ dated own history ++ later own (dated own history) p.0 = ap (dated own) (sym p.1)
+    ∙ dates_longer own history p.0 in
     subst (λ (ds : List Dated). IsWithin (cut own (dated own history)) (cut own ds)) (sym e)
-    (cut_grows own regions (dated own history) (later own (dated own history) p.0) (subst (IsColumnHistory own regions) e lawful))
+    (cut_grows own regions (dated own history) (later own (dated own history) p.0)
+    (subst (IsColumnHistory own regions) e lawful))
 
 pub record Wanted (w : World) : Type 0 where
   pub played : (a c : ℕ) → IsWithin ((w.clients a).played c) (cut_after (home_of w a) (home_history w a c))
-  pub nodes : (a n c : ℕ) → n < (w.clients a).used → IsWithin (node_wants (w.rows a n).node c) (cut_after (home_of w a) (home_history w a c))
-  pub events : (r c n : ℕ) (d : Dated) → slice_get (dated r (w.histories r c)) n ≡ Some d → IsWithin (wants_in d.entry.event) d.cut_before
+  pub nodes : (a n c : ℕ) → n < (w.clients a).used
+      → IsWithin (node_wants (w.rows a n).node c) (cut_after (home_of w a) (home_history w a c))
+  pub events : (r c n : ℕ) (d : Dated) → slice_get (dated r (w.histories r c)) n ≡ Some d
+      → IsWithin (wants_in d.entry.event) d.cut_before
 
 -- A step
 
@@ -91,101 +98,189 @@ EventsFit w w' = (r c n : ℕ) (d : Dated) → slice_get (dated r (w'.histories 
 
 -- what a client has played it had played, or it is within the cut
 abbrev PlaysFit : World → World → Type 0
-PlaysFit w w' = (a c : ℕ) → ((w'.clients a).played c ≡ (w.clients a).played c) ⊎ IsWithin ((w'.clients a).played c) (cut_after (home_of w a) (home_history w a c))
+PlaysFit w w' =
+    (a c : ℕ) → ((w'.clients a).played c ≡ (w.clients a).played c) ⊎ IsWithin ((w'.clients a).played c)
+    (cut_after (home_of w a) (home_history w a c))
 
 -- a row was begun, or what its node wants is within the cut
 abbrev RowsFit : World → World → Type 0
-RowsFit w w' = (a n : ℕ) → n < (w'.clients a).used → (n < (w.clients a).used) ⊎ ((c : ℕ) → IsWithin (node_wants (w'.rows a n).node c) (cut_after (home_of w a) (home_history w a c)))
+RowsFit w w' =
+    (a n : ℕ) → n < (w'.clients a).used → (n < (w.clients a).used)
+    ⊎ ((c : ℕ) → IsWithin (node_wants (w'.rows a n).node c) (cut_after (home_of w a) (home_history w a c)))
 
-wanted_next : (w w' : World) → Held w' → Wanted w → Grows w w' → EventsFit w w' → PlaysFit w w' → RowsFit w w' → Wanted w'
+wanted_next : (w w' : World) → Held w' → Wanted w → Grows w w' → EventsFit w w' → PlaysFit w w' → RowsFit w w'
+    → Wanted w'
 wanted_next w w' h' o g events plays news = record {
   played = λ a c. home a c ((w'.clients a).played c) (play a c (plays a c));
   nodes = λ a n c lt. home a c (node_wants (w'.rows a n).node c) (older a n c (news a n lt));
   events = λ r c n d e. event r c n d (events r c n d e);
 } where
-  home : (a c : ℕ) (v : Counts) → IsWithin v (cut_after (home_of w a) (home_history w a c)) → IsWithin v (cut_after (home_of w' a) (home_history w' a c))
-  home a c v x = subst (λ (s : Shape). IsWithin v (cut_after (slice_index s.homes a) (w'.histories (slice_index s.homes a) c))) (sym g.shape)
-      (within-trans v (cut_after (home_of w a) (home_history w a c)) (cut_after (home_of w a) (w'.histories (home_of w a) c)) x
-      (cut_longer (home_of w a) w'.shape.regions (home_history w a c) (w'.histories (home_of w a) c) (g.histories (home_of w a) c) (h'.lawful (home_of w a) c)))
+  home : (a c : ℕ) (v : Counts) → IsWithin v (cut_after (home_of w a) (home_history w a c))
+      → IsWithin v (cut_after (home_of w' a) (home_history w' a c))
+  home a c v x =
+      subst (λ (s : Shape). IsWithin v (cut_after (slice_index s.homes a) (w'.histories (slice_index s.homes a) c)))
+      (sym g.shape)
+      (within-trans v (cut_after (home_of w a) (home_history w a c))
+      (cut_after (home_of w a) (w'.histories (home_of w a) c)) x
+      (cut_longer (home_of w a) w'.shape.regions (home_history w a c) (w'.histories (home_of w a) c)
+      (g.histories (home_of w a) c) (h'.lawful (home_of w a) c)))
 
-  play : (a c : ℕ) → ((w'.clients a).played c ≡ (w.clients a).played c) ⊎ IsWithin ((w'.clients a).played c) (cut_after (home_of w a) (home_history w a c)) → IsWithin ((w'.clients a).played c) (cut_after (home_of w a) (home_history w a c))
-  play a c (inl e) = subst (λ (v : Counts). IsWithin v (cut_after (home_of w a) (home_history w a c))) (sym e) (o.played a c)
+  play : (a c : ℕ)
+      → ((w'.clients a).played c ≡ (w.clients a).played c) ⊎ IsWithin ((w'.clients a).played c)
+      (cut_after (home_of w a) (home_history w a c)) → IsWithin ((w'.clients a).played c)
+      (cut_after (home_of w a) (home_history w a c))
+  play a c (inl e) =
+      subst (λ (v : Counts). IsWithin v (cut_after (home_of w a) (home_history w a c))) (sym e) (o.played a c)
   play a c (inr x) = x
 
-  older : (a n c : ℕ) → (n < (w.clients a).used) ⊎ ((d : ℕ) → IsWithin (node_wants (w'.rows a n).node d) (cut_after (home_of w a) (home_history w a d))) → IsWithin (node_wants (w'.rows a n).node c) (cut_after (home_of w a) (home_history w a c))
-  older a n c (inl lt) = subst (λ (x : Node). IsWithin (node_wants x c) (cut_after (home_of w a) (home_history w a c))) (sym (g.rows a n lt).node) (o.nodes a n c lt)
+  older : (a n c : ℕ)
+      → (n < (w.clients a).used) ⊎ ((d : ℕ)
+      → IsWithin (node_wants (w'.rows a n).node d) (cut_after (home_of w a) (home_history w a d)))
+      → IsWithin (node_wants (w'.rows a n).node c) (cut_after (home_of w a) (home_history w a c))
+  older a n c (inl lt) =
+      subst (λ (x : Node). IsWithin (node_wants x c) (cut_after (home_of w a) (home_history w a c)))
+      (sym (g.rows a n lt).node) (o.nodes a n c lt)
   older a n c (inr x) = x c
 
-  event : (r c n : ℕ) (d : Dated) → (slice_get (dated r (w.histories r c)) n ≡ Some d) ⊎ IsWithin (wants_in d.entry.event) d.cut_before → IsWithin (wants_in d.entry.event) d.cut_before
+  event : (r c n : ℕ) (d : Dated)
+      → (slice_get (dated r (w.histories r c)) n ≡ Some d) ⊎ IsWithin (wants_in d.entry.event) d.cut_before
+      → IsWithin (wants_in d.entry.event) d.cut_before
   event r c n d (inl e) = o.events r c n d e
   event r c n d (inr x) = x
 
-one_more_date : (w : World) (region colour : ℕ) (e : Entry) → IsWithin (wants_in e.event) (cut_after region (w.histories region colour)) → EventsFit w (with_last w region colour e)
+one_more_date : (w : World) (region colour : ℕ) (e : Entry)
+    → IsWithin (wants_in e.event) (cut_after region (w.histories region colour))
+    → EventsFit w (with_last w region colour e)
 one_more_date w region colour e fits r c n d =
-    at_last (λ (x : List Entry). slice_get (dated r x) n ≡ Some d → (slice_get (dated r (w.histories r c)) n ≡ Some d) ⊎ IsWithin (wants_in d.entry.event) d.cut_before) w region colour e r c
-    (λ er ec. subst (λ (k : ℕ). slice_get (dated k (w.histories region colour ++ e ∷ [])) n ≡ Some d → (slice_get (dated k (w.histories k c)) n ≡ Some d) ⊎ IsWithin (wants_in d.entry.event) d.cut_before) (sym er)
-    (subst (λ (k : ℕ). slice_get (dated region (w.histories region colour ++ e ∷ [])) n ≡ Some d → (slice_get (dated region (w.histories region k)) n ≡ Some d) ⊎ IsWithin (wants_in d.entry.event) d.cut_before) (sym ec)
-    (λ at. turn (push_cases (dated region (w.histories region colour)) new n d (subst (λ (ds : List Dated). slice_get ds n ≡ Some d) (dated-append region (w.histories region colour) e) at)))))
+    at_last (λ (x : List Entry). slice_get (dated r x) n ≡ Some d → (slice_get (dated r (w.histories r c)) n ≡ Some d)
+    ⊎ IsWithin (wants_in d.entry.event) d.cut_before) w region colour e r c
+    (λ er ec. subst
+    (λ (k : ℕ). slice_get (dated k (w.histories region colour ++ e ∷ [])) n ≡ Some d
+    → (slice_get (dated k (w.histories k c)) n ≡ Some d) ⊎ IsWithin (wants_in d.entry.event) d.cut_before) (sym er)
+    (subst (λ (k : ℕ). slice_get (dated region (w.histories region colour ++ e ∷ [])) n ≡ Some d
+    → (slice_get (dated region (w.histories region k)) n ≡ Some d) ⊎ IsWithin (wants_in d.entry.event) d.cut_before)
+    (sym ec)
+    (λ at. turn (push_cases (dated region (w.histories region colour)) new n d
+    (subst (λ (ds : List Dated). slice_get ds n ≡ Some d)
+    (dated-append region (w.histories region colour) e) at)))))
     (λ _ at. inl at) where
       new : Dated
       new = record { entry = e; cut_before = cut region (dated region (w.histories region colour)) }
 
-      turn : ((slice_get (dated region (w.histories region colour)) n ≡ Some d) × (take n (dated region (w.histories region colour) ++ new ∷ []) ≡ take n (dated region (w.histories region colour)))) ⊎ ((new ≡ d) × (take n (dated region (w.histories region colour) ++ new ∷ []) ≡ dated region (w.histories region colour)))
-          → (slice_get (dated region (w.histories region colour)) n ≡ Some d) ⊎ IsWithin (wants_in d.entry.event) d.cut_before
+      turn : ((slice_get (dated region (w.histories region colour)) n ≡ Some d)
+          × (take n (dated region (w.histories region colour) ++ new ∷ []) ≡ take n
+          (dated region (w.histories region colour))))
+          ⊎ ((new ≡ d) × (take n (dated region (w.histories region colour) ++ new ∷ []) ≡ dated region
+          (w.histories region colour)))
+          → (slice_get (dated region (w.histories region colour)) n ≡ Some d) ⊎ IsWithin
+          (wants_in d.entry.event) d.cut_before
       turn (inl p) = inl p.0
       turn (inr p) = inr (subst (λ (x : Dated). IsWithin (wants_in x.entry.event) x.cut_before) p.0 fits)
 
-wants_of_map : (f : ℕ → Counts) (cs : List ℕ) (c : ℕ) (v : Counts) → IsWithin (f c) v → IsWithin (wants_of cs (map f cs) c) v
+wants_of_map : (f : ℕ → Counts) (cs : List ℕ) (c : ℕ) (v : Counts) → IsWithin (f c) v
+    → IsWithin (wants_of cs (map f cs) c) v
 wants_of_map f [] c v h = within-zeros v
-wants_of_map f (d ∷ cs) c v h = choice (λ (x : Counts). IsWithin x v) (d == c) (f d) (wants_of cs (map f cs) c) (λ t. subst (λ (k : ℕ). IsWithin (f k) v) (sym (eqb-true d c t)) h) (λ _. wants_of_map f cs c v h)
+wants_of_map f (d ∷ cs) c v h =
+    choice (λ (x : Counts). IsWithin x v) (d == c) (f d) (wants_of cs (map f cs) c)
+    (λ t. subst (λ (k : ℕ). IsWithin (f k) v) (sym (eqb-true d c t)) h) (λ _. wants_of_map f cs c v h)
 
-same_plays : (w : World) (client : ℕ) (cs : ClientState) → cs.played ≡ (w.clients client).played → (a c : ℕ) → ((updated w.clients client cs a).played c ≡ (w.clients a).played c) ⊎ IsWithin ((updated w.clients client cs a).played c) (cut_after (home_of w a) (home_history w a c))
-same_plays w client cs e a c = inl (at_updated (λ (s : ClientState). s.played c ≡ (w.clients a).played c) w.clients client cs a (λ is. ap (λ (p : ℕ → Counts). p c) e ∙ sym (ap (λ (x : ℕ). (w.clients x).played c) is)) (λ _. refl))
+same_plays : (w : World) (client : ℕ) (cs : ClientState) → cs.played ≡ (w.clients client).played → (a c : ℕ)
+    → ((updated w.clients client cs a).played c ≡ (w.clients a).played c) ⊎ IsWithin
+    ((updated w.clients client cs a).played c) (cut_after (home_of w a) (home_history w a c))
+same_plays w client cs e a c =
+    inl (at_updated (λ (s : ClientState). s.played c ≡ (w.clients a).played c) w.clients client cs a
+    (λ is. ap (λ (p : ℕ → Counts). p c) e ∙ sym (ap (λ (x : ℕ). (w.clients x).played c) is)) (λ _. refl))
 
 -- a step's world, where its guard holds
 at_guard : (P : World → Type 0) (b : Bool) (x w : World) → b ≡ true → P (cond b x w) → P x
 at_guard P b x w e p = subst P (if_true b x w e) p
 
 pub after_wanted : (w : World) → Held w → Wanted w → (s : Step) → Wanted (after w s)
-after_wanted w h o (steps.Begin client colours text) = choice Wanted (may_begin w client colours) (after_begin w client colours text) w
-    (λ ok. wanted_next w (after_begin w client colours text) (at_guard Held _ _ w ok (after_held w h (steps.Begin client colours text))) o (grows_begin w client colours text) (λ r c n d e. inl e)
+after_wanted w h o (steps.Begin client colours text) =
+    choice Wanted (may_begin w client colours) (after_begin w client colours text) w
+    (λ ok. wanted_next w (after_begin w client colours text)
+    (at_guard Held _ _ w ok (after_held w h (steps.Begin client colours text))) o
+    (grows_begin w client colours text) (λ r c n d e. inl e)
     (same_plays w client (begun_client w client) refl)
-    (λ a n lt. at_updated_at (λ (x : RowState). (n < (w.clients a).used) ⊎ ((c : ℕ) → IsWithin (node_wants x.node c) (cut_after (home_of w a) (home_history w a c)))) w.rows client (w.clients client).used (record { node = begun_node w client colours text; marks = λ _. marks.None; last = Open }) a n
-    (λ ea en. inr (λ c. subst (λ (k : ℕ). IsWithin (node_wants (begun_node w client colours text) c) (cut_after (home_of w k) (home_history w k c))) (sym ea) (wants_of_map (w.clients client).played (members colours) c (cut_after (home_of w client) (home_history w client c)) (o.played client c))))
+    (λ a n lt. at_updated_at
+    (λ (x : RowState). (n < (w.clients a).used)
+    ⊎ ((c : ℕ) → IsWithin (node_wants x.node c) (cut_after (home_of w a) (home_history w a c)))) w.rows client
+    (w.clients client).used
+    (record { node = begun_node w client colours text; marks = λ _. marks.None; last = Open }) a n
+    (λ ea en. inr
+    (λ c. subst (λ (k : ℕ). IsWithin (node_wants (begun_node w client colours text) c)
+    (cut_after (home_of w k) (home_history w k c))) (sym ea)
+    (wants_of_map (w.clients client).played (members colours) c
+    (cut_after (home_of w client) (home_history w client c)) (o.played client c))))
     (λ other. inl (used_before w client a n lt other)))) (λ _. o)
-after_wanted w h o (steps.Propose by row colour) = choice Wanted (may_propose w row colour) (after_propose w by row colour) w
+after_wanted w h o (steps.Propose by row colour) =
+    choice Wanted (may_propose w row colour) (after_propose w by row colour) w
     (λ ok. let g = may_mark_is w row colour (both (may_mark w row colour) _ ok).0 in
-    wanted_next w (after_propose w by row colour) (at_guard Held _ _ w ok (after_held w h (steps.Propose by row colour))) o (grows_propose w by row colour ok)
-    (one_more_date w (home_of w row.client) colour (proposed_entry w by row colour) (o.nodes row.client row.number colour g.begun)) (λ a c. inl refl) (λ a n lt. inl lt)) (λ _. o)
-after_wanted w h o (steps.Fence row colour why) = choice Wanted (may_fence w row colour why) (with_mark w row colour (marks.Fenced why)) w
-    (λ ok. wanted_next w (with_mark w row colour (marks.Fenced why)) (at_guard Held _ _ w ok (after_held w h (steps.Fence row colour why))) o (grows_mark w row colour (marks.Fenced why) (may_fence_marks w row colour why ok)) (λ r c n d e. inl e) (λ a c. inl refl) (λ a n lt. inl lt)) (λ _. o)
+    wanted_next w (after_propose w by row colour)
+    (at_guard Held _ _ w ok (after_held w h (steps.Propose by row colour))) o (grows_propose w by row colour ok)
+    (one_more_date w (home_of w row.client) colour (proposed_entry w by row colour)
+    (o.nodes row.client row.number colour g.begun)) (λ a c. inl refl) (λ a n lt. inl lt)) (λ _. o)
+after_wanted w h o (steps.Fence row colour why) =
+    choice Wanted (may_fence w row colour why) (with_mark w row colour (marks.Fenced why)) w
+    (λ ok. wanted_next w (with_mark w row colour (marks.Fenced why))
+    (at_guard Held _ _ w ok (after_held w h (steps.Fence row colour why))) o
+    (grows_mark w row colour (marks.Fenced why) (may_fence_marks w row colour why ok)) (λ r c n d e. inl e)
+    (λ a c. inl refl) (λ a n lt. inl lt)) (λ _. o)
 after_wanted w h o (steps.Decide row) = choice Wanted (may_decide w row) (after_decide w row) w
-    (λ ok. wanted_next w (after_decide w row) (at_guard Held _ _ w ok (after_held w h (steps.Decide row))) o (grows_decide w row ok) (λ r c n d e. inl e) (λ a c. inl refl) (λ a n lt. inl lt)) (λ _. o)
-after_wanted w h o (steps.Settle by row colour) = choice Wanted (may_settle w row colour) (after_settle w by row colour) w
-    (λ ok. wanted_next w (after_settle w by row colour) (at_guard Held _ _ w ok (after_held w h (steps.Settle by row colour))) o (grows_last w (home_of w row.client) colour (settled_entry w by row))
-    (one_more_date w (home_of w row.client) colour (settled_entry w by row) (within-zeros (cut_after (home_of w row.client) (home_history w row.client colour)))) (λ a c. inl refl) (λ a n lt. inl lt)) (λ _. o)
-after_wanted w h o (steps.Single client colour text) = choice Wanted (may_single w client colour) (after_single w client colour text) w
-    (λ ok. wanted_next w (after_single w client colour text) (at_guard Held _ _ w ok (after_held w h (steps.Single client colour text))) o (grows_single w client colour text)
-    (one_more_date w (home_of w client) colour (single_entry w client colour) (o.played client colour)) (same_plays w client (single_client w client colour) refl) (λ a n lt. inl (same_used w client (single_client w client colour) refl a n lt))) (λ _. o)
-after_wanted w h o (steps.Raise by region colour to) = choice Wanted (may_raise w region colour to) (after_raise w by region colour to) w
-    (λ ok. wanted_next w (after_raise w by region colour to) (at_guard Held _ _ w ok (after_held w h (steps.Raise by region colour to))) o (grows_last w region colour (raise_entry by to))
-    (one_more_date w region colour (raise_entry by to) (within-zeros (cut_after region (w.histories region colour)))) (λ a c. inl refl) (λ a n lt. inl lt)) (λ _. o)
+    (λ ok. wanted_next w (after_decide w row) (at_guard Held _ _ w ok (after_held w h (steps.Decide row))) o
+    (grows_decide w row ok) (λ r c n d e. inl e) (λ a c. inl refl) (λ a n lt. inl lt)) (λ _. o)
+after_wanted w h o (steps.Settle by row colour) =
+    choice Wanted (may_settle w row colour) (after_settle w by row colour) w
+    (λ ok. wanted_next w (after_settle w by row colour)
+    (at_guard Held _ _ w ok (after_held w h (steps.Settle by row colour))) o
+    (grows_last w (home_of w row.client) colour (settled_entry w by row))
+    (one_more_date w (home_of w row.client) colour (settled_entry w by row)
+    (within-zeros (cut_after (home_of w row.client) (home_history w row.client colour)))) (λ a c. inl refl)
+    (λ a n lt. inl lt)) (λ _. o)
+after_wanted w h o (steps.Single client colour text) =
+    choice Wanted (may_single w client colour) (after_single w client colour text) w
+    (λ ok. wanted_next w (after_single w client colour text)
+    (at_guard Held _ _ w ok (after_held w h (steps.Single client colour text))) o
+    (grows_single w client colour text)
+    (one_more_date w (home_of w client) colour (single_entry w client colour) (o.played client colour))
+    (same_plays w client (single_client w client colour) refl)
+    (λ a n lt. inl (same_used w client (single_client w client colour) refl a n lt))) (λ _. o)
+after_wanted w h o (steps.Raise by region colour to) =
+    choice Wanted (may_raise w region colour to) (after_raise w by region colour to) w
+    (λ ok. wanted_next w (after_raise w by region colour to)
+    (at_guard Held _ _ w ok (after_held w h (steps.Raise by region colour to))) o
+    (grows_last w region colour (raise_entry by to))
+    (one_more_date w region colour (raise_entry by to) (within-zeros (cut_after region (w.histories region colour))))
+    (λ a c. inl refl) (λ a n lt. inl lt)) (λ _. o)
 after_wanted w h o (steps.Play client colour) = choice Wanted (may_play w client colour) (after_play w client colour) w
     (λ ok. let cs = played_client w client colour in
-    wanted_next w (after_play w client colour) (at_guard Held _ _ w ok (after_held w h (steps.Play client colour))) o (grows_client w client cs (omega arith)) (λ r c n d e. inl e)
-    (λ a c. at_updated (λ (s : ClientState). (s.played c ≡ (w.clients a).played c) ⊎ IsWithin (s.played c) (cut_after (home_of w a) (home_history w a c))) w.clients client cs a
+    wanted_next w (after_play w client colour) (at_guard Held _ _ w ok (after_held w h (steps.Play client colour))) o
+    (grows_client w client cs (omega arith)) (λ r c n d e. inl e)
+    (λ a c. at_updated
+    (λ (s : ClientState). (s.played c ≡ (w.clients a).played c) ⊎ IsWithin (s.played c)
+    (cut_after (home_of w a) (home_history w a c))) w.clients client cs a
     (λ is. inr (subst (λ (k : ℕ). IsWithin (cs.played c) (cut_after (home_of w k) (home_history w k c))) (sym is)
-    (at_updated (λ (v : Counts). IsWithin v (cut_after (home_of w client) (home_history w client c))) (w.clients client).played colour (cut_after (home_of w client) (home_history w client colour)) c
-    (λ ec. subst (λ (k : ℕ). IsWithin (cut_after (home_of w client) (home_history w client colour)) (cut_after (home_of w client) (home_history w client k))) (sym ec) (within-refl (cut_after (home_of w client) (home_history w client colour)))) (λ _. o.played client c))))
+    (at_updated (λ (v : Counts). IsWithin v (cut_after (home_of w client) (home_history w client c)))
+    (w.clients client).played colour (cut_after (home_of w client) (home_history w client colour)) c
+    (λ ec. subst (λ (k : ℕ). IsWithin (cut_after (home_of w client) (home_history w client colour))
+    (cut_after (home_of w client) (home_history w client k))) (sym ec)
+    (within-refl (cut_after (home_of w client) (home_history w client colour)))) (λ _. o.played client c))))
     (λ _. inl refl))
     (λ a n lt. inl (same_used w client cs refl a n lt))) (λ _. o)
 after_wanted w h o (steps.Seen client to) = choice Wanted (may_see w client to) (after_seen w client to) w
     (λ ok. let cs : ClientState = record (w.clients client) { floor = to } in
-    wanted_next w (after_seen w client to) (at_guard Held _ _ w ok (after_held w h (steps.Seen client to))) o (grows_client w client cs (omega arith)) (λ r c n d e. inl e)
+    wanted_next w (after_seen w client to) (at_guard Held _ _ w ok (after_held w h (steps.Seen client to))) o
+    (grows_client w client cs (omega arith)) (λ r c n d e. inl e)
     (same_plays w client cs refl) (λ a n lt. inl (same_used w client cs refl a n lt))) (λ _. o)
 
 opened_wanted : (shape : Shape) → Wanted (opened shape)
-opened_wanted shape = record { played = λ a c. within-zeros (cut_after (home_of (opened shape) a) []); nodes = λ a n c lt. absurd (let x : ⊥ = omega (arith, lt) in x); events = λ r c n d e. absurd (let x : ⊥ = cc in x) }
+opened_wanted shape =
+    record {
+      played = λ a c. within-zeros (cut_after (home_of (opened shape) a) []);
+      nodes = λ a n c lt. absurd
+          (let x : ⊥ = omega (arith, lt) in x);
+      events = λ r c n d e. absurd (let x : ⊥ = cc in x);
+    }
 
 run_wanted : (w : World) → Held w → Wanted w → (steps : List Step) → Wanted (run_steps w steps)
 run_wanted w h o [] = o
@@ -197,12 +292,17 @@ wanted shape steps = run_wanted (opened shape) (opened_held shape) (opened_wante
 -- Each own line is within the cut
 
 -- the cut before an event is within the cut after all
-cut_before_within : (own regions : ℕ) (history : List Entry) → IsColumnHistory own regions (dated own history) → (n : ℕ) (d : Dated) → slice_get (dated own history) n ≡ Some d → IsWithin d.cut_before (cut_after own history)
+cut_before_within : (own regions : ℕ) (history : List Entry) → IsColumnHistory own regions (dated own history)
+    → (n : ℕ) (d : Dated) → slice_get (dated own history) n ≡ Some d → IsWithin d.cut_before (cut_after own history)
 cut_before_within own regions history lawful n d e =
     let ds = dated own history in
     let split = take-append-drop n ds in
-    let grow = subst (λ (x : List Dated). (region : ℕ) → IsPrefix (chain own (take n ds) region) (chain own x region)) split (chains_grow own regions (take n ds) (drop n ds) (subst (IsColumnHistory own regions) (sym split) lawful)) in
-    (cut-is_greatest own ds).greatest d.cut_before (reachable_grows (chain own (take n ds)) (chain own ds) grow d.cut_before ((dated-is_dated own history).each n d e).reached)
+    let grow = subst
+    (λ (x : List Dated). (region : ℕ) → IsPrefix (chain own (take n ds) region) (chain own x region)) split
+    (chains_grow own regions (take n ds) (drop n ds) (subst (IsColumnHistory own regions) (sym split) lawful)) in
+    (cut-is_greatest own ds).greatest d.cut_before
+    (reachable_grows (chain own (take n ds)) (chain own ds) grow d.cut_before
+    ((dated-is_dated own history).each n d e).reached)
 
 needs_in_within : (ev : Event) (cut_before v : Counts) → IsWithin cut_before v → IsWithin (needs_in ev cut_before) v
 needs_in_within (events.Single id floor wants) c v h = within-trans (least wants c) c v (least-within wants c) h
@@ -213,11 +313,14 @@ needs_in_within (events.Give _ _) c v h = within-zeros v
 needs_in_within (events.Carry _ _ _) c v h = within-zeros v
 needs_in_within (events.Trim _) c v h = within-zeros v
 
-needs_within : (ds : List Dated) (id : Id) (v : Counts) → ((n : ℕ) (d : Dated) → slice_get ds n ≡ Some d → IsWithin d.cut_before v) → IsWithin (needs_of ds id) v
+needs_within : (ds : List Dated) (id : Id) (v : Counts)
+    → ((n : ℕ) (d : Dated) → slice_get ds n ≡ Some d → IsWithin d.cut_before v) → IsWithin (needs_of ds id) v
 needs_within [] id v h = within-zeros v
 needs_within (d ∷ ds) id v h =
-    choice (λ (x : Counts). IsWithin x v) (enters id d.entry.event) (needs_in d.entry.event d.cut_before) (needs_of ds id)
-    (λ _. needs_in_within d.entry.event d.cut_before v (h 0 d refl)) (λ _. needs_within ds id v (λ n e at. h (suc n) e at))
+    choice (λ (x : Counts). IsWithin x v) (enters id d.entry.event) (needs_in d.entry.event d.cut_before)
+    (needs_of ds id)
+    (λ _. needs_in_within d.entry.event d.cut_before v (h 0 d refl))
+    (λ _. needs_within ds id v (λ n e at. h (suc n) e at))
 
 slice_at : {A : Type 0} (xs : List A) (i : ℕ) → i < length xs → (x : A) × (slice_get xs i ≡ Some x) × In x xs
 slice_at [] i lt = absurd (let f : ⊥ = omega (arith, lt) in f)
@@ -232,7 +335,9 @@ more_at v (suc (suc (suc zero))) lt = refl
 more_at v (suc (suc (suc (suc r)))) lt = absurd (let f : ⊥ = omega (arith, lt) in f)
 
 -- where the needs of each own node are within the cut, the whole own chain is
-own_chain_within : (own : ℕ) (ds : List Dated) → own < 4 → ((head : Head) → In head (chain own ds own) → IsWithin head.needs (cut own ds)) → at (cut own ds) own ≡ length (chain own ds own)
+own_chain_within : (own : ℕ) (ds : List Dated) → own < 4
+    → ((head : Head) → In head (chain own ds own) → IsWithin head.needs (cut own ds))
+    → at (cut own ds) own ≡ length (chain own ds own)
 own_chain_within own ds lt needs =
     let g = cut-is_greatest own ds in
     let v = cut own ds in
@@ -249,19 +354,31 @@ own_chain_within own ds lt needs =
         pick (inl x) = absurd (no_less x)
         pick (inr x) = omega (arith, le, x)
 
-own_line_within : (own regions : ℕ) (history : List Entry) → own < 4 → IsColumnHistory own regions (dated own history) → at (cut_after own history) own ≡ length (line history)
+own_line_within : (own regions : ℕ) (history : List Entry) → own < 4 → IsColumnHistory own regions (dated own history)
+    → at (cut_after own history) own ≡ length (line history)
 own_line_within own regions history lt lawful =
     let ds = dated own history in
-    let is : chain own ds own ≡ map (head_with ds) (line (entries_of ds)) = if_true (own == own) _ _ (eq-eqb own own refl) in
-    own_chain_within own ds lt (λ head i. needs_of_head head (in_heads ds (line (entries_of ds)) head (subst (λ (l : List Head). In head l) is i)))
-    ∙ (ap length is ∙ (length-map (line (entries_of ds)) (head_with ds) ∙ ap (λ (h : List Entry). length (line h)) (entries_dated own history))) where
-      needs_of_head : (head : Head) → (k : Key) × In k (line (entries_of (dated own history))) × (head_with (dated own history) k ≡ head) → IsWithin head.needs (cut_after own history)
-      needs_of_head head x = subst (λ (y : Head). IsWithin y.needs (cut_after own history)) x.2 (needs_within (dated own history) x.0.id (cut_after own history) (cut_before_within own regions history lawful))
+    let is : chain own ds own ≡ map (head_with ds) (line (entries_of ds)) = if_true (own == own) _ _
+    (eq-eqb own own refl) in
+    own_chain_within own ds lt
+    (λ head i. needs_of_head head
+    (in_heads ds (line (entries_of ds)) head (subst (λ (l : List Head). In head l) is i)))
+    ∙ (ap length is
+    ∙ (length-map (line (entries_of ds)) (head_with ds) ∙ ap (λ (h : List Entry). length (line h))
+    (entries_dated own history))) where
+      needs_of_head : (head : Head)
+          → (k : Key) × In k (line (entries_of (dated own history))) × (head_with (dated own history) k ≡ head)
+          → IsWithin head.needs (cut_after own history)
+      needs_of_head head x =
+          subst (λ (y : Head). IsWithin y.needs (cut_after own history)) x.2
+          (needs_within (dated own history) x.0.id (cut_after own history)
+          (cut_before_within own regions history lawful))
 
 pub stays_within_cuts : (w : World) → Held w → Wanted w → StaysWithinCuts w
 stays_within_cuts w h o = record {
   entered = o.events;
   played = o.played;
   begun = λ row colour b. o.nodes row.client row.number colour (ltb-true row.number (w.clients row.client).used b);
-  own_line = λ region colour lt. own_line_within region w.shape.regions (w.histories region colour) lt (h.lawful region colour);
+  own_line = λ region colour lt. own_line_within region w.shape.regions (w.histories region colour) lt
+      (h.lawful region colour);
 }
