@@ -32,7 +32,8 @@ use Rattle.core_laws.specs.Laws.{IsFinal, SettlesOnce, OneFinalStamp, EachLineRi
 use Rattle.core_laws.proofs.Basics.{in_contains, contains_in, in_reverse, slice_in}
 use Rattle.core_laws.proofs.Held.{status_in, Kind, Unborn, OfSingle, OfRow, Agrees, column_mark, Fits, Held}
 use Rattle.core_laws.proofs.Marks.{final_is, any_mark}
-use Rattle.core_laws.proofs.Keeps.{entries_dated, lawful_past_in, row_agrees}
+use Rattle.core_laws.proofs.Histories.{entries_dated, lawful_past_in}
+use Rattle.core_laws.proofs.Keeps.{row_agrees}
 
 -- a settled id stays settled
 stays_next : (past : List Entry) (ev : Event) (stamp : ℕ) (id : Id) (o : Outcome) → IsLawfulNext past ev stamp

@@ -104,3 +104,7 @@ in_reverse {A} x (y ∷ xs) i =
       turn : (y ≡ x) ⊎ In x xs → (In x xs → In x (reverse xs)) → In x (reverse xs ++ y ∷ [])
       turn (inl e) rest = in_right x (reverse xs) (y ∷ []) (inl e)
       turn (inr j) rest = in_left x (reverse xs) (y ∷ []) (rest j)
+
+pub slice_last : {A : Type 0} (xs : List A) (x : A) → slice_get (xs ++ x ∷ []) (length xs) ≡ Some x
+slice_last [] e = refl
+slice_last (d ∷ ds) e = slice_last ds e

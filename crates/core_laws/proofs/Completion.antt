@@ -33,7 +33,8 @@ use Rattle.core_laws.specs.Laws.{StandsAsDecided, CanComplete}
 use Rattle.core_laws.proofs.Basics.{at_updated, updated_at-here, in_contains, contains_in}
 use Rattle.core_laws.proofs.Held.{status_in, Agrees, column_mark, Held}
 use Rattle.core_laws.proofs.Marks.{has_colour, in_colours, is_waiting, waiting_is, missing_where_open, not_open_decided, final_is, any_mark}
-use Rattle.core_laws.proofs.Keeps.{lawful_past_in, status-last, at_last, row_agrees, waiting_is_open}
+use Rattle.core_laws.proofs.Histories.{lawful_past_in, status-last, waiting_is_open}
+use Rattle.core_laws.proofs.Keeps.{at_last, row_agrees}
 use Rattle.core_laws.proofs.OfRows.{mark-at_home}
 use Rattle.core_laws.proofs.Agreement.{entry_shown}
 use Rattle.core_laws.proofs.Runs.{after_held, run_held, run_steps-append}

@@ -27,7 +27,8 @@ use Rattle.core_laws.specs.Laws.{RowGrows, EachLineGrows, LogGrows, RowsStay}
 use Rattle.core_laws.proofs.Basics.{at_updated, at_updated_at, updated_at-not}
 use Rattle.core_laws.proofs.Held.{Held}
 use Rattle.core_laws.proofs.Marks.{open_is}
-use Rattle.core_laws.proofs.Keeps.{lawful_past_in, at_last}
+use Rattle.core_laws.proofs.Histories.{lawful_past_in}
+use Rattle.core_laws.proofs.Keeps.{at_last}
 use Rattle.core_laws.proofs.Clients.{begun_client, single_client, raise_entry, still_used}
 use Rattle.core_laws.proofs.OfRows.{may_mark_is, may_fence_marks}
 use Rattle.core_laws.proofs.Runs.{run_held}

@@ -19,7 +19,7 @@ use Rattle.core_laws.specs.Worlds.{World}
 use Rattle.core_laws.specs.Laws.{NoneGetsBefore}
 use Rattle.core_laws.proofs.Basics.{in_contains, contains_in}
 use Rattle.core_laws.proofs.Held.{Held}
-use Rattle.core_laws.proofs.Keeps.{lawful_past_in}
+use Rattle.core_laws.proofs.Histories.{lawful_past_in}
 
 -- an id that waits did before the event, or the event gave its stamp
 waits_next : (past : List Entry) (ev : Event) (stamp : ℕ) (i : Id) (s : ℕ) → IsLawfulNext past ev stamp

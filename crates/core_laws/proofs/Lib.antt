@@ -1,6 +1,7 @@
 pub mod Basics
 pub mod Held
 mod Marks
+pub mod Histories
 pub mod Keeps
 mod Clients
 mod OfRows
@@ -10,6 +11,8 @@ mod Later
 mod Completion
 mod Growing
 mod Told
+mod Telling
+mod RegionRows
 mod LawfulRows
 mod Wanted
 mod Listed

@@ -20,12 +20,11 @@ use Rattle.core_laws.specs.declared.steps.Step.{Step}
 use Rattle.core_laws.specs.declared.steps.Step.TheVariants as steps
 use Rattle.core_laws.specs.Worlds.{World, RowState, ClientState, home_of, next_id, may_begin, may_propose, may_fence, may_decide, may_settle, may_single, may_raise, may_play, may_see, with_client, with_last, with_mark, with_node, begun_node, after_begin, after_propose, proposed_entry, after_decide, settled_entry, single_node, after_single, single_entry, after, run_steps, opened}
 use Rattle.core_laws.specs.Laws.{HasSingleNode, HasNodes}
-use Rattle.core_laws.proofs.Basics.{at_updated, at_updated_at, updated-here, in_contains, in_last}
+use Rattle.core_laws.proofs.Basics.{slice_last, at_updated, at_updated_at, updated-here, in_contains, in_last}
 use Rattle.core_laws.proofs.Keeps.{at_last}
 use Rattle.core_laws.proofs.Clients.{begun_client, used_before, single_client, same_used, raise_entry}
 use Rattle.core_laws.proofs.OfRows.{may_fence_marks}
 use Rattle.core_laws.proofs.Growing.{Grows, played_client, grows_begin, grows_mark, grows_propose, grows_decide, grows_last, grows_client, grows_single}
-use Rattle.core_laws.proofs.Told.{slice_last}
 
 -- what the lists say of an event
 abbrev FitsSingle : World → ℕ → ℕ → ℕ → Event → Type 0

@@ -25,7 +25,8 @@ use Rattle.core_laws.specs.Worlds.{World, RowState, ClientState, home_of, is_beg
 use Rattle.core_laws.proofs.Basics.{at_updated, at_updated_at, updated_at-here}
 use Rattle.core_laws.proofs.Held.{status_in, Agrees, column_mark, Fits, IsSound, Held}
 use Rattle.core_laws.proofs.Marks.{has_colour, missing_none, open_is, decided_not_open, final_is, open_where_missing, any_mark, number_within, greatest_within, agrees-decided, agrees-settled}
-use Rattle.core_laws.proofs.Keeps.{entries_dated, lawful_past_in, status-last, stamp_within, at_last, lawful_last, may_enter, heads_last, status_stays, fits_one, fits_row, row_agrees, others_stay, open_is_waiting, may_settle_open}
+use Rattle.core_laws.proofs.Histories.{entries_dated, lawful_past_in, status-last, stamp_within, open_is_waiting, may_settle_open}
+use Rattle.core_laws.proofs.Keeps.{at_last, lawful_last, may_enter, heads_last, status_stays, fits_one, fits_row, row_agrees, others_stay}
 
 -- another column's mark
 mark_nested : (p q : Bool) (x y z : Mark) → (p && q) ≡ false → cond p (cond q x y) z ≡ cond p y z

@@ -16,7 +16,8 @@ use Rattle.core_laws.specs.declared.steps.Step.TheVariants as steps
 use Rattle.core_laws.specs.Worlds.{World, home_of, may_begin, may_propose, may_fence, may_decide, may_settle, may_single, may_raise, may_play, may_see, with_last, proposed_entry, settled_entry, single_entry, after, run_steps, opened}
 use Rattle.core_laws.specs.Laws.{NothingIsTrimmed}
 use Rattle.core_laws.proofs.Basics.{in_last}
-use Rattle.core_laws.proofs.Keeps.{entries_dated, at_last}
+use Rattle.core_laws.proofs.Histories.{entries_dated}
+use Rattle.core_laws.proofs.Keeps.{at_last}
 use Rattle.core_laws.proofs.Clients.{raise_entry}
 
 NoTrim : Event → Type 0

@@ -36,7 +36,8 @@ use Rattle.core_laws.specs.Worlds.{World, RowState, ClientState, home_of, home_h
 use Rattle.core_laws.specs.Laws.{wants_in, StaysWithinCuts}
 use Rattle.core_laws.proofs.Basics.{at_updated, at_updated_at}
 use Rattle.core_laws.proofs.Held.{Held}
-use Rattle.core_laws.proofs.Keeps.{push_cases, entries_dated, at_last}
+use Rattle.core_laws.proofs.Histories.{push_cases, entries_dated}
+use Rattle.core_laws.proofs.Keeps.{at_last}
 use Rattle.core_laws.proofs.Clients.{head_with, in_heads, begun_client, used_before, single_client, same_used, raise_entry}
 use Rattle.core_laws.proofs.OfRows.{may_mark_is, may_fence_marks}
 use Rattle.core_laws.proofs.Growing.{Grows, played_client, grows_begin, grows_mark, grows_propose, grows_decide, grows_last, grows_client, grows_single}

@@ -1,5 +1,5 @@
 use Rattle.core_laws.proofs.Runs.{held}
-use Rattle.core_laws.proofs.Told.{told}
+use Rattle.core_laws.proofs.Telling.{told}
 use Rattle.core_laws.proofs.LawfulRows.{have_lawful_histories, have_lawful_rows, is_bounded}
 use Rattle.core_laws.proofs.laws.is_lawful.Goals as goal
 
