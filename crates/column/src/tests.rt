@@ -1,0 +1,2 @@
+// A column's calls by hand.
+use super::*;
