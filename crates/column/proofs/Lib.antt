@@ -4,3 +4,6 @@ pub mod Owning
 pub mod Opens
 pub mod Storing
 pub mod Steps
+pub mod Known
+pub mod Ranks
+pub mod Entering
