@@ -7,3 +7,7 @@ pub mod Steps
 pub mod Known
 pub mod Ranks
 pub mod Entering
+pub mod Places
+pub mod Helping
+pub mod Items
+pub mod Pushing

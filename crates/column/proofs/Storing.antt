@@ -23,7 +23,8 @@ use Rattle.col_core.specs.Computed.{cut, dated}
 use Rattle.col_core.proofs.Appending.{dated-append}
 use Rattle.col_core.proofs.ChainGrowth.{slice_longer}
 use Rattle.column.specs.Entering.{EnteredNode}
-use Rattle.column.specs.Inside.{IsEntered, EntersNode, HasRow}
+use Rattle.column.specs.Inside.{IsEntered, EntersNode}
+use Rattle.column.specs.Columns.{HasRow}
 use Rattle.column.proofs.OwnChains.{needs_stay, needs_first}
 use Rattle.column.proofs.Owning.{same_entries}
 

@@ -132,6 +132,11 @@ IsBegunAt None (Some w) = ⊥
 IsBegunAt (Some begun) None = ⊥
 IsBegunAt (Some begun) (Some w) = IsBegun begun w.thing.node
 
+-- an open entry has a node with a row
+abbrev pub HasRow : Bool → Node → Type 0
+HasRow true node = Unit {0}
+HasRow false node = node.row ≡ None → ⊥
+
 -- the node under a key, as one reads it
 abbrev pub placed : Key → EnteredNode → PlacedNode
 placed key entered = record { head = record { key = key; needs = entered.needs }; node = entered.node }

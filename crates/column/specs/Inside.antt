@@ -17,7 +17,7 @@ use Rattle.col_core.specs.Computed.{dated}
 use Rattle.col_core.specs.Legal.{IsColumnHistory}
 use Rattle.col_core.specs.Rows.{node_wants}
 use Rattle.column.specs.Entering.{EnteredNode}
-use Rattle.column.specs.Columns.{ColumnState, history_of, alone}
+use Rattle.column.specs.Columns.{ColumnState, history_of, alone, HasRow}
 
 -- the event is the one by which a node enters
 abbrev pub EntersNode : ℕ → Node → Event → Type 0
@@ -28,11 +28,6 @@ EntersNode colour node (Raise _) = ⊥
 EntersNode colour node (Give _ _) = ⊥
 EntersNode colour node (Carry _ _ _) = ⊥
 EntersNode colour node (Trim _) = ⊥
-
--- an open entry has a node with a row
-abbrev pub HasRow : Bool → Node → Type 0
-HasRow true node = Unit {0}
-HasRow false node = node.row ≡ None → ⊥
 
 -- A stored entry of a column: it has the node that entered under its id, with the needs by the history.
 pub record IsEntered (region colour : ℕ) (journal : List Entry) (w : Waiting EnteredNode) : Type 0 where

@@ -1,9 +1,13 @@
 -- What the calls show that read a column.
 use Rattle.std.specs.Prelude.{◌≡◌, ℕ, ◌<◌, [], length, map, slice_index_or}
 use Rattle.std.specs.List.{filter, find}
+use Rattle.std.specs.Option.{option_map}
 use Rattle.log_node.specs.declared.ids.Key.{Key}
 use Rattle.log_node.specs.declared.ids.Counts.{Counts}
 use Rattle.log_node.specs.Vectors.{at}
+use Rattle.log_node.specs.Seen.{BegunAppend}
+use Rattle.skeen_core.specs.Standings.{Standing}
+use Rattle.skeen_core.specs.Queues.{waiting_entries}
 use Rattle.col_core.specs.History.{entries}
 use Rattle.column.specs.declared.views.View.{View}
 use Rattle.column.specs.declared.views.Below.{Below}
@@ -25,4 +29,7 @@ pub record IsView (column : ColumnState) (from : Counts) (view : View) : Type 0 
 pub record IsBelow (column : ColumnState) (key : Key) (below : Below) : Type 0 where
   pub events : below.events ≡ length column.journal
   pub count : below.count ≡ length (filter (is_open_below key) (entries column.journal))
-  pub first : IsBegunAt below.first (find (is_waiting_below key) column.queue.stored)
+  -- its id by the journal, and its node among those that wait
+  pub first_id : option_map (λ (b : BegunAppend). b.id) below.first
+      ≡ option_map (λ (e : Standing). e.key.id) (find (is_open_below key) (entries column.journal))
+  pub first : IsBegunAt below.first (find (is_waiting_below key) (waiting_entries column.queue))

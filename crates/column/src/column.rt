@@ -22,7 +22,7 @@ use crate::entered::{Entered, items_of};
 use crate::faults::ColumnFault;
 use crate::keys::place_of;
 use crate::views::{Below, View};
-use crate::waits::{least_open, open_below};
+use crate::waits::{first_below, open_below};
 use crate::wants::wants_of;
 use col_core::{Entry, Event};
 use log_node::{At, Counts, Id, Items, Key, ListOf, MAX_COLOURS, Node, Shape};
@@ -261,10 +261,10 @@ impl Column {
     {
         let cut = self.cut();
         let base = self.base();
-        let from = greater(from, base);
+        let start = greater(from, base);
         let mut items = ListOf::new(alloc);
         for region in 0..MAX_REGIONS {
-            items.push(self.items(alloc, region, of_region(from, region))?)?;
+            items.push(self.items(alloc, region, of_region(start, region))?)?;
         }
         Ok(View {
             region: self.region,
@@ -272,7 +272,7 @@ impl Column {
             events: self.journal.len() as u64,
             cut,
             base,
-            from,
+            from: start,
             items,
         })
     }
@@ -287,7 +287,8 @@ impl Column {
         let keys = self.queue.line();
         let (_, things) = self.queue.kept();
         let start = (from as usize).min(keys.len());
-        items_of(alloc, &keys[start..], &things[start..])
+        let items = items_of(alloc, &keys[start..], &things[start..])?;
+        Ok(items)
     }
 
     /// How many open entries have a key below, and the least of them.
@@ -298,7 +299,7 @@ impl Column {
         Below {
             events: self.journal.len() as u64,
             count: open_below(waiting, key) as u64,
-            first: least_open(waiting, key).and_then(|entry| entry.thing.begun()),
+            first: first_below(waiting, key),
         }
     }
 
