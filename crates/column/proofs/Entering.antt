@@ -1,5 +1,5 @@
 -- A node enters: what the steps of the code make together.
-use Rattle.std.proofs.Common.{◌≡◌, ℕ, ◌+◌, ◌≤◌, ◌<◌, ◌-◌, max, Bool, true, false, List, [], ◌∷◌, ◌++◌, length, refl, ap, sym, subst, ◌∙◌, arith, length-append}
+use Rattle.std.proofs.Common.{◌≡◌, ℕ, ◌+◌, ◌<◌, ◌-◌, max, Bool, true, false, List, [], ◌∷◌, ◌++◌, ap, ◌∙◌, arith, length-append}
 use Rattle.log_node.specs.declared.ids.Counts.{Counts}
 use Rattle.log_node.specs.declared.node.Node.{Node}
 use Rattle.log_node.specs.Vectors.{least}
@@ -10,7 +10,7 @@ use Rattle.col_core.specs.History.{clock, next_stamp}
 use Rattle.col_core.specs.Rows.{node_wants}
 use Rattle.column.specs.Entering.{EnteredNode}
 use Rattle.column.specs.Columns.{ColumnState, cut_of, stamp_for, entered_node, single_event, propose_event, after_single, after_propose}
-use Rattle.column.specs.Inside.{open_count, IsRoomFor}
+use Rattle.column.specs.Inside.{IsRoomFor}
 use Rattle.column.proofs.Opens.{count-with}
 
 -- what the code read of the node and of the column

@@ -1,18 +1,16 @@
 -- The open entries among those that wait.
-use Rattle.std.proofs.Common.{◌≡◌, ℕ, zero, suc, ◌+◌, Bool, true, false, cond, List, [], ◌∷◌, ◌++◌, length, Some, None, refl, ap, sym, subst, ◌∙◌, arith, inl, inr, ◌⊎◌}
-use Rattle.std.specs.Prelude.{not, ◌&&◌, ◌||◌, map, Option}
-use Rattle.std.specs.List.{AllByRecursion, filter, find, list_all}
+use Rattle.std.proofs.Common.{◌≡◌, Bool, true, false, cond, List, [], ◌∷◌, length, Some, None, refl, ap, sym, subst, ◌∙◌, inl, inr, ◌⊎◌}
+use Rattle.std.specs.Prelude.{not, map, Option}
+use Rattle.std.specs.List.{AllByRecursion, filter, find}
 use Rattle.std.specs.Option.{option_map}
 use Rattle.std.proofs.lemmas.Bool.{cond_both, cond-true, cond-false, cases_Bool, and_parts, not-true, true≢false, and_left, false_from_ne_true}
 use Rattle.std.proofs.lemmas.Option.{none-some, same_Some}
-use Rattle.log_node.specs.declared.ids.Id.{Id}
 use Rattle.log_node.specs.declared.ids.Key.{Key}
-use Rattle.log_node.specs.declared.node.Node.{Node}
 use Rattle.log_node.specs.Seen.{BegunAppend}
 use Rattle.skeen_core.specs.declared.waiting.Waiting.{Waiting}
 use Rattle.skeen_core.specs.Standings.{Standing, is_delivered, queue_of}
 use Rattle.skeen_core.specs.Queues.{standing_of}
-use Rattle.skeen_core.proofs.Lists.{filter-map, find-map}
+use Rattle.skeen_core.proofs.Lists.{filter-map}
 use Rattle.column.specs.Entering.{EnteredNode}
 use Rattle.column.specs.Columns.{is_open_below, is_waiting_below, HasRow, IsBegunOf, IsBegunAt}
 use Rattle.column.proofs.Owning.{length_map}

@@ -1,7 +1,6 @@
 -- An id that has not entered has no entry.
-use Rattle.std.proofs.Common.{◌≡◌, ℕ, Bool, true, false, List, [], ◌∷◌, refl, ap, sym, subst, ◌∙◌, inl, inr, ◌⊎◌}
-use Rattle.std.specs.Prelude.{◌||◌, reverse}
-use Rattle.std.specs.List.{list_any}
+use Rattle.std.proofs.Common.{◌≡◌, ℕ, true, false, List, [], ◌∷◌, refl, ap, sym, subst, ◌∙◌, inl, inr}
+use Rattle.std.specs.Prelude.{reverse}
 use Rattle.std.proofs.lemmas.Bool.{or_from}
 use Rattle.std.proofs.lemmas.List.{reverse-reverse}
 use Rattle.log_node.specs.declared.ids.Id.{Id}
@@ -15,7 +14,6 @@ use Rattle.col_core.specs.Legal.{IsColumnHistory}
 use Rattle.col_core.proofs.Basics.{by_test, apart, same_id-true}
 use Rattle.col_core.proofs.Members.{In, Rises, rises}
 use Rattle.col_core.proofs.Pasts.{IsLawfulPast}
-use Rattle.col_core.proofs.Pasts as pasts
 use Rattle.col_core.proofs.LawfulPasts.{entries-of, shown_entered, lawful_past}
 use Rattle.column.proofs.Owning.{same_entries}
 

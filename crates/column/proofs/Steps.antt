@@ -1,33 +1,29 @@
 -- What each event keeps true of a column.
-use Rattle.std.proofs.Common.{◌≡◌, ℕ, zero, suc, ◌+◌, ◌<◌, ◌≤◌, max, Bool, true, false, List, [], ◌∷◌, ◌++◌, length, take, Some, None, refl, ap, sym, subst, ◌∙◌, arith, cond}
+use Rattle.std.proofs.Common.{◌≡◌, ℕ, zero, suc, ◌<◌, ◌≤◌, true, false, List, [], ◌∷◌, ◌++◌, length, take, Some, None, refl, ap, sym, subst, ◌∙◌, arith}
 use Rattle.std.specs.Prelude.{slice_get, IsSomeAnd, Option}
-use Rattle.std.specs.List.{AllByRecursion, find, list_any}
-use Rattle.std.proofs.lemmas.Bool.{true≢false, and_from, cond_both}
+use Rattle.std.specs.List.{list_any}
+use Rattle.std.proofs.lemmas.Bool.{true≢false, cond_both}
 use Rattle.std.proofs.lemmas.List.{take-append-le, take_at}
 use Rattle.std.proofs.lemmas.Option.{slice_get_within, same_Some, none-some}
 use Rattle.log_node.specs.declared.ids.Id.{Id}
 use Rattle.log_node.specs.declared.node.Node.{Node}
-use Rattle.log_node.specs.Order.{same_id}
 use Rattle.log_node.specs.Sets.{has}
 use Rattle.skeen_core.specs.declared.stamps.TheConstants.{MAX_STAMP}
 use Rattle.skeen_core.specs.declared.marks.Outcome.{Outcome}
 use Rattle.skeen_core.specs.declared.marks.Outcome.TheVariants.{Open, Gone, Final}
-use Rattle.skeen_core.specs.declared.waiting.Waiting.{Waiting}
 use Rattle.skeen_core.specs.Outcomes as outcomes
 use Rattle.skeen_core.specs.Standings.{Standing, is_open_id, open_entry, with_entry, settled_entries}
 use Rattle.skeen_core.specs.Queues.{entry_under, has_open, is_decided, MaySettle}
 use Rattle.skeen_core.proofs.Lists.{each-append}
-use Rattle.col_core.specs.declared.Event.{Event}
 use Rattle.col_core.specs.declared.Event.TheVariants as events
 use Rattle.col_core.specs.declared.Entry.{Entry}
-use Rattle.col_core.specs.History.{clock, final_number, last_stamp, next_stamp, entries, enters, has_entered}
+use Rattle.col_core.specs.History.{clock, final_number, last_stamp, next_stamp, entries, has_entered}
 use Rattle.col_core.specs.Cuts.{Dated, entries_of}
 use Rattle.col_core.specs.Computed.{cut, dated}
 use Rattle.col_core.specs.Legal.{IsColumnHistory, IsLawfulEvent, IsSettling, MayEnter}
 use Rattle.col_core.proofs.Appending.{entries-append, clock-append, dated-append}
 use Rattle.col_core.proofs.Basics.{same_id-refl}
-use Rattle.column.specs.Entering.{EnteredNode}
-use Rattle.column.specs.Columns.{ColumnState, new_column, history_of, stamp_for, entered_node, single_event, propose_event, after_single, after_propose, after_settle, after_raise}
+use Rattle.column.specs.Columns.{ColumnState, new_column, stamp_for, entered_node, single_event, propose_event, after_single, after_propose, after_settle, after_raise}
 use Rattle.column.specs.Inside.{IsColumn}
 use Rattle.column.proofs.Owning.{same_entries, own_none, own_more}
 use Rattle.column.proofs.Storing.{all-more, entered-new, all-settled}

@@ -1,24 +1,22 @@
 -- Stored entries: what one more event of the journal, one more entry and a settling leave true of them.
-use Rattle.std.proofs.Common.{◌≡◌, ℕ, zero, suc, ◌+◌, ◌<◌, ◌≤◌, Bool, true, false, List, [], ◌∷◌, ◌++◌, length, Some, None, refl, ap, sym, subst, ◌∙◌, arith, cond}
-use Rattle.std.specs.Prelude.{◌||◌, not, map, slice_get, Option}
-use Rattle.std.specs.List.{AllByRecursion, find, list_any}
+use Rattle.std.proofs.Common.{◌≡◌, ℕ, Bool, true, false, List, [], ◌∷◌, ◌++◌, length, Some, None, refl, ap, subst, ◌∙◌}
+use Rattle.std.specs.Prelude.{not, slice_get, Option}
+use Rattle.std.specs.List.{AllByRecursion, find}
 use Rattle.std.proofs.lemmas.Bool.{or_left, or_right, cond_both}
 use Rattle.std.proofs.lemmas.List.Folds.{list_any-append}
 use Rattle.std.proofs.lemmas.Option.{same_Some, none-some}
 use Rattle.log_node.specs.declared.ids.Id.{Id}
-use Rattle.log_node.specs.declared.node.Node.{Node}
 use Rattle.log_node.specs.Order.{same_id, key_below}
 use Rattle.log_node.specs.Sets.{has}
 use Rattle.skeen_core.specs.declared.marks.Outcome.{Outcome}
 use Rattle.skeen_core.specs.declared.marks.Outcome.TheVariants.{Open, Gone, Final}
 use Rattle.skeen_core.specs.declared.waiting.Waiting.{Waiting}
 use Rattle.skeen_core.specs.Standings.{is_open_id}
-use Rattle.skeen_core.specs.Queues.{standing_of, entry_under, final_entry, with_stored, stored_without, with_found, settled_stored}
-use Rattle.skeen_core.proofs.Lists.{each-weaker, each-append, each-filter}
-use Rattle.col_core.specs.declared.Event.{Event}
+use Rattle.skeen_core.specs.Queues.{standing_of, final_entry, with_stored, stored_without, with_found, settled_stored}
+use Rattle.skeen_core.proofs.Lists.{each-weaker, each-filter}
 use Rattle.col_core.specs.declared.Entry.{Entry}
 use Rattle.col_core.specs.History.{enters, has_entered}
-use Rattle.col_core.specs.Cuts.{Dated, entries_of, needs_in, needs_of}
+use Rattle.col_core.specs.Cuts.{Dated, needs_in, needs_of}
 use Rattle.col_core.specs.Computed.{cut, dated}
 use Rattle.col_core.proofs.Appending.{dated-append}
 use Rattle.col_core.proofs.ChainGrowth.{slice_longer}

@@ -1,10 +1,10 @@
 -- What contracts see of a column, and what its calls make of it.
-use Rattle.std.specs.Prelude.{◌≡◌, ◌⊎◌, ℕ, ◌-◌, ◌<◌, ◌==◌, ◌&&◌, Bool, true, false, IsTrue, not, max, List, [], ◌∷◌, ◌++◌, Option, Some, None, length, map, take, drop, slice_get, slice_index_or, if◌then◌else◌}
+use Rattle.std.specs.Prelude.{◌≡◌, ◌⊎◌, ℕ, ◌-◌, ◌<◌, ◌==◌, ◌&&◌, Bool, true, false, IsTrue, not, max, List, [], ◌∷◌, ◌++◌, Option, Some, None, map, take, drop, slice_get, if◌then◌else◌}
 use Rattle.log_node.specs.declared.ids.Id.{Id}
 use Rattle.log_node.specs.declared.ids.Key.{Key}
 use Rattle.log_node.specs.declared.ids.Counts.{Counts}
 use Rattle.log_node.specs.declared.node.Node.{Node}
-use Rattle.log_node.specs.Order.{same_id, key_below}
+use Rattle.log_node.specs.Order.{key_below}
 use Rattle.log_node.specs.Vectors.{at, vector, least}
 use Rattle.log_node.specs.Seen.{PlacedNode, BegunAppend}
 use Rattle.skeen_core.specs.declared.marks.Outcome.{Outcome}

@@ -344,7 +344,8 @@ impl Column {
     pub fn held(&self) -> Counts
         ensures { result ≡ held self.now.region (history_of self.now) }
     {
-        alone(self.region, self.queue.line().len() as u64)
+        let own = self.queue.line().len() as u64;
+        alone(self.region, own)
     }
 
     /// How many nodes of each region's chain may be played.

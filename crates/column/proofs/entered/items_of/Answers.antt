@@ -1,4 +1,4 @@
-use Rattle.std.proofs.Common.{◌≡◌, ◌∙◌, ◌++◌, ◌∷◌, [], List, take, get_or, ap, sym, arith, ◌≤◌}
+use Rattle.std.proofs.Common.{◌∙◌, ◌++◌, ◌∷◌, [], List, take, get_or, ap, sym, arith}
 use Rattle.std.proofs.lemmas.List.{take_all}
 use Rattle.log_node.specs.declared.ids.Key.{Key}
 use Rattle.log_node.specs.Seen.{PlacedNode}

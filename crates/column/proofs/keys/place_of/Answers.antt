@@ -1,5 +1,4 @@
-use Rattle.std.proofs.Common.{◌≡◌, rules, of_calls, sym, ap, ◌∙◌, arith, true, false, ℕ, ◌<◌, ◌≤◌, length, get_or}
-use Rattle.std.specs.List.Sorted.{IsPartitionPoint}
+use Rattle.std.proofs.Common.{rules, of_calls, sym, ap, ◌∙◌, arith}
 use Rattle.std.proofs.lemmas.Fn.{always_returns_same}
 use Rattle.log_node.specs.declared.ids.Key.{Key}
 use Rattle.log_node.specs.Order.{same_key, key_below}

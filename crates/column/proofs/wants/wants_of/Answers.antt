@@ -1,6 +1,5 @@
-use Rattle.std.proofs.Common.{◌≡◌, ℕ, Option, Some, None, ap, sym, ◌∙◌, arith}
+use Rattle.std.proofs.Common.{ℕ, Option, ap, sym, ◌∙◌, arith}
 use Rattle.std.specs.Prelude.{unwrap_or, slice_get}
-use Rattle.std.specs.Option.{option_copied}
 use Rattle.log_node.specs.declared.ids.Counts.{Counts}
 use Rattle.log_node.specs.Vectors.{zeros}
 use Rattle.column.proofs.Ranks.{wants_by_rank}

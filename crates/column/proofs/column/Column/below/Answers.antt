@@ -1,13 +1,12 @@
-use Rattle.std.proofs.Common.{◌≡◌, ap, sym, subst, ◌∙◌, List, length, Option, arith}
+use Rattle.std.proofs.Common.{◌≡◌, ap, sym, subst, ◌∙◌, List, arith}
 use Rattle.std.specs.List.{AllByRecursion, find}
-use Rattle.log_node.specs.Seen.{BegunAppend}
 use Rattle.skeen_core.specs.declared.waiting.Waiting.{Waiting}
 use Rattle.skeen_core.specs.Standings.{queue_of}
 use Rattle.skeen_core.specs.Queues.{kept_count, waiting_entries}
 use Rattle.skeen_core.proofs.Lists.{each-drop, each-weaker}
 use Rattle.col_core.specs.History.{entries}
 use Rattle.column.specs.Entering.{EnteredNode}
-use Rattle.column.specs.Columns.{ColumnState, is_waiting_below, IsBegunAt, HasRow}
+use Rattle.column.specs.Columns.{ColumnState, is_waiting_below, IsBegunAt}
 use Rattle.column.specs.Inside.{IsEntered}
 use Rattle.column.specs.Views.{IsBelow}
 use Rattle.column.proofs.Helping.{count_below, id_below}

@@ -1,4 +1,4 @@
-use Rattle.std.proofs.Common.{◌≡◌, List, ap, sym, ◌∙◌, length}
+use Rattle.std.proofs.Common.{List, ap, sym, ◌∙◌, length}
 use Rattle.log_node.specs.declared.ids.Key.{Key}
 use Rattle.skeen_core.specs.Standings.{line_of}
 use Rattle.column.specs.Columns.{alone, cut_of}

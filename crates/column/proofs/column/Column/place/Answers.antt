@@ -1,5 +1,4 @@
-use Rattle.std.proofs.Common.{◌≡◌, ap, sym, subst, ◌∙◌, List}
-use Rattle.log_node.specs.declared.ids.Key.{Key}
+use Rattle.std.proofs.Common.{ap, sym, subst, ◌∙◌}
 use Rattle.skeen_core.specs.Standings.{line_of}
 use Rattle.col_core.specs.History.{line}
 use Rattle.col_core.proofs.ChainGrowth.{line_rises}

@@ -1,7 +1,6 @@
-use Rattle.std.proofs.Common.{◌≡◌, true, ◌∙◌, ◌++◌, ◌∷◌, [], List, length, sym, ap, subst, arith, length-append}
+use Rattle.std.proofs.Common.{◌≡◌, true, ◌∙◌, ◌∷◌, [], sym, ap, subst, arith, length-append}
 use Rattle.std.proofs.lemmas.Bool.{and_parts}
 use Rattle.skeen_core.specs.declared.stamps.TheConstants.{MAX_STAMP}
-use Rattle.skeen_core.specs.Standings.{Standing}
 use Rattle.skeen_core.specs.Queues.{MaySettle, has_open, is_decided}
 use Rattle.col_core.specs.declared.Event.TheVariants as events
 use Rattle.col_core.specs.declared.Entry.{Entry}
