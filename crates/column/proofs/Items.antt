@@ -1,5 +1,6 @@
 -- The nodes of a line as one reads them.
-use Rattle.std.proofs.Common.{◌≡◌, ◌≢◌, ℕ, zero, suc, ◌+◌, ◌-◌, ◌<◌, min, zero-add, length-drop, List, [], ◌∷◌, ◌++◌, length, take, drop, get_or, Some, refl, ap, sym, subst, ◌∙◌, arith}
+use Rattle.std.proofs.Common.{◌≡◌, ◌≢◌, ℕ, zero, suc, ◌+◌, ◌-◌, ◌<◌, min, zero-add, length-drop, List, [], ◌∷◌, ◌++◌}
+use Rattle.std.proofs.Common.{length, take, drop, get_or, Some, refl, ap, sym, subst, ◌∙◌, arith}
 use Rattle.std.specs.Prelude.{map, slice_get}
 use Rattle.std.specs.List.{AllByRecursion}
 use Rattle.std.proofs.lemmas.List.{take_more, take_all, length-take-le}
@@ -28,11 +29,14 @@ under-append : (keys : List Key) (nodes : List EnteredNode) (k : Key) (n : Enter
 under-append [] [] k n same = refl
 under-append [] (m ∷ nodes) k n same = absurd (let f : ⊥ = omega (arith, same) in f)
 under-append (l ∷ keys) [] k n same = absurd (let f : ⊥ = omega (arith, same) in f)
-under-append (l ∷ keys) (m ∷ nodes) k n same = ap (λ (is : List PlacedNode). placed l m ∷ is) (under-append keys nodes k n (omega (arith, same)))
+under-append (l ∷ keys) (m ∷ nodes) k n same =
+    ap (λ (is : List PlacedNode). placed l m ∷ is) (under-append keys nodes k n (omega (arith, same)))
 
 -- one node more
-pub under_more : (keys : List Key) (nodes : List EnteredNode) (n : ℕ) (k : Key) (e : EnteredNode) → length keys ≡ length nodes → n < length keys
-    → items_under (take (n + 1) keys) (take (n + 1) nodes) ≡ items_under (take n keys) (take n nodes) ++ placed (get_or keys n k) (get_or nodes n e) ∷ []
+pub under_more : (keys : List Key) (nodes : List EnteredNode) (n : ℕ) (k : Key) (e : EnteredNode) → length keys
+    ≡ length nodes → n < length keys
+    → items_under (take (n + 1) keys) (take (n + 1) nodes) ≡ items_under (take n keys) (take n nodes)
+    ++ placed (get_or keys n k) (get_or nodes n e) ∷ []
 under_more keys nodes n k e same lt =
     let a = length-take-le n keys (omega (arith, lt)) in
     let b = length-take-le n nodes (omega (arith, lt, same)) in
@@ -43,17 +47,22 @@ under_more keys nodes n k e same lt =
 module _ (region colour : ℕ) (journal : List Entry) where
   -- the nodes under the keys of stored entries have the heads that the history tells
   stored_heads : (ws : List (Waiting EnteredNode)) → AllByRecursion (IsEntered region colour journal) ws
-      → map (λ (i : PlacedNode). i.head) (items_under (map (λ (w : Waiting EnteredNode). w.key) ws) (map (λ (w : Waiting EnteredNode). w.thing) ws))
-      ≡ map (λ (key : Key). let h : Head = record { key = key; needs = needs_of (dated region journal) key.id } in h) (map (λ (w : Waiting EnteredNode). w.key) ws)
+      → map (λ (i : PlacedNode). i.head)
+      (items_under (map (λ (w : Waiting EnteredNode). w.key) ws) (map (λ (w : Waiting EnteredNode). w.thing) ws))
+      ≡ map (λ (key : Key). let h : Head = record { key = key; needs = needs_of (dated region journal) key.id } in h)
+      (map (λ (w : Waiting EnteredNode). w.key) ws)
   stored_heads [] h = refl
   stored_heads (w ∷ ws) h =
       ap (λ (v : Counts). let a : Head = record { key = w.key; needs = v } in a ∷ map (λ (i : PlacedNode). i.head)
-      (items_under (map (λ (w : Waiting EnteredNode). w.key) ws) (map (λ (w : Waiting EnteredNode). w.thing) ws))) (sym h.0.needs)
-      ∙ ap (λ (hs : List Head). let a : Head = record { key = w.key; needs = needs_of (dated region journal) w.key.id } in a ∷ hs) (stored_heads ws h.1)
+      (items_under (map (λ (w : Waiting EnteredNode). w.key) ws) (map (λ (w : Waiting EnteredNode). w.thing) ws)))
+      (sym h.0.needs)
+      ∙ ap (λ (hs : List Head). let a : Head =
+      record { key = w.key; needs = needs_of (dated region journal) w.key.id } in a ∷ hs) (stored_heads ws h.1)
 
 -- and are the stored nodes
 stored_at : (ws : List (Waiting EnteredNode)) (n : ℕ) (i : PlacedNode)
-    → slice_get (items_under (map (λ (w : Waiting EnteredNode). w.key) ws) (map (λ (w : Waiting EnteredNode). w.thing) ws)) n ≡ Some i
+    → slice_get (items_under (map (λ (w : Waiting EnteredNode). w.key) ws)
+    (map (λ (w : Waiting EnteredNode). w.thing) ws)) n ≡ Some i
     → (w : Waiting EnteredNode) × (slice_get ws n ≡ Some w) × (placed w.key w.thing ≡ i)
 stored_at [] n i is = absurd (none-some i is)
 stored_at (w ∷ ws) zero i is = (w, refl, same_Some (placed w.key w.thing) i is)
@@ -64,14 +73,17 @@ map_drop f zero xs = refl
 map_drop f (suc n) [] = refl
 map_drop f (suc n) (x ∷ xs) = map_drop f n xs
 
-got_dropped : {A : Type 0} (s : ℕ) (xs : List A) (n : ℕ) (x : A) → slice_get (drop s xs) n ≡ Some x → slice_get xs (s + n) ≡ Some x
+got_dropped : {A : Type 0} (s : ℕ) (xs : List A) (n : ℕ) (x : A) → slice_get (drop s xs) n ≡ Some x
+    → slice_get xs (s + n) ≡ Some x
 got_dropped zero xs n x is = subst (λ (k : ℕ). slice_get xs k ≡ Some x) (sym (zero-add n)) is
 got_dropped (suc s) [] n x is = absurd (none-some x is)
-got_dropped (suc s) (y ∷ ys) n x is = subst (λ (k : ℕ). slice_get (y ∷ ys) k ≡ Some x) (suc_more s n) (got_dropped s ys n x is) where
-  suc_more : (s n : ℕ) → suc (s + n) ≡ suc s + n
-  suc_more s n = omega arith
+got_dropped (suc s) (y ∷ ys) n x is =
+    subst (λ (k : ℕ). slice_get (y ∷ ys) k ≡ Some x) (suc_more s n) (got_dropped s ys n x is) where
+      suc_more : (s n : ℕ) → suc (s + n) ≡ suc s + n
+      suc_more s n = omega arith
 
-got_taken : {A : Type 0} (m : ℕ) (xs : List A) (n : ℕ) (x : A) → slice_get (take m xs) n ≡ Some x → slice_get xs n ≡ Some x
+got_taken : {A : Type 0} (m : ℕ) (xs : List A) (n : ℕ) (x : A) → slice_get (take m xs) n ≡ Some x → slice_get xs n
+    ≡ Some x
 got_taken zero xs n x is = absurd (none-some x is)
 got_taken (suc m) [] n x is = absurd (none-some x is)
 got_taken (suc m) (y ∷ ys) zero x is = is
@@ -95,10 +107,12 @@ each-taken P (suc n) [] h = tt
 each-taken P (suc n) (x ∷ xs) h = (h.0, each-taken P n xs h.1)
 
 -- the column's own nodes from a place on
-module _ (column : ColumnState) (h : IsColumn column) (keys : List Key) (things : List EnteredNode) (region from start : ℕ)
+module _ (column : ColumnState) (h : IsColumn column) (keys : List Key) (things : List EnteredNode)
+    (region from start : ℕ)
     (is_own : region ≡ column.region) (keys_are : keys ≡ line_of column.queue.entries)
     (things_are : things ≡ map (λ (w : Waiting EnteredNode). w.thing) (kept_entries column.queue))
-    (same : map (λ (w : Waiting EnteredNode). w.key) (kept_entries column.queue) ≡ drop column.queue.base (line_of column.queue.entries))
+    (same : map (λ (w : Waiting EnteredNode). w.key) (kept_entries column.queue)
+    ≡ drop column.queue.base (line_of column.queue.entries))
     (start_is : start ≡ min from (length keys)) where
   keys_kept : keys ≡ map (λ (w : Waiting EnteredNode). w.key) (kept_entries column.queue)
   keys_kept = keys_are ∙ sym (same ∙ ap (λ (n : ℕ). drop n (line_of column.queue.entries)) h.none_dropped)
@@ -112,9 +126,14 @@ module _ (column : ColumnState) (h : IsColumn column) (keys : List Key) (things 
   items_are : items_under (drop start keys) (drop start things) ≡ own_nodes
   items_are =
       ap (λ (ks : List Key). items_under (drop start ks) (drop start things)) keys_kept
-      ∙ (ap (λ (ts : List EnteredNode). items_under (drop start (map (λ (w : Waiting EnteredNode). w.key) (kept_entries column.queue))) (drop start ts)) things_are
-      ∙ (ap (λ (ks : List Key). items_under ks (drop start (map (λ (w : Waiting EnteredNode). w.thing) (kept_entries column.queue)))) (map_drop (λ (w : Waiting EnteredNode). w.key) start (kept_entries column.queue))
-      ∙ ap (items_under (map (λ (w : Waiting EnteredNode). w.key) us)) (map_drop (λ (w : Waiting EnteredNode). w.thing) start (kept_entries column.queue))))
+      ∙ (ap (λ (ts : List EnteredNode). items_under
+      (drop start (map (λ (w : Waiting EnteredNode). w.key) (kept_entries column.queue))) (drop start ts))
+      things_are
+      ∙ (ap (λ (ks : List Key). items_under ks
+      (drop start (map (λ (w : Waiting EnteredNode). w.thing) (kept_entries column.queue))))
+      (map_drop (λ (w : Waiting EnteredNode). w.key) start (kept_entries column.queue))
+      ∙ ap (items_under (map (λ (w : Waiting EnteredNode). w.key) us))
+      (map_drop (λ (w : Waiting EnteredNode). w.thing) start (kept_entries column.queue))))
 
   lines : line column.journal ≡ keys
   lines = sym (keys_are ∙ ap line_of h.entries_are)
@@ -137,13 +156,15 @@ module _ (column : ColumnState) (h : IsColumn column) (keys : List Key) (things 
   heads_are =
       let all = own_heads column.region column.journal in
       let known = each-drop (IsEntered column.region column.colour column.journal) start (kept_entries column.queue)
-          (each-taken (IsEntered column.region column.colour column.journal) (kept_count column.queue) column.queue.stored h.things) in
+      (each-taken (IsEntered column.region column.colour column.journal) (kept_count column.queue) column.queue.stored
+      h.things) in
       stored_heads column.region column.colour column.journal us known
       ∙ (sym (ap (map head) (map_drop (λ (w : Waiting EnteredNode). w.key) start (kept_entries column.queue)))
       ∙ (ap (λ (ks : List Key). map head (drop start ks)) (sym keys_kept)
       ∙ (sym (map_drop head start keys)
       ∙ (ap (λ (ks : List Key). drop start (map head ks)) (sym lines)
-      ∙ (ap (λ (n : ℕ). drop n all) (start_is ∙ ap (min from) (ap length (sym lines) ∙ sym (length_map head (line column.journal))))
+      ∙ (ap (λ (n : ℕ). drop n all)
+      (start_is ∙ ap (min from) (ap length (sym lines) ∙ sym (length_map head (line column.journal))))
       ∙ (drop_least from all
       ∙ (sym (all_of (at (cut_of column) region) from all (cut_is ∙ sym (length_map head (line column.journal))))
       ∙ ap (λ (hs : List Head). take (at (cut_of column) region - from) (drop from hs))
@@ -151,20 +172,30 @@ module _ (column : ColumnState) (h : IsColumn column) (keys : List Key) (things 
 
   nodes_are : (n : ℕ) (i : PlacedNode) → slice_get own_nodes n ≡ Some i → HasStored column i.head.key i.node
   nodes_are n i is =
-      let w = stored_at us n i is in
-      (start + n, w.0, got_taken (kept_count column.queue) column.queue.stored (start + n) w.0 (got_dropped start (kept_entries column.queue) n w.0 w.1),
-      ap (λ (j : PlacedNode). j.head.key) w.2, ap (λ (j : PlacedNode). j.node) w.2)
+      let w = stored_at us n i is in (
+        start + n,
+        w.0,
+        got_taken (kept_count column.queue) column.queue.stored (start + n) w.0
+            (got_dropped start (kept_entries column.queue) n w.0 w.1),
+        ap (λ (j : PlacedNode). j.head.key) w.2,
+        ap (λ (j : PlacedNode). j.node) w.2,
+      )
 
-  pub own_items : AreItems column region from (at (cut_of column) region) (items_under (drop start keys) (drop start things))
-  own_items = subst (λ (is : List PlacedNode). AreItems column region from (at (cut_of column) region) is) (sym items_are)
+  pub own_items : AreItems column region from (at (cut_of column) region)
+      (items_under (drop start keys) (drop start things))
+  own_items = subst (λ (is : List PlacedNode). AreItems column region from (at (cut_of column) region) is)
+      (sym items_are)
       (record { heads = heads_are; nodes = nodes_are })
 
 module _ (column : ColumnState) (h : IsColumn column) where
   -- of another region there are none
-  pub other_items : (region from : ℕ) → region ≢ column.region → AreItems column region from (at (cut_of column) region) []
+  pub other_items : (region from : ℕ) → region ≢ column.region
+      → AreItems column region from (at (cut_of column) region) []
   other_items region from ne = record {
-    heads = sym (ap (λ (hs : List Head). take (at (cut_of column) region - from) (drop from hs)) (other_chains column.region h.in_range column.journal h.own region ne)
-        ∙ (ap (take (at (cut_of column) region - from)) (none_dropped from) ∙ none_taken (at (cut_of column) region - from)));
+    heads = sym (ap (λ (hs : List Head). take (at (cut_of column) region - from) (drop from hs))
+        (other_chains column.region h.in_range column.journal h.own region ne)
+        ∙ (ap (take (at (cut_of column) region - from)) (none_dropped from)
+        ∙ none_taken (at (cut_of column) region - from)));
     nodes = λ n i is. absurd (none-some i is);
   } where
     none_dropped : (n : ℕ) → ◌≡◌ {A = List Head} (drop n []) []

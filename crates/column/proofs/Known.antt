@@ -21,7 +21,8 @@ use Rattle.column.proofs.Owning.{same_entries}
 pub is_past : (own regions : ℕ) (journal : List Entry) → IsColumnHistory own regions (dated own journal)
     → IsLawfulPast (reverse journal)
 is_past own regions journal lawful =
-    subst (λ (h : List Entry). IsLawfulPast (reverse h)) (same_entries own journal) (lawful_past own regions (dated own journal) lawful)
+    subst (λ (h : List Entry). IsLawfulPast (reverse h)) (same_entries own journal)
+    (lawful_past own regions (dated own journal) lawful)
 
 -- the entries rise in key
 pub entries_rise : (own regions : ℕ) (journal : List Entry) → IsColumnHistory own regions (dated own journal)
@@ -29,9 +30,11 @@ pub entries_rise : (own regions : ℕ) (journal : List Entry) → IsColumnHistor
 entries_rise own regions journal lawful =
     subst Rises (sym (entries-of journal)) (rises (reverse journal) (is_past own regions journal lawful))
 
-none_has : (id : Id) (es : List Standing) → ((x : Standing) → In x es → same_id x.key.id id ≡ false) → has_id id es ≡ false
+none_has : (id : Id) (es : List Standing) → ((x : Standing) → In x es → same_id x.key.id id ≡ false) → has_id id es
+    ≡ false
 none_has id [] h = refl
-none_has id (e ∷ es) h = or_from (same_id e.key.id id) (has_id id es) (h e (inl refl)) (none_has id es (λ x i. h x (inr i)))
+none_has id (e ∷ es) h =
+    or_from (same_id e.key.id id) (has_id id es) (h e (inl refl)) (none_has id es (λ x i. h x (inr i)))
 
 pub fresh_id : (own regions : ℕ) (journal : List Entry) (id : Id) → IsColumnHistory own regions (dated own journal)
     → has_entered id journal ≡ false → has_id id (entries journal) ≡ false
@@ -44,4 +47,5 @@ fresh_id own regions journal id lawful fresh =
       known : (x : Standing) → In x (entries journal) → has_entered x.key.id journal ≡ true
       known x i =
           ap (has_entered x.key.id) (sym (reverse-reverse journal))
-          ∙ shown_entered (reverse journal) (is_past own regions journal lawful) x (subst (λ (es : List Standing). In x es) (entries-of journal) i)
+          ∙ shown_entered (reverse journal) (is_past own regions journal lawful) x
+          (subst (λ (es : List Standing). In x es) (entries-of journal) i)

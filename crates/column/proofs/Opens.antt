@@ -28,7 +28,8 @@ count-without id (e ∷ es) =
     (λ fs. open_count fs ≤ open_count (e ∷ es)) (λ _. omega (arith, h)) (λ _. omega (arith, h))
 
 -- and one less where it was open
-count-opened : (id : Id) (es : List Standing) → has_open id es ≡ true → open_count (without_id id es) + 1 ≤ open_count es
+count-opened : (id : Id) (es : List Standing) → has_open id es ≡ true
+    → open_count (without_id id es) + 1 ≤ open_count es
 count-opened id [] some = absurd (true≢false (sym some))
 count-opened id (e ∷ es) some = elim (cases_Bool (is_open_id id e)) [
   | inl t ↦
@@ -41,14 +42,15 @@ count-opened id (e ∷ es) some = elim (cases_Bool (is_open_id id e)) [
       omega (arith, h, one, gone)
   | inr f ↦
       let later : has_open id es ≡ true = elim (or_cases (is_open_id id e) (has_open id es) some)
-          [ inl t ↦ absurd (true≢false (sym t ∙ f)) | inr r ↦ r ] in
+      [ inl t ↦ absurd (true≢false (sym t ∙ f)) | inr r ↦ r ] in
       let h = count-opened id es later in
       cond_both (not (same_id e.key.id id)) (e ∷ without_id id es) (without_id id es)
       (λ fs. open_count fs + 1 ≤ open_count (e ∷ es)) (λ _. omega (arith, h)) (λ _. omega (arith, h))
 ]
 
 -- a settling makes one less
-pub count-settled : (id : Id) (outcome : Outcome) (es : List Standing) → has_open id es ≡ true → is_decided outcome ≡ true
+pub count-settled : (id : Id) (outcome : Outcome) (es : List Standing) → has_open id es ≡ true → is_decided outcome
+    ≡ true
     → open_count (settled_entries id outcome es) + 1 ≤ open_count es
 count-settled id Open es some decided = absurd (true≢false (sym decided))
 count-settled id (Gone why) es some decided = count-opened id es some

@@ -1,5 +1,6 @@
 -- The cut of a chain whose nodes need only nodes before them, where the other chains are empty: the whole chain.
-use Rattle.std.proofs.Common.{◌≡◌, ◌≢◌, ◌⊎◌, inl, inr, ℕ, zero, suc, ◌+◌, ◌<◌, ◌≤◌, List, [], ◌∷◌, length, cond, Bool, true, false, Some, refl, ap, sym, subst, ◌∙◌, arith, lit<, eq-eqb, ne_eqb, le_refl, min}
+use Rattle.std.proofs.Common.{◌≡◌, ◌≢◌, ◌⊎◌, inl, inr, ℕ, zero, suc, ◌+◌, ◌<◌, ◌≤◌, List, [], ◌∷◌, length, cond, Bool}
+use Rattle.std.proofs.Common.{true, false, Some, refl, ap, sym, subst, ◌∙◌, arith, lit<, eq-eqb, ne_eqb, le_refl, min}
 use Rattle.std.specs.Prelude.{◌==◌, slice_get, if◌then◌else◌}
 use Rattle.std.proofs.lemmas.Bool.{cond-true, cond-false}
 use Rattle.std.proofs.lemmas.Bool.Decides.{eqb_tells}

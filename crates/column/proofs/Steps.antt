@@ -1,5 +1,6 @@
 -- What each event keeps true of a column.
-use Rattle.std.proofs.Common.{◌≡◌, ℕ, zero, suc, ◌<◌, ◌≤◌, true, false, List, [], ◌∷◌, ◌++◌, length, take, Some, None, refl, ap, sym, subst, ◌∙◌, arith}
+use Rattle.std.proofs.Common.{◌≡◌, ℕ, zero, suc, ◌<◌, ◌≤◌, true, false, List, [], ◌∷◌, ◌++◌, length, take, Some, None}
+use Rattle.std.proofs.Common.{refl, ap, sym, subst, ◌∙◌, arith}
 use Rattle.std.specs.Prelude.{slice_get, IsSomeAnd, Option}
 use Rattle.std.specs.List.{list_any}
 use Rattle.std.proofs.lemmas.Bool.{true≢false, cond_both}
@@ -23,7 +24,8 @@ use Rattle.col_core.specs.Computed.{cut, dated}
 use Rattle.col_core.specs.Legal.{IsColumnHistory, IsLawfulEvent, IsSettling, MayEnter}
 use Rattle.col_core.proofs.Appending.{entries-append, clock-append, dated-append}
 use Rattle.col_core.proofs.Basics.{same_id-refl}
-use Rattle.column.specs.Columns.{ColumnState, new_column, stamp_for, entered_node, single_event, propose_event, after_single, after_propose, after_settle, after_raise}
+use Rattle.column.specs.Columns.{ColumnState, new_column, stamp_for, entered_node, single_event, propose_event}
+use Rattle.column.specs.Columns.{after_single, after_propose, after_settle, after_raise}
 use Rattle.column.specs.Inside.{IsColumn}
 use Rattle.column.proofs.Owning.{same_entries, own_none, own_more}
 use Rattle.column.proofs.Storing.{all-more, entered-new, all-settled}
@@ -39,7 +41,8 @@ of_last P (x ∷ xs) last old new (suc i) a is = of_last (λ k. P (suc k)) xs la
 
 -- a lawful history with one lawful event more
 lawful_more : (own regions : ℕ) (journal : List Entry) (e : Entry) → IsColumnHistory own regions (dated own journal)
-    → IsLawfulEvent own regions (dated own journal) e.event e.stamp → IsColumnHistory own regions (dated own (journal ++ e ∷ []))
+    → IsLawfulEvent own regions (dated own journal) e.event e.stamp
+    → IsColumnHistory own regions (dated own (journal ++ e ∷ []))
 lawful_more own regions journal e old new =
     let ds = dated own journal in
     let date : Dated = record { entry = e; cut_before = cut own (dated own journal) } in
@@ -55,7 +58,8 @@ lawful_more own regions journal e old new =
 
 -- a node may enter under the next stamp
 may_enter : (own : ℕ) (journal : List Entry) (id : Id) (floor : ℕ) → has_entered id journal ≡ false
-    → next_stamp journal floor ≤ last_stamp → MayEnter (entries_of (dated own journal)) id floor (next_stamp journal floor)
+    → next_stamp journal floor ≤ last_stamp
+    → MayEnter (entries_of (dated own journal)) id floor (next_stamp journal floor)
 may_enter own journal id floor fresh room =
     subst (λ (h : List Entry). MayEnter h id floor (next_stamp journal floor)) (sym (same_entries own journal))
     (record { fresh = fresh; stamped = refl; in_range = room })
@@ -74,7 +78,8 @@ new_is region colour regions in_range in_colours = record {
 }
 
 -- a node that enters
-module _ (column : ColumnState) (by : ℕ) (node : Node) (h : IsColumn column) (fresh : has_entered node.id column.journal ≡ false)
+module _ (column : ColumnState) (by : ℕ) (node : Node) (h : IsColumn column)
+    (fresh : has_entered node.id column.journal ≡ false)
     (in_region : node.region ≡ column.region) (in_colour : has node.colours column.colour ≡ true)
     (room : stamp_for column node ≤ last_stamp) where
   abbrev single : Entry
@@ -84,10 +89,12 @@ module _ (column : ColumnState) (by : ℕ) (node : Node) (h : IsColumn column) (
   proposal = record { by = by; event = propose_event column.colour node; stamp = stamp_for column node }
 
   single_lawful : IsColumnHistory column.region column.regions (dated column.region (column.journal ++ single ∷ []))
-  single_lawful = lawful_more column.region column.regions column.journal single h.lawful (may_enter column.region column.journal node.id node.floor fresh room)
+  single_lawful = lawful_more column.region column.regions column.journal single h.lawful
+      (may_enter column.region column.journal node.id node.floor fresh room)
 
   proposal_lawful : IsColumnHistory column.region column.regions (dated column.region (column.journal ++ proposal ∷ []))
-  proposal_lawful = lawful_more column.region column.regions column.journal proposal h.lawful (may_enter column.region column.journal node.id node.floor fresh room)
+  proposal_lawful = lawful_more column.region column.regions column.journal proposal h.lawful
+      (may_enter column.region column.journal node.id node.floor fresh room)
 
   -- as final
   pub single_is : IsColumn (after_single column by node)
@@ -97,13 +104,19 @@ module _ (column : ColumnState) (by : ℕ) (node : Node) (h : IsColumn column) (
     clock_is = let e = clock-append column.journal single in omega (arith, e);
     entries_are =
         let w = entry_under (stamp_for column node) node.id true (entered_node column node) in
-        ap (with_entry (record { key = w.key; settled = true })) h.entries_are ∙ sym (entries-append column.journal single);
+        ap (with_entry (record { key = w.key; settled = true })) h.entries_are
+        ∙ sym (entries-append column.journal single);
     none_dropped = h.none_dropped;
     lawful = single_lawful;
-    own = own_more column.region column.regions h.in_range column.journal single h.own single_lawful (λ region. refl) (λ rs region before counts. refl);
-    things = each-append _ column.queue.stored _ (all-more column.region column.colour column.journal single column.queue.stored h.things)
-        (entered-new column.region column.colour column.journal single (entry_under (stamp_for column node) node.id true (entered_node column node))
-        fresh (same_id-refl node.id) refl in_region in_colour (refl, refl, refl) refl tt, tt);
+    own = own_more column.region column.regions h.in_range column.journal single h.own single_lawful (λ region. refl)
+        (λ rs region before counts. refl);
+    things = each-append _ column.queue.stored _
+        (all-more column.region column.colour column.journal single column.queue.stored h.things) (
+          entered-new column.region column.colour column.journal single
+              (entry_under (stamp_for column node) node.id true (entered_node column node))
+              fresh (same_id-refl node.id) refl in_region in_colour (refl, refl, refl) refl tt,
+          tt,
+        );
   }
 
   -- as open
@@ -114,13 +127,19 @@ module _ (column : ColumnState) (by : ℕ) (node : Node) (h : IsColumn column) (
     clock_is = let e = clock-append column.journal proposal in omega (arith, e);
     entries_are =
         let w = entry_under (stamp_for column node) node.id false (entered_node column node) in
-        ap (with_entry (record { key = w.key; settled = false })) h.entries_are ∙ sym (entries-append column.journal proposal);
+        ap (with_entry (record { key = w.key; settled = false })) h.entries_are
+        ∙ sym (entries-append column.journal proposal);
     none_dropped = h.none_dropped;
     lawful = proposal_lawful;
-    own = own_more column.region column.regions h.in_range column.journal proposal h.own proposal_lawful (λ region. refl) (λ rs region before counts. refl);
-    things = each-append _ column.queue.stored _ (all-more column.region column.colour column.journal proposal column.queue.stored h.things)
-        (entered-new column.region column.colour column.journal proposal (entry_under (stamp_for column node) node.id false (entered_node column node))
-        fresh (same_id-refl node.id) refl in_region in_colour (refl, refl, refl) refl row, tt);
+    own = own_more column.region column.regions h.in_range column.journal proposal h.own proposal_lawful
+        (λ region. refl) (λ rs region before counts. refl);
+    things = each-append _ column.queue.stored _
+        (all-more column.region column.colour column.journal proposal column.queue.stored h.things) (
+          entered-new column.region column.colour column.journal proposal
+              (entry_under (stamp_for column node) node.id false (entered_node column node))
+              fresh (same_id-refl node.id) refl in_region in_colour (refl, refl, refl) refl row,
+          tt,
+        );
   }
 
 -- the open entry of an id, where there is one
@@ -138,7 +157,8 @@ settling : (id : Id) (outcome : Outcome) (es : List Standing) → has_open id es
 settling id outcome es some decided may =
     let o = opened id es some in
     subst (λ (x : Option Standing). IsSomeAnd x (IsSettling outcome)) (sym o.1) (each outcome decided may) where
-      each : (outcome : Outcome) → is_decided outcome ≡ true → MaySettle id outcome es MAX_STAMP → IsSettling outcome (opened id es some).0
+      each : (outcome : Outcome) → is_decided outcome ≡ true → MaySettle id outcome es MAX_STAMP
+          → IsSettling outcome (opened id es some).0
       each Open decided may = absurd (true≢false (sym decided))
       each (Gone why) decided may = tt
       each (Final f) decided may = may (opened id es some).0 (opened id es some).1
@@ -156,25 +176,31 @@ module _ (column : ColumnState) (by : ℕ) (id : Id) (outcome : Outcome) (h : Is
   settlement = record { by = by; event = events.Settle id outcome; stamp = 0 }
 
   settle_lawful : IsColumnHistory column.region column.regions (dated column.region (column.journal ++ settlement ∷ []))
-  settle_lawful = lawful_more column.region column.regions column.journal settlement h.lawful
-      (refl, subst (λ (l : List Entry). IsSomeAnd (open_entry id (entries l)) (IsSettling outcome)) (sym (same_entries column.region column.journal))
-      (settling id outcome (entries column.journal) some decided may))
+  settle_lawful = lawful_more column.region column.regions column.journal settlement h.lawful (
+    refl,
+    subst (λ (l : List Entry). IsSomeAnd (open_entry id (entries l)) (IsSettling outcome))
+        (sym (same_entries column.region column.journal))
+        (settling id outcome (entries column.journal) some decided may),
+  )
 
   pub settle_is : IsColumn (after_settle column by id outcome)
   settle_is = record {
     in_range = h.in_range;
     in_colours = h.in_colours;
-    clock_is = let a = h.clock_is in let b = clock-append column.journal settlement in let c = same_final outcome in omega (arith, a, b, c);
+    clock_is = let a = h.clock_is in let b = clock-append column.journal settlement in let c = same_final outcome in
+        omega (arith, a, b, c);
     entries_are = ap (settled_entries id outcome) h.entries_are ∙ sym (entries-append column.journal settlement);
     none_dropped = h.none_dropped;
     lawful = settle_lawful;
-    own = own_more column.region column.regions h.in_range column.journal settlement h.own settle_lawful (λ region. refl) (λ rs region before counts. refl);
+    own = own_more column.region column.regions h.in_range column.journal settlement h.own settle_lawful
+        (λ region. refl) (λ rs region before counts. refl);
     things = all-settled column.region column.colour (column.journal ++ settlement ∷ []) id outcome column.queue.stored
         (all-more column.region column.colour column.journal settlement column.queue.stored h.things);
   }
 
 -- the clock is raised
-module _ (column : ColumnState) (by to : ℕ) (h : IsColumn column) (above : clock column.journal < to) (within : to ≤ MAX_STAMP) where
+module _ (column : ColumnState) (by to : ℕ) (h : IsColumn column) (above : clock column.journal < to)
+    (within : to ≤ MAX_STAMP) where
   abbrev raising : Entry
   raising = record { by = by; event = events.Raise to; stamp = 0 }
 
@@ -190,6 +216,7 @@ module _ (column : ColumnState) (by to : ℕ) (h : IsColumn column) (above : clo
     entries_are = h.entries_are ∙ sym (entries-append column.journal raising);
     none_dropped = h.none_dropped;
     lawful = raise_lawful;
-    own = own_more column.region column.regions h.in_range column.journal raising h.own raise_lawful (λ region. refl) (λ rs region before counts. refl);
+    own = own_more column.region column.regions h.in_range column.journal raising h.own raise_lawful (λ region. refl)
+        (λ rs region before counts. refl);
     things = all-more column.region column.colour column.journal raising column.queue.stored h.things;
   }

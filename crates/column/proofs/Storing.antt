@@ -36,7 +36,8 @@ module _ (region colour : ℕ) (journal : List Entry) (e : Entry) where
   date = record { entry = e; cut_before = cut region (dated region journal) }
 
   -- a stored entry stays one
-  pub entered-more : (w : Waiting EnteredNode) → IsEntered region colour journal w → IsEntered region colour (journal ++ e ∷ []) w
+  pub entered-more : (w : Waiting EnteredNode) → IsEntered region colour journal w
+      → IsEntered region colour (journal ++ e ∷ []) w
   entered-more w h = record {
     id = h.id;
     in_region = h.in_region;
@@ -75,7 +76,8 @@ module _ (region colour : ℕ) (journal : List Entry) (e : Entry) where
 
   pub all-more : (ws : List (Waiting EnteredNode)) → AllByRecursion (IsEntered region colour journal) ws
       → AllByRecursion (IsEntered region colour (journal ++ e ∷ [])) ws
-  all-more ws h = each-weaker (IsEntered region colour journal) (IsEntered region colour (journal ++ e ∷ [])) entered-more ws h
+  all-more ws h = each-weaker (IsEntered region colour journal) (IsEntered region colour (journal ++ e ∷ []))
+      entered-more ws h
 
 module _ (region colour : ℕ) (journal : List Entry) where
   abbrev IsIn : Waiting EnteredNode → Type 0
@@ -108,7 +110,8 @@ module _ (region colour : ℕ) (journal : List Entry) where
       (λ _ e. subst IsIn (same_Some v w e) h.0) (λ _ e. found-in test vs w h.1 e) is
 
   all-found : (f : ℕ) (o : Option (Waiting EnteredNode)) (ws : List (Waiting EnteredNode))
-      → ((w : Waiting EnteredNode) → o ≡ Some w → IsIn w) → AllByRecursion IsIn ws → AllByRecursion IsIn (with_found f o ws)
+      → ((w : Waiting EnteredNode) → o ≡ Some w → IsIn w) → AllByRecursion IsIn ws
+      → AllByRecursion IsIn (with_found f o ws)
   all-found f None ws found h = h
   all-found f (Some w) ws found h = all-with (final_entry f w) ws (entered-final f w (found w refl)) h
 

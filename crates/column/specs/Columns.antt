@@ -1,5 +1,6 @@
 -- What contracts see of a column, and what its calls make of it.
-use Rattle.std.specs.Prelude.{◌≡◌, ◌⊎◌, ℕ, ◌-◌, ◌<◌, ◌==◌, ◌&&◌, Bool, true, false, IsTrue, not, max, List, [], ◌∷◌, ◌++◌, Option, Some, None, map, take, drop, slice_get, if◌then◌else◌}
+use Rattle.std.specs.Prelude.{◌≡◌, ◌⊎◌, ℕ, ◌-◌, ◌<◌, ◌==◌, ◌&&◌, Bool, true, false, IsTrue, not, max, List, [], ◌∷◌}
+use Rattle.std.specs.Prelude.{◌++◌, Option, Some, None, map, take, drop, slice_get, if◌then◌else◌}
 use Rattle.log_node.specs.declared.ids.Id.{Id}
 use Rattle.log_node.specs.declared.ids.Key.{Key}
 use Rattle.log_node.specs.declared.ids.Counts.{Counts}

@@ -21,8 +21,10 @@ use Rattle.column.specs.Columns.{ColumnState, history_of, alone, HasRow}
 
 -- the event is the one by which a node enters
 abbrev pub EntersNode : ℕ → Node → Event → Type 0
-EntersNode colour node (Single id floor wants) = (id ≡ node.id) × (floor ≡ node.floor) × (wants ≡ node_wants node colour)
-EntersNode colour node (Propose id floor wants) = (id ≡ node.id) × (floor ≡ node.floor) × (wants ≡ node_wants node colour)
+EntersNode colour node (Single id floor wants) = (id ≡ node.id) × (floor ≡ node.floor)
+    × (wants ≡ node_wants node colour)
+EntersNode colour node (Propose id floor wants) = (id ≡ node.id) × (floor ≡ node.floor)
+    × (wants ≡ node_wants node colour)
 EntersNode colour node (Settle _ _) = ⊥
 EntersNode colour node (Raise _) = ⊥
 EntersNode colour node (Give _ _) = ⊥

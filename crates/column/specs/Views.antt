@@ -11,7 +11,8 @@ use Rattle.skeen_core.specs.Queues.{waiting_entries}
 use Rattle.col_core.specs.History.{entries}
 use Rattle.column.specs.declared.views.View.{View}
 use Rattle.column.specs.declared.views.Below.{Below}
-use Rattle.column.specs.Columns.{ColumnState, cut_of, base_of, greater, AreItems, is_open_below, is_waiting_below, IsBegunAt}
+use Rattle.column.specs.Columns.{ColumnState, cut_of, base_of, greater, AreItems, is_open_below, is_waiting_below}
+use Rattle.column.specs.Columns.{IsBegunAt}
 
 -- what one sees who looked at a column from these counts on
 pub record IsView (column : ColumnState) (from : Counts) (view : View) : Type 0 where

@@ -2,7 +2,8 @@
 // a Distributed System" (1978), stamps and delivery those of Skeen's multicast, as in Birman and Joseph, "Reliable
 // Communication in the Presence of Failures" (1987), colours and chains those of Lockerman et al., "The FuzzyLog" (OSDI
 // 2018). The journal is this project's own.
-ghost use Rattle.std.specs.Prelude.{◌≡◌, ◌<◌, ◌≤◌, ◌&&◌, true, false, None, Some, nat_lt, length, map, slice_get, if◌then◌else◌, IfOk, IfErr, OnOk, OnErr};
+ghost use Rattle.std.specs.Prelude.{◌≡◌, ◌<◌, ◌≤◌, ◌&&◌, true, false, None, Some, nat_lt, length, map, slice_get};
+ghost use Rattle.std.specs.Prelude.{if◌then◌else◌, IfOk, IfErr, OnOk, OnErr};
 ghost use Rattle.std.specs.List.{position};
 ghost use Rattle.std.specs.Option.{option_map};
 ghost use Rattle.log_node.specs.Order.{same_key};
@@ -245,7 +246,8 @@ impl Column {
         if to <= self.queue.clock() {
             return Ok(At::Look(place));
         }
-        self.journal.reserve(self.opens + self.spare + self.spare + 1)?;
+        self.journal
+            .reserve(self.opens + self.spare + self.spare + 1)?;
         self.queue.raise(to);
         self.journal.push_reserved(Entry {
             by,

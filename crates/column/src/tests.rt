@@ -155,7 +155,12 @@ fn a_look_shows_the_nodes_with_what_they_need(rt: HostRuntime) -> Result<(), Fai
     assert_eq!(rt; view.base, Counts([0; 4]));
     let chains = view.items.as_slice();
     assert_eq!(rt; chains.len(), 4);
-    let lengths = [chains[0].len(), chains[1].len(), chains[2].len(), chains[3].len()];
+    let lengths = [
+        chains[0].len(),
+        chains[1].len(),
+        chains[2].len(),
+        chains[3].len(),
+    ];
     assert_eq!(rt; lengths, [1, 0, 0, 0]);
     let item = &chains[0].as_slice()[0];
     assert_eq!(rt; item.head.key, key(2, 0));

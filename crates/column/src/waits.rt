@@ -20,7 +20,10 @@ fn is_open_below(entry: &Waiting<Entered>, key: Key) -> bool
 pub(crate) fn open_below(waiting: &[Waiting<Entered>], key: Key) -> usize
     ensures { result ≡ length (filter (is_waiting_below key) waiting.now) }
 {
-    waiting.iter().filter(|entry| is_open_below(entry, key)).count()
+    waiting
+        .iter()
+        .filter(|entry| is_open_below(entry, key))
+        .count()
 }
 
 // The first open entry with a key below.

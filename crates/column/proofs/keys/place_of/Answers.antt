@@ -39,4 +39,8 @@ returns-else-is_same c =
     let h = c.in_ok-found.ensures.lookup in
     sym (place-none keys key c.requires place key c.partition_point-place.ensures.bound
     (λ k lt. point.0 k key (omega arith) lt)
-    (λ lt. (point.1 place key (omega arith) lt, ap (λ (k : Key). same_key k key) (sym (h.3.1 key)) ∙ sym c.if-is_same.ensures)))
+    (λ lt. (
+      point.1 place key (omega arith) lt,
+      ap (λ (k : Key). same_key k key) (sym (h.3.1 key))
+          ∙ sym c.if-is_same.ensures,
+    )))

@@ -32,9 +32,12 @@ read c = record {
 }
 
 -- the column then
-state : (c : goal.After-push_reserved) → ◌≡◌ {A = ColumnState} (record (old_of c) { journal = c.push_reserved.new.self.items; queue = c.propose-stamp.new.self })
+state : (c : goal.After-push_reserved)
+    → ◌≡◌ {A = ColumnState}
+    (record (old_of c) { journal = c.push_reserved.new.self.items; queue = c.propose-stamp.new.self })
     (after_propose (old_of c) c.args.by c.args.node.value)
-state c = propose-state (read c) c.args.by c.push_reserved.new.self.items c.propose-stamp.new.self c.push_reserved.ensures.items c.propose-stamp.ensures.queue
+state c = propose-state (read c) c.args.by c.push_reserved.new.self.items c.propose-stamp.new.self
+    c.push_reserved.ensures.items c.propose-stamp.ensures.queue
 
 pub propose-stamp-requires-clause-fresh : goal.propose-stamp-requires-clause-fresh
 propose-stamp-requires-clause-fresh c =
@@ -54,7 +57,8 @@ invariant_of-self c =
     let i = c.self.inside in
     let node = c.args.node.value in
     let back = sym c.self.view_is in
-    subst (λ (q : ColumnState). IsKept q (i.opens + 1) (i.spare - 1) (vec_capacity c.push_reserved.new.self)) (sym (state c)) (record {
+    subst (λ (q : ColumnState). IsKept q (i.opens + 1) (i.spare - 1) (vec_capacity c.push_reserved.new.self))
+    (sym (state c)) (record {
       column_is = propose_is (old_of c) c.args.by node c.self.invariant.column_is
           (subst (λ (q : ColumnState). has_entered node.id q.journal ≡ false) back c.requires.fresh)
           (subst (λ (q : ColumnState). node.region ≡ q.region) back c.requires.region)

@@ -32,9 +32,12 @@ read c = record {
 }
 
 -- the column then
-state : (c : goal.After-push_reserved) → ◌≡◌ {A = ColumnState} (record (old_of c) { journal = c.push_reserved.new.self.items; queue = c.enter-stamp.new.self })
+state : (c : goal.After-push_reserved)
+    → ◌≡◌ {A = ColumnState}
+    (record (old_of c) { journal = c.push_reserved.new.self.items; queue = c.enter-stamp.new.self })
     (after_single (old_of c) c.args.by c.args.node.value)
-state c = single-state (read c) c.args.by c.push_reserved.new.self.items c.enter-stamp.new.self c.push_reserved.ensures.items c.enter-stamp.ensures.queue
+state c = single-state (read c) c.args.by c.push_reserved.new.self.items c.enter-stamp.new.self
+    c.push_reserved.ensures.items c.enter-stamp.ensures.queue
 
 pub enter-stamp-requires-clause-fresh : goal.enter-stamp-requires-clause-fresh
 enter-stamp-requires-clause-fresh c =
@@ -54,7 +57,8 @@ invariant_of-self c =
     let i = c.self.inside in
     let node = c.args.node.value in
     let back = sym c.self.view_is in
-    subst (λ (q : ColumnState). IsKept q i.opens (i.spare - 1) (vec_capacity c.push_reserved.new.self)) (sym (state c)) (record {
+    subst (λ (q : ColumnState). IsKept q i.opens (i.spare - 1) (vec_capacity c.push_reserved.new.self))
+    (sym (state c)) (record {
       column_is = single_is (old_of c) c.args.by node c.self.invariant.column_is
           (subst (λ (q : ColumnState). has_entered node.id q.journal ≡ false) back c.requires.fresh)
           (subst (λ (q : ColumnState). node.region ≡ q.region) back c.requires.region)

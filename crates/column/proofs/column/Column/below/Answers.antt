@@ -20,11 +20,16 @@ returns c =
     let value = c.waiting-waiting.ensures.value in
     let are = c.waiting-waiting.ensures.entries ∙ ap queue_of k.entries_are in
     let ids = subst (AllByRecursion (λ (w : Waiting EnteredNode). w.thing.node.id ≡ w.key.id)) (sym value)
-    (each-weaker (IsEntered i.region i.colour i.journal.items) (λ (w : Waiting EnteredNode). w.thing.node.id ≡ w.key.id) (λ w e. e.id)
-    (waiting_entries i.queue) (each-drop (IsEntered i.region i.colour i.journal.items) (kept_count i.queue) i.queue.stored k.things)) in
-    subst (λ (q : ColumnState). IsBelow q c.args.key (record { events = c.len.result; count = c.open_below.result; first = c.first_below.result })) c.self.view_is (record {
+    (each-weaker (IsEntered i.region i.colour i.journal.items)
+    (λ (w : Waiting EnteredNode). w.thing.node.id ≡ w.key.id) (λ w e. e.id)
+    (waiting_entries i.queue)
+    (each-drop (IsEntered i.region i.colour i.journal.items) (kept_count i.queue) i.queue.stored k.things)) in
+    subst (λ (q : ColumnState). IsBelow q c.args.key
+    (record { events = c.len.result; count = c.open_below.result; first = c.first_below.result })) c.self.view_is
+    (record {
       events = omega (arith, c.len.ensures, i.journal.ok.0);
       count = c.open_below.ensures ∙ count_below c.args.key (entries i.journal.items) ws are;
       first_id = id_below c.args.key (entries i.journal.items) ws c.first_below.result are ids c.first_below.ensures;
-      first = subst (λ (vs : List (Waiting EnteredNode)). IsBegunAt c.first_below.result (find (is_waiting_below c.args.key) vs)) value c.first_below.ensures;
+      first = subst (λ (vs : List (Waiting EnteredNode)). IsBegunAt c.first_below.result
+          (find (is_waiting_below c.args.key) vs)) value c.first_below.ensures;
     })

@@ -12,4 +12,5 @@ returns c =
     let k = c.self.invariant.column_is in
     c.alone.ensures
     ∙ (ap (λ (keys : List Key). alone i.region (length keys)) (c.line.ensures ∙ ap line_of k.entries_are)
-    ∙ (sym (own_held i.region k.in_range i.journal.items k.own) ∙ ap (λ (column : ColumnState). held column.region (history_of column)) c.self.view_is))
+    ∙ (sym (own_held i.region k.in_range i.journal.items k.own)
+    ∙ ap (λ (column : ColumnState). held column.region (history_of column)) c.self.view_is))

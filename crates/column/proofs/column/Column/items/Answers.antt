@@ -14,7 +14,15 @@ rest start xs = take_all (length xs - start) (drop start xs) (let d = length-dro
 pub returns : goal.returns
 returns c =
     let i = c.self.inside in
-    let old : ColumnState = record { region = i.region; colour = i.colour; regions = i.regions; journal = i.journal.items; queue = i.queue } in
+    let old : ColumnState =
+    record {
+      region = i.region;
+      colour = i.colour;
+      regions = i.regions;
+      journal = i.journal.items;
+      queue =
+          i.queue;
+    } in
     let keys = c.line-keys.result.now in
     let things = c.kept.result.1.now in
     let start = c.min-start.result in
@@ -25,5 +33,6 @@ returns c =
     ∙ ap (items_under (drop start keys)) (rest start things)) in
     subst (λ (q : ColumnState). AreItems q region c.args.from (at (cut_of q) region) c.in_ok-items.items) c.self.view_is
     (subst (λ (items : List PlacedNode). AreItems old region c.args.from (at (cut_of old) region) items) (sym is)
-    (own_items old c.self.invariant.column_is keys things region c.args.from start c.if-region-self.false c.line-keys.ensures
+    (own_items old c.self.invariant.column_is keys things region c.args.from start c.if-region-self.false
+    c.line-keys.ensures
     c.kept.ensures.things c.kept.ensures.keys c.min-start.ensures))

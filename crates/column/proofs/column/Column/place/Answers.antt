@@ -10,6 +10,15 @@ pub place_of-requires : goal.place_of-requires
 place_of-requires c =
     let i = c.self.inside in
     let k = c.self.invariant.column_is in
-    let old : ColumnState = record { region = i.region; colour = i.colour; regions = i.regions; journal = i.journal.items; queue = i.queue } in
-    subst AreRising (sym (c.line.ensures ∙ (ap line_of k.entries_are ∙ ap line (sym (same_entries i.region i.journal.items)))))
+    let old : ColumnState =
+    record {
+      region = i.region;
+      colour = i.colour;
+      regions = i.regions;
+      journal = i.journal.items;
+      queue =
+          i.queue;
+    } in
+    subst AreRising (sym (c.line.ensures
+    ∙ (ap line_of k.entries_are ∙ ap line (sym (same_entries i.region i.journal.items)))))
     (line_rises i.region i.regions (history_of old) k.lawful)

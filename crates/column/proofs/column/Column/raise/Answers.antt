@@ -10,7 +10,15 @@ invariant_of-self-2 c =
     let i = c.self.inside in
     let k = c.self.invariant.column_is in
     let r = c.self.invariant.room_is in
-    let old : ColumnState = record { region = i.region; colour = i.colour; regions = i.regions; journal = i.journal.items; queue = i.queue } in
+    let old : ColumnState =
+    record {
+      region = i.region;
+      colour = i.colour;
+      regions = i.regions;
+      journal = i.journal.items;
+      queue =
+          i.queue;
+    } in
     let e : Entry = record { by = c.args.by; event = events.Raise c.args.to; stamp = 0 } in
     let journal = c.push_reserved.ensures.items ∙ ap (λ (l : List Entry). l ++ e ∷ []) c.in_ok-reserve.ensures.items in
     let now = k.clock_is in
@@ -22,7 +30,14 @@ invariant_of-self-2 c =
       room_is = record {
         enough = r.enough;
         few = omega (arith, longer, r.few);
-        room = omega (arith, longer, c.in_ok-reserve.ensures.ok, c.in_ok-reserve.ensures.len, c.push_reserved.ensures.capacity, i.journal.ok.0);
+        room = omega (
+          arith,
+          longer,
+          c.in_ok-reserve.ensures.ok,
+          c.in_ok-reserve.ensures.len,
+          c.push_reserved.ensures.capacity,
+          i.journal.ok.0,
+        );
         spares = r.spares;
       };
     })

@@ -13,7 +13,8 @@ use Rattle.column.proofs.column.Column.settle.Goals as goal
 pub overflow_sub-self : goal.overflow_sub-self
 overflow_sub-self c =
     let i = c.self.inside in
-    let p = and_parts (has_open c.args.id i.queue.entries) (is_decided c.args.outcome) (sym c.if-not-settle.ensures.answer) in
+    let p = and_parts (has_open c.args.id i.queue.entries) (is_decided c.args.outcome)
+    (sym c.if-not-settle.ensures.answer) in
     let less = count-settled c.args.id c.args.outcome i.queue.entries p.0 p.1 in
     let enough = c.self.invariant.room_is.enough in
     omega (arith, less, enough)
@@ -21,7 +22,8 @@ overflow_sub-self c =
 pub push_reserved-requires : goal.push_reserved-requires
 push_reserved-requires c =
     let i = c.self.inside in
-    let p = and_parts (has_open c.args.id i.queue.entries) (is_decided c.args.outcome) (sym c.if-not-settle.ensures.answer) in
+    let p = and_parts (has_open c.args.id i.queue.entries) (is_decided c.args.outcome)
+    (sym c.if-not-settle.ensures.answer) in
     let less = count-settled c.args.id c.args.outcome i.queue.entries p.0 p.1 in
     let r = c.self.invariant.room_is in
     omega (arith, less, r.enough, r.room, i.journal.ok.0)
@@ -33,11 +35,20 @@ invariant_of-self-2 c =
     let r = c.self.invariant.room_is in
     let id = c.args.id in
     let outcome = c.args.outcome in
-    let old : ColumnState = record { region = i.region; colour = i.colour; regions = i.regions; journal = i.journal.items; queue = i.queue } in
+    let old : ColumnState =
+    record {
+      region = i.region;
+      colour = i.colour;
+      regions = i.regions;
+      journal = i.journal.items;
+      queue =
+          i.queue;
+    } in
     let e : Entry = record { by = c.args.by; event = events.Settle id outcome; stamp = 0 } in
     let p = and_parts (has_open id i.queue.entries) (is_decided outcome) (sym c.if-not-settle.ensures.answer) in
     let some : has_open id (entries i.journal.items) ≡ true = ap (has_open id) (sym k.entries_are) ∙ p.0 in
-    let may = subst (λ (q : ColumnState). MaySettle id outcome (entries q.journal) MAX_STAMP) (sym c.self.view_is) c.requires in
+    let may = subst (λ (q : ColumnState). MaySettle id outcome (entries q.journal) MAX_STAMP) (sym c.self.view_is)
+    c.requires in
     let less = count-settled id outcome i.queue.entries p.0 p.1 in
     let longer = length-append i.journal.items (e ∷ []) in
     rw (c.push_reserved.ensures.items, c.if-not-settle.ensures.queue) (record {
