@@ -11,3 +11,4 @@ pub mod Places
 pub mod Helping
 pub mod Items
 pub mod Pushing
+pub mod Fronts

@@ -1,10 +1,12 @@
 -- What a column keeps true of its fields.
-use Rattle.std.specs.Prelude.{◌≡◌, ℕ, ◌+◌, ◌<◌, ◌≤◌, true, List, [], ◌∷◌, Some, length, slice_get, if◌then◌else◌}
+use Rattle.std.specs.Prelude.{◌≡◌, ℕ, ◌+◌, ◌<◌, ◌≤◌, true, IsTrue, List, [], ◌∷◌, Some, length, slice_get}
+use Rattle.std.specs.Prelude.{if◌then◌else◌}
 use Rattle.std.specs.List.{AllByRecursion, flat_map}
 use Rattle.log_node.specs.declared.ids.Id.{Id}
 use Rattle.log_node.specs.declared.ids.Key.{Key}
 use Rattle.log_node.specs.declared.node.Node.{Node}
 use Rattle.log_node.specs.Vectors.{IsWithin}
+use Rattle.log_node.specs.Order.{key_below}
 use Rattle.log_node.specs.Sets.{has}
 use Rattle.skeen_core.specs.declared.waiting.Waiting.{Waiting}
 use Rattle.skeen_core.specs.Standings.{Standing}
@@ -49,6 +51,11 @@ pub record IsOwn (own : ℕ) (journal : List Entry) : Type 0 where
   pub needs_all : (id : Id) → IsWithin (needs_of (dated own journal) id) (alone own (length (line journal)))
   pub needs_before : (n : ℕ) (key : Key) → slice_get (line journal) n ≡ Some key
       → IsWithin (needs_of (dated own journal) key.id) (alone own n)
+
+-- every key is above those before it
+abbrev pub Rises : List Standing → Type 0
+Rises [] = Unit {0}
+Rises (e ∷ es) = AllByRecursion (λ (f : Standing). IsTrue (key_below e.key f.key)) es × Rises es
 
 -- how many entries are open
 abbrev pub open_count : List Standing → ℕ
