@@ -1,0 +1,14 @@
+pub mod OwnCuts
+pub mod OwnChains
+pub mod Owning
+pub mod Opens
+pub mod Storing
+pub mod Steps
+pub mod Known
+pub mod Ranks
+pub mod Entering
+pub mod Places
+pub mod Helping
+pub mod Items
+pub mod Pushing
+pub mod Fronts

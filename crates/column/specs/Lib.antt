@@ -1,0 +1,4 @@
+pub mod Entering
+pub mod Columns
+pub mod Inside
+pub mod Views
