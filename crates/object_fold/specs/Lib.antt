@@ -3,3 +3,4 @@ pub mod Maps
 pub mod Transactions
 pub mod Queues
 pub mod Causal
+pub mod Tables
