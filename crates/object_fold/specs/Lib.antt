@@ -4,3 +4,4 @@ pub mod Transactions
 pub mod Queues
 pub mod Causal
 pub mod Tables
+pub mod States

@@ -1,8 +1,12 @@
 //! The objects, each folded from the nodes that a client has played.
 #![tactic(auto)]
 
+mod shard_map;
+mod shards;
 mod table;
 mod verdict;
 
+pub use shard_map::ShardMap;
+pub use shards::shard_of;
 pub use table::Table;
 pub use verdict::Verdict;
