@@ -1,11 +1,13 @@
 //! The objects, each folded from the nodes that a client has played.
 #![tactic(auto)]
 
+mod several_keys;
 mod shard_map;
 mod shards;
 mod table;
 mod verdict;
 
+pub use several_keys::{Values, values_among};
 pub use shard_map::ShardMap;
 pub use shards::shard_of;
 pub use table::Table;
