@@ -5,10 +5,12 @@ mod several_keys;
 mod shard_map;
 mod shards;
 mod table;
+mod tx_state;
 mod verdict;
 
 pub use several_keys::{Values, values_among};
 pub use shard_map::ShardMap;
 pub use shards::shard_of;
 pub use table::Table;
+pub use tx_state::{TxState, Written};
 pub use verdict::Verdict;
