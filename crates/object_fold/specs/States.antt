@@ -9,6 +9,8 @@ use Rattle.log_node.specs.declared.forms.Version.{Version}
 use Rattle.log_node.specs.declared.forms.Form.{Form}
 use Rattle.object_fold.specs.declared.tx_state.Written.{Written}
 use Rattle.object_fold.specs.declared.tx_state.TxState.{TxState}
+use Rattle.object_fold.specs.declared.queue.Queue.{Queue}
+use Rattle.object_fold.specs.Queues.{queue_after}
 use Rattle.object_fold.specs.Transactions.{Write, last_write, is_same_writer, writes_after}
 use Rattle.object_fold.specs.declared.shard_map.ShardMap.{ShardMap}
 use Rattle.object_fold.specs.Nodes.{ObjectNode, shard_of}
@@ -64,3 +66,7 @@ written_pairs writer key old pairs =
 -- a key's version, by the entries
 abbrev pub version_in : List (List ℕ × Written) → List ℕ → Version
 version_in entries key = record { key = key; writer = writer_in entries key }
+
+-- the queue holds what these nodes leave waiting
+abbrev pub IsQueue : Queue → List ObjectNode → Type 0
+IsQueue queue nodes = queue.waiting.items ≡ queue_after nodes

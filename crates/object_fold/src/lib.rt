@@ -1,6 +1,7 @@
 //! The objects, each folded from the nodes that a client has played.
 #![tactic(auto)]
 
+mod queue;
 mod several_keys;
 mod shard_map;
 mod shards;
@@ -8,6 +9,7 @@ mod table;
 mod tx_state;
 mod verdict;
 
+pub use queue::Queue;
 pub use several_keys::{Values, values_among};
 pub use shard_map::ShardMap;
 pub use shards::shard_of;
