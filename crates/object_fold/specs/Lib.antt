@@ -3,3 +3,5 @@ pub mod Maps
 pub mod Transactions
 pub mod Queues
 pub mod Causal
+pub mod Tables
+pub mod States

@@ -1,5 +1,5 @@
 -- The queue: what waits after nodes in order, and what a dequeue answers.
-use Rattle.std.specs.Prelude.{ℕ, List, [], ◌∷◌, ◌++◌, slice_get}
+use Rattle.std.specs.Prelude.{ℕ, List, [], ◌∷◌, ◌++◌, None, slice_get}
 use Rattle.std.specs.List.{fold}
 use Rattle.log_node.specs.declared.ids.Key.{Key}
 use Rattle.log_node.specs.declared.forms.Form.{Form}
@@ -23,6 +23,17 @@ queue_with waiting (forms.PutAll pairs) = waiting
 queue_with waiting (forms.Transaction reads pairs) = waiting
 queue_with waiting (forms.Causal key value) = waiting
 queue_with waiting forms.Plain = waiting
+
+-- what a form is answered over what waits: a dequeue the front, if there is one
+abbrev pub answer_with : List (List ℕ) → Form → Value
+answer_with waiting (forms.Enqueue value) = None
+answer_with waiting forms.Dequeue = slice_get waiting 0
+answer_with waiting (forms.Put key value) = None
+answer_with waiting (forms.Delete key) = None
+answer_with waiting (forms.PutAll pairs) = None
+answer_with waiting (forms.Transaction reads pairs) = None
+answer_with waiting (forms.Causal key value) = None
+answer_with waiting forms.Plain = None
 
 -- what waits after nodes, the first of them first
 abbrev pub queue_after : List ObjectNode → List (List ℕ)

@@ -1,5 +1,5 @@
 -- The transactional map: which transactions commit, what they leave, and what a conflict names.
-use Rattle.std.specs.Prelude.{Bool, true, false, ℕ, List, [], ◌∷◌, map, Option, Some, None, if◌then◌else◌}
+use Rattle.std.specs.Prelude.{Bool, true, false, not, ℕ, List, [], ◌∷◌, map, Option, Some, None, if◌then◌else◌}
 use Rattle.std.specs.List.{fold, find}
 use Rattle.std.specs.Option.{option_map}
 use Rattle.std.specs.Str.{bytes_eq}
@@ -41,24 +41,28 @@ is_same_writer None (Some b) = false
 is_same_writer (Some a) None = false
 is_same_writer (Some a) (Some b) = same_key a b
 
--- the first key read that has another last committed writer than the one that was read
-abbrev pub first_conflict : List Write → List Version → Option (List ℕ)
-first_conflict writes [] = None
-first_conflict writes (read ∷ reads) =
-    if is_same_writer read.writer (writer_of writes read.key) then first_conflict writes reads else Some read.key
+-- the key that was read has another last committed writer than the one that was read
+abbrev pub differs : List Write → Version → Bool
+differs writes read = not (is_same_writer read.writer (writer_of writes read.key))
+
+-- the first such key
+abbrev pub first_conflict : List Write → List Version → Option Version
+first_conflict writes reads = find (differs writes) reads
 
 -- the stamp of a writer, 0 where there is none
 abbrev pub stamp_of : Option Key → ℕ
 stamp_of None = 0
 stamp_of (Some key) = key.stamp
 
--- The verdict on a transaction under this stamp that read these versions: it commits where no key that it read has
--- another last committed writer.
+-- the verdict where that is the first conflict, under a stamp
+abbrev pub verdict_by : List Write → ℕ → Option Version → Verdict
+verdict_by writes stamp None = Committed stamp
+verdict_by writes stamp (Some read) = Conflict read.key (stamp_of (writer_of writes read.key))
+
+-- The verdict on a transaction under a stamp that read these versions: it commits where no key that it read has another
+-- last committed writer.
 abbrev pub verdict_on : List Write → ℕ → List Version → Verdict
-verdict_on writes stamp reads = verdict (first_conflict writes reads) where
-  verdict : Option (List ℕ) → Verdict
-  verdict None = Committed stamp
-  verdict (Some key) = Conflict key (stamp_of (writer_of writes key))
+verdict_on writes stamp reads = verdict_by writes stamp (first_conflict writes reads)
 
 -- the writes of pairs from left to right, by this writer
 abbrev pub written : Key → List Write → List Pair → List Write

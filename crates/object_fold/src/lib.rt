@@ -1,6 +1,18 @@
 //! The objects, each folded from the nodes that a client has played.
 #![tactic(auto)]
 
+mod queue;
+mod several_keys;
+mod shard_map;
+mod shards;
+mod table;
+mod tx_state;
 mod verdict;
 
+pub use queue::Queue;
+pub use several_keys::{Values, values_among};
+pub use shard_map::ShardMap;
+pub use shards::shard_of;
+pub use table::Table;
+pub use tx_state::{TxState, Written};
 pub use verdict::Verdict;

@@ -1,6 +1,7 @@
 -- The form of a text, computed: the text is cut at its signs, and the pieces are tested.
 use Rattle.std.specs.Prelude.{Bool, false, ℕ, ◌+◌, ◌-◌, ◌*◌, ◌^◌, ◌==◌, nat_le, ◌&&◌, ◌||◌, List, [], ◌∷◌, length, map, Option, Some, None, if◌then◌else◌}
 use Rattle.std.specs.List.{list_all, fold, slice_split, before_first, after_first}
+use Rattle.std.specs.Borrow.{Bor}
 use Rattle.std.specs.Str.{bytes_eq}
 use Rattle.log_node.specs.declared.ids.Key.{Key}
 use Rattle.log_node.specs.declared.forms.Pair.{Pair}
@@ -17,9 +18,13 @@ before sign bytes = before_first (λ b. b == sign) bytes
 abbrev pub after : ℕ → List ℕ → List ℕ
 after sign bytes = after_first (λ b. b == sign) bytes
 
--- the parts between commas
+-- the parts between commas, at least one
 abbrev pub parts : List ℕ → List (List ℕ)
 parts bytes = slice_split (λ b. b == comma) bytes
+
+-- the parts that a slice of slices holds
+abbrev pub pieces_in : List (Bor (List ℕ)) → List (List ℕ)
+pieces_in pieces = map (λ piece. piece.now) pieces
 
 abbrev pub is_digit : ℕ → Bool
 is_digit b = nat_le 48 b && nat_le b 57
@@ -34,7 +39,8 @@ number_value digits = fold (λ n b. 10 * n + (b - 48)) 0 digits
 
 -- the digits are a number from the one to the other
 abbrev pub is_number_from : ℕ → ℕ → List ℕ → Bool
-is_number_from low high digits = is_number digits && nat_le low (number_value digits) && nat_le (number_value digits) high
+is_number_from low high digits =
+    is_number digits && nat_le low (number_value digits) && nat_le (number_value digits) high
 
 -- KEY=VALUE
 abbrev pub is_pair : List ℕ → Bool
@@ -43,13 +49,10 @@ is_pair bytes = is_word (before equals bytes) && is_word (after equals bytes)
 abbrev pub pair_of : List ℕ → Pair
 pair_of bytes = record { key = before equals bytes; value = after equals bytes }
 
--- at most so many pairs with commas, with distinct keys
-abbrev pub are_pairs : ℕ → List ℕ → Bool
-are_pairs most bytes =
-    nat_le (length (parts bytes)) most && list_all is_pair (parts bytes) && are_distinct (map (before equals) (parts bytes))
-
-abbrev pub pairs_of : List ℕ → List Pair
-pairs_of bytes = map pair_of (parts bytes)
+-- parts that are at most so many pairs, with distinct keys
+abbrev pub are_pairs : ℕ → List (List ℕ) → Bool
+are_pairs most pieces =
+    nat_le (length pieces) most && list_all is_pair pieces && are_distinct (map (before equals) pieces)
 
 -- STAMP.CLIENT.COUNT
 abbrev pub is_key : List ℕ → Bool
@@ -80,13 +83,10 @@ writer_of bytes = if is_dash bytes then None else Some (key_of bytes)
 abbrev pub version_of : List ℕ → Version
 version_of bytes = record { key = before at_sign bytes; writer = writer_of (after at_sign bytes) }
 
--- 1 or 2 versions with a comma, with distinct keys
-abbrev pub are_versions : List ℕ → Bool
-are_versions bytes =
-    nat_le (length (parts bytes)) 2 && list_all is_version (parts bytes) && are_distinct (map (before at_sign) (parts bytes))
-
-abbrev pub versions_of : List ℕ → List Version
-versions_of bytes = map version_of (parts bytes)
+-- parts that are at most two versions, with distinct keys
+abbrev pub are_versions : List (List ℕ) → Bool
+are_versions pieces =
+    nat_le (length pieces) 2 && list_all is_version pieces && are_distinct (map (before at_sign) pieces)
 
 -- the forms that begin with each letter, by the bytes after its colon
 abbrev pub put_of : List ℕ → Form
@@ -96,12 +96,14 @@ abbrev pub delete_of : List ℕ → Form
 delete_of bytes = if is_word bytes then forms.Delete bytes else forms.Plain
 
 abbrev pub put_all_of : List ℕ → Form
-put_all_of bytes = if are_pairs 4 bytes then forms.PutAll (pairs_of bytes) else forms.Plain
+put_all_of bytes =
+    if are_pairs 4 (parts bytes) then forms.PutAll (map pair_of (parts bytes)) else forms.Plain
 
 abbrev pub transaction_of : List ℕ → Form
 transaction_of bytes =
-    if are_versions (before bar bytes) && are_pairs 2 (after bar bytes)
-    then forms.Transaction (versions_of (before bar bytes)) (pairs_of (after bar bytes)) else forms.Plain
+    if are_versions (parts (before bar bytes)) && are_pairs 2 (parts (after bar bytes))
+    then forms.Transaction (map version_of (parts (before bar bytes))) (map pair_of (parts (after bar bytes)))
+    else forms.Plain
 
 abbrev pub enqueue_of : List ℕ → Form
 enqueue_of bytes = if is_word bytes then forms.Enqueue bytes else forms.Plain

@@ -1,2 +1,14 @@
 //! What the texts of nodes say to objects: puts, deletes, transactions and the like, written and read.
 #![tactic(auto)]
+
+mod laws;
+mod pieces;
+mod reading;
+mod writing;
+
+pub use laws::{forms_fit, reads_as_one, reads_back, texts_differ};
+pub use reading::read_form;
+pub use writing::write_form;
+
+#[cfg(test)]
+mod tests;

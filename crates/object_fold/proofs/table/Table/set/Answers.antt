@@ -1,0 +1,30 @@
+use Rattle.std.proofs.Common.{◌≡◌, ℕ, List, Some, sym, ap, cond, get_or, ◌∙◌}
+use Rattle.std.specs.Str.{bytes_eq}
+use Rattle.object_fold.specs.Tables.{value_at}
+use Rattle.object_fold.proofs.TableLemmas.{set_rises, set_value, insert_rises, insert_value}
+use Rattle.object_fold.proofs.table.Table.set.Goals as goal
+
+pub invariant_of-self : goal.invariant_of-self
+invariant_of-self g c =
+    let found = rw c.deref.ensures.value at (c.in-Ok.ensures.found) in
+    let item = c.index_mut.result.now in
+    set_rises c.self.inside.entries.items item.0 c.args.value c.in-Ok.place item c.self.invariant found.within (ap (λ (e : List ℕ × g.row.V.Denot). e.0) (sym c.index_mut.ensures.value))
+
+pub returns-in-Ok-clause-values : goal.returns-in-Ok-clause-values
+returns-in-Ok-clause-values g c = λ other.
+    let found = rw c.deref.ensures.value at (c.in-Ok.ensures.found) in
+    let item = c.index_mut.result.now in
+    let key = ap (λ (e : List ℕ × g.row.V.Denot). e.0) c.index_mut.ensures.value in
+    let same : item.0 ≡ c.args.key = key ∙ found.has item ∙ c.as_bytes.ensures in
+    rw (← c.self.view_is) (set_value c.self.inside.entries.items item.0 c.args.value c.in-Ok.place item other c.self.invariant found.within (sym key)
+    ∙ ap (λ (k : List ℕ). cond (bytes_eq k other) (Some c.args.value) (value_at c.self.inside.entries.items other)) same)
+
+pub invariant_of-self-in-Ok-insert : goal.invariant_of-self-in-Ok-insert
+invariant_of-self-in-Ok-insert g c =
+    let gap = rw (c.deref.ensures.value, c.as_bytes.ensures) at (c.in-Err.ensures.gap) in
+    rw c.in-Ok-insert.ensures.items (insert_rises c.self.inside.entries.items c.args.key c.args.value c.in-Err.place c.self.invariant gap.below gap.above)
+
+pub returns-in-Ok-insert-clause-values : goal.returns-in-Ok-insert-clause-values
+returns-in-Ok-insert-clause-values g c = λ other.
+    let gap = rw (c.deref.ensures.value, c.as_bytes.ensures) at (c.in-Err.ensures.gap) in
+    rw (c.in-Ok-insert.ensures.items, ← c.self.view_is) (insert_value c.self.inside.entries.items c.args.key c.args.value c.in-Err.place other gap.below)
