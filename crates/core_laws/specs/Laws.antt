@@ -107,7 +107,8 @@ StandsAsDecided w row (Gone why) =
 StandsAsDecided w row (Final f) =
     (colour : ℕ) → Contains (colours_of w row) colour → IsFinal (row_history w row colour) (row_of w row).node.id f
 
--- A colour with this mark is in no append's way: it has given a number, or memory is found and a stamp is left.
+-- The colour, which has this mark, does not hinder the append: the mark is a number, or it is missing, memory is found
+-- and a stamp is left.
 abbrev pub IsFree : World → Row → (ℕ → Bool) → ℕ → Mark → Type 0
 IsFree w row found colour marks.None = (found colour ≡ true) × (is_row_at_end w row colour ≡ false)
 IsFree w row found colour (marks.Number stamp) = Unit {0}
