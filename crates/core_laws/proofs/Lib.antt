@@ -8,8 +8,9 @@ mod OfRows
 pub mod Runs
 mod Agreement
 mod Later
-mod Completion
 mod Growing
+mod Completing
+mod Completion
 mod Told
 mod Telling
 mod RegionRows

@@ -107,7 +107,8 @@ of_home w region a x =
     record { number = r.0; begun = omega (arith, lt); home = eqb-true (home_of w a) region t; is = r.2 })
     (λ _ i. absurd i)
 
-pub of_region : (w : World) (region : ℕ) (x : BegunRow) → In x (rows_of_region w region) → (a : ℕ) × OfRegion w region a x
+pub of_region : (w : World) (region : ℕ) (x : BegunRow) → In x (rows_of_region w region)
+    → (a : ℕ) × OfRegion w region a x
 of_region w region x i =
     let r = in_flat_map (home_rows w region) (range_with_len 0 (length w.shape.homes)) x i in
     (r.0, of_home w region r.0 x r.2)

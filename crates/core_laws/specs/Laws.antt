@@ -11,6 +11,7 @@ use Rattle.log_node.specs.declared.node.Shape.{Shape}
 use Rattle.log_node.specs.Order.{key_below}
 use Rattle.log_node.specs.Vectors.{at, zeros, IsWithin}
 use Rattle.skeen_core.specs.declared.marks.Why.{Why}
+use Rattle.skeen_core.specs.declared.marks.Mark.{Mark}
 use Rattle.skeen_core.specs.declared.marks.Mark.TheVariants as marks
 use Rattle.skeen_core.specs.declared.marks.Outcome.{Outcome}
 use Rattle.skeen_core.specs.declared.marks.Outcome.TheVariants.{Open, Gone, Final}
@@ -25,7 +26,7 @@ use Rattle.col_core.specs.Legal.{IsColumnHistory}
 use Rattle.col_core.specs.Rows.{BegunRow, AreLawfulRows, node_wants}
 use Rattle.col_core.specs.Log.{Log, IsLater}
 use Rattle.core_laws.specs.declared.steps.Step.{Step}
-use Rattle.core_laws.specs.Worlds.{World, RowState, opened, run_steps, home_of, home_history, is_begun, row_of, row_history, cut_after, base_after}
+use Rattle.core_laws.specs.Worlds.{World, RowState, opened, run_steps, home_of, home_history, is_begun, is_row_at_end, row_of, row_history, cut_after, base_after}
 use Rattle.core_laws.specs.Completing.{colours_of, complete_steps}
 
 -- the law holds of every world that steps have made
@@ -106,17 +107,28 @@ StandsAsDecided w row (Gone why) =
 StandsAsDecided w row (Final f) =
     (colour : ℕ) → Contains (colours_of w row) colour → IsFinal (row_history w row colour) (row_of w row).node.id f
 
+-- The colour, which has this mark, does not hinder the append: the mark is a number, or it is missing, memory is found
+-- and a stamp is left.
+abbrev pub IsFree : World → Row → (ℕ → Bool) → ℕ → Mark → Type 0
+IsFree w row found colour marks.None = (found colour ≡ true) × (is_row_at_end w row colour ≡ false)
+IsFree w row found colour (marks.Number stamp) = Unit {0}
+IsFree w row found colour (marks.Fenced why) = ⊥
+
 -- the steps complete the append of so many colours
-pub record Completes (w : World) (row : Row) (steps : List Step) : Type 0 where
+pub record Completes (w : World) (row : Row) (found : ℕ → Bool) (steps : List Step) : Type 0 where
   pub few : length steps ≤ 2 * length (colours_of w row) + 1
   pub same : (row_of (run_steps w steps) row).node ≡ (row_of w row).node
   pub stands : StandsAsDecided (run_steps w steps) row (row_of (run_steps w steps) row).last
+  -- where each colour is free, the node is final
+  pub final : ((colour : ℕ) → Contains (colours_of w row) colour
+      → IsFree w row found colour ((row_of w row).marks colour))
+      → (f : ℕ) × ((row_of (run_steps w steps) row).last ≡ Final f)
 
 -- Any begun append can be completed by anybody, in at most one step to mark each colour, one to decide and one to
 -- settle each colour, whether memory is found or not.
 abbrev pub CanComplete : World → Type 0
 CanComplete w = (by : ℕ) (row : Row) (found : ℕ → Bool) → IsTrue (is_begun w row)
-    → Completes w row (complete_steps w by row found)
+    → Completes w row found (complete_steps w by row found)
 
 -- Growth
 
