@@ -1,3 +1,4 @@
 pub mod TableLemmas
 pub mod MapLemmas
 pub mod TxLemmas
+pub mod PastLemmas

@@ -1,6 +1,7 @@
 //! The objects, each folded from the nodes that a client has played.
 #![tactic(auto)]
 
+mod pasts;
 mod queue;
 mod several_keys;
 mod shard_map;

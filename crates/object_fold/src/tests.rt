@@ -1,6 +1,8 @@
 // Rows that were worked out by hand.
 use super::*;
-use log_node::{ColourList, Colours, Counts, Head, Id, Item, Key, Keys, ListOf, Node, Text};
+use log_node::{
+    ColourList, Colours, Counts, Head, Id, Item, Key, Keys, ListOf, Node, Text, Versions,
+};
 use std::alloc::{AllocError, Global};
 use std::process::Abort;
 use std::sync::Arc;
@@ -122,6 +124,14 @@ fn conflicts(rt: &impl Abort, verdict: Option<Verdict>, on: &[u8], wanted: u64) 
     }
 }
 
+/// The version at this place names this writer.
+fn is_writer(rt: &impl Abort, versions: &Versions, place: usize, writer: Option<Key>) {
+    match versions.get(place) {
+        Some(version) => assert_eq!(rt; version.writer, writer),
+        None => assert!(rt; false, "no version"),
+    }
+}
+
 #[test]
 fn a_transaction_commits_on_the_writers_that_it_read(rt: HostRuntime) -> Result<(), Fail> {
     let alloc = rt.alloc();
@@ -144,11 +154,13 @@ fn a_transaction_commits_on_the_writers_that_it_read(rt: HostRuntime) -> Result<
     );
     let wanted = keys(alloc, &[b"b", b"c"])?;
     let versions = map.versions(alloc, &wanted)?;
-    let versions = versions.as_slice();
-    assert_eq!(rt; versions[0].writer, Some(key(3, 1, 1)));
-    assert_eq!(rt; versions[1].writer, None);
+    is_writer(&rt, &versions, 0, Some(key(3, 1, 1)));
+    is_writer(&rt, &versions, 1, None);
     let values = map.values(alloc, &wanted)?;
-    is_value(&rt, values.as_slice()[0].as_ref(), b"9");
+    match values.get(0) {
+        Some(value) => is_value(&rt, value.as_ref(), b"9"),
+        None => assert!(rt; false, "no values"),
+    }
     Ok(())
 }
 
