@@ -103,6 +103,7 @@ impl TxState {
     }
 
     // The verdict on a transaction, whose writes are taken over where it commits.
+    #[tactic(auto, using(crate::proofs::TxLemmas::written_is))]
     fn rule(
         &mut self,
         alloc: Global,
