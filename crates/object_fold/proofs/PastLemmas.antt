@@ -126,7 +126,7 @@ from_counted node other lt h =
 -- ---- one more node
 
 -- what is played stays played, and what follows goes on to
-grow : (played : List ChainNode) (node : ChainNode) {x m : ChainNode} → Follows played x m → Follows (played ++ node ∷ []) x m
+pub grow : (played : List ChainNode) (node : ChainNode) {x m : ChainNode} → Follows played x m → Follows (played ++ node ∷ []) x m
 grow played node (at_once_of h) = at_once_of h
 grow played node (through {between = b} c h f) = through (Contains-append_left played (node ∷ []) b c) h (grow played node f)
 
@@ -171,7 +171,7 @@ module _ (pasts : List (List Counts)) (played : List ChainNode) (node : ChainNod
   not_itself_at b same h = let P : ChainNode → Type 0 = FollowsAtOnce node in not_itself (subst P (sym same) h)
 
   -- a played node follows what it followed before
-  shrink : {x m : ChainNode} → Follows (played ++ node ∷ []) x m → Contains played x → Follows played x m
+  pub shrink : {x m : ChainNode} → Follows (played ++ node ∷ []) x m → Contains played x → Follows played x m
   shrink (at_once_of h) c = at_once_of h
   shrink {x} (through {between = b} cb h f) c = elim (Contains-push_cases played node b cb) [
     | inl inside ↦ through inside h (shrink f inside)
@@ -247,7 +247,7 @@ module _ (pasts : List (List Counts)) (played : List ChainNode) (node : ChainNod
       let last : at kl.past t ≤ at past t = rw l.vector at (last_below pasts counted b.region t small lt) in
       omega (arith, rise, last)
 
-  to_new : {m : ChainNode} → Follows (played ++ node ∷ []) node m → m.position < at past m.region
+  pub to_new : {m : ChainNode} → Follows (played ++ node ∷ []) node m → m.position < at past m.region
   to_new {m} (at_once_of h) =
       let small = at_once_small m h in
       omega (arith, counted_from node m small h, start_below pasts counted m.region small)
@@ -262,7 +262,7 @@ module _ (pasts : List (List Counts)) (played : List ChainNode) (node : ChainNod
     | inr same ↦ absurd (not_itself_at b same h)
   ]
 
-  from_new : (m : ChainNode) → m.position < at past m.region → Follows (played ++ node ∷ []) node m
+  pub from_new : (m : ChainNode) → m.position < at past m.region → Follows (played ++ node ∷ []) node m
   from_new m h = elim (cases_lt m.region 4) [
     | inr beyond ↦ absurd (omega (arith, h, past_end pasts counted m.region beyond))
     | inl small ↦ elim (below_past pasts counted m.region m.position small h) [
@@ -311,7 +311,7 @@ module _ (pasts : List (List Counts)) (played : List ChainNode) (node : ChainNod
       ]
   ]
 
-  own_position : node.position ≡ length (past_chain pasts node.region)
+  pub own_position : node.position ≡ length (past_chain pasts node.region)
   own_position = next.position ∙ sym (known.lengths node.region)
 
   -- the vectors of the node's own chain are within its own

@@ -6,3 +6,4 @@ pub mod Causal
 pub mod Tables
 pub mod Pasts
 pub mod States
+pub mod CausalStates

@@ -1,6 +1,7 @@
 //! The objects, each folded from the nodes that a client has played.
 #![tactic(auto)]
 
+mod causal_map;
 mod pasts;
 mod queue;
 mod several_keys;
@@ -10,6 +11,7 @@ mod table;
 mod tx_state;
 mod verdict;
 
+pub use causal_map::{CausalMap, LatestWrite};
 pub use queue::Queue;
 pub use several_keys::{Values, values_among};
 pub use shard_map::ShardMap;
