@@ -56,9 +56,9 @@ same_keys a b h = (bytes_eq-Decides a b).0 h
 apart : (a k q : List ℕ) → key_order a k ≡ Less → bytes_eq a q ≡ true → bytes_eq k q ≡ false
 apart a k q less here =
     false_from_ne_true (bytes_eq k q) (λ h.
-      let same : a ≡ k = same_keys a q here ∙ sym (same_keys k q h) in
-      let equal : key_order a k ≡ Equal = ap (key_order a) (sym same) ∙ tied_itself nat_list_cmp_total a in
-      absurd cc)
+    let same : a ≡ k = same_keys a q here ∙ sym (same_keys k q h) in
+    let equal : key_order a k ≡ Equal = ap (key_order a) (sym same) ∙ tied_itself nat_list_cmp_total a in
+    absurd cc)
 
 -- keys that do not stand as equal differ
 differ : (a k : List ℕ) → (key_order a k ≡ Equal → ⊥) → bytes_eq a k ≡ false

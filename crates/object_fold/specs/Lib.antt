@@ -4,4 +4,6 @@ pub mod Transactions
 pub mod Queues
 pub mod Causal
 pub mod Tables
+pub mod Pasts
 pub mod States
+pub mod CausalStates

@@ -1,6 +1,8 @@
 //! The objects, each folded from the nodes that a client has played.
 #![tactic(auto)]
 
+mod causal_map;
+mod pasts;
 mod queue;
 mod several_keys;
 mod shard_map;
@@ -9,6 +11,7 @@ mod table;
 mod tx_state;
 mod verdict;
 
+pub use causal_map::{CausalMap, LatestWrite};
 pub use queue::Queue;
 pub use several_keys::{Values, values_among};
 pub use shard_map::ShardMap;
@@ -16,3 +19,6 @@ pub use shards::shard_of;
 pub use table::Table;
 pub use tx_state::{TxState, Written};
 pub use verdict::Verdict;
+
+#[cfg(test)]
+mod tests;

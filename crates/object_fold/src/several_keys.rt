@@ -35,13 +35,7 @@ fn value_with(key: &[u8], old: Option<Text>, form: Form) -> Option<Text>
                 old
             }
         }
-        Form::Delete { key: other } => {
-            if other.as_bytes() == key {
-                None
-            } else {
-                old
-            }
-        }
+        Form::Delete { key: other } => { if other.as_bytes() == key { None } else { old } }
         Form::PutAll { pairs } => set_pairs(key, old, pairs),
         Form::Transaction {
             reads: _reads,

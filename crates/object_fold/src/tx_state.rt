@@ -75,9 +75,7 @@ impl TxState {
     fn first_conflict<'a>(&self, reads: &'a [Version]) -> Option<&'a Version>
         ensures { option_copied result ≡ find (differs_in self.now.written.entries) reads.now }
     {
-        reads
-            .iter()
-            .find(|read| !same_writer(read.writer, self.writer_in(read.key.as_bytes())))
+        reads.iter().find(|read| !same_writer(read.writer, self.writer_in(read.key.as_bytes())))
     }
 
     fn verdict(&self, alloc: Global, stamp: u64, reads: &[Version]) -> Result<Verdict, AllocError>
@@ -105,6 +103,7 @@ impl TxState {
     }
 
     // The verdict on a transaction, whose writes are taken over where it commits.
+    #[tactic(auto, using(crate::proofs::TxLemmas::written_is))]
     fn rule(
         &mut self,
         alloc: Global,

@@ -1,5 +1,6 @@
 -- Forms: what is written of one is read as it, and what is read as a form has its text.
-use Rattle.std.proofs.Common.{◌≡◌, ℕ, suc, ◌<◌, ◌≤◌, ◌⊎◌, ◌↔◌, Bool, true, false, ◌&&◌, eqb, leb, cond, List, [], ◌∷◌, ◌++◌, length, map, inl, inr, refl, ap, sym, subst, ◌∙◌, arith}
+use Rattle.std.proofs.Common.{◌≡◌, ℕ, suc, ◌<◌, ◌≤◌, ◌⊎◌, ◌↔◌, Bool, true, false, ◌&&◌, eqb, leb, cond, List, [], ◌∷◌, ◌++◌, length, map, inl, inr, Result, Ok, Err, refl, ap, sym, subst, ◌∙◌, arith}
+use Rattle.std.specs.Prelude.{IfOk}
 use Rattle.std.specs.List.{list_all, join_with_byte}
 use Rattle.std.proofs.lemmas.Bool.{and_parts, cases_Bool, both_ways, eqb-true, ne_eqb, leb-true, le-leb}
 use Rattle.log_node.specs.declared.forms.Pair.{Pair}
@@ -250,3 +251,8 @@ reads_as_one text form = (read_is text form, λ e. let P : Form → Type 0 = IsR
 
 pub texts_differ : (form other : Form) (text : List ℕ) → HasText form text → HasText other text → form ≡ other
 texts_differ form other text h k = sym (reads_back form h.0) ∙ ap form_of (h.1 ∙ sym k.1) ∙ reads_back other k.0
+
+-- what is computed of a text is read
+pub reads_ok : {E : Type 0} (text : List ℕ) (r : Result Form E) → IfOk r (λ form. form ≡ form_of text) → IfOk r (λ form. IsReading text form)
+reads_ok text (Ok form) h = (reads_as_one text form).1 (sym h)
+reads_ok text (Err e) h = tt

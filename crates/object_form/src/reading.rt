@@ -162,13 +162,20 @@ fn form_after(alloc: Global, letter: u8, bytes: &[u8]) -> Result<Form, AllocErro
     }
 }
 
+fn form_in(alloc: Global, bytes: &[u8]) -> Result<Form, AllocError>
+    ensures { IfOk result (λ form. form ≡ form_of bytes.now) }
+{
+    match bytes {
+        [letter, b':', others @ ..] => form_after(alloc, *letter, others),
+        _ => Ok(Form::Plain),
+    }
+}
+
 /// The form of a node's text: the one that has this text, or `Plain` where none has it. `AllocError` where memory is
 /// refused.
 pub fn read_form(alloc: Global, text: &Text) -> Result<Form, AllocError>
-    ensures { IfOk result (λ form. form ≡ form_of text.now) }
+    ensures reading { IfOk result (λ form. IsReading text.now form) }
+    ensures form { IfOk result (λ form. form ≡ form_of text.now) }
 {
-    match text.as_bytes() {
-        [letter, b':', bytes @ ..] => form_after(alloc, *letter, bytes),
-        _ => Ok(Form::Plain),
-    }
+    form_in(alloc, text.as_bytes())
 }

@@ -10,6 +10,6 @@ returns-clause-ok c = λ nodes node text stands.
     let old = c.args.self.now in
     let new = c.apply.new.self in
     let P : List ℕ → Type 0 = λ key. value_at new.values.entries key ≡ mine_with old key c.in_ok-form.form in
-    let form : c.in_ok-form.form ≡ form_of node.text = c.in_ok-form.ensures ∙ ap form_of (sym text) in
+    let form : c.in_ok-form.form ≡ form_of node.text = c.in_ok-form.ensures.form ∙ ap form_of (sym text) in
     ok_for_all c.apply.result P (IsShardMap new (nodes ++ node ∷ [])) c.apply.ensures.ok
     (λ each. one_more old new nodes node c.apply.ensures.shard (λ key. each key ∙ ap (mine_with old key) form) stands)
