@@ -1,6 +1,6 @@
 -- The state of the causal map after one more node, and what it answers.
-use Rattle.std.proofs.Common.{◌≡◌, ℕ, ◌+◌, ◌<◌, List, [], ◌∷◌, ◌++◌, length, set, get_or, map, Option, Some, None, Result, Ok, Err, refl, ap, sym, ◌∙◌, arith, length-set, get_or-set_same, get_or-set_other}
-use Rattle.std.specs.Prelude.{OnOk, IfOk, filter, unwrap_or}
+use Rattle.std.proofs.Common.{◌≡◌, ℕ, ◌<◌, List, [], ◌∷◌, ◌++◌, length, set, map, Result, Ok, Err, refl, ap, ◌∙◌, arith, length-set, get_or-set_same, get_or-set_other}
+use Rattle.std.specs.Prelude.{OnOk, filter, unwrap_or}
 use Rattle.std.specs.List.Sorted.{IsPermutation, IsSorted}
 use Rattle.std.specs.Ordering.{nat_cmp}
 use Rattle.std.specs.Cmp.Lexicographic.{slice_cmp}
@@ -12,7 +12,7 @@ use Rattle.object_fold.specs.declared.causal_map.CausalMap.{CausalMap}
 use Rattle.object_fold.specs.Causal.{ChainNode, IsCausalAnswer, written_value}
 use Rattle.object_fold.specs.Pasts.{past_chain, at_once, past_of, IsNext}
 use Rattle.object_fold.specs.CausalStates.{IsCausalMap, HoldsLatest, latest_write, kept_at, change_by, kept_with}
-use Rattle.object_fold.proofs.PastLemmas.{one_more_past, own_position}
+use Rattle.object_fold.proofs.PastLemmas.{one_more_past}
 use Rattle.object_fold.proofs.LatestLemmas.{form_step}
 
 module _ (old new : CausalMap) (played : List ChainNode) (node : ChainNode) (stands : IsCausalMap old played) (next : IsNext played node) where
@@ -27,8 +27,8 @@ module _ (old new : CausalMap) (played : List ChainNode) (node : ChainNode) (sta
       let within : node.region < length old.pasts = omega (arith, stands.pasts.four, next.region) in
       record {
         pasts = one_more_past old.pasts played node stands.pasts next new.pasts (ap length pasts ∙ length-set old.pasts node.region (past_chain old.pasts node.region ++ past ∷ []) ∙ stands.pasts.four)
-          (ap (λ (ps : List (List Counts)). past_chain ps node.region) pasts ∙ get_or-set_same old.pasts node.region (past_chain old.pasts node.region ++ past ∷ []) [] within)
-          (λ t apart. ap (λ (ps : List (List Counts)). past_chain ps t) pasts ∙ get_or-set_other old.pasts node.region t (past_chain old.pasts node.region ++ past ∷ []) [] apart);
+            (ap (λ (ps : List (List Counts)). past_chain ps node.region) pasts ∙ get_or-set_same old.pasts node.region (past_chain old.pasts node.region ++ past ∷ []) [] within)
+            (λ t apart. ap (λ (ps : List (List Counts)). past_chain ps t) pasts ∙ get_or-set_other old.pasts node.region t (past_chain old.pasts node.region ++ past ∷ []) [] apart);
         latest = λ key. rw (latest key) (form_step old.pasts played node stands.pasts next key old.latest.entries (form_of node.text) refl (stands.latest key));
       }
 
@@ -41,7 +41,7 @@ pub answers : (played : List ChainNode) (key : List ℕ) (kept : List LatestWrit
     → copied ≡ map (λ (w : LatestWrite). w.value) kept → IsPermutation copied values → IsSorted (slice_cmp nat_cmp) values → IsCausalAnswer played key values
 answers played key kept copied values h all moved sorted =
     let e : copied ≡ map (λ node. unwrap_or (written_value key node) []) (filter h.is_latest played) =
-        all ∙ ap (map (λ (w : LatestWrite). w.value)) h.writes ∙ value_of_latest key (filter h.is_latest played) in
+    all ∙ ap (map (λ (w : LatestWrite). w.value)) h.writes ∙ value_of_latest key (filter h.is_latest played) in
     record { is_latest = h.is_latest; exactly = h.exactly; each_value = IsPermutation-sym _ _ (rw e at moved); sorted = sorted }
 
 -- what two facts at Ok give

@@ -1,9 +1,9 @@
 -- The kept writes of a key, after one more played node.
-use Rattle.std.proofs.Common.{◌≡◌, ℕ, zero, suc, ◌+◌, ◌<◌, ◌≤◌, ◌⊎◌, ◌↔◌, inl, inr, Bool, true, false, not, ◌&&◌, ◌||◌, cond, eqb, ltb, List, [], ◌∷◌, ◌++◌, length, get_or, map, Option, Some, None, refl, ap, sym, subst, ◌∙◌, arith}
-use Rattle.std.specs.Prelude.{IsTrue, filter, is_some, unwrap_or, slice_get}
+use Rattle.std.proofs.Common.{◌≡◌, ℕ, zero, suc, ◌↔◌, inl, inr, Bool, true, false, not, ◌&&◌, ◌||◌, eqb, ltb, List, [], ◌∷◌, ◌++◌, length, get_or, map, Option, Some, None, refl, ap, sym, subst, ◌∙◌, arith}
+use Rattle.std.specs.Prelude.{IsTrue, filter, is_some}
 use Rattle.std.specs.List.{Contains, AllByRecursion}
 use Rattle.std.specs.Str.{bytes_eq}
-use Rattle.std.proofs.lemmas.Bool.{cases_Bool, and_parts, and_from, both_ways, false_from_ne_true, or_left, or_right, or_cases, not-true, not_from_false, eqb-true, eq-eqb, ltb-true, ltb-false, lt-ltb, le-ltb}
+use Rattle.std.proofs.lemmas.Bool.{cases_Bool, and_parts, and_from, both_ways, false_from_ne_true, or_left, not-true, not_from_false, eqb-true, eq-eqb, ltb-true, ltb-false}
 use Rattle.std.proofs.lemmas.Option.{slice_get_within}
 use Rattle.std.proofs.lemmas.Slice.Eq.{bytes_eq-Decides}
 use Rattle.std.proofs.lemmas.List.Elements.{Contains-append_left, Contains-push, Contains-push_cases, Contains-get_or, recursion_from_All, filter-append}
@@ -14,7 +14,7 @@ use Rattle.log_node.specs.declared.forms.Form.TheVariants as forms
 use Rattle.log_node.specs.Vectors.{at}
 use Rattle.object_form.specs.Readings.{form_of}
 use Rattle.object_fold.specs.declared.causal_map.LatestWrite.{LatestWrite}
-use Rattle.object_fold.specs.Causal.{ChainNode, Follows, IsLatestWrite, causal_value, written_value}
+use Rattle.object_fold.specs.Causal.{ChainNode, Follows, IsLatestWrite, written_value}
 use Rattle.object_fold.specs.Pasts.{past_chain, at_once, past_of, ArePasts, IsNext}
 use Rattle.object_fold.specs.CausalStates.{latest_write, HoldsLatest, kept_at, not_followed, change_by, kept_with}
 use Rattle.object_fold.proofs.PastLemmas.{grow, shrink, to_new, from_new, newest, own_position}
@@ -115,12 +115,14 @@ module _ (pasts : List (List Counts)) (played : List ChainNode) (node : ChainNod
     is_latest = λ x. not (is_new x) && h.is_latest x;
     exactly = λ x c. elim (Contains-push_cases played node x c) [
       | inl inside ↦
-          let old : (not (is_new x) && h.is_latest x) ≡ h.is_latest x = rw (old_is_not x inside) refl in
-          (λ t. stays_latest x inside ((h.exactly x inside).0 (sym old ∙ t)) (λ w f. both_ways (is_some (written_value key node)) (ap (λ (o : Option (List ℕ)). is_some o) none) w),
-           λ l. old ∙ (h.exactly x inside).1 (was_latest x l))
-      | inr same ↦
-          (λ t. absurd (both_ways (not (is_new x) && h.is_latest x) (rw (← same, new_is_new) refl) t),
-           λ l. absurd (both_ways (is_some (written_value key x)) (rw (← same) (ap (λ (o : Option (List ℕ)). is_some o) none)) l.writes))
+          let old : (not (is_new x) && h.is_latest x) ≡ h.is_latest x = rw (old_is_not x inside) refl in (
+            λ t. stays_latest x inside ((h.exactly x inside).0 (sym old ∙ t)) (λ w f. both_ways (is_some (written_value key node)) (ap (λ (o : Option (List ℕ)). is_some o) none) w),
+            λ l. old ∙ (h.exactly x inside).1 (was_latest x l),
+          )
+      | inr same ↦ (
+        λ t. absurd (both_ways (not (is_new x) && h.is_latest x) (rw (← same, new_is_new) refl) t),
+        λ l. absurd (both_ways (is_some (written_value key x)) (rw (← same) (ap (λ (o : Option (List ℕ)). is_some o) none)) l.writes),
+      )
     ];
     writes =
         let p = λ (x : ChainNode). not (is_new x) && h.is_latest x in
@@ -140,26 +142,29 @@ module _ (pasts : List (List Counts)) (played : List ChainNode) (node : ChainNod
     is_latest = test;
     exactly = λ x c. elim (Contains-push_cases played node x c) [
       | inl inside ↦
-          let old : test x ≡ (h.is_latest x && is_apart x) = rw (old_is_not x inside) refl in
-          (λ t.
-            let both = and_parts (h.is_latest x) (is_apart x) (sym old ∙ t) in
-            let above = ltb-false x.position (at past x.region) (not-true (ltb x.position (at past x.region)) both.1) in
-            stays_latest x inside ((h.exactly x inside).0 both.0) (λ w f. let below = to_new pasts played node known next f in omega arith),
-          λ l.
-            let apart : ltb x.position (at past x.region) ≡ false = false_from_ne_true (ltb x.position (at past x.region)) (λ t.
-              l.latest node (Contains-push played node) writes_key (from_new pasts played node known next x (ltb-true x.position (at past x.region) t))) in
-            old ∙ and_from (h.is_latest x) (is_apart x) ((h.exactly x inside).1 (was_latest x l)) (not_from_false (ltb x.position (at past x.region)) apart))
+          let old : test x ≡ (h.is_latest x && is_apart x) = rw (old_is_not x inside) refl in (
+            λ t.
+                let both = and_parts (h.is_latest x) (is_apart x) (sym old ∙ t) in
+                let above = ltb-false x.position (at past x.region) (not-true (ltb x.position (at past x.region)) both.1) in
+                stays_latest x inside ((h.exactly x inside).0 both.0) (λ w f. let below = to_new pasts played node known next f in omega arith),
+            λ l.
+                let apart : ltb x.position (at past x.region) ≡ false = false_from_ne_true (ltb x.position (at past x.region)) (λ t.
+                l.latest node (Contains-push played node) writes_key (from_new pasts played node known next x (ltb-true x.position (at past x.region) t))) in
+                old ∙ and_from (h.is_latest x) (is_apart x) ((h.exactly x inside).1 (was_latest x l)) (not_from_false (ltb x.position (at past x.region)) apart),
+          )
       | inr same ↦
           let P : ChainNode → Type 0 = λ y. IsTrue (test y) ↔ IsLatestWrite after key y in
-          subst P same (λ t. record { writes = writes_key; latest = λ later cl w f. newest pasts played node known next later cl f },
-            λ l. or_left (is_new node) (h.is_latest node && is_apart node) new_is_new)
+          subst P same (
+            λ t. record { writes = writes_key; latest = λ later cl w f. newest pasts played node known next later cl f },
+            λ l. or_left (is_new node) (h.is_latest node && is_apart node) new_is_new,
+          )
     ];
     writes =
         let olds = filter_same test (λ (x : ChainNode). h.is_latest x && is_apart x) played (each (λ (x : ChainNode). test x ≡ (h.is_latest x && is_apart x)) played (λ x c. rw (old_is_not x c) refl)) in
         let new : filter test (node ∷ []) ≡ node ∷ [] = rw new_is_new refl in
         let all : filter test after ≡ filter is_apart (filter h.is_latest played) ++ node ∷ [] = filter-append test played (node ∷ []) ∙ rw (olds, new) (ap (λ (ys : List ChainNode). ys ++ node ∷ []) (filter_both h.is_latest is_apart played)) in
         let lefts : not_followed past kept ≡ map (latest_write key) (filter is_apart (filter h.is_latest played)) =
-            ap (not_followed past) h.writes ∙ filter_mapped (latest_write key) (λ (w : LatestWrite). not (ltb w.position (at past w.region))) (filter h.is_latest played) in
+        ap (not_followed past) h.writes ∙ filter_mapped (latest_write key) (λ (w : LatestWrite). not (ltb w.position (at past w.region))) (filter h.is_latest played) in
         let last : latest_write key node ≡ record { region = node.region; position = node.position; value = v } = rw some refl in
         ap (λ (ws : List LatestWrite). ws ++ record { region = node.region; position = node.position; value = v } ∷ []) lefts
         ∙ ap (λ (w : LatestWrite). map (latest_write key) (filter is_apart (filter h.is_latest played)) ++ w ∷ []) (sym last)
@@ -167,6 +172,7 @@ module _ (pasts : List (List Counts)) (played : List ChainNode) (node : ChainNod
   } where
     test : ChainNode → Bool
     test x = is_new x || (h.is_latest x && is_apart x)
+
     writes_key : IsTrue (is_some (written_value key node))
     writes_key = ap (λ (o : Option (List ℕ)). is_some o) some
 

@@ -1,14 +1,13 @@
 -- One more form, for the keys of a shard.
-use Rattle.std.proofs.Common.{◌≡◌, ℕ, Bool, true, false, cond, eqb, List, [], ◌∷◌, ◌++◌, Option, Some, None, Result, Ok, Err, inl, inr, refl, ap, sym, ◌∙◌}
-use Rattle.std.specs.List.{fold}
+use Rattle.std.proofs.Common.{◌≡◌, ℕ, List, [], ◌∷◌, ◌++◌, None, Result, Ok, Err, inl, inr, refl, ◌∙◌}
 use Rattle.std.proofs.lemmas.Bool.{cases_Bool}
 use Rattle.std.proofs.lemmas.List.Sums.{fold_push}
 use Rattle.std.specs.Prelude.{OnOk}
 use Rattle.object_form.specs.Readings.{form_of}
 use Rattle.object_fold.specs.declared.shard_map.ShardMap.{ShardMap}
-use Rattle.object_fold.specs.Nodes.{ObjectNode, shard_of}
+use Rattle.object_fold.specs.Nodes.{ObjectNode}
 use Rattle.object_fold.specs.Tables.{value_at}
-use Rattle.object_fold.specs.Maps.{Value, value_with, value_after, shard_value}
+use Rattle.object_fold.specs.Maps.{Value, value_with, value_after}
 use Rattle.object_fold.specs.States.{IsShardMap, HasShardOf, is_mine, mine_with}
 
 -- a map that stands for nodes, after one more

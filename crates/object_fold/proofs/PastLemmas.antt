@@ -1,11 +1,11 @@
 -- One more played node: what it follows, and that nothing follows it.
-use Rattle.std.proofs.Common.{◌≡◌, ℕ, zero, suc, ◌+◌, ◌-◌, ◌<◌, ◌≤◌, ◌⊎◌, ◌↔◌, inl, inr, max, Bool, true, false, cond, eqb, List, [], ◌∷◌, ◌++◌, length, get_or, set, Option, Some, None, refl, ap, sym, subst, ◌∙◌, arith, length-append}
-use Rattle.std.specs.Prelude.{slice_get, unwrap_or, count_by}
+use Rattle.std.proofs.Common.{◌≡◌, ℕ, zero, suc, ◌+◌, ◌-◌, ◌<◌, ◌≤◌, ◌⊎◌, inl, inr, max, Bool, cond, eqb, List, [], ◌∷◌, ◌++◌, length, Some, refl, ap, sym, subst, ◌∙◌, arith, length-append}
+use Rattle.std.specs.Prelude.{slice_get, count_by}
 use Rattle.std.specs.List.{Contains}
 use Rattle.std.proofs.lemmas.List.{get_or_past}
 use Rattle.std.proofs.lemmas.List.Sums.{fold_push}
 use Rattle.std.proofs.lemmas.Option.{slice_get_within}
-use Rattle.std.proofs.lemmas.Bool.{cases_eq, cases_Bool, cases_lt, eqb-true, eqb-false, eq-eqb, ne_eqb}
+use Rattle.std.proofs.lemmas.Bool.{cases_eq, cases_Bool, cases_lt, eqb-true, eq-eqb, ne_eqb}
 use Rattle.std.proofs.lemmas.List.Elements.{Contains-append_left, Contains-push, Contains-push_cases}
 use Rattle.log_node.specs.declared.ids.Counts.{Counts}
 use Rattle.log_node.specs.Vectors.{at, vector, zeros}
@@ -55,15 +55,15 @@ below_past pasts s t n lt below =
     elim (below_joined (joined (joined (joined s (l 0)) (l 1)) (l 2)) (l 3) t n lt below) [
       | inr h ↦ inr (3, omega arith, h)
       | inl h3 ↦ elim (below_joined (joined (joined s (l 0)) (l 1)) (l 2) t n lt h3) [
-          | inr h ↦ inr (2, omega arith, h)
-          | inl h2 ↦ elim (below_joined (joined s (l 0)) (l 1) t n lt h2) [
-              | inr h ↦ inr (1, omega arith, h)
-              | inl h1 ↦ elim (below_joined s (l 0) t n lt h1) [
-                  | inr h ↦ inr (0, omega arith, h)
-                  | inl h ↦ inl h
-                ]
-            ]
+        | inr h ↦ inr (2, omega arith, h)
+        | inl h2 ↦ elim (below_joined (joined s (l 0)) (l 1) t n lt h2) [
+          | inr h ↦ inr (1, omega arith, h)
+          | inl h1 ↦ elim (below_joined s (l 0) t n lt h1) [
+            | inr h ↦ inr (0, omega arith, h)
+            | inl h ↦ inl h
+          ]
         ]
+      ]
     ]
 
 start_below : (pasts : List (List Counts)) (s : Counts) (t : ℕ) → t < 4 → at s t ≤ at (past_of pasts s) t
@@ -266,20 +266,20 @@ module _ (pasts : List (List Counts)) (played : List ChainNode) (node : ChainNod
   from_new m h = elim (cases_lt m.region 4) [
     | inr beyond ↦ absurd (omega (arith, h, past_end pasts counted m.region beyond))
     | inl small ↦ elim (below_past pasts counted m.region m.position small h) [
-        | inl first ↦ at_once_of (from_counted node m small first)
-        | inr later ↦
-            let r = later.0 in
-            elim (cases_lt 0 (at counted r)) [
-              | inr none ↦ absurd (nothing r m later.2 none)
-              | inl some ↦
-                  let l = last_is r later.1 some in
-                  let k = known.known l.last l.inside in
-                  let lower : m.position < at k.past m.region = rw l.vector at later.2 in
-                  let first : l.last.position < at counted l.last.region = rw l.region (omega (arith, l.position, some)) in
-                  let lt : l.last.region < 4 = omega (arith, l.region, later.1) in
-                  through (Contains-append_left played (node ∷ []) l.last l.inside) (from_counted node l.last lt first) (grow played node ((k.exact m).1 lower))
-            ]
-      ]
+      | inl first ↦ at_once_of (from_counted node m small first)
+      | inr later ↦
+          let r = later.0 in
+          elim (cases_lt 0 (at counted r)) [
+            | inr none ↦ absurd (nothing r m later.2 none)
+            | inl some ↦
+                let l = last_is r later.1 some in
+                let k = known.known l.last l.inside in
+                let lower : m.position < at k.past m.region = rw l.vector at later.2 in
+                let first : l.last.position < at counted l.last.region = rw l.region (omega (arith, l.position, some)) in
+                let lt : l.last.region < 4 = omega (arith, l.region, later.1) in
+                through (Contains-append_left played (node ∷ []) l.last l.inside) (from_counted node l.last lt first) (grow played node ((k.exact m).1 lower))
+          ]
+    ]
   ] where
     nothing : (r : ℕ) (m : ChainNode) → m.position < at (last_past pasts counted r) m.region → at counted r ≤ 0 → ⊥
     nothing r m h none =
@@ -291,24 +291,24 @@ module _ (pasts : List (List Counts)) (played : List ChainNode) (node : ChainNod
   within_new t = elim (cases_lt (length (past_chain pasts t)) (at past t)) [
     | inr h ↦ h
     | inl over ↦ elim (cases_lt t 4) [
-        | inr beyond ↦ omega (arith, past_end pasts counted t beyond)
-        | inl small ↦ elim (below_past pasts counted t (length (past_chain pasts t)) small over) [
-            | inl first ↦ omega (arith, first, counted_within t small)
-            | inr later ↦
-                let r = later.0 in
-                elim (cases_lt 0 (at counted r)) [
-                  | inr none ↦
-                      let zero_is : at counted r ≡ 0 = omega arith in
-                      let e : last_past pasts counted r ≡ zeros = rw (eq-eqb (at counted r) 0 zero_is) refl in
-                      absurd (zero_at t (length (past_chain pasts t)) (rw e at later.2))
-                  | inl some ↦
-                      let l = last_is r later.1 some in
-                      let k = known.known l.last l.inside in
-                      let lower : length (past_chain pasts t) < at k.past t = rw l.vector at later.2 in
-                      omega (arith, lower, k.within t)
-                ]
-          ]
+      | inr beyond ↦ omega (arith, past_end pasts counted t beyond)
+      | inl small ↦ elim (below_past pasts counted t (length (past_chain pasts t)) small over) [
+        | inl first ↦ omega (arith, first, counted_within t small)
+        | inr later ↦
+            let r = later.0 in
+            elim (cases_lt 0 (at counted r)) [
+              | inr none ↦
+                  let zero_is : at counted r ≡ 0 = omega arith in
+                  let e : last_past pasts counted r ≡ zeros = rw (eq-eqb (at counted r) 0 zero_is) refl in
+                  absurd (zero_at t (length (past_chain pasts t)) (rw e at later.2))
+              | inl some ↦
+                  let l = last_is r later.1 some in
+                  let k = known.known l.last l.inside in
+                  let lower : length (past_chain pasts t) < at k.past t = rw l.vector at later.2 in
+                  omega (arith, lower, k.within t)
+            ]
       ]
+    ]
   ]
 
   pub own_position : node.position ≡ length (past_chain pasts node.region)
@@ -397,13 +397,13 @@ module _ (pasts : List (List Counts)) (played : List ChainNode) (node : ChainNod
   all_stand t q lt = elim (cases_lt q (length (past_chain pasts t))) [
     | inl old ↦ let s = known.stands t q old in (s.0, Contains-append_left played (node ∷ []) s.0 s.1, s.2, s.3)
     | inr past ↦ elim (cases_eq t node.region) [
-        | inl same ↦
-            let size : q < length (past_chain pasts node.region ++ new ∷ []) = rw (same, own) at lt in
-            let old : length (past_chain pasts node.region) ≤ q = rw same at past in
-            let place : node.position ≡ q = omega (arith, size, old, length-append (past_chain pasts node.region) (new ∷ []), own_position pasts played node known next) in
-            (node, Contains-push played node, sym same, place)
-        | inr apart ↦ let size = rw (others t apart) at lt in absurd (omega arith)
-      ]
+      | inl same ↦
+          let size : q < length (past_chain pasts node.region ++ new ∷ []) = rw (same, own) at lt in
+          let old : length (past_chain pasts node.region) ≤ q = rw same at past in
+          let place : node.position ≡ q = omega (arith, size, old, length-append (past_chain pasts node.region) (new ∷ []), own_position pasts played node known next) in
+          (node, Contains-push played node, sym same, place)
+      | inr apart ↦ let size = rw (others t apart) at lt in absurd (omega arith)
+    ]
   ]
 
   all_rise : (t i j : ℕ) (v w : Counts) → i ≤ j → slice_get (past_chain later t) i ≡ Some v → slice_get (past_chain later t) j ≡ Some w → (s : ℕ) → at v s ≤ at w s
@@ -415,13 +415,13 @@ module _ (pasts : List (List Counts)) (played : List ChainNode) (node : ChainNod
         let gj : slice_get (chain ++ new ∷ []) j ≡ Some w = rw (same, own) at hj in
         elim (get_push chain new j w gj) [
           | inl oj ↦ elim (get_push chain new i v gi) [
-              | inl oi ↦ known.rises node.region i j v w le oi oj s
-              | inr ni ↦ let lt = slice_get_within chain j w oj in absurd (omega (arith, ni.0, lt, le))
-            ]
+            | inl oi ↦ known.rises node.region i j v w le oi oj s
+            | inr ni ↦ let lt = slice_get_within chain j w oj in absurd (omega (arith, ni.0, lt, le))
+          ]
           | inr nj ↦ elim (get_push chain new i v gi) [
-              | inl oi ↦ rw (← nj.1) (rises_new pasts played node known next i v oi s)
-              | inr ni ↦ rw (← nj.1, ← ni.1) (omega arith)
-            ]
+            | inl oi ↦ rw (← nj.1) (rises_new pasts played node known next i v oi s)
+            | inr ni ↦ rw (← nj.1, ← ni.1) (omega arith)
+          ]
         ]
   ]
 

@@ -34,7 +34,8 @@ not_followed past kept = filter (λ write. not (nat_lt write.position (at past w
 -- the key that a node with this place, vector and form writes, and what is then kept of it
 abbrev pub change_by : List (List ℕ × List LatestWrite) → ℕ → ℕ → Counts → Form → Option (List ℕ × List LatestWrite)
 change_by entries region position past (forms.Causal key value) =
-    Some (key, not_followed past (kept_at entries key) ++ record { region = region; position = position; value = value } ∷ [])
+    let write : LatestWrite = record { region = region; position = position; value = value } in
+    Some (key, not_followed past (kept_at entries key) ++ write ∷ [])
 change_by entries region position past (forms.Put key value) = None
 change_by entries region position past (forms.Delete key) = None
 change_by entries region position past (forms.PutAll pairs) = None

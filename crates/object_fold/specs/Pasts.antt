@@ -1,10 +1,10 @@
 -- What is kept of played nodes for the causal map: for each node how many nodes of each chain it follows, and for each
 -- key the writes that no other one follows.
-use Rattle.std.specs.Prelude.{◌≡◌, ◌↔◌, Bool, IsTrue, ℕ, ◌+◌, ◌-◌, ◌<◌, ◌≤◌, ◌==◌, max, List, [], ◌∷◌, length, filter, map, Option, Some, None, is_some, unwrap_or, slice_get, slice_index_or, count_by, if◌then◌else◌}
+use Rattle.std.specs.Prelude.{◌≡◌, ◌↔◌, ℕ, ◌-◌, ◌<◌, ◌≤◌, ◌==◌, max, List, [], length, Some, unwrap_or, slice_get, slice_index_or, count_by, if◌then◌else◌}
 use Rattle.std.specs.List.{Contains}
 use Rattle.log_node.specs.declared.ids.Counts.{Counts}
 use Rattle.log_node.specs.Vectors.{at, vector, zeros}
-use Rattle.object_fold.specs.Causal.{ChainNode, Follows, IsLatestWrite, written_value}
+use Rattle.object_fold.specs.Causal.{ChainNode, Follows}
 
 -- the vectors of a chain's nodes
 abbrev pub past_chain : List (List Counts) → ℕ → List Counts
@@ -16,18 +16,19 @@ joined v w = vector (λ region. max (at v region) (at w region))
 
 -- how many nodes of each chain a node at this place follows at once
 abbrev pub at_once : ℕ → ℕ → Counts → Counts
-at_once own position needs = vector (λ region. if region == own then max position (at needs region) else at needs region)
+at_once own position needs =
+    vector (λ region. if region == own then max position (at needs region) else at needs region)
 
 -- the vector of the last node of a chain that is counted, zeros where none is
 abbrev pub last_past : List (List Counts) → Counts → ℕ → Counts
 last_past pasts counted region =
-    if at counted region == 0 then zeros else unwrap_or (slice_get (past_chain pasts region) (at counted region - 1)) zeros
+    if at counted region == 0 then zeros
+    else unwrap_or (slice_get (past_chain pasts region) (at counted region - 1)) zeros
 
 -- how many nodes of each chain a node follows that follows these at once
 abbrev pub past_of : List (List Counts) → Counts → Counts
 past_of pasts counted =
-    joined (joined (joined (joined counted (last_past pasts counted 0)) (last_past pasts counted 1)) (last_past pasts counted 2))
-    (last_past pasts counted 3)
+    let last = last_past pasts counted in joined (joined (joined (joined counted (last 0)) (last 1)) (last 2)) (last 3)
 
 -- the node's vector is kept at its place, and counts exactly the nodes that it follows
 pub record IsPast (pasts : List (List Counts)) (played : List ChainNode) (node : ChainNode) : Type 0 where

@@ -1,5 +1,5 @@
 -- For which nodes the states of the folds stand.
-use Rattle.std.specs.Prelude.{◌≡◌, Bool, not, ℕ, ◌==◌, List, Option, Some, None, if◌then◌else◌}
+use Rattle.std.specs.Prelude.{◌≡◌, Bool, not, ℕ, ◌==◌, List, Option, Some, if◌then◌else◌}
 use Rattle.std.specs.List.{fold}
 use Rattle.std.specs.Option.{option_map}
 use Rattle.std.specs.Str.{bytes_eq}
@@ -37,7 +37,8 @@ mine_with map key form =
 
 -- the state holds a key's last write among these
 abbrev pub written_at : List Write → List ℕ → Option Written
-written_at writes key = option_map (λ write. record { value = write.value; writer = write.writer }) (last_write writes key)
+written_at writes key =
+    option_map (λ write. record { value = write.value; writer = write.writer }) (last_write writes key)
 
 -- the entries are the last writes of the keys
 abbrev pub HoldsWrites : List (List ℕ × Written) → List Write → Type 0
@@ -61,7 +62,8 @@ differs_in entries read = not (is_same_writer read.writer (writer_in entries rea
 -- what stands at a key after pairs are written from left to right
 abbrev pub written_pairs : Key → List ℕ → Option Written → List Pair → Option Written
 written_pairs writer key old pairs =
-    fold (λ w pair. if bytes_eq pair.key key then Some (record { value = pair.value; writer = writer }) else w) old pairs
+    fold (λ w pair. if bytes_eq pair.key key then Some (record { value = pair.value; writer = writer }) else w)
+    old pairs
 
 -- a key's version, by the entries
 abbrev pub version_in : List (List ℕ × Written) → List ℕ → Version

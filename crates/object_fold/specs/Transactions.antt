@@ -1,5 +1,5 @@
 -- The transactional map: which transactions commit, what they leave, and what a conflict names.
-use Rattle.std.specs.Prelude.{Bool, true, false, not, ℕ, List, [], ◌∷◌, map, Option, Some, None, if◌then◌else◌}
+use Rattle.std.specs.Prelude.{Bool, true, false, not, ℕ, List, [], ◌∷◌, map, Option, Some, None}
 use Rattle.std.specs.List.{fold, find}
 use Rattle.std.specs.Option.{option_map}
 use Rattle.std.specs.Str.{bytes_eq}

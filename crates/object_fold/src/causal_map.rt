@@ -138,9 +138,12 @@ impl CausalMap {
         change: Option<(Text, ListOf<LatestWrite>)>,
     ) -> Result<(), AllocError>
         requires { region < 4 }
-        ensures pasts { OnOk result (self.new.pasts ≡ slice_set self.old.pasts region (past_chain self.old.pasts region ++ past ∷ [])) }
-        ensures latest { (other : List ℕ) → OnOk result (kept_at self.new.latest.entries other ≡ kept_with self.old.latest.entries change other) }
-        ensures err { OnErr result ((self.new.pasts ≡ self.old.pasts) × (self.new.latest.entries ≡ self.old.latest.entries)) }
+        ensures pasts { OnOk result (self.new.pasts
+            ≡ slice_set self.old.pasts region (past_chain self.old.pasts region ++ past ∷ [])) }
+        ensures latest { (other : List ℕ) → OnOk result (kept_at self.new.latest.entries other
+            ≡ kept_with self.old.latest.entries change other) }
+        ensures pasts_stay { OnErr result (self.new.pasts ≡ self.old.pasts) }
+        ensures latest_stays { OnErr result (self.new.latest.entries ≡ self.old.latest.entries) }
     {
         self.latest.reserve(1)?;
         self.pasts[region as usize].push(past)?;
@@ -150,8 +153,7 @@ impl CausalMap {
         Ok(())
     }
 
-    /// Feeds the next node of a region's chain, in an order in which the nodes that it needs come first. At an error the
-    /// map is as before.
+    /// Feeds the next node of a region's chain, after the nodes that it needs. At an error the map is as before.
     pub fn feed(
         &mut self,
         alloc: Global,
@@ -163,7 +165,8 @@ impl CausalMap {
         ensures ok { (played : List ChainNode) (node : ChainNode) → node.region ≡ region → node.needs ≡ needs
             → node.text ≡ text.now → IsNext played node → IsCausalMap self.old played
             → OnOk result (IsCausalMap self.new (played ++ node ∷ [])) }
-        ensures err { (played : List ChainNode) → IsCausalMap self.old played → OnErr result (IsCausalMap self.new played) }
+        ensures err { (played : List ChainNode) → IsCausalMap self.old played
+            → OnErr result (IsCausalMap self.new played) }
     {
         let position = self.pasts[region as usize].len() as u64;
         let past = past_of(&self.pasts, at_once(region as usize, position, needs));

@@ -54,7 +54,8 @@ impl ShardMap {
     fn set(&mut self, key: Text, value: Text)
         requires { 0 < self.old.values.spare }
         ensures shard { HasShardOf self.old self.new }
-        ensures values { (other : List ℕ) → value_at self.new.values.entries other ≡ mine_with self.old other (Form.Put key value) }
+        ensures values { (other : List ℕ) → value_at self.new.values.entries other
+            ≡ mine_with self.old other (Form.Put key value) }
         ensures room { self.old.values.spare ≤ self.new.values.spare + 1 }
     {
         if self.has(key.as_bytes()) {
@@ -66,7 +67,8 @@ impl ShardMap {
     fn set_all(&mut self, pairs: Pairs)
         requires { length pairs ≤ self.old.values.spare }
         ensures shard { HasShardOf self.old self.new }
-        ensures values { (other : List ℕ) → value_at self.new.values.entries other ≡ mine_with self.old other (Form.PutAll pairs) }
+        ensures values { (other : List ℕ) → value_at self.new.values.entries other
+            ≡ mine_with self.old other (Form.PutAll pairs) }
     {
         for Pair { key, value } in pairs.into_vec() {
             self.set(key, value);
@@ -76,7 +78,8 @@ impl ShardMap {
     // Removes a key, if it is one of the shard.
     fn remove(&mut self, key: &[u8])
         ensures shard { HasShardOf self.old self.new }
-        ensures values { (other : List ℕ) → value_at self.new.values.entries other ≡ mine_with self.old other (Form.Delete key.now) }
+        ensures values { (other : List ℕ) → value_at self.new.values.entries other
+            ≡ mine_with self.old other (Form.Delete key.now) }
     {
         if self.has(key) {
             self.values.remove(key);
@@ -85,7 +88,8 @@ impl ShardMap {
 
     fn apply(&mut self, form: Form) -> Result<(), AllocError>
         ensures shard { HasShardOf self.old self.new }
-        ensures ok { (other : List ℕ) → OnOk result (value_at self.new.values.entries other ≡ mine_with self.old other form) }
+        ensures ok { (other : List ℕ) → OnOk result (value_at self.new.values.entries other
+            ≡ mine_with self.old other form) }
         ensures err { OnErr result (self.new.values.entries ≡ self.old.values.entries) }
     {
         match form {

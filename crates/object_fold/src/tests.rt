@@ -178,3 +178,89 @@ fn a_queue_gives_its_front(rt: HostRuntime) -> Result<(), Fail> {
     assert!(rt; queue.feed(alloc, &dequeue)?.is_none());
     Ok(())
 }
+
+/// The values of a key are these.
+fn are_values(
+    rt: &impl Abort,
+    alloc: Global,
+    map: &CausalMap,
+    key: &[u8],
+    wanted: &[&[u8]],
+) -> Result<(), AllocError> {
+    let values = map.get(alloc, key)?;
+    assert_eq!(rt; values.len(), wanted.len());
+    for (place, value) in wanted.iter().enumerate() {
+        is_value(rt, values.get(place), value);
+    }
+    Ok(())
+}
+
+#[test]
+fn a_causal_map_has_all_values_that_no_write_follows(rt: HostRuntime) -> Result<(), Fail> {
+    let alloc = rt.alloc();
+    let mut map = CausalMap::new(alloc);
+    are_values(&rt, alloc, &map, b"k", &[])?;
+    // Two writes in two regions, of which neither needs the other.
+    map.feed(
+        alloc,
+        0,
+        Counts([0, 0, 0, 0]),
+        &Text::copied(alloc, b"c:k=2")?,
+    )?;
+    map.feed(
+        alloc,
+        1,
+        Counts([0, 0, 0, 0]),
+        &Text::copied(alloc, b"c:k=1")?,
+    )?;
+    map.feed(
+        alloc,
+        2,
+        Counts([0, 0, 0, 0]),
+        &Text::copied(alloc, b"c:k=1")?,
+    )?;
+    map.feed(
+        alloc,
+        2,
+        Counts([0, 0, 1, 0]),
+        &Text::copied(alloc, b"p:k=5")?,
+    )?;
+    are_values(&rt, alloc, &map, b"k", &[b"1", b"1", b"2"])?;
+    are_values(&rt, alloc, &map, b"j", &[])?;
+    // One that follows those of regions 0 and 1.
+    map.feed(
+        alloc,
+        0,
+        Counts([1, 1, 0, 0]),
+        &Text::copied(alloc, b"c:k=3")?,
+    )?;
+    are_values(&rt, alloc, &map, b"k", &[b"1", b"3"])?;
+    Ok(())
+}
+
+#[test]
+fn what_a_predecessor_needs_is_followed_too(rt: HostRuntime) -> Result<(), Fail> {
+    let alloc = rt.alloc();
+    let mut map = CausalMap::new(alloc);
+    map.feed(
+        alloc,
+        1,
+        Counts([0, 0, 0, 0]),
+        &Text::copied(alloc, b"c:k=1")?,
+    )?;
+    map.feed(
+        alloc,
+        0,
+        Counts([0, 1, 0, 0]),
+        &Text::copied(alloc, b"plain")?,
+    )?;
+    // It needs nothing of region 1 itself.
+    map.feed(
+        alloc,
+        0,
+        Counts([0, 0, 0, 0]),
+        &Text::copied(alloc, b"c:k=9")?,
+    )?;
+    are_values(&rt, alloc, &map, b"k", &[b"9"])?;
+    Ok(())
+}

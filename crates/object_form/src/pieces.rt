@@ -7,6 +7,15 @@ ghost use Rattle.object_form.specs.Readings.{before, after, parts, pieces_in, is
 
 use std::alloc::{AllocError, Global};
 
+/// The greatest stamp of a writer.
+const MAX_STAMP: u64 = (1 << 62) - 1;
+
+/// The greatest number of a client.
+const MAX_CLIENT: u64 = 255;
+
+/// The greatest count of a client.
+const MAX_COUNT: u64 = (1 << 63) - 1;
+
 /// What stands before the first such sign, and what stands after it: all and nothing, where there is none.
 pub fn cut(bytes: &[u8], sign: u8) -> (&[u8], &[u8])
     ensures front { result.0.now ≡ before sign bytes.now }
@@ -161,12 +170,3 @@ pub fn are_versions(pieces: &[&[u8]]) -> bool
 {
     pieces.len() <= 2 && are_all_versions(pieces) && have_distinct_keys(pieces, b'@')
 }
-
-/// The greatest stamp of a writer.
-pub const MAX_STAMP: u64 = (1 << 62) - 1;
-
-/// The greatest number of a client.
-pub const MAX_CLIENT: u64 = 255;
-
-/// The greatest count of a client.
-pub const MAX_COUNT: u64 = (1 << 63) - 1;

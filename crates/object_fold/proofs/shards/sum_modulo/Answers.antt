@@ -1,5 +1,5 @@
-use Rattle.std.proofs.Common.{◌≡◌, ◌+◌, ◌%◌, ℕ, take, get_or, sum, sym, ap, ◌∙◌}
-use Rattle.std.proofs.Math.Nat.{add-mod, mod-mod}
+use Rattle.std.proofs.Common.{◌%◌, ℕ, take, get_or, sum, sym, ap, ◌∙◌}
+use Rattle.std.proofs.Math.Nat.{add-mod}
 use Rattle.std.proofs.lemmas.List.Sums.{sum_by_more}
 use Rattle.object_fold.proofs.shards.sum_modulo.Goals as goal
 

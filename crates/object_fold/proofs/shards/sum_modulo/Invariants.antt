@@ -1,4 +1,4 @@
-use Rattle.std.proofs.Common.{◌≡◌, ◌<◌, ◌%◌, sum, take}
+use Rattle.std.proofs.Common.{◌≡◌, ◌%◌, sum, take}
 use Rattle.object_fold.proofs.shards.sum_modulo.Given as goal
 
 abbrev pub invariant-loop-b : goal.invariant-loop-b

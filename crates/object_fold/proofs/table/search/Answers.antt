@@ -1,4 +1,4 @@
-use Rattle.std.proofs.Common.{◌≡◌, ℕ, List, Ordering, Bor, rules, tests}
+use Rattle.std.proofs.Common.{ℕ, List, rules, tests}
 use Rattle.object_fold.specs.Tables.{key_order}
 use Rattle.object_fold.proofs.TableLemmas.{search_found, search_gap, always}
 use Rattle.object_fold.proofs.table.search.Goals as goal

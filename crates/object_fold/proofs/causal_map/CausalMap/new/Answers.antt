@@ -1,4 +1,3 @@
-use Rattle.std.proofs.Common.{[]}
 use Rattle.object_fold.proofs.LatestLemmas.{no_pasts, no_writes}
 use Rattle.object_fold.proofs.causal_map.CausalMap.new.Goals as goal
 

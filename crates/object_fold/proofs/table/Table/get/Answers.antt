@@ -1,5 +1,4 @@
-use Rattle.std.proofs.Common.{◌≡◌, ℕ, List, Some, None, sym, ap, refl, ◌∙◌}
-use Rattle.object_fold.specs.Tables.{value_at}
+use Rattle.std.proofs.Common.{ℕ, List, Some, sym, ap, ◌∙◌}
 use Rattle.object_fold.proofs.TableLemmas.{found_value, gap_value}
 use Rattle.object_fold.proofs.table.Table.get.Goals as goal
 

@@ -1,5 +1,3 @@
-use Rattle.std.proofs.Common.{◌≡◌, ℕ, List}
-use Rattle.object_fold.specs.Tables.{value_at}
 use Rattle.object_fold.proofs.TableLemmas.{remove_rises, remove_value, absent_value, gap_value}
 use Rattle.object_fold.proofs.table.Table.remove.Goals as goal
 

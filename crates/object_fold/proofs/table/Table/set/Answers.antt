@@ -1,4 +1,4 @@
-use Rattle.std.proofs.Common.{◌≡◌, ℕ, List, Some, sym, ap, cond, get_or, ◌∙◌}
+use Rattle.std.proofs.Common.{◌≡◌, ℕ, List, Some, sym, ap, cond, ◌∙◌}
 use Rattle.std.specs.Str.{bytes_eq}
 use Rattle.object_fold.specs.Tables.{value_at}
 use Rattle.object_fold.proofs.TableLemmas.{set_rises, set_value, insert_rises, insert_value}
