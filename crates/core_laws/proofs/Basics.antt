@@ -1,0 +1,110 @@
+-- Functions with another value at one place, and what stands in a list.
+use Rattle.std.proofs.Common.{◌≡◌, ℕ, zero, suc, ◌<◌, List, [], ◌∷◌, ◌++◌, length, get_or, Some, true, false, refl, subst, ap, sym, ◌∙◌, inl, inr, ◌⊎◌, arith}
+use Rattle.std.specs.Prelude.{◌==◌, ◌&&◌, ◌≢◌, reverse, slice_get}
+use Rattle.std.specs.List.{Contains}
+use Rattle.std.proofs.lemmas.Bool.{eqb-true, eq-eqb, false_from_ne_true}
+use Rattle.log_node.specs.declared.ids.Id.{Id}
+use Rattle.log_node.specs.Order.{same_id}
+use Rattle.col_core.specs.Keeping.{updated, updated_at}
+use Rattle.col_core.proofs.Basics.{choice, if_true, apart, same_id-true, same_id-is}
+use Rattle.col_core.proofs.Members.{In}
+use Rattle.col_core.proofs.LawfulPasts.{reverse-cons}
+
+-- a fact of a changed function at any place
+pub at_updated : {A : Type 0} (P : A → Type 0) (f : ℕ → A) (n : ℕ) (x : A) (m : ℕ) → (m ≡ n → P x)
+    → ((m == n) ≡ false → P (f m)) → P (updated f n x m)
+at_updated P f n x m here there = choice P (m == n) x (f m) (λ t. here (eqb-true m n t)) there
+
+pub updated-here : {A : Type 0} (f : ℕ → A) (n : ℕ) (x : A) → updated f n x n ≡ x
+updated-here f n x = if_true (n == n) x (f n) (eq-eqb n n refl)
+
+pub at_updated_at : {A : Type 0} (P : A → Type 0) (f : ℕ → ℕ → A) (a n : ℕ) (x : A) (b m : ℕ) → (b ≡ a → m ≡ n → P x)
+    → (((b == a) && (m == n)) ≡ false → P (f b m)) → P (updated_at f a n x b m)
+at_updated_at {A} P f a n x b m here there =
+    choice (λ (g : ℕ → A). P (g m)) (b == a) (updated (f a) n x) (f b)
+    (λ t. let e = eqb-true b a t in
+    choice P (m == n) x (f a m) (λ s. here e (eqb-true m n s))
+    (λ s. subst (λ k. P (f k m)) e (there (ap (λ y. y && (m == n)) t ∙ s))))
+    (λ t. there (ap (λ y. y && (m == n)) t))
+
+pub updated_at-here : {A : Type 0} (f : ℕ → ℕ → A) (a n : ℕ) (x : A) → updated_at f a n x a n ≡ x
+updated_at-here f a n x =
+    at_updated_at (λ y. y ≡ x) f a n x a n (λ _ _. refl)
+    (λ other. absurd (apart ((a == a) && (n == n)) (both_same a n) other)) where
+      both_same : (a n : ℕ) → ((a == a) && (n == n)) ≡ true
+      both_same a n = rw (eq-eqb a a refl, eq-eqb n n refl) refl
+
+-- at another place it is as before
+pub updated_at-not : {A : Type 0} (f : ℕ → ℕ → A) (a n : ℕ) (x : A) (b m : ℕ) → (b ≡ a → m ≡ n → ⊥)
+    → updated_at f a n x b m ≡ f b m
+updated_at-not f a n x b m ne = at_updated_at (λ y. y ≡ f b m) f a n x b m (λ e g. absurd (ne e g)) (λ _. refl)
+
+-- two places are one, or not
+pub not_place : (a n b m : ℕ) → ((b == a) && (m == n)) ≡ false → b ≡ a → m ≡ n → ⊥
+not_place a n b m other e g = apart ((b == a) && (m == n)) (rw (eq-eqb b a e, eq-eqb m n g) refl) other
+
+pub not_same : (a b : Id) → a ≢ b → same_id a b ≡ false
+not_same a b ne = false_from_ne_true (same_id a b) (λ t. ne (same_id-true a b t))
+
+pub differ : (a b : Id) → same_id a b ≡ false → a ≢ b
+differ a b f e = apart (same_id a b) (same_id-is a b e) f
+
+-- What stands in a list
+
+pub in_contains : {A : Type 0} (xs : List A) (x : A) → Contains xs x → In x xs
+in_contains {A} xs x h = at xs h.0 h.1 h.2 where
+  at : (ys : List A) (k : ℕ) → k < length ys → get_or ys k x ≡ x → In x ys
+  at [] k lt e = absurd (let f : ⊥ = omega (arith, lt) in f)
+  at (y ∷ ys) zero lt e = inl e
+  at (y ∷ ys) (suc k) lt e = inr (at ys k (omega (arith, lt)) e)
+
+pub contains_in : {A : Type 0} (xs : List A) (x : A) → In x xs → Contains xs x
+contains_in [] x h = absurd h
+contains_in {A} (y ∷ ys) x (inl e) = (0, omega arith, e)
+contains_in {A} (y ∷ ys) x (inr h) = let r = contains_in ys x h in let lt = r.1 in (suc r.0, omega (arith, lt), r.2)
+
+pub in_slice : {A : Type 0} (xs : List A) (x : A) → In x xs → (n : ℕ) × (slice_get xs n ≡ Some x)
+in_slice [] x i = absurd i
+in_slice {A} (y ∷ ys) x (inl e) = (0, ap (λ (z : A). Some z) e)
+in_slice (y ∷ ys) x (inr i) = let r = in_slice ys x i in (suc r.0, r.1)
+
+pub slice_in : {A : Type 0} (xs : List A) (n : ℕ) (x : A) → slice_get xs n ≡ Some x → In x xs
+slice_in [] n x h = absurd (let y : ⊥ = cc in y)
+slice_in (y ∷ ys) zero x h = inl (let z : y ≡ x = cc in z)
+slice_in (y ∷ ys) (suc n) x h = inr (slice_in ys n x h)
+
+pub in_append : {A : Type 0} (x : A) (xs ys : List A) → In x (xs ++ ys) → In x xs ⊎ In x ys
+in_append x [] ys i = inr i
+in_append x (y ∷ xs) ys (inl e) = inl (inl e)
+in_append {A} x (y ∷ xs) ys (inr i) = turn (in_append x xs ys i) where
+  turn : In x xs ⊎ In x ys → ((y ≡ x) ⊎ In x xs) ⊎ In x ys
+  turn (inl j) = inl (inr j)
+  turn (inr j) = inr j
+
+pub in_left : {A : Type 0} (x : A) (xs ys : List A) → In x xs → In x (xs ++ ys)
+in_left x [] ys i = absurd i
+in_left x (y ∷ xs) ys (inl e) = inl e
+in_left x (y ∷ xs) ys (inr i) = inr (in_left x xs ys i)
+
+pub in_right : {A : Type 0} (x : A) (xs ys : List A) → In x ys → In x (xs ++ ys)
+in_right x [] ys i = i
+in_right x (y ∷ xs) ys i = inr (in_right x xs ys i)
+
+pub in_last : {A : Type 0} (x : A) (xs : List A) (y : A) → In x (xs ++ y ∷ []) → In x xs ⊎ (y ≡ x)
+in_last {A} x xs y i = turn (in_append x xs (y ∷ []) i) where
+  turn : In x xs ⊎ ((y ≡ x) ⊎ ⊥) → In x xs ⊎ (y ≡ x)
+  turn (inl j) = inl j
+  turn (inr (inl e)) = inr e
+  turn (inr (inr f)) = absurd f
+
+pub in_reverse : {A : Type 0} (x : A) (xs : List A) → In x xs → In x (reverse xs)
+in_reverse x [] i = absurd i
+in_reverse {A} x (y ∷ xs) i =
+    subst (λ (l : List A). In x l) (sym (reverse-cons y xs)) (turn i (λ j. in_reverse x xs j)) where
+      turn : (y ≡ x) ⊎ In x xs → (In x xs → In x (reverse xs)) → In x (reverse xs ++ y ∷ [])
+      turn (inl e) rest = in_right x (reverse xs) (y ∷ []) (inl e)
+      turn (inr j) rest = in_left x (reverse xs) (y ∷ []) (rest j)
+
+pub slice_last : {A : Type 0} (xs : List A) (x : A) → slice_get (xs ++ x ∷ []) (length xs) ≡ Some x
+slice_last [] e = refl
+slice_last (d ∷ ds) e = slice_last ds e
