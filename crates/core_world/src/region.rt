@@ -1,0 +1,64 @@
+// The columns of one region.
+ghost use Rattle.std.specs.Prelude.{◌≡◌, ◌<◌, ◌≤◌, nat_lt, length, slice_index_or, slice_set, if◌then◌else◌};
+ghost use Rattle.std.specs.Prelude.{IfOk, OnOk, OnErr};
+ghost use Rattle.col_core.specs.History.{clock};
+ghost use Rattle.column.specs.Columns.{after_raise};
+ghost use Rattle.core_world.specs.Kept.{no_column, fresh_columns};
+
+use column::Column;
+use log_node::{At, Shape};
+use skeen_core::MAX_STAMP;
+use std::alloc::{AllocError, Global};
+use std::marker::Model;
+
+/// The columns of a region, by colour.
+#[derive(Drop)]
+pub struct RegionColumns {
+    items: Vec<Column>,
+}
+
+impl Model for RegionColumns {
+    ghost use Rattle.std.specs.Prelude.{List};
+    ghost use Rattle.column.specs.Columns.{ColumnState};
+
+    ghost Value = { List ColumnState };
+
+    ghost view = { λ a. a.items.items };
+}
+
+impl RegionColumns {
+    /// A region's columns with nothing in them.
+    pub fn open(alloc: Global, region: u8, shape: &Shape) -> Result<RegionColumns, AllocError>
+        requires region { region < 4 }
+        requires colours { shape.now.colours ≤ 16 }
+        ensures { IfOk result (λ columns. columns ≡ fresh_columns region shape.now) }
+    {
+        let mut items = Vec::new(alloc);
+        for colour in 0..shape.colours {
+            items.push(Column::open(alloc, region, colour, shape)?)?;
+        }
+        Ok(RegionColumns { items })
+    }
+
+    /// The column of a colour.
+    pub fn column(&self, colour: u8) -> &Column
+        requires { colour < length self.now }
+        ensures { result.now ≡ slice_index_or self.now colour no_column }
+    {
+        &self.items[colour as usize]
+    }
+
+    /// Raises the clock of a colour's column.
+    pub fn raise(&mut self, by: u8, colour: u8, to: u64) -> Result<At, AllocError>
+        requires colour { colour < length self.old }
+        requires above { clock (slice_index_or self.old colour no_column).journal < to }
+        requires within { to ≤ MAX_STAMP }
+        ensures answer { IfOk result (λ at.
+            at ≡ At.Event (length (slice_index_or self.old colour no_column).journal)) }
+        ensures ok { OnOk result
+            (self.new ≡ slice_set self.old colour (after_raise (slice_index_or self.old colour no_column) by to)) }
+        ensures err { OnErr result (self.new ≡ self.old) }
+    {
+        self.items[colour as usize].raise(by, to)
+    }
+}
