@@ -1,2 +1,4 @@
 pub mod Changing
 pub mod Placing
+pub mod Opening
+pub mod Seeing

@@ -1,6 +1,7 @@
 // The columns of one region.
-ghost use Rattle.std.specs.Prelude.{◌≡◌, ◌<◌, ◌≤◌, nat_lt, length, slice_index_or, slice_set, if◌then◌else◌};
+ghost use Rattle.std.specs.Prelude.{◌≡◌, ◌<◌, ◌≤◌, nat_le, length, slice_index_or, slice_set};
 ghost use Rattle.std.specs.Prelude.{IfOk, OnOk, OnErr};
+ghost use Rattle.std.specs.List.{list_any};
 ghost use Rattle.col_core.specs.History.{clock};
 ghost use Rattle.column.specs.Columns.{after_raise};
 ghost use Rattle.core_world.specs.Kept.{no_column, fresh_columns};
@@ -60,5 +61,12 @@ impl RegionColumns {
         ensures err { OnErr result (self.new ≡ self.old) }
     {
         self.items[colour as usize].raise(by, to)
+    }
+
+    /// Whether the clock of one of the columns is no less.
+    pub fn reaches(&self, to: u64) -> bool
+        ensures { result ≡ list_any (λ column. nat_le to (clock column.journal)) self.now }
+    {
+        self.items.iter().any(|column| to <= column.clock())
     }
 }

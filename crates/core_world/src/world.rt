@@ -1,10 +1,11 @@
 // The world of all columns and clients, and its steps.
-ghost use Rattle.std.specs.Prelude.{◌≡◌, ◌<◌, ◌≤◌, true, length, IfOk, OnOk, OnErr};
-ghost use Rattle.std.specs.List.{All};
+ghost use Rattle.std.specs.Prelude.{◌≡◌, ◌<◌, ◌≤◌, true, map, replicate, length, IfOk, OnOk, OnErr};
+ghost use Rattle.std.specs.List.{All, range_with_len};
 ghost use Rattle.core_laws.specs.Worlds.{after, opened, reply, may_raise, after_raise, event_reply};
 ghost use Rattle.core_laws.specs.Worlds.{may_see, after_seen};
-ghost use Rattle.core_laws.specs.Laws.{IsReached, SettlesOnce, OrderedAlike};
-ghost use Rattle.core_world.specs.Kept.{world_of, client_at, column_at};
+ghost use Rattle.core_laws.specs.Laws.{IsReached};
+ghost use Rattle.core_world.specs.Kept.{world_of, client_at, column_at, fresh_columns};
+ghost use Rattle.core_world.specs.Clients.{fresh_client};
 
 use crate::client::Client;
 use crate::region::RegionColumns;
@@ -39,7 +40,48 @@ impl Model for World {
     }) };
 }
 
+// The columns of all regions of a shape, with nothing in them.
+fn fresh_regions(alloc: Global, shape: &Shape) -> Result<Vec<RegionColumns>, AllocError>
+    requires regions { shape.now.regions ≤ 4 }
+    requires colours { shape.now.colours ≤ 16 }
+    ensures { IfOk result (λ regions. regions.items ≡
+        map (λ region. fresh_columns region shape.now) (range_with_len 0 shape.now.regions)) }
+{
+    let mut regions = Vec::new(alloc);
+    for region in 0..shape.regions {
+        regions.push(RegionColumns::open(alloc, region, shape)?)?;
+    }
+    Ok(regions)
+}
+
+// So many clients that have used, seen and played nothing.
+fn fresh_clients(alloc: Global, count: usize) -> Result<Vec<Client>, AllocError>
+    ensures { IfOk result (λ clients. clients.items ≡ replicate count fresh_client) }
+{
+    let mut clients = Vec::new(alloc);
+    for _ in 0..count {
+        clients.push(Client::open(alloc)?)?;
+    }
+    Ok(clients)
+}
+
 impl World {
+    /// The world of a shape before the first step.
+    pub fn open(alloc: Global, shape: Shape) -> Result<World, AllocError>
+        requires regions { shape.regions ≤ 4 }
+        requires colours { shape.colours ≤ 16 }
+        requires homes { All (λ home. home < shape.regions) shape.homes }
+        ensures { IfOk result (λ world. world_of world ≡ opened shape) }
+    {
+        let regions = fresh_regions(alloc, &shape)?;
+        let clients = fresh_clients(alloc, shape.homes.len())?;
+        Ok(World {
+            shape,
+            clients,
+            regions,
+        })
+    }
+
     /// The column of a region and a colour.
     pub fn column(&self, region: u8, colour: u8) -> &Column
         requires region { region < self.now.shape.regions }
@@ -103,11 +145,8 @@ impl World {
         let Some(home) = self.shape.homes.get(client as usize) else {
             return false;
         };
-        let region = *home;
-        if to <= self.client(client).floor() {
-            return false;
-        }
-        (0..self.shape.colours).any(|colour| to <= self.column(region, colour).clock())
+        let home = *home;
+        self.client(client).floor() < to && self.regions[home as usize].reaches(to)
     }
 
     // The same where the guard holds.
@@ -118,11 +157,9 @@ impl World {
         self.clients[client as usize].see(to);
     }
 
-    /// What holds of every world that steps have made holds of this one.
+    /// Steps have made this world, so the laws of all such worlds hold of it.
     pub fn agrees(&self)
-        ensures reached { IsReached (world_of self.now) }
-        ensures settles { SettlesOnce (world_of self.now) }
-        ensures alike { OrderedAlike (world_of self.now) }
+        ensures { IsReached (world_of self.now) }
     {
         let _whole = &self.regions;
     }
