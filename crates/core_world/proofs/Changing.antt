@@ -110,29 +110,63 @@ whole_column kept region colour column step w lr lc is_placed step_is = record {
       subst (λ (x : ColumnState). IsPlaced x r c kept.shape.regions) (sym (column_elsewhere kept.columns region colour column in_regions in_colours r c ne))
       (w.placed r c in_r in_c)
 
+differs : (n m : ℕ) → (n == m) ≡ false → n ≢ m
+differs n m f e = apart (n == m) (eq-eqb n m e) f
+
+-- the clients are as before but for one, and so are their nodes
+pub clients_changed : (cs : List ClientKept) (client : ℕ) (c : ClientKept) → client < length cs
+    → ◌≡◌ {A = ℕ → ClientState} (λ n. client_of (get_or (set cs client c) n fresh_client))
+    (updated (λ n. client_of (get_or cs n fresh_client)) client (client_of c))
+clients_changed cs client c lt =
+    fun_ext (λ n. at_updated (λ (v : ClientState). client_of (get_or (set cs client c) n fresh_client) ≡ v)
+    (λ a. client_of (get_or cs a fresh_client)) client (client_of c) n
+    (λ e. ap (λ (k : ℕ). client_of (get_or (set cs client c) k fresh_client)) e ∙ ap client_of (get_or-set_same cs client c fresh_client lt))
+    (λ f. ap client_of (get_or-set_other cs client n c fresh_client (differs n client f))))
+
+pub nodes_changed : (cs : List ClientKept) (client : ℕ) (c : ClientKept) → client < length cs
+    → ◌≡◌ {A = ℕ → List Node} (λ n. (get_or (set cs client c) n fresh_client).nodes)
+    (updated (λ n. (get_or cs n fresh_client).nodes) client c.nodes)
+nodes_changed cs client c lt =
+    fun_ext (λ n. at_updated (λ (v : List Node). (get_or (set cs client c) n fresh_client).nodes ≡ v)
+    (λ a. (get_or cs a fresh_client).nodes) client c.nodes n
+    (λ e. ap (λ (k : ℕ). (get_or (set cs client c) k fresh_client).nodes) e ∙ ap (λ (x : ClientKept). x.nodes) (get_or-set_same cs client c fresh_client lt))
+    (λ f. ap (λ (x : ClientKept). x.nodes) (get_or-set_other cs client n c fresh_client (differs n client f))))
+
+-- nodes that stay
+nodes_same : (cs : List ClientKept) (client : ℕ) (c : ClientKept) → client < length cs → c.nodes ≡ (get_or cs client fresh_client).nodes
+    → ◌≡◌ {A = ℕ → List Node} (λ n. (get_or (set cs client c) n fresh_client).nodes) (λ n. (get_or cs n fresh_client).nodes)
+nodes_same cs client c lt same = fun_ext (λ n. elim (cases_eq n client) [
+  | inl e ↦
+      ap (λ (k : ℕ). (get_or (set cs client c) k fresh_client).nodes) e
+      ∙ (ap (λ (x : ClientKept). x.nodes) (get_or-set_same cs client c fresh_client lt)
+      ∙ (same ∙ ap (λ (k : ℕ). (get_or cs k fresh_client).nodes) (sym e)))
+  | inr f ↦ ap (λ (x : ClientKept). x.nodes) (get_or-set_other cs client n c fresh_client f)
+])
+
 -- one client's change is one in the world
 pub client_world : (kept : WorldKept) (client : ℕ) (c : ClientKept) → client < length kept.clients
     → c.nodes ≡ (client_at kept client).nodes
     → world_of (record kept { clients = set kept.clients client c }) ≡ with_client (world_of kept) client (client_of c)
 client_world kept client c lt same =
     ap (λ (cs : ℕ → ClientState). with_both cs (λ n. (get_or (set kept.clients client c) n fresh_client).nodes))
-    (fun_ext (λ n. at_updated (λ (v : ClientState). client_of (get_or (set kept.clients client c) n fresh_client) ≡ v)
-    (λ a. client_of (client_at kept a)) client (client_of c) n
-    (λ e. ap (λ (k : ℕ). client_of (get_or (set kept.clients client c) k fresh_client)) e ∙ ap client_of (get_or-set_same kept.clients client c fresh_client lt))
-    (λ f. ap client_of (get_or-set_other kept.clients client n c fresh_client (differs n f)))))
+    (clients_changed kept.clients client c lt)
     ∙ ap (λ (ns : ℕ → List Node). with_both (updated (λ a. client_of (client_at kept a)) client (client_of c)) ns)
-    (fun_ext (λ n. elim (cases_eq n client) [
-      | inl e ↦
-          ap (λ (k : ℕ). (get_or (set kept.clients client c) k fresh_client).nodes) e
-          ∙ (ap (λ (x : ClientKept). x.nodes) (get_or-set_same kept.clients client c fresh_client lt)
-          ∙ (same ∙ ap (λ (k : ℕ). (client_at kept k).nodes) (sym e)))
-      | inr f ↦ ap (λ (x : ClientKept). x.nodes) (get_or-set_other kept.clients client n c fresh_client f)
-    ])) where
+    (nodes_same kept.clients client c lt same) where
       with_both : (ℕ → ClientState) → (ℕ → List Node) → World
       with_both cs ns = record (world_of kept) { clients = cs; nodes = ns }
 
-      differs : (n : ℕ) → (n == client) ≡ false → n ≢ client
-      differs n f e = apart (n == client) (eq-eqb n client e) f
+-- one that the world does not show changes nothing there
+pub client_shown : (kept : WorldKept) (client : ℕ) (c : ClientKept) → client < length kept.clients
+    → c.nodes ≡ (client_at kept client).nodes → client_of c ≡ client_of (client_at kept client)
+    → world_of (record kept { clients = set kept.clients client c }) ≡ world_of kept
+client_shown kept client c lt same shown =
+    ap (λ (cs : ℕ → ClientState). with_both cs (λ n. (get_or (set kept.clients client c) n fresh_client).nodes))
+    (clients_changed kept.clients client c lt ∙ fun_ext (λ n. at_updated (λ (v : ClientState). v ≡ client_of (client_at kept n))
+    (λ a. client_of (client_at kept a)) client (client_of c) n
+    (λ e. shown ∙ ap (λ (k : ℕ). client_of (client_at kept k)) (sym e)) (λ _. refl)))
+    ∙ ap (λ (ns : ℕ → List Node). with_both (λ a. client_of (client_at kept a)) ns) (nodes_same kept.clients client c lt same) where
+      with_both : (ℕ → ClientState) → (ℕ → List Node) → World
+      with_both cs ns = record (world_of kept) { clients = cs; nodes = ns }
 
 -- the code keeps the world after a step that changed one client
 pub whole_client : (kept : WorldKept) (client : ℕ) (c : ClientKept) (step : Step) → IsWhole kept → length c.played ≡ 16
@@ -148,4 +182,19 @@ whole_client kept client c step w all_colours step_is = record {
   clients = length-set kept.clients client c ∙ w.clients;
   colours = All-set (λ (x : ClientKept). length x.played ≡ 16) kept.clients client c all_colours w.colours;
   reached = subst IsReached (sym step_is) (after_reached (world_of kept) step w.reached);
+}
+
+pub whole_same : (kept : WorldKept) (client : ℕ) (c : ClientKept) → IsWhole kept → length c.played ≡ 16
+    → world_of (record kept { clients = set kept.clients client c }) ≡ world_of kept
+    → IsWhole (record kept { clients = set kept.clients client c })
+whole_same kept client c w all_colours same = record {
+  few_regions = w.few_regions;
+  few_colours = w.few_colours;
+  homes = w.homes;
+  regions = w.regions;
+  wide = w.wide;
+  placed = w.placed;
+  clients = length-set kept.clients client c ∙ w.clients;
+  colours = All-set (λ (x : ClientKept). length x.played ≡ 16) kept.clients client c all_colours w.colours;
+  reached = subst IsReached (sym same) w.reached;
 }

@@ -60,3 +60,7 @@ module _ (kept : WorldKept) (w : IsWhole kept) (by region colour to : ℕ) (may 
       whole_column kept region colour (columns.after_raise old by to) (steps.Raise by region colour to) w m.in_regions m.in_colours
       (record { in_region = p.in_region; of_colour = p.of_colour; of_regions = p.of_regions })
       (raised_world ∙ sym (cond-true (may_raise (world_of kept) region colour to) _ _ may))
+
+-- a place within a list is one within an equal list
+pub list_there : {A : Type 0} (xs ys : List A) (i : ℕ) → xs ≡ ys → i < length ys → i < length xs
+list_there xs ys i e lt = let n = ap length e in omega (arith, n, lt)

@@ -1,16 +1,18 @@
 // The columns of one region.
 ghost use Rattle.std.specs.Prelude.{◌≡◌, ◌<◌, ◌≤◌, nat_le, length, slice_index_or, slice_set};
-ghost use Rattle.std.specs.Prelude.{IfOk, OnOk, OnErr};
+ghost use Rattle.std.specs.Prelude.{true, false, IfOk, IfErr, OnOk, OnErr};
 ghost use Rattle.std.specs.List.{list_any};
-ghost use Rattle.col_core.specs.History.{clock};
-ghost use Rattle.column.specs.Columns.{after_raise};
+ghost use Rattle.col_core.specs.History.{clock, has_entered};
+ghost use Rattle.log_node.specs.Sets.{has};
+ghost use Rattle.column.specs.Columns.{after_raise, after_single, with_room, stamp_for, HasEnterCause};
 ghost use Rattle.core_world.specs.Kept.{no_column, fresh_columns};
 
-use column::Column;
-use log_node::{At, Shape};
+use column::{Column, ColumnFault};
+use log_node::{At, Node, Shape};
 use skeen_core::MAX_STAMP;
 use std::alloc::{AllocError, Global};
 use std::marker::Model;
+use std::sync::Arc;
 
 /// The columns of a region, by colour.
 #[derive(Drop)]
@@ -68,5 +70,24 @@ impl RegionColumns {
         ensures { result ≡ list_any (λ column. nat_le to (clock column.journal)) self.now }
     {
         self.items.iter().any(|column| to <= column.clock())
+    }
+
+    /// A node enters a colour's column as final.
+    pub fn single(&mut self, by: u8, colour: u8, node: Arc<Node>) -> Result<(At, u64), ColumnFault>
+        requires colour { colour < length self.old }
+        requires fresh { has_entered node.value.id (slice_index_or self.old colour no_column).journal ≡ false }
+        requires region { node.value.region ≡ (slice_index_or self.old colour no_column).region }
+        requires of_colour { has node.value.colours (slice_index_or self.old colour no_column).colour ≡ true }
+        requires floor { node.value.floor ≤ MAX_STAMP }
+        ensures answer { IfOk result (λ r.
+            (r.0 ≡ At.Event (length (slice_index_or self.old colour no_column).journal))
+            × (r.1 ≡ stamp_for (slice_index_or self.old colour no_column) node.value)) }
+        ensures ok { OnOk result (self.new ≡ slice_set self.old colour
+            (after_single (with_room (slice_index_or self.old colour no_column)) by node.value)) }
+        ensures cause { IfErr result (HasEnterCause (slice_index_or self.old colour no_column) node.value.floor) }
+        ensures err { OnErr result (self.new ≡ self.old) }
+    {
+        let answer = self.items[colour as usize].single(by, node)?;
+        Ok(answer)
     }
 }
