@@ -67,31 +67,9 @@ column_world kept region colour column e lr lc is =
       with_histories : (ℕ → ℕ → List Entry) → World
       with_histories hs = record (world_of kept) { histories = hs }
 
--- the code keeps the world after a step that changed one column
-pub whole_column : (kept : WorldKept) (region colour : ℕ) (column : ColumnState) (step : Step) → IsWhole kept
-    → region < kept.shape.regions → colour < kept.shape.colours → IsPlaced column region colour kept.shape.regions
-    → world_of (record kept { columns = with_column kept.columns region colour column }) ≡ after (world_of kept) step
-    → IsWhole (record kept { columns = with_column kept.columns region colour column })
-whole_column kept region colour column step w lr lc is_placed step_is = record {
-  few_regions = w.few_regions;
-  few_colours = w.few_colours;
-  homes = w.homes;
-  regions = length-set kept.columns region (set (get_or kept.columns region []) colour column) ∙ w.regions;
-  wide = All-set (λ (columns : List ColumnState). length columns ≡ kept.shape.colours) kept.columns region _
-      (length-set (get_or kept.columns region []) colour column ∙ row_wide) w.wide;
-  placed = λ r c in_r in_c. elim (cases_eq r region) [
-    | inl e ↦ elim (cases_eq c colour) [
-      | inl f ↦ subst (λ (n : ℕ). IsPlaced (column_at changed n c) n c kept.shape.regions) (sym e)
-          (subst (λ (n : ℕ). IsPlaced (column_at changed region n) region n kept.shape.regions) (sym f)
-          (subst (λ (x : ColumnState). IsPlaced x region colour kept.shape.regions) (sym (column_here kept.columns region colour column in_regions in_colours)) is_placed))
-      | inr ne ↦ other r c in_r in_c (λ _ f. ne f)
-    ]
-    | inr ne ↦ other r c in_r in_c (λ e _. ne e)
-  ];
-  clients = w.clients;
-  colours = w.colours;
-  reached = subst IsReached (sym step_is) (after_reached (world_of kept) step w.reached);
-} where
+-- the places of columns stay
+module _ (kept : WorldKept) (region colour : ℕ) (column : ColumnState) (w : IsWhole kept) (lr : region < kept.shape.regions)
+    (lc : colour < kept.shape.colours) where
   in_regions : region < length kept.columns
   in_regions = let n = w.regions in omega (arith, n, lr)
 
@@ -101,14 +79,50 @@ whole_column kept region colour column step w lr lc is_placed step_is = record {
   in_colours : colour < length (get_or kept.columns region [])
   in_colours = omega (arith, row_wide, lc)
 
-  changed : List (List ColumnState)
-  changed = with_column kept.columns region colour column
+  pub regions_after : length (with_column kept.columns region colour column) ≡ kept.shape.regions
+  regions_after = length-set kept.columns region (set (get_or kept.columns region []) colour column) ∙ w.regions
+
+  pub wide_after : All (λ (columns : List ColumnState). length columns ≡ kept.shape.colours) (with_column kept.columns region colour column)
+  wide_after = All-set (λ (columns : List ColumnState). length columns ≡ kept.shape.colours) kept.columns region _
+      (length-set (get_or kept.columns region []) colour column ∙ row_wide) w.wide
 
   other : (r c : ℕ) → r < kept.shape.regions → c < kept.shape.colours → (r ≡ region → c ≡ colour → ⊥)
-      → IsPlaced (column_at changed r c) r c kept.shape.regions
+      → IsPlaced (column_at (with_column kept.columns region colour column) r c) r c kept.shape.regions
   other r c in_r in_c ne =
-      subst (λ (x : ColumnState). IsPlaced x r c kept.shape.regions) (sym (column_elsewhere kept.columns region colour column in_regions in_colours r c ne))
-      (w.placed r c in_r in_c)
+      subst (λ (x : ColumnState). IsPlaced x r c kept.shape.regions)
+      (sym (column_elsewhere kept.columns region colour column in_regions in_colours r c ne)) (w.placed r c in_r in_c)
+
+  pub placed_after : IsPlaced column region colour kept.shape.regions → (r c : ℕ) → r < kept.shape.regions → c < kept.shape.colours
+      → IsPlaced (column_at (with_column kept.columns region colour column) r c) r c kept.shape.regions
+  placed_after is_placed r c in_r in_c =
+      let changed = with_column kept.columns region colour column in
+      elim (cases_eq r region) [
+        | inl e ↦ elim (cases_eq c colour) [
+          | inl f ↦ subst (λ (n : ℕ). IsPlaced (column_at changed n c) n c kept.shape.regions) (sym e)
+              (subst (λ (n : ℕ). IsPlaced (column_at changed region n) region n kept.shape.regions) (sym f)
+              (subst (λ (x : ColumnState). IsPlaced x region colour kept.shape.regions)
+              (sym (column_here kept.columns region colour column in_regions in_colours)) is_placed))
+          | inr ne ↦ other r c in_r in_c (λ _ f. ne f)
+        ]
+        | inr ne ↦ other r c in_r in_c (λ e _. ne e)
+      ]
+
+-- the code keeps the world after a step that changed one column
+pub whole_column : (kept : WorldKept) (region colour : ℕ) (column : ColumnState) (step : Step) → IsWhole kept
+    → region < kept.shape.regions → colour < kept.shape.colours → IsPlaced column region colour kept.shape.regions
+    → world_of (record kept { columns = with_column kept.columns region colour column }) ≡ after (world_of kept) step
+    → IsWhole (record kept { columns = with_column kept.columns region colour column })
+whole_column kept region colour column step w lr lc is_placed step_is = record {
+  few_regions = w.few_regions;
+  few_colours = w.few_colours;
+  homes = w.homes;
+  regions = regions_after kept region colour column w lr lc;
+  wide = wide_after kept region colour column w lr lc;
+  placed = placed_after kept region colour column w lr lc is_placed;
+  clients = w.clients;
+  colours = w.colours;
+  reached = subst IsReached (sym step_is) (after_reached (world_of kept) step w.reached);
+}
 
 differs : (n m : ℕ) → (n == m) ≡ false → n ≢ m
 differs n m f e = apart (n == m) (eq-eqb n m e) f

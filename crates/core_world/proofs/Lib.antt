@@ -2,3 +2,4 @@ pub mod Changing
 pub mod Placing
 pub mod Opening
 pub mod Seeing
+pub mod Singles
