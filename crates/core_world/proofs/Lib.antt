@@ -3,3 +3,4 @@ pub mod Placing
 pub mod Opening
 pub mod Seeing
 pub mod Singles
+pub mod Calling

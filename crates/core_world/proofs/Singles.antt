@@ -95,7 +95,7 @@ module _ (kept : WorldKept) (w : IsWhole kept) (client colour : ℕ) (text : Lis
   abbrev new_client : ClientKept
   new_client = with_next_node (client_at kept client) node (stamp_for old node)
 
-  abbrev new_kept : WorldKept
+  abbrev pub new_kept : WorldKept
   new_kept = record kept {
     clients = set kept.clients client new_client;
     columns = with_column kept.columns home colour new_column;

@@ -1,5 +1,5 @@
 -- What code keeps of a world, and the world that it means.
-use Rattle.std.specs.Prelude.{◌≡◌, ℕ, ◌<◌, ◌≤◌, List, [], length, map, replicate, slice_index_or}
+use Rattle.std.specs.Prelude.{◌≡◌, ℕ, ◌<◌, ◌≤◌, List, [], length, map, replicate, slice_index_or, slice_set}
 use Rattle.std.specs.List.{All, range_with_len}
 use Rattle.log_node.specs.declared.node.Shape.{Shape}
 use Rattle.log_node.specs.Vectors.{zeros}
@@ -7,7 +7,7 @@ use Rattle.col_core.specs.declared.Entry.{Entry}
 use Rattle.column.specs.Columns.{ColumnState, new_column}
 use Rattle.core_laws.specs.Worlds.{World, ClientState, no_row}
 use Rattle.core_laws.specs.Laws.{IsReached}
-use Rattle.core_world.specs.Clients.{ClientKept, fresh_client}
+use Rattle.core_world.specs.Clients.{ClientKept, fresh_client, with_spare}
 
 -- the clients by number, and the columns by region and colour
 pub record WorldKept : Type 0 where
@@ -47,6 +47,10 @@ world_of kept = record {
   histories = λ region colour. (column_at kept.columns region colour).journal;
   nodes = λ client. (client_at kept client).nodes;
 }
+
+-- with memory for one node more of a client
+abbrev pub with_client_room : WorldKept → ℕ → WorldKept
+with_client_room kept client = record kept { clients = slice_set kept.clients client (with_spare (client_at kept client)) }
 
 -- the column of a region and a colour
 pub record IsPlaced (column : ColumnState) (region colour regions : ℕ) : Type 0 where

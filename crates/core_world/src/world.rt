@@ -1,20 +1,21 @@
 // The world of all columns and clients, and its steps.
-ghost use Rattle.std.specs.Prelude.{◌≡◌, ◌<◌, ◌≤◌, true, map, replicate, length, IfOk, OnOk, OnErr};
+ghost use Rattle.std.specs.Prelude.{◌≡◌, ◌<◌, ◌≤◌, true, false, None, IfSome, map, replicate, length, IfOk, OnOk, OnErr};
 ghost use Rattle.std.specs.List.{All, range_with_len};
 ghost use Rattle.core_laws.specs.Worlds.{after, opened, reply, may_raise, after_raise, event_reply};
-ghost use Rattle.core_laws.specs.Worlds.{may_see, after_seen};
+ghost use Rattle.core_laws.specs.Worlds.{may_see, after_seen, may_single, after_single, single_stamp, home_of};
 ghost use Rattle.core_laws.specs.Laws.{IsReached};
-ghost use Rattle.core_world.specs.Kept.{world_of, client_at, column_at, fresh_columns};
-ghost use Rattle.core_world.specs.Clients.{fresh_client};
+ghost use Rattle.core_world.specs.Kept.{world_of, client_at, column_at, fresh_columns, with_client_room};
+ghost use Rattle.core_world.specs.Clients.{fresh_client, next_single};
 
 use crate::client::Client;
 use crate::region::RegionColumns;
-use column::Column;
+use column::{Column, ColumnFault};
 use core_laws::{Reply, Step};
-use log_node::{At, Shape};
+use log_node::{At, Node, Shape, Text};
 use skeen_core::MAX_STAMP;
 use std::alloc::{AllocError, Global};
 use std::marker::Model;
+use std::sync::Arc;
 
 /// All clients and columns of a shape.
 #[derive(Drop)]
@@ -155,6 +156,80 @@ impl World {
         ensures { world_of self.new ≡ after_seen (world_of self.old) client to }
     {
         self.clients[client as usize].see(to);
+    }
+
+    /// The client appends to one colour: its next node enters the column of its region as final.
+    pub fn single(&mut self, alloc: Global, client: u8, colour: u8, text: Text) -> Result<Reply, AllocError>
+        ensures ok { OnOk result (world_of self.new ≡ after (world_of self.old) (Step.Single client colour text)) }
+        ensures reply { IfOk result (λ r. r ≡ reply (world_of self.old) (Step.Single client colour text)) }
+        ensures err { OnErr result (world_of self.new ≡ world_of self.old) }
+    {
+        let Some(home) = self.single_home(client, colour) else {
+            return Ok(Reply::Nothing);
+        };
+        let node = self.client(client).single_node(alloc, client, home, colour, text)?;
+        let node = Arc::new(alloc, node)?;
+        let shared = node.clone()?;
+        self.client_room(client)?;
+        match self.add_single(client, home, colour, node, shared) {
+            Ok(reply) => Ok(reply),
+            Err(_) => Err(AllocError),
+        }
+    }
+
+    // The client's region, where the client may append to the colour.
+    fn single_home(&self, client: u8, colour: u8) -> Option<u8>
+        ensures some { IfSome result (λ home. (may_single (world_of self.now) client colour ≡ true)
+            × (home_of (world_of self.now) client ≡ home)) }
+        ensures none { result ≡ None → may_single (world_of self.now) client colour ≡ false }
+    {
+        let home = *self.shape.homes.get(client as usize)?;
+        if colour >= self.shape.colours {
+            return None;
+        }
+        let clock = self.column(home, colour).clock();
+        let floor = self.client(client).floor();
+        if clock.max(floor) == MAX_STAMP {
+            return None;
+        }
+        Some(home)
+    }
+
+    // Takes the memory for one node more of a client.
+    fn client_room(&mut self, client: u8) -> Result<(), AllocError>
+        requires { client < length self.old.shape.homes }
+        ensures ok { OnOk result (self.new ≡ with_client_room self.old client) }
+        ensures err { OnErr result (self.new ≡ self.old) }
+    {
+        self.clients[client as usize].room()?;
+        Ok(())
+    }
+
+    // The node enters the column, and is the client's next one.
+    fn add_single(
+        &mut self,
+        client: u8,
+        home: u8,
+        colour: u8,
+        node: Arc<Node>,
+        shared: Arc<Node>,
+    ) -> Result<Reply, ColumnFault>
+        requires may { may_single (world_of self.old) client colour ≡ true }
+        requires home { home_of (world_of self.old) client ≡ home }
+        requires node { node.value ≡ next_single (client_at self.old client) client home colour node.value.text }
+        requires shared { shared.value ≡ node.value }
+        requires room { 0 < (client_at self.old client).spare }
+        ensures ok { OnOk result (world_of self.new ≡ after_single (world_of self.old) client colour node.value.text) }
+        ensures reply { IfOk result (λ r. r ≡ event_reply (world_of self.old) home colour
+            (single_stamp (world_of self.old) client colour)) }
+        ensures err { OnErr result (self.new ≡ self.old) }
+    {
+        let (at, stamp) = self.regions[home as usize].single(client, colour, node)?;
+        self.clients[client as usize].append(shared, stamp);
+        match at {
+            At::Event(place) => Ok(Reply::Event { place, stamp }),
+            At::Look(_) => unreachable!(),
+        }
     }
 
     /// Steps have made this world, so the laws of all such worlds hold of it.
