@@ -1,5 +1,5 @@
 -- What the code asks of a column and of a client for a single, and what the two make of the kept world.
-use Rattle.std.proofs.Common.{◌≡◌, Result, Ok, Err, ℕ, ◌<◌, ◌≤◌, true, false, List, [], length, get_or, set, refl, ap, sym, subst, ◌∙◌, arith}
+use Rattle.std.proofs.Common.{◌≡◌, Result, Ok, Err, ℕ, ◌<◌, ◌≤◌, true, false, List, [], length, get_or, set, refl, ap, sym, subst, ◌∙◌, arith, get_or-set_same}
 use Rattle.std.specs.Prelude.{OnErr}
 use Rattle.std.proofs.lemmas.List.{set-get_or}
 use Rattle.log_node.specs.declared.node.At.{At}
@@ -18,9 +18,9 @@ use Rattle.core_laws.proofs.Histories.{not_entered}
 use Rattle.core_laws.proofs.Keeps.{next_absent}
 use Rattle.core_laws.proofs.Runs.{held}
 use Rattle.core_laws.proofs.CallerLemmas.{of_reached}
-use Rattle.core_world.specs.Clients.{ClientKept, fresh_client, with_next_node, next_single}
-use Rattle.core_world.specs.Kept.{WorldKept, no_column, column_at, client_at, world_of, IsWhole}
-use Rattle.core_world.proofs.Changing.{with_column}
+use Rattle.core_world.specs.Clients.{ClientKept, fresh_client, with_spare, with_next_node, next_single}
+use Rattle.core_world.specs.Kept.{WorldKept, no_column, column_at, client_at, world_of, with_client_room, IsWhole}
+use Rattle.core_world.proofs.Changing.{client_shown}
 use Rattle.core_world.proofs.Placing.{default_free}
 use Rattle.core_world.proofs.Singles as singles
 use Rattle.core_world.proofs.Singles.{MaySingle, has_alone, client_in, home_in, colour_in}
@@ -125,3 +125,25 @@ refused columns home row new_row is same =
 pub on_err : {R E : Type 0} (r : Result R E) (P : Type 0) → P → OnErr r P
 on_err (Ok x) P p = tt
 on_err (Err e) P p = p
+
+-- the room that a client took shows nowhere in the world
+pub room_world : (kept : WorldKept) (client : ℕ) → IsWhole kept → client < length kept.clients
+    → world_of (with_client_room kept client) ≡ world_of kept
+room_world kept client w lt = client_shown kept client (with_spare (client_at kept client)) lt refl refl
+
+pub room_there : (kept : WorldKept) (client : ℕ) → client < length kept.clients
+    → 0 < (client_at (with_client_room kept client) client).spare
+room_there kept client lt =
+    subst (λ (c : ClientKept). 0 < c.spare) (sym (get_or-set_same kept.clients client (with_spare (client_at kept client)) fresh_client lt)) (omega arith)
+
+-- a client has something played of each colour
+pub played_of : (kept : WorldKept) (client colour : ℕ) → IsWhole kept → MaySingle kept client colour
+    → (client < length kept.clients) × (colour < 16) × (colour < length (client_at kept client).played)
+played_of kept client colour w may =
+    let n = w.clients in
+    let lt = may.is_client in
+    let there : client < length kept.clients = omega (arith, n, lt) in
+    let all = w.colours client fresh_client there in
+    let few = w.few_colours in
+    let small = may.in_colours in
+    (there, omega (arith, few, small), omega (arith, few, small, all))

@@ -164,6 +164,7 @@ impl World {
         ensures reply { IfOk result (λ r. r ≡ reply (world_of self.old) (Step.Single client colour text)) }
         ensures err { OnErr result (world_of self.new ≡ world_of self.old) }
     {
+        let _whole = &self.shape;
         let Some(home) = self.single_home(client, colour) else {
             return Ok(Reply::Nothing);
         };
