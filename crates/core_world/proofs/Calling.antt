@@ -1,5 +1,6 @@
 -- What the code asks of a column and of a client for a single, and what the two make of the kept world.
-use Rattle.std.proofs.Common.{◌≡◌, Result, Ok, Err, ℕ, ◌<◌, ◌≤◌, true, false, List, [], length, get_or, set, refl, ap, sym, subst, ◌∙◌, arith, get_or-set_same}
+use Rattle.std.proofs.Common.{◌≡◌, Result, Ok, Err, ℕ, ◌<◌, ◌≤◌, true, false, List, [], length, get_or, set, refl, ap}
+use Rattle.std.proofs.Common.{sym, subst, ◌∙◌, arith, get_or-set_same}
 use Rattle.std.specs.Prelude.{OnErr}
 use Rattle.std.proofs.lemmas.List.{set-get_or}
 use Rattle.log_node.specs.declared.node.At.{At}
@@ -12,7 +13,6 @@ use Rattle.column.specs.Columns as columns
 use Rattle.core_laws.specs.declared.steps.Reply.{Reply}
 use Rattle.core_laws.specs.declared.steps.Reply.TheVariants as replies
 use Rattle.core_laws.specs.Worlds.{home_of, next_id, event_reply, single_stamp}
-use Rattle.core_laws.specs.Laws.{IsReached}
 use Rattle.core_laws.proofs.Held.{Held}
 use Rattle.core_laws.proofs.Histories.{not_entered}
 use Rattle.core_laws.proofs.Keeps.{next_absent}
@@ -29,7 +29,8 @@ pub is_held : (kept : WorldKept) → IsWhole kept → Held (world_of kept)
 is_held kept w = of_reached Held held (world_of kept) w.reached
 
 module _ (kept : WorldKept) (w : IsWhole kept) (client colour : ℕ) (may : MaySingle kept client colour) (home : ℕ)
-    (home_is : home_of (world_of kept) client ≡ home) (row : List ColumnState) (row_is : row ≡ get_or kept.columns home row)
+    (home_is : home_of (world_of kept) client ≡ home) (row : List ColumnState)
+    (row_is : row ≡ get_or kept.columns home row)
     (node : Node) (node_is : node ≡ next_single (client_at kept client) client home colour node.text) where
   abbrev region : ℕ
   region = home_of (world_of kept) client
@@ -52,7 +53,8 @@ module _ (kept : WorldKept) (w : IsWhole kept) (client colour : ℕ) (may : MayS
   column_same = ap (λ (l : List ColumnState). get_or l colour no_column) row_same
 
   pub call_colour : colour < length row
-  call_colour = let n = ap length row_same in let lt = colour_in kept w client colour node.text may in omega (arith, n, lt)
+  call_colour = let n = ap length row_same in let lt = colour_in kept w client colour node.text may in
+      omega (arith, n, lt)
 
   pub call_home : home < length kept.columns
   call_home = let lt = home_in kept w client colour node.text may in omega (arith, home_is, lt)
@@ -64,12 +66,14 @@ module _ (kept : WorldKept) (w : IsWhole kept) (client colour : ℕ) (may : MayS
   call_fresh =
       ap (λ (n : Node). has_entered n.id (get_or row colour no_column).journal) node_same
       ∙ (ap (λ (c : ColumnState). has_entered its.id c.journal) column_same
-      ∙ not_entered old.journal (next_id (world_of kept) client) (next_absent (world_of kept) (is_held kept w) client region colour))
+      ∙ not_entered old.journal (next_id (world_of kept) client)
+      (next_absent (world_of kept) (is_held kept w) client region colour))
 
   pub call_region : node.region ≡ (get_or row colour no_column).region
   call_region =
       ap (λ (n : Node). n.region) node_same
-      ∙ sym (ap (λ (c : ColumnState). c.region) column_same ∙ (w.placed region colour may.in_regions may.in_colours).in_region)
+      ∙ sym (ap (λ (c : ColumnState). c.region) column_same
+      ∙ (w.placed region colour may.in_regions may.in_colours).in_region)
 
   pub call_of_colour : has node.colours (get_or row colour no_column).colour ≡ true
   call_of_colour =
@@ -83,41 +87,57 @@ module _ (kept : WorldKept) (w : IsWhole kept) (client colour : ℕ) (may : MayS
 
   -- the stamp that it gets is the one that is meant
   pub stamp_same : stamp_for (get_or row colour no_column) node ≡ stamp_for old its
-  stamp_same = ap (λ (n : Node). stamp_for (get_or row colour no_column) n) node_same ∙ ap (λ (c : ColumnState). stamp_for c its) column_same
+  stamp_same = ap (λ (n : Node). stamp_for (get_or row colour no_column) n) node_same
+      ∙ ap (λ (c : ColumnState). stamp_for c its) column_same
 
   -- both together
   pub kept_after : (new_row : List ColumnState) (old_client new_client : ClientKept) (stamp : ℕ) (shared : Node)
       → new_row ≡ set row colour (columns.after_single (with_room (get_or row colour no_column)) client node)
-      → old_client ≡ get_or kept.clients client old_client → shared ≡ node → stamp ≡ stamp_for (get_or row colour no_column) node
+      → old_client ≡ get_or kept.clients client old_client → shared ≡ node → stamp
+      ≡ stamp_for (get_or row colour no_column) node
       → new_client ≡ with_next_node old_client shared stamp
-      → ◌≡◌ {A = WorldKept} (record kept { clients = set kept.clients client new_client; columns = set kept.columns home new_row })
+      → ◌≡◌ {A = WorldKept}
+      (record kept { clients = set kept.clients client new_client; columns = set kept.columns home new_row })
       (singles.new_kept kept w client colour node.text may)
   kept_after new_row old_client new_client stamp shared row_new client_is shared_is stamp_is client_new =
-      ap (λ (c : ClientKept). let k : WorldKept = record kept { clients = set kept.clients client c; columns = set kept.columns home new_row } in k)
+      ap (λ (c : ClientKept). let k : WorldKept =
+      record kept { clients = set kept.clients client c; columns = set kept.columns home new_row } in k)
       (client_new
-      ∙ (ap (λ (c : ClientKept). with_next_node c shared stamp) (client_is ∙ default_free kept.clients client old_client fresh_client call_client)
+      ∙ (ap (λ (c : ClientKept). with_next_node c shared stamp)
+      (client_is ∙ default_free kept.clients client old_client fresh_client call_client)
       ∙ (ap (λ (n : Node). with_next_node (client_at kept client) n stamp) (shared_is ∙ node_same)
       ∙ ap (λ (s : ℕ). with_next_node (client_at kept client) its s) (stamp_is ∙ stamp_same))))
-      ∙ ap (λ (cs : List (List ColumnState)). let k : WorldKept = record kept { clients = set kept.clients client (with_next_node (client_at kept client) its (stamp_for old its)); columns = cs } in k)
+      ∙ ap (λ (cs : List (List ColumnState)). let k : WorldKept =
+      record kept {
+        clients =
+            set kept.clients client (with_next_node (client_at kept client) its (stamp_for old its));
+        columns = cs;
+      } in k)
       (ap (λ (h : ℕ). set kept.columns h new_row) (sym home_is)
       ∙ ap (λ (l : List ColumnState). set kept.columns region l)
       (row_new
-      ∙ (ap (λ (l : List ColumnState). set l colour (columns.after_single (with_room (get_or l colour no_column)) client node)) row_same
-      ∙ ap (λ (n : Node). set (get_or kept.columns region []) colour (columns.after_single (with_room old) client n)) node_same)))
+      ∙ (ap (λ (l : List ColumnState). set l colour
+      (columns.after_single (with_room (get_or l colour no_column)) client node)) row_same
+      ∙ ap (λ (n : Node). set (get_or kept.columns region []) colour (columns.after_single (with_room old) client n))
+      node_same)))
 
   -- and so is the reply
-  pub reply_same : (at : At) (place stamp : ℕ) → at ≡ ats.Event place → at ≡ ats.Event (length (get_or row colour no_column).journal)
+  pub reply_same : (at : At) (place stamp : ℕ) → at ≡ ats.Event place → at
+      ≡ ats.Event (length (get_or row colour no_column).journal)
       → stamp ≡ stamp_for (get_or row colour no_column) node
-      → ◌≡◌ {A = Reply} (replies.Event place stamp) (event_reply (world_of kept) home colour (single_stamp (world_of kept) client colour))
+      → ◌≡◌ {A = Reply} (replies.Event place stamp)
+      (event_reply (world_of kept) home colour (single_stamp (world_of kept) client colour))
   reply_same at place stamp is there stamp_is =
       let e : ats.Event place ≡ ats.Event (length (get_or row colour no_column).journal) = sym is ∙ there in
       let p : place ≡ length (get_or row colour no_column).journal = cc in
       ap (λ (n : ℕ). replies.Event n stamp)
-      (p ∙ (ap (λ (c : ColumnState). length c.journal) column_same ∙ ap (λ (h : ℕ). length (column_at kept.columns h colour).journal) home_is))
+      (p ∙ (ap (λ (c : ColumnState). length c.journal) column_same
+      ∙ ap (λ (h : ℕ). length (column_at kept.columns h colour).journal) home_is))
       ∙ ap (λ (n : ℕ). replies.Event (length (column_at kept.columns home colour).journal) n) (stamp_is ∙ stamp_same)
 
 -- a column that refused is as it was
-pub refused : (columns : List (List ColumnState)) (home : ℕ) (row new_row : List ColumnState) → row ≡ get_or columns home row
+pub refused : (columns : List (List ColumnState)) (home : ℕ) (row new_row : List ColumnState) → row
+    ≡ get_or columns home row
     → new_row ≡ row → set columns home new_row ≡ columns
 refused columns home row new_row is same =
     ap (λ (l : List ColumnState). set columns home l) (same ∙ is) ∙ set-get_or columns home row
@@ -134,7 +154,8 @@ room_world kept client w lt = client_shown kept client (with_spare (client_at ke
 pub room_there : (kept : WorldKept) (client : ℕ) → client < length kept.clients
     → 0 < (client_at (with_client_room kept client) client).spare
 room_there kept client lt =
-    subst (λ (c : ClientKept). 0 < c.spare) (sym (get_or-set_same kept.clients client (with_spare (client_at kept client)) fresh_client lt)) (omega arith)
+    subst (λ (c : ClientKept). 0 < c.spare)
+    (sym (get_or-set_same kept.clients client (with_spare (client_at kept client)) fresh_client lt)) (omega arith)
 
 -- a client has something played of each colour
 pub played_of : (kept : WorldKept) (client colour : ℕ) → IsWhole kept → MaySingle kept client colour

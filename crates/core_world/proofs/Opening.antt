@@ -1,5 +1,6 @@
 -- The world before the first step.
-use Rattle.std.proofs.Common.{◌≡◌, ℕ, zero, suc, ◌+◌, ◌<◌, ◌≤◌, List, [], ◌∷◌, length, get_or, map, replicate, refl, ap, sym, ◌∙◌, subst, arith, zero-add}
+use Rattle.std.proofs.Common.{◌≡◌, ℕ, zero, suc, ◌<◌, ◌≤◌, List, [], ◌∷◌, length, get_or, map, replicate, refl, ap, sym}
+use Rattle.std.proofs.Common.{◌∙◌, subst, arith, zero-add}
 use Rattle.std.specs.List.{All, range_with_len}
 use Rattle.std.proofs.lemmas.List.FromFn.{length-map-range_with_len, get_or-map-range_with_len}
 use mathlib.Core.Path.{fun_ext}
@@ -13,7 +14,8 @@ use Rattle.core_laws.specs.Worlds.{World, ClientState, new_client, no_row, opene
 use Rattle.core_laws.specs.Laws.{IsReached}
 use Rattle.core_laws.proofs.CallerLemmas.{opened_reached}
 use Rattle.core_world.specs.Clients.{ClientKept, fresh_client}
-use Rattle.core_world.specs.Kept.{WorldKept, no_column, fresh_columns, column_at, client_of, world_of, IsPlaced, IsWhole}
+use Rattle.core_world.specs.Kept.{WorldKept, no_column, fresh_columns, column_at, client_of, world_of, IsPlaced}
+use Rattle.core_world.specs.Kept.{IsWhole}
 
 get_replicate : {A : Type 0} (n i : ℕ) (x : A) → get_or (replicate n x) i x ≡ x
 get_replicate zero i x = refl
@@ -41,9 +43,11 @@ fresh_is_new = ap (λ (f : ℕ → Counts). with_played f) (fun_ext (λ c. get_r
 
 no_history : (shape : Shape) (r c : ℕ) → ◌≡◌ {A = List Entry} (column_at (fresh_world shape).columns r c).journal []
 no_history shape r c =
-    get_map (λ (columns : List ColumnState). ◌≡◌ {A = List Entry} (get_or columns c no_column).journal []) (λ region. fresh_columns region shape)
+    get_map (λ (columns : List ColumnState). ◌≡◌ {A = List Entry} (get_or columns c no_column).journal [])
+    (λ region. fresh_columns region shape)
     (range_with_len 0 shape.regions) []
-    (λ region. get_map (λ (column : ColumnState). ◌≡◌ {A = List Entry} column.journal []) (λ colour. new_column region colour shape.regions)
+    (λ region. get_map (λ (column : ColumnState). ◌≡◌ {A = List Entry} column.journal [])
+    (λ colour. new_column region colour shape.regions)
     (range_with_len 0 shape.colours) no_column (λ colour. refl) refl c)
     refl r
 
@@ -72,22 +76,28 @@ all_replicate P zero x h i d lt = absurd (let e : ⊥ = omega (arith, lt) in e)
 all_replicate P (suc n) x h zero d lt = h
 all_replicate P (suc n) x h (suc i) d lt = all_replicate P n x h i d (omega (arith, lt))
 
-pub fresh_whole : (shape : Shape) → shape.regions ≤ 4 → shape.colours ≤ 16 → All (λ home. home < shape.regions) shape.homes
+pub fresh_whole : (shape : Shape) → shape.regions ≤ 4 → shape.colours ≤ 16
+    → All (λ home. home < shape.regions) shape.homes
     → IsWhole (fresh_world shape)
 fresh_whole shape few few_colours homes = record {
   few_regions = few;
   few_colours = few_colours;
   homes = homes;
   regions = length-map-range_with_len (λ region. fresh_columns region shape) 0 shape.regions;
-  wide = all_map (λ (columns : List ColumnState). length columns ≡ shape.colours) (λ region. fresh_columns region shape) (range_with_len 0 shape.regions)
+  wide = all_map (λ (columns : List ColumnState). length columns ≡ shape.colours)
+      (λ region. fresh_columns region shape) (range_with_len 0 shape.regions)
       (λ region. length-map-range_with_len (λ colour. new_column region colour shape.regions) 0 shape.colours);
   placed = λ r c in_r in_c. subst (λ (x : ColumnState). IsPlaced x r c shape.regions) (sym (there r c in_r in_c))
       (record { in_region = refl; of_colour = refl; of_regions = refl });
   clients = length_replicate (length shape.homes) fresh_client;
-  colours = all_replicate (λ (c : ClientKept). length c.played ≡ 16) (length shape.homes) fresh_client (length_replicate 16 zeros);
+  colours = all_replicate (λ (c : ClientKept). length c.played ≡ 16) (length shape.homes) fresh_client
+      (length_replicate 16 zeros);
   reached = subst IsReached (sym (fresh_is_opened shape)) (opened_reached shape);
 } where
-  there : (r c : ℕ) → r < shape.regions → c < shape.colours → column_at (fresh_world shape).columns r c ≡ new_column r c shape.regions
+  there : (r c : ℕ) → r < shape.regions → c < shape.colours → column_at (fresh_world shape).columns r c
+      ≡ new_column r c shape.regions
   there r c in_r in_c =
-      ap (λ (l : List ColumnState). get_or l c no_column) (get_or-map-range_with_len (λ region. fresh_columns region shape) 0 shape.regions r r [] in_r (zero-add r))
-      ∙ get_or-map-range_with_len (λ colour. new_column r colour shape.regions) 0 shape.colours c c no_column in_c (zero-add c)
+      ap (λ (l : List ColumnState). get_or l c no_column)
+      (get_or-map-range_with_len (λ region. fresh_columns region shape) 0 shape.regions r r [] in_r (zero-add r))
+      ∙ get_or-map-range_with_len (λ colour. new_column r colour shape.regions) 0 shape.colours c c no_column in_c
+      (zero-add c)

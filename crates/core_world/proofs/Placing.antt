@@ -1,15 +1,15 @@
 -- What the code reads of a column in its place, and what a raise makes of the world.
-use Rattle.std.proofs.Common.{◌≡◌, ℕ, zero, suc, ◌<◌, ◌≤◌, true, List, [], ◌∷◌, ◌++◌, length, get_or, set, refl, ap, sym, subst, ◌∙◌, arith}
-use Rattle.std.specs.Prelude.{nat_lt, nat_le, ◌&&◌}
+use Rattle.std.proofs.Common.{◌≡◌, ℕ, zero, suc, ◌<◌, ◌≤◌, true, List, [], ◌∷◌, length, get_or, refl, ap, sym, ◌∙◌}
+use Rattle.std.proofs.Common.{arith}
+use Rattle.std.specs.Prelude.{nat_lt}
 use Rattle.std.proofs.lemmas.Bool.{and_parts, ltb-true, leb-true, cond-true}
 use Rattle.col_core.specs.declared.Event.TheVariants as events
-use Rattle.col_core.specs.declared.Entry.{Entry}
 use Rattle.col_core.specs.History.{clock, last_stamp}
 use Rattle.column.specs.Columns.{ColumnState}
 use Rattle.column.specs.Columns as columns
 use Rattle.core_laws.specs.declared.steps.Step.TheVariants as steps
-use Rattle.core_laws.specs.Worlds.{may_raise, after_raise, is_column, after}
-use Rattle.core_world.specs.Kept.{WorldKept, no_column, column_at, world_of, IsPlaced, IsWhole}
+use Rattle.core_laws.specs.Worlds.{may_raise, after_raise, is_column}
+use Rattle.core_world.specs.Kept.{WorldKept, column_at, world_of, IsWhole}
 use Rattle.core_world.proofs.Changing.{with_column, column_world, whole_column}
 
 -- within a list it does not matter what stands outside
@@ -25,7 +25,8 @@ pub record MayRaise (kept : WorldKept) (region colour to : ℕ) : Type 0 where
   pub above : clock (column_at kept.columns region colour).journal < to
   pub within : to ≤ last_stamp
 
-pub may_raise_is : (kept : WorldKept) (region colour to : ℕ) → may_raise (world_of kept) region colour to ≡ true → MayRaise kept region colour to
+pub may_raise_is : (kept : WorldKept) (region colour to : ℕ) → may_raise (world_of kept) region colour to ≡ true
+    → MayRaise kept region colour to
 may_raise_is kept region colour to t =
     let p = and_parts (is_column (world_of kept) region colour) _ t in
     let q = and_parts (nat_lt region kept.shape.regions) _ p.0 in
@@ -37,7 +38,8 @@ may_raise_is kept region colour to t =
       within = leb-true to last_stamp r.1;
     }
 
-module _ (kept : WorldKept) (w : IsWhole kept) (by region colour to : ℕ) (may : may_raise (world_of kept) region colour to ≡ true) where
+module _ (kept : WorldKept) (w : IsWhole kept) (by region colour to : ℕ)
+    (may : may_raise (world_of kept) region colour to ≡ true) where
   abbrev old : ColumnState
   old = column_at kept.columns region colour
 
@@ -48,16 +50,21 @@ module _ (kept : WorldKept) (w : IsWhole kept) (by region colour to : ℕ) (may 
   row_there = let n = w.regions in let lt = (may_raise_is kept region colour to may).in_regions in omega (arith, n, lt)
 
   pub colour_there : colour < length (get_or kept.columns region [])
-  colour_there = let n = w.wide region [] row_there in let lt = (may_raise_is kept region colour to may).in_colours in omega (arith, n, lt)
+  colour_there = let n = w.wide region [] row_there in let lt = (may_raise_is kept region colour to may).in_colours in
+      omega (arith, n, lt)
 
-  pub raised_world : world_of (record kept { columns = with_column kept.columns region colour (columns.after_raise old by to) })
+  pub raised_world : world_of
+      (record kept { columns = with_column kept.columns region colour (columns.after_raise old by to) })
       ≡ after_raise (world_of kept) by region colour to
-  raised_world = column_world kept region colour (columns.after_raise old by to) (record { by = by; event = events.Raise to; stamp = 0 }) row_there colour_there refl
+  raised_world = column_world kept region colour (columns.after_raise old by to)
+      (record { by = by; event = events.Raise to; stamp = 0 }) row_there colour_there refl
 
-  pub raised_whole : IsWhole (record kept { columns = with_column kept.columns region colour (columns.after_raise old by to) })
+  pub raised_whole : IsWhole
+      (record kept { columns = with_column kept.columns region colour (columns.after_raise old by to) })
   raised_whole =
       let p = w.placed region colour m.in_regions m.in_colours in
-      whole_column kept region colour (columns.after_raise old by to) (steps.Raise by region colour to) w m.in_regions m.in_colours
+      whole_column kept region colour (columns.after_raise old by to) (steps.Raise by region colour to) w m.in_regions
+      m.in_colours
       (record { in_region = p.in_region; of_colour = p.of_colour; of_regions = p.of_regions })
       (raised_world ∙ sym (cond-true (may_raise (world_of kept) region colour to) _ _ may))
 

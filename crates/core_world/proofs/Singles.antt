@@ -1,7 +1,8 @@
 -- A client's node enters its region's column: what that makes of the world.
-use Rattle.std.proofs.Common.{◌≡◌, ℕ, zero, suc, ◌+◌, ◌<◌, ◌≤◌, max, Bool, true, false, cond, List, [], ◌∷◌, ◌++◌, length, get_or, set, refl, ap, sym, subst, ◌∙◌, arith, eq-eqb, length-set}
-use Rattle.std.specs.Prelude.{◌^◌, ◌==◌, ◌&&◌, not, nat_lt}
-use Rattle.std.proofs.lemmas.Bool.{and_parts, ltb-true, cond-true, not-true, eqb-true, cases_eq}
+use Rattle.std.proofs.Common.{◌≡◌, ℕ, zero, suc, ◌<◌, true, false, List, [], ◌∷◌, ◌++◌, length, get_or, set, refl, ap}
+use Rattle.std.proofs.Common.{sym, subst, ◌∙◌, arith, eq-eqb, length-set}
+use Rattle.std.specs.Prelude.{◌^◌, ◌==◌, nat_lt}
+use Rattle.std.proofs.lemmas.Bool.{and_parts, ltb-true, cond-true, not-true}
 use Rattle.std.proofs.lemmas.List.Elements.{All-set}
 use Rattle.log_node.specs.declared.ids.Colours.{Colours}
 use Rattle.log_node.specs.declared.ids.Counts.{Counts}
@@ -10,20 +11,22 @@ use Rattle.log_node.specs.Sets.{has, members}
 use Rattle.log_node.specs.Vectors.{zeros}
 use Rattle.col_core.specs.declared.Event.TheVariants as events
 use Rattle.col_core.specs.declared.Entry.{Entry}
-use Rattle.col_core.specs.History.{clock, last_stamp, next_stamp, has_entered}
 use Rattle.col_core.specs.Rows.{wants_of, node_wants}
 use Rattle.column.specs.Columns.{ColumnState, with_room, stamp_for}
 use Rattle.column.specs.Columns as columns
 use Rattle.core_laws.specs.declared.steps.Step.TheVariants as steps
-use Rattle.core_laws.specs.Worlds.{World, ClientState, home_of, home_history, is_client, is_column, is_at_end, may_single, single_entry, single_node, single_stamp, after_single}
+use Rattle.core_laws.specs.Worlds.{World, ClientState, home_of, home_history, is_client, is_column, is_at_end}
+use Rattle.core_laws.specs.Worlds.{may_single, single_entry, after_single}
 use Rattle.core_laws.specs.Laws.{IsReached}
 use Rattle.core_laws.proofs.CallerLemmas.{after_reached}
 use Rattle.core_world.specs.Clients.{ClientKept, fresh_client, with_next_node, next_single}
-use Rattle.core_world.specs.Kept.{WorldKept, no_column, column_at, client_at, client_of, world_of, IsPlaced, IsWhole}
-use Rattle.core_world.proofs.Changing.{with_column, clients_changed, nodes_changed, histories_changed, regions_after, wide_after, placed_after}
+use Rattle.core_world.specs.Kept.{WorldKept, column_at, client_at, world_of, IsWhole}
+use Rattle.core_world.proofs.Changing.{with_column, clients_changed, nodes_changed, histories_changed, regions_after}
+use Rattle.core_world.proofs.Changing.{wide_after, placed_after}
 
 -- a fact of each of sixteen numbers
-up_to_16 : (P : ℕ → Type 0) → P 0 → P 1 → P 2 → P 3 → P 4 → P 5 → P 6 → P 7 → P 8 → P 9 → P 10 → P 11 → P 12 → P 13 → P 14
+up_to_16 : (P : ℕ → Type 0) → P 0 → P 1 → P 2 → P 3 → P 4 → P 5 → P 6 → P 7 → P 8 → P 9 → P 10 → P 11 → P 12 → P 13
+    → P 14
     → P 15 → (n : ℕ) → n < 16 → P n
 up_to_16 P a b c d e f g h i j k l m o p q zero lt = a
 up_to_16 P a b c d e f g h i j k l m o p q (suc zero) lt = b
@@ -37,21 +40,29 @@ up_to_16 P a b c d e f g h i j k l m o p q (suc (suc (suc (suc (suc (suc (suc (s
 up_to_16 P a b c d e f g h i j k l m o p q (suc (suc (suc (suc (suc (suc (suc (suc (suc zero))))))))) lt = j
 up_to_16 P a b c d e f g h i j k l m o p q (suc (suc (suc (suc (suc (suc (suc (suc (suc (suc zero)))))))))) lt = k
 up_to_16 P a b c d e f g h i j k l m o p q (suc (suc (suc (suc (suc (suc (suc (suc (suc (suc (suc zero))))))))))) lt = l
-up_to_16 P a b c d e f g h i j k l m o p q (suc (suc (suc (suc (suc (suc (suc (suc (suc (suc (suc (suc zero)))))))))))) lt = m
-up_to_16 P a b c d e f g h i j k l m o p q (suc (suc (suc (suc (suc (suc (suc (suc (suc (suc (suc (suc (suc zero))))))))))))) lt = o
-up_to_16 P a b c d e f g h i j k l m o p q (suc (suc (suc (suc (suc (suc (suc (suc (suc (suc (suc (suc (suc (suc zero)))))))))))))) lt = p
-up_to_16 P a b c d e f g h i j k l m o p q (suc (suc (suc (suc (suc (suc (suc (suc (suc (suc (suc (suc (suc (suc (suc zero))))))))))))))) lt = q
-up_to_16 P a b c d e f g h i j k l m o p q (suc (suc (suc (suc (suc (suc (suc (suc (suc (suc (suc (suc (suc (suc (suc (suc n)))))))))))))))) lt = absurd (let x : ⊥ = omega (arith, lt) in x)
+up_to_16 P a b c d e f g h i j k l m o p q
+    (suc (suc (suc (suc (suc (suc (suc (suc (suc (suc (suc (suc zero)))))))))))) lt = m
+up_to_16 P a b c d e f g h i j k l m o p q
+    (suc (suc (suc (suc (suc (suc (suc (suc (suc (suc (suc (suc (suc zero))))))))))))) lt = o
+up_to_16 P a b c d e f g h i j k l m o p q
+    (suc (suc (suc (suc (suc (suc (suc (suc (suc (suc (suc (suc (suc (suc zero)))))))))))))) lt = p
+up_to_16 P a b c d e f g h i j k l m o p q
+    (suc (suc (suc (suc (suc (suc (suc (suc (suc (suc (suc (suc (suc (suc (suc zero))))))))))))))) lt = q
+up_to_16 P a b c d e f g h i j k l m o p q
+    (suc (suc (suc (suc (suc (suc (suc (suc (suc (suc (suc (suc (suc (suc (suc (suc n)))))))))))))))) lt =
+    absurd (let x : ⊥ = omega (arith, lt) in x)
 
 abbrev alone : ℕ → Colours
 alone colour = record { 0 = 2 ^ colour }
 
 -- a set of one colour
 members_alone : (colour : ℕ) → colour < 16 → members (alone colour) ≡ colour ∷ []
-members_alone = up_to_16 (λ colour. members (alone colour) ≡ colour ∷ []) refl refl refl refl refl refl refl refl refl refl refl refl refl refl refl refl
+members_alone = up_to_16 (λ colour. members (alone colour) ≡ colour ∷ []) refl refl refl refl refl refl refl refl refl
+    refl refl refl refl refl refl refl
 
 pub has_alone : (colour : ℕ) → colour < 16 → has (alone colour) colour ≡ true
-has_alone = up_to_16 (λ colour. has (alone colour) colour ≡ true) refl refl refl refl refl refl refl refl refl refl refl refl refl refl refl refl
+has_alone = up_to_16 (λ colour. has (alone colour) colour ≡ true) refl refl refl refl refl refl refl refl refl refl
+    refl refl refl refl refl refl
 
 -- the node wants of its colour what the client has played of it
 wants_alone : (c : ClientKept) (client home colour : ℕ) (text : List ℕ) → colour < 16
@@ -67,7 +78,8 @@ pub record MaySingle (kept : WorldKept) (client colour : ℕ) : Type 0 where
   pub in_colours : colour < kept.shape.colours
   pub not_at_end : is_at_end (home_history (world_of kept) client colour) (client_at kept client).floor ≡ false
 
-pub may_single_is : (kept : WorldKept) (client colour : ℕ) → may_single (world_of kept) client colour ≡ true → MaySingle kept client colour
+pub may_single_is : (kept : WorldKept) (client colour : ℕ) → may_single (world_of kept) client colour ≡ true
+    → MaySingle kept client colour
 may_single_is kept client colour t =
     let p = and_parts (is_client (world_of kept) client) _ t in
     let q = and_parts (is_column (world_of kept) (home_of (world_of kept) client) colour) _ p.1 in
@@ -79,7 +91,8 @@ may_single_is kept client colour t =
       not_at_end = not-true _ q.1;
     }
 
-module _ (kept : WorldKept) (w : IsWhole kept) (client colour : ℕ) (text : List ℕ) (may : MaySingle kept client colour) where
+module _ (kept : WorldKept) (w : IsWhole kept) (client colour : ℕ) (text : List ℕ)
+    (may : MaySingle kept client colour) where
   abbrev home : ℕ
   home = home_of (world_of kept) client
 
@@ -113,18 +126,23 @@ module _ (kept : WorldKept) (w : IsWhole kept) (client colour : ℕ) (text : Lis
   small : colour < 16
   small = let n = w.few_colours in let lt = may.in_colours in omega (arith, n, lt)
 
-  entry_is : ◌≡◌ {A = List Entry} new_column.journal (home_history (world_of kept) client colour ++ single_entry (world_of kept) client colour ∷ [])
+  entry_is : ◌≡◌ {A = List Entry} new_column.journal
+      (home_history (world_of kept) client colour ++ single_entry (world_of kept) client colour ∷ [])
   entry_is =
-      ap (λ (v : Counts). old.journal ++ record { by = client; event = events.Single node.id node.floor v; stamp = stamp_for old node } ∷ [])
+      ap (λ (v : Counts). old.journal
+      ++ record { by = client; event = events.Single node.id node.floor v; stamp = stamp_for old node } ∷ [])
       (ap (node_wants node) (w.placed home colour may.in_regions may.in_colours).of_colour
       ∙ wants_alone (client_at kept client) client home colour text small)
 
   pub single_world : world_of new_kept ≡ after_single (world_of kept) client colour text
   single_world =
-      ap (λ (cs : ℕ → ClientState). made cs (world_of new_kept).histories (world_of new_kept).nodes) (clients_changed kept.clients client new_client client_in)
-      ∙ (ap (λ (hs : ℕ → ℕ → List Entry). made (after_single (world_of kept) client colour text).clients hs (world_of new_kept).nodes)
+      ap (λ (cs : ℕ → ClientState). made cs (world_of new_kept).histories (world_of new_kept).nodes)
+      (clients_changed kept.clients client new_client client_in)
+      ∙ (ap (λ (hs : ℕ → ℕ → List Entry). made (after_single (world_of kept) client colour text).clients hs
+      (world_of new_kept).nodes)
       (histories_changed kept.columns home colour new_column home_in colour_in _ entry_is)
-      ∙ ap (λ (ns : ℕ → List Node). made (after_single (world_of kept) client colour text).clients (after_single (world_of kept) client colour text).histories ns)
+      ∙ ap (λ (ns : ℕ → List Node). made (after_single (world_of kept) client colour text).clients
+      (after_single (world_of kept) client colour text).histories ns)
       (nodes_changed kept.clients client new_client client_in)) where
         made : (ℕ → ClientState) → (ℕ → ℕ → List Entry) → (ℕ → List Node) → World
         made cs hs ns = record (world_of kept) { clients = cs; histories = hs; nodes = ns }
@@ -141,7 +159,9 @@ module _ (kept : WorldKept) (w : IsWhole kept) (client colour : ℕ) (text : Lis
         placed = placed_after kept home colour new_column w may.in_regions may.in_colours
             (record { in_region = p.in_region; of_colour = p.of_colour; of_regions = p.of_regions });
         clients = length-set kept.clients client new_client ∙ w.clients;
-        colours = All-set (λ (x : ClientKept). length x.played ≡ 16) kept.clients client new_client (w.colours client fresh_client client_in) w.colours;
-        reached = subst IsReached (sym (single_world ∙ sym (cond-true (may_single (world_of kept) client colour) _ _ t)))
+        colours = All-set (λ (x : ClientKept). length x.played ≡ 16) kept.clients client new_client
+            (w.colours client fresh_client client_in) w.colours;
+        reached = subst IsReached
+            (sym (single_world ∙ sym (cond-true (may_single (world_of kept) client colour) _ _ t)))
             (after_reached (world_of kept) (steps.Single client colour text) w.reached);
       }

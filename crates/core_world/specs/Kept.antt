@@ -1,9 +1,8 @@
 -- What code keeps of a world, and the world that it means.
-use Rattle.std.specs.Prelude.{◌≡◌, ℕ, ◌<◌, ◌≤◌, List, [], length, map, replicate, slice_index_or, slice_set}
+use Rattle.std.specs.Prelude.{◌≡◌, ℕ, ◌<◌, ◌≤◌, List, [], length, map, slice_index_or, slice_set}
 use Rattle.std.specs.List.{All, range_with_len}
 use Rattle.log_node.specs.declared.node.Shape.{Shape}
 use Rattle.log_node.specs.Vectors.{zeros}
-use Rattle.col_core.specs.declared.Entry.{Entry}
 use Rattle.column.specs.Columns.{ColumnState, new_column}
 use Rattle.core_laws.specs.Worlds.{World, ClientState, no_row}
 use Rattle.core_laws.specs.Laws.{IsReached}
@@ -50,7 +49,8 @@ world_of kept = record {
 
 -- with memory for one node more of a client
 abbrev pub with_client_room : WorldKept → ℕ → WorldKept
-with_client_room kept client = record kept { clients = slice_set kept.clients client (with_spare (client_at kept client)) }
+with_client_room kept client =
+    record kept { clients = slice_set kept.clients client (with_spare (client_at kept client)) }
 
 -- the column of a region and a colour
 pub record IsPlaced (column : ColumnState) (region colour regions : ℕ) : Type 0 where

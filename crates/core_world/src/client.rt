@@ -119,7 +119,14 @@ impl Client {
     }
 
     /// The node of its next append to one colour.
-    pub fn single_node(&self, alloc: Global, client: u8, home: u8, colour: u8, text: Text) -> Result<Node, AllocError>
+    pub fn single_node(
+        &self,
+        alloc: Global,
+        client: u8,
+        home: u8,
+        colour: u8,
+        text: Text,
+    ) -> Result<Node, AllocError>
         requires client { colour < length self.now.played }
         requires colour { colour < MAX_COLOURS }
         ensures { IfOk result (λ node. node ≡ next_single self.now client home colour text) }

@@ -8,3 +8,6 @@ mod world;
 pub use client::Client;
 pub use region::RegionColumns;
 pub use world::World;
+
+#[cfg(test)]
+mod tests;

@@ -1,5 +1,6 @@
 // The world of all columns and clients, and its steps.
-ghost use Rattle.std.specs.Prelude.{◌≡◌, ◌<◌, ◌≤◌, true, false, None, IfSome, map, replicate, length, IfOk, OnOk, OnErr};
+ghost use Rattle.std.specs.Prelude.{◌≡◌, ◌<◌, ◌≤◌, true, false, None, IfSome, map, replicate, length, IfOk, OnOk};
+ghost use Rattle.std.specs.Prelude.{OnErr};
 ghost use Rattle.std.specs.List.{All, range_with_len};
 ghost use Rattle.core_laws.specs.Worlds.{after, opened, reply, may_raise, after_raise, event_reply};
 ghost use Rattle.core_laws.specs.Worlds.{may_see, after_seen, may_single, after_single, single_stamp, home_of};
@@ -159,7 +160,13 @@ impl World {
     }
 
     /// The client appends to one colour: its next node enters the column of its region as final.
-    pub fn single(&mut self, alloc: Global, client: u8, colour: u8, text: Text) -> Result<Reply, AllocError>
+    pub fn single(
+        &mut self,
+        alloc: Global,
+        client: u8,
+        colour: u8,
+        text: Text,
+    ) -> Result<Reply, AllocError>
         ensures ok { OnOk result (world_of self.new ≡ after (world_of self.old) (Step.Single client colour text)) }
         ensures reply { IfOk result (λ r. r ≡ reply (world_of self.old) (Step.Single client colour text)) }
         ensures err { OnErr result (world_of self.new ≡ world_of self.old) }
@@ -168,7 +175,9 @@ impl World {
         let Some(home) = self.single_home(client, colour) else {
             return Ok(Reply::Nothing);
         };
-        let node = self.client(client).single_node(alloc, client, home, colour, text)?;
+        let node = self
+            .client(client)
+            .single_node(alloc, client, home, colour, text)?;
         let node = Arc::new(alloc, node)?;
         let shared = node.clone()?;
         self.client_room(client)?;

@@ -1,4 +1,4 @@
-use Rattle.std.proofs.Common.{◌≡◌, Result, Ok, Err, List, get_or, set, ap, sym, ◌∙◌}
+use Rattle.std.proofs.Common.{Result, Ok, Err, List, get_or, set, ap, ◌∙◌}
 use Rattle.std.specs.Prelude.{OnErr}
 use Rattle.std.proofs.lemmas.List.{set-get_or}
 use Rattle.column.specs.Columns.{ColumnState, after_single, with_room}
@@ -16,7 +16,8 @@ returns-clause-ok c =
     (c.in_ok-answer.ensures.entry
     ∙ ap (λ (q : ColumnState). after_single (with_room q) c.args.by c.args.node.value)
     (c.index_mut.ensures.value ∙ default_free items colour old no_column there))
-    ∙ ap (λ (l : List ColumnState). set l colour (after_single (with_room (get_or l colour no_column)) c.args.by c.args.node.value)) c.self.view_is
+    ∙ ap (λ (l : List ColumnState). set l colour
+    (after_single (with_room (get_or l colour no_column)) c.args.by c.args.node.value)) c.self.view_is
 
 on_err : {R E : Type 0} (r : Result R E) (P : Type 0) → P → OnErr r P
 on_err (Ok x) P p = tt

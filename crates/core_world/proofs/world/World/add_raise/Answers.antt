@@ -11,7 +11,8 @@ abbrev old_of : goal.In-Event → WorldKept
 old_of c = let i = c.self.inside in record { shape = i.shape; clients = i.clients.items; columns = i.regions.items }
 
 may : (c : goal.In-Event) → may_raise (world_of (old_of c)) c.args.region c.args.colour c.args.to ≡ true
-may c = subst (λ (k : WorldKept). may_raise (world_of k) c.args.region c.args.colour c.args.to ≡ true) (sym c.self.view_is) c.requires
+may c = subst (λ (k : WorldKept). may_raise (world_of k) c.args.region c.args.colour c.args.to ≡ true)
+    (sym c.self.view_is) c.requires
 
 -- the columns then
 changed : (c : goal.In-Event) → set (old_of c).columns c.args.region c.raise.new.self
@@ -21,10 +22,12 @@ changed c =
     let cs = (old_of c).columns in
     let row = c.index_mut.result.now in
     let there = row_there (old_of c) c.self.invariant c.args.by c.args.region c.args.colour c.args.to (may c) in
-    let is : row ≡ get_or cs c.args.region [] = c.index_mut.ensures.value ∙ default_free cs c.args.region row [] there in
+    let is : row ≡ get_or cs c.args.region [] = c.index_mut.ensures.value
+    ∙ default_free cs c.args.region row [] there in
     ap (λ (l : List ColumnState). set cs c.args.region l)
     (c.in_ok-place.ensures.ok
-    ∙ ap (λ (l : List ColumnState). set l c.args.colour (columns.after_raise (get_or l c.args.colour no_column) c.args.by c.args.to)) is)
+    ∙ ap (λ (l : List ColumnState). set l c.args.colour
+    (columns.after_raise (get_or l c.args.colour no_column) c.args.by c.args.to)) is)
 
 pub invariant_of-self-2 : goal.invariant_of-self-2
 invariant_of-self-2 c =

@@ -13,8 +13,10 @@ invariant_of-self c =
     let old : WorldKept = record { shape = i.shape; clients = i.clients.items; columns = i.regions.items } in
     let may = subst (λ (k : WorldKept). may_see (world_of k) client to ≡ true) (sym c.self.view_is) c.requires in
     let there = client_there old client to c.self.invariant may in
-    let changed = seen_list old.clients client to c.index_mut.result.now c.see.new.self there c.index_mut.ensures.value c.see.ensures in
-    subst (λ (cs : List ClientKept). IsWhole (record old { clients = cs })) (sym changed) (seen_whole old client to c.self.invariant may)
+    let changed = seen_list old.clients client to c.index_mut.result.now c.see.new.self there
+    c.index_mut.ensures.value c.see.ensures in
+    subst (λ (cs : List ClientKept). IsWhole (record old { clients = cs })) (sym changed)
+    (seen_whole old client to c.self.invariant may)
 
 pub returns : goal.returns
 returns c =
@@ -24,6 +26,7 @@ returns c =
     let old : WorldKept = record { shape = i.shape; clients = i.clients.items; columns = i.regions.items } in
     let may = subst (λ (k : WorldKept). may_see (world_of k) client to ≡ true) (sym c.self.view_is) c.requires in
     let there = client_there old client to c.self.invariant may in
-    let changed = seen_list old.clients client to c.index_mut.result.now c.see.new.self there c.index_mut.ensures.value c.see.ensures in
+    let changed = seen_list old.clients client to c.index_mut.result.now c.see.new.self there
+    c.index_mut.ensures.value c.see.ensures in
     ap (λ (cs : List ClientKept). world_of (record old { clients = cs })) changed
     ∙ (seen_world old client to there ∙ ap (λ (k : WorldKept). after_seen (world_of k) client to) c.self.view_is)

@@ -1,4 +1,4 @@
-use Rattle.std.proofs.Common.{◌≡◌, ◌<◌, true, length, ap, sym, subst, ◌∙◌}
+use Rattle.std.proofs.Common.{◌<◌, length, ap, sym, subst, ◌∙◌}
 use Rattle.std.proofs.lemmas.Bool.{cond-true}
 use Rattle.log_node.specs.declared.node.Node.{Node}
 use Rattle.core_laws.specs.Worlds.{World, may_single, after_single}
@@ -36,7 +36,8 @@ add_single-requires-clause-room c =
     let w = subst IsWhole c.self.view_is c.self.invariant in
     let may = c.in-Some.ensures.some.0 in
     let p = played_of now client colour w (may_single_is now client colour may) in
-    subst (λ (k : WorldKept). 0 < (client_at k client).spare) (sym c.in_ok-client_room.ensures.ok) (room_there now client p.0)
+    subst (λ (k : WorldKept). 0 < (client_at k client).spare) (sym c.in_ok-client_room.ensures.ok)
+    (room_there now client p.0)
 
 pub returns-in-Ok-clause-ok : goal.returns-in-Ok-clause-ok
 returns-in-Ok-clause-ok c =
