@@ -1,0 +1,167 @@
+-- A client's node enters its region's column: what that makes of the world.
+use Rattle.std.proofs.Common.{◌≡◌, ℕ, zero, suc, ◌<◌, true, false, List, [], ◌∷◌, ◌++◌, length, get_or, set, refl, ap}
+use Rattle.std.proofs.Common.{sym, subst, ◌∙◌, arith, eq-eqb, length-set}
+use Rattle.std.specs.Prelude.{◌^◌, ◌==◌, nat_lt}
+use Rattle.std.proofs.lemmas.Bool.{and_parts, ltb-true, cond-true, not-true}
+use Rattle.std.proofs.lemmas.List.Elements.{All-set}
+use Rattle.log_node.specs.declared.ids.Colours.{Colours}
+use Rattle.log_node.specs.declared.ids.Counts.{Counts}
+use Rattle.log_node.specs.declared.node.Node.{Node}
+use Rattle.log_node.specs.Sets.{has, members}
+use Rattle.log_node.specs.Vectors.{zeros}
+use Rattle.col_core.specs.declared.Event.TheVariants as events
+use Rattle.col_core.specs.declared.Entry.{Entry}
+use Rattle.col_core.specs.Rows.{wants_of, node_wants}
+use Rattle.column.specs.Columns.{ColumnState, with_room, stamp_for}
+use Rattle.column.specs.Columns as columns
+use Rattle.core_laws.specs.declared.steps.Step.TheVariants as steps
+use Rattle.core_laws.specs.Worlds.{World, ClientState, home_of, home_history, is_client, is_column, is_at_end}
+use Rattle.core_laws.specs.Worlds.{may_single, single_entry, after_single}
+use Rattle.core_laws.specs.Laws.{IsReached}
+use Rattle.core_laws.proofs.CallerLemmas.{after_reached}
+use Rattle.core_world.specs.Clients.{ClientKept, fresh_client, with_next_node, next_single}
+use Rattle.core_world.specs.Kept.{WorldKept, column_at, client_at, world_of, IsWhole}
+use Rattle.core_world.proofs.Changing.{with_column, clients_changed, nodes_changed, histories_changed, regions_after}
+use Rattle.core_world.proofs.Changing.{wide_after, placed_after}
+
+-- a fact of each of sixteen numbers
+up_to_16 : (P : ℕ → Type 0) → P 0 → P 1 → P 2 → P 3 → P 4 → P 5 → P 6 → P 7 → P 8 → P 9 → P 10 → P 11 → P 12 → P 13
+    → P 14
+    → P 15 → (n : ℕ) → n < 16 → P n
+up_to_16 P a b c d e f g h i j k l m o p q zero lt = a
+up_to_16 P a b c d e f g h i j k l m o p q (suc zero) lt = b
+up_to_16 P a b c d e f g h i j k l m o p q (suc (suc zero)) lt = c
+up_to_16 P a b c d e f g h i j k l m o p q (suc (suc (suc zero))) lt = d
+up_to_16 P a b c d e f g h i j k l m o p q (suc (suc (suc (suc zero)))) lt = e
+up_to_16 P a b c d e f g h i j k l m o p q (suc (suc (suc (suc (suc zero))))) lt = f
+up_to_16 P a b c d e f g h i j k l m o p q (suc (suc (suc (suc (suc (suc zero)))))) lt = g
+up_to_16 P a b c d e f g h i j k l m o p q (suc (suc (suc (suc (suc (suc (suc zero))))))) lt = h
+up_to_16 P a b c d e f g h i j k l m o p q (suc (suc (suc (suc (suc (suc (suc (suc zero)))))))) lt = i
+up_to_16 P a b c d e f g h i j k l m o p q (suc (suc (suc (suc (suc (suc (suc (suc (suc zero))))))))) lt = j
+up_to_16 P a b c d e f g h i j k l m o p q (suc (suc (suc (suc (suc (suc (suc (suc (suc (suc zero)))))))))) lt = k
+up_to_16 P a b c d e f g h i j k l m o p q (suc (suc (suc (suc (suc (suc (suc (suc (suc (suc (suc zero))))))))))) lt = l
+up_to_16 P a b c d e f g h i j k l m o p q
+    (suc (suc (suc (suc (suc (suc (suc (suc (suc (suc (suc (suc zero)))))))))))) lt = m
+up_to_16 P a b c d e f g h i j k l m o p q
+    (suc (suc (suc (suc (suc (suc (suc (suc (suc (suc (suc (suc (suc zero))))))))))))) lt = o
+up_to_16 P a b c d e f g h i j k l m o p q
+    (suc (suc (suc (suc (suc (suc (suc (suc (suc (suc (suc (suc (suc (suc zero)))))))))))))) lt = p
+up_to_16 P a b c d e f g h i j k l m o p q
+    (suc (suc (suc (suc (suc (suc (suc (suc (suc (suc (suc (suc (suc (suc (suc zero))))))))))))))) lt = q
+up_to_16 P a b c d e f g h i j k l m o p q
+    (suc (suc (suc (suc (suc (suc (suc (suc (suc (suc (suc (suc (suc (suc (suc (suc n)))))))))))))))) lt =
+    absurd (let x : ⊥ = omega (arith, lt) in x)
+
+abbrev alone : ℕ → Colours
+alone colour = record { 0 = 2 ^ colour }
+
+-- a set of one colour
+members_alone : (colour : ℕ) → colour < 16 → members (alone colour) ≡ colour ∷ []
+members_alone = up_to_16 (λ colour. members (alone colour) ≡ colour ∷ []) refl refl refl refl refl refl refl refl refl
+    refl refl refl refl refl refl refl
+
+pub has_alone : (colour : ℕ) → colour < 16 → has (alone colour) colour ≡ true
+has_alone = up_to_16 (λ colour. has (alone colour) colour ≡ true) refl refl refl refl refl refl refl refl refl refl
+    refl refl refl refl refl refl
+
+-- the node wants of its colour what the client has played of it
+wants_alone : (c : ClientKept) (client home colour : ℕ) (text : List ℕ) → colour < 16
+    → node_wants (next_single c client home colour text) colour ≡ get_or c.played colour zeros
+wants_alone c client home colour text lt =
+    ap (λ (cs : List ℕ). wants_of cs (get_or c.played colour zeros ∷ []) colour) (members_alone colour lt)
+    ∙ cond-true (colour == colour) _ _ (eq-eqb colour colour refl)
+
+-- what a single asks for
+pub record MaySingle (kept : WorldKept) (client colour : ℕ) : Type 0 where
+  pub is_client : client < length kept.shape.homes
+  pub in_regions : home_of (world_of kept) client < kept.shape.regions
+  pub in_colours : colour < kept.shape.colours
+  pub not_at_end : is_at_end (home_history (world_of kept) client colour) (client_at kept client).floor ≡ false
+
+pub may_single_is : (kept : WorldKept) (client colour : ℕ) → may_single (world_of kept) client colour ≡ true
+    → MaySingle kept client colour
+may_single_is kept client colour t =
+    let p = and_parts (is_client (world_of kept) client) _ t in
+    let q = and_parts (is_column (world_of kept) (home_of (world_of kept) client) colour) _ p.1 in
+    let r = and_parts (nat_lt (home_of (world_of kept) client) kept.shape.regions) _ q.0 in
+    record {
+      is_client = ltb-true client (length kept.shape.homes) p.0;
+      in_regions = ltb-true (home_of (world_of kept) client) kept.shape.regions r.0;
+      in_colours = ltb-true colour kept.shape.colours r.1;
+      not_at_end = not-true _ q.1;
+    }
+
+module _ (kept : WorldKept) (w : IsWhole kept) (client colour : ℕ) (text : List ℕ)
+    (may : MaySingle kept client colour) where
+  abbrev home : ℕ
+  home = home_of (world_of kept) client
+
+  abbrev old : ColumnState
+  old = column_at kept.columns home colour
+
+  abbrev node : Node
+  node = next_single (client_at kept client) client home colour text
+
+  abbrev new_column : ColumnState
+  new_column = columns.after_single (with_room old) client node
+
+  abbrev new_client : ClientKept
+  new_client = with_next_node (client_at kept client) node (stamp_for old node)
+
+  abbrev pub new_kept : WorldKept
+  new_kept = record kept {
+    clients = set kept.clients client new_client;
+    columns = with_column kept.columns home colour new_column;
+  }
+
+  pub client_in : client < length kept.clients
+  client_in = let n = w.clients in let lt = may.is_client in omega (arith, n, lt)
+
+  pub home_in : home < length kept.columns
+  home_in = let n = w.regions in let lt = may.in_regions in omega (arith, n, lt)
+
+  pub colour_in : colour < length (get_or kept.columns home [])
+  colour_in = let n = w.wide home [] home_in in let lt = may.in_colours in omega (arith, n, lt)
+
+  small : colour < 16
+  small = let n = w.few_colours in let lt = may.in_colours in omega (arith, n, lt)
+
+  entry_is : ◌≡◌ {A = List Entry} new_column.journal
+      (home_history (world_of kept) client colour ++ single_entry (world_of kept) client colour ∷ [])
+  entry_is =
+      ap (λ (v : Counts). old.journal
+      ++ record { by = client; event = events.Single node.id node.floor v; stamp = stamp_for old node } ∷ [])
+      (ap (node_wants node) (w.placed home colour may.in_regions may.in_colours).of_colour
+      ∙ wants_alone (client_at kept client) client home colour text small)
+
+  pub single_world : world_of new_kept ≡ after_single (world_of kept) client colour text
+  single_world =
+      ap (λ (cs : ℕ → ClientState). made cs (world_of new_kept).histories (world_of new_kept).nodes)
+      (clients_changed kept.clients client new_client client_in)
+      ∙ (ap (λ (hs : ℕ → ℕ → List Entry). made (after_single (world_of kept) client colour text).clients hs
+      (world_of new_kept).nodes)
+      (histories_changed kept.columns home colour new_column home_in colour_in _ entry_is)
+      ∙ ap (λ (ns : ℕ → List Node). made (after_single (world_of kept) client colour text).clients
+      (after_single (world_of kept) client colour text).histories ns)
+      (nodes_changed kept.clients client new_client client_in)) where
+        made : (ℕ → ClientState) → (ℕ → ℕ → List Entry) → (ℕ → List Node) → World
+        made cs hs ns = record (world_of kept) { clients = cs; histories = hs; nodes = ns }
+
+  pub single_whole : may_single (world_of kept) client colour ≡ true → IsWhole new_kept
+  single_whole t =
+      let p = w.placed home colour may.in_regions may.in_colours in
+      record {
+        few_regions = w.few_regions;
+        few_colours = w.few_colours;
+        homes = w.homes;
+        regions = regions_after kept home colour new_column w may.in_regions may.in_colours;
+        wide = wide_after kept home colour new_column w may.in_regions may.in_colours;
+        placed = placed_after kept home colour new_column w may.in_regions may.in_colours
+            (record { in_region = p.in_region; of_colour = p.of_colour; of_regions = p.of_regions });
+        clients = length-set kept.clients client new_client ∙ w.clients;
+        colours = All-set (λ (x : ClientKept). length x.played ≡ 16) kept.clients client new_client
+            (w.colours client fresh_client client_in) w.colours;
+        reached = subst IsReached
+            (sym (single_world ∙ sym (cond-true (may_single (world_of kept) client colour) _ _ t)))
+            (after_reached (world_of kept) (steps.Single client colour text) w.reached);
+      }

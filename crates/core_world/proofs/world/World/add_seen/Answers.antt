@@ -1,0 +1,32 @@
+use Rattle.std.proofs.Common.{◌≡◌, true, List, ap, sym, subst, ◌∙◌}
+use Rattle.core_laws.specs.Worlds.{may_see, after_seen}
+use Rattle.core_world.specs.Clients.{ClientKept}
+use Rattle.core_world.specs.Kept.{WorldKept, world_of, IsWhole}
+use Rattle.core_world.proofs.Seeing.{client_there, seen_world, seen_whole, seen_list}
+use Rattle.core_world.proofs.world.World.add_seen.Goals as goal
+
+pub invariant_of-self : goal.invariant_of-self
+invariant_of-self c =
+    let i = c.self.inside in
+    let client = c.args.client in
+    let to = c.args.to in
+    let old : WorldKept = record { shape = i.shape; clients = i.clients.items; columns = i.regions.items } in
+    let may = subst (λ (k : WorldKept). may_see (world_of k) client to ≡ true) (sym c.self.view_is) c.requires in
+    let there = client_there old client to c.self.invariant may in
+    let changed = seen_list old.clients client to c.index_mut.result.now c.see.new.self there
+    c.index_mut.ensures.value c.see.ensures in
+    subst (λ (cs : List ClientKept). IsWhole (record old { clients = cs })) (sym changed)
+    (seen_whole old client to c.self.invariant may)
+
+pub returns : goal.returns
+returns c =
+    let i = c.self.inside in
+    let client = c.args.client in
+    let to = c.args.to in
+    let old : WorldKept = record { shape = i.shape; clients = i.clients.items; columns = i.regions.items } in
+    let may = subst (λ (k : WorldKept). may_see (world_of k) client to ≡ true) (sym c.self.view_is) c.requires in
+    let there = client_there old client to c.self.invariant may in
+    let changed = seen_list old.clients client to c.index_mut.result.now c.see.new.self there
+    c.index_mut.ensures.value c.see.ensures in
+    ap (λ (cs : List ClientKept). world_of (record old { clients = cs })) changed
+    ∙ (seen_world old client to there ∙ ap (λ (k : WorldKept). after_seen (world_of k) client to) c.self.view_is)

@@ -1,0 +1,28 @@
+use Rattle.std.proofs.Common.{◌≡◌, ℕ, List, replicate, ap, sym, subst, ◌∙◌}
+use Rattle.column.specs.Columns.{ColumnState}
+use Rattle.core_world.specs.Clients.{ClientKept, fresh_client}
+use Rattle.core_world.specs.Kept.{WorldKept, world_of, IsWhole}
+use Rattle.core_world.proofs.Opening.{fresh_world, fresh_is_opened, fresh_whole}
+use Rattle.core_world.proofs.world.World.open.Goals as goal
+
+abbrev made : goal.In_ok-clients → WorldKept
+made c = record {
+  shape = c.args.shape;
+  clients = c.in_ok-clients.clients.items;
+  columns =
+      c.in_ok-regions.regions.items;
+}
+
+is_fresh : (c : goal.In_ok-clients) → made c ≡ fresh_world c.args.shape
+is_fresh c =
+    ap (λ (l : List ClientKept). let k : WorldKept =
+    record { shape = c.args.shape; clients = l; columns = c.in_ok-regions.regions.items } in k)
+    (c.in_ok-clients.ensures ∙ ap (λ (n : ℕ). replicate n fresh_client) c.len.ensures)
+    ∙ ap (λ (l : List (List ColumnState)). record (fresh_world c.args.shape) { columns = l }) c.in_ok-regions.ensures
+
+pub invariant_of-result : goal.invariant_of-result
+invariant_of-result c =
+    subst IsWhole (sym (is_fresh c)) (fresh_whole c.args.shape c.requires.regions c.requires.colours c.requires.homes)
+
+pub returns : goal.returns
+returns c = ap world_of (is_fresh c) ∙ fresh_is_opened c.args.shape

@@ -1,0 +1,93 @@
+// The columns of one region.
+ghost use Rattle.std.specs.Prelude.{◌≡◌, ◌<◌, ◌≤◌, nat_le, length, slice_index_or, slice_set};
+ghost use Rattle.std.specs.Prelude.{true, false, IfOk, IfErr, OnOk, OnErr};
+ghost use Rattle.std.specs.List.{list_any};
+ghost use Rattle.col_core.specs.History.{clock, has_entered};
+ghost use Rattle.log_node.specs.Sets.{has};
+ghost use Rattle.column.specs.Columns.{after_raise, after_single, with_room, stamp_for, HasEnterCause};
+ghost use Rattle.core_world.specs.Kept.{no_column, fresh_columns};
+
+use column::{Column, ColumnFault};
+use log_node::{At, Node, Shape};
+use skeen_core::MAX_STAMP;
+use std::alloc::{AllocError, Global};
+use std::marker::Model;
+use std::sync::Arc;
+
+/// The columns of a region, by colour.
+#[derive(Drop)]
+pub struct RegionColumns {
+    items: Vec<Column>,
+}
+
+impl Model for RegionColumns {
+    ghost use Rattle.std.specs.Prelude.{List};
+    ghost use Rattle.column.specs.Columns.{ColumnState};
+
+    ghost Value = { List ColumnState };
+
+    ghost view = { λ a. a.items.items };
+}
+
+impl RegionColumns {
+    /// A region's columns with nothing in them.
+    pub fn open(alloc: Global, region: u8, shape: &Shape) -> Result<RegionColumns, AllocError>
+        requires region { region < 4 }
+        requires colours { shape.now.colours ≤ 16 }
+        ensures { IfOk result (λ columns. columns ≡ fresh_columns region shape.now) }
+    {
+        let mut items = Vec::new(alloc);
+        for colour in 0..shape.colours {
+            items.push(Column::open(alloc, region, colour, shape)?)?;
+        }
+        Ok(RegionColumns { items })
+    }
+
+    /// The column of a colour.
+    pub fn column(&self, colour: u8) -> &Column
+        requires { colour < length self.now }
+        ensures { result.now ≡ slice_index_or self.now colour no_column }
+    {
+        &self.items[colour as usize]
+    }
+
+    /// Raises the clock of a colour's column.
+    pub fn raise(&mut self, by: u8, colour: u8, to: u64) -> Result<At, AllocError>
+        requires colour { colour < length self.old }
+        requires above { clock (slice_index_or self.old colour no_column).journal < to }
+        requires within { to ≤ MAX_STAMP }
+        ensures answer { IfOk result (λ at.
+            at ≡ At.Event (length (slice_index_or self.old colour no_column).journal)) }
+        ensures ok { OnOk result
+            (self.new ≡ slice_set self.old colour (after_raise (slice_index_or self.old colour no_column) by to)) }
+        ensures err { OnErr result (self.new ≡ self.old) }
+    {
+        self.items[colour as usize].raise(by, to)
+    }
+
+    /// Whether the clock of one of the columns is no less.
+    pub fn reaches(&self, to: u64) -> bool
+        ensures { result ≡ list_any (λ column. nat_le to (clock column.journal)) self.now }
+    {
+        self.items.iter().any(|column| to <= column.clock())
+    }
+
+    /// A node enters a colour's column as final.
+    pub fn single(&mut self, by: u8, colour: u8, node: Arc<Node>) -> Result<(At, u64), ColumnFault>
+        requires colour { colour < length self.old }
+        requires fresh { has_entered node.value.id (slice_index_or self.old colour no_column).journal ≡ false }
+        requires region { node.value.region ≡ (slice_index_or self.old colour no_column).region }
+        requires of_colour { has node.value.colours (slice_index_or self.old colour no_column).colour ≡ true }
+        requires floor { node.value.floor ≤ MAX_STAMP }
+        ensures answer { IfOk result (λ r.
+            (r.0 ≡ At.Event (length (slice_index_or self.old colour no_column).journal))
+            × (r.1 ≡ stamp_for (slice_index_or self.old colour no_column) node.value)) }
+        ensures ok { OnOk result (self.new ≡ slice_set self.old colour
+            (after_single (with_room (slice_index_or self.old colour no_column)) by node.value)) }
+        ensures cause { IfErr result (HasEnterCause (slice_index_or self.old colour no_column) node.value.floor) }
+        ensures err { OnErr result (self.new ≡ self.old) }
+    {
+        let answer = self.items[colour as usize].single(by, node)?;
+        Ok(answer)
+    }
+}
