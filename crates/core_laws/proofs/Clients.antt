@@ -25,7 +25,8 @@ use Rattle.col_core.proofs.LawfulPasts.{entries-of, clock-of}
 use Rattle.col_core.proofs.Members.{In, in_line}
 use Rattle.col_core.proofs.Pasts.{Status, Absent, Alone, IsLawfulPast}
 use Rattle.log_node.specs.declared.ids.Key.{Key}
-use Rattle.core_laws.specs.Worlds.{World, RowState, ClientState, home_of, home_history, is_client, is_column, with_client, next_id, begun_node, after_begin, single_entry, single_stamp, after_single, after_raise, after_play, after_seen, played_cut, played_stamp, chains_after, nodes_between, may_single, may_raise, may_see}
+use Rattle.col_core.specs.PlayOrder.{nodes_between}
+use Rattle.core_laws.specs.Worlds.{World, RowState, ClientState, home_of, home_history, is_client, is_column, with_client, next_id, begun_node, after_begin, single_entry, single_stamp, after_single, after_raise, after_play, after_seen, played_cut, played_stamp, chains_after, may_single, may_raise, may_see}
 use Rattle.core_laws.proofs.Basics.{at_updated, at_updated_at, updated_at-here, updated_at-not, not_place, in_append}
 use Rattle.core_laws.proofs.Held.{status_in, Kind, OfSingle, OfRow, Agrees, column_mark, Fits, IsSound, heads_of, Held, put_kind, single_status}
 use Rattle.core_laws.proofs.Histories.{entries_dated, lawful_past_in, status-last, clock_within, stamp_within}

@@ -1,28 +1,28 @@
 -- The world of all columns, rows and clients: its steps, and what each of them does. A step is done where its guard
 -- holds; else it changes nothing and its reply is `Nothing`.
-use Rattle.std.specs.Prelude.{Bool, ℕ, ◌+◌, ◌^◌, ◌==◌, ◌&&◌, not, nat_lt, nat_le, max, List, [], ◌∷◌, ◌++◌, Some, None, map, length, take, drop, slice_index, if◌then◌else◌}
-use Rattle.std.specs.List.{list_any, list_all, flat_map, range_with_len}
+use Rattle.std.specs.Prelude.{Bool, ℕ, ◌+◌, ◌^◌, ◌==◌, ◌&&◌, not, nat_lt, nat_le, max, List, [], ◌∷◌, ◌++◌, Some, None, map, length, slice_index, if◌then◌else◌}
+use Rattle.std.specs.List.{list_any, list_all, range_with_len}
 use Rattle.log_node.specs.declared.ids.Id.{Id}
 use Rattle.log_node.specs.declared.ids.Row.{Row}
 use Rattle.log_node.specs.declared.ids.Colours.{Colours}
 use Rattle.log_node.specs.declared.ids.Counts.{Counts}
 use Rattle.log_node.specs.declared.node.Node.{Node}
-use Rattle.log_node.specs.declared.node.Head.{Head}
 use Rattle.log_node.specs.declared.node.Shape.{Shape}
 use Rattle.log_node.specs.Sets.{members}
-use Rattle.log_node.specs.Vectors.{at, zeros, is_within, all_regions}
+use Rattle.log_node.specs.Vectors.{zeros, is_within}
 use Rattle.skeen_core.specs.declared.marks.Why.{Why}
 use Rattle.skeen_core.specs.declared.marks.Why.TheVariants.{Memory, StampEnd}
 use Rattle.skeen_core.specs.declared.marks.Mark.{Mark}
 use Rattle.skeen_core.specs.declared.marks.Mark.TheVariants as marks
 use Rattle.skeen_core.specs.declared.marks.Outcome.{Outcome}
 use Rattle.skeen_core.specs.declared.marks.Outcome.TheVariants.{Open}
-use Rattle.skeen_core.specs.Outcomes.{outcome_of, is_missing, greatest}
+use Rattle.skeen_core.specs.Outcomes.{outcome_of, is_missing}
 use Rattle.skeen_core.specs.Queues.{has_open, is_decided}
 use Rattle.col_core.specs.declared.Event.TheVariants as events
 use Rattle.col_core.specs.declared.Entry.{Entry}
 use Rattle.col_core.specs.History.{clock, next_stamp, last_stamp, entries}
 use Rattle.col_core.specs.Cuts.{Chains, chain, base}
+use Rattle.col_core.specs.PlayOrder.{greatest_between}
 use Rattle.col_core.specs.Computed.{cut, dated}
 use Rattle.col_core.specs.Rows.{node_wants}
 use Rattle.col_core.specs.Keeping.{updated, updated_at}
@@ -136,15 +136,6 @@ cut_after region history = cut region (dated region history)
 
 abbrev pub base_after : ℕ → ℕ → List Entry → Counts
 base_after regions region history = base region regions (dated region history)
-
--- the nodes of a region's chain that the second vector counts and the first does not
-abbrev pub nodes_between : Chains → Counts → Counts → ℕ → List Head
-nodes_between chains from to region = drop (at from region) (take (at to region) (chains region))
-
--- the greatest stamp of the nodes of all chains that the second vector counts and the first does not
-abbrev pub greatest_between : Chains → Counts → Counts → ℕ
-greatest_between chains from to =
-    greatest (map (λ head. head.key.stamp) (flat_map (nodes_between chains from to) all_regions))
 
 -- The guards
 
