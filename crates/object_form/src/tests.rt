@@ -180,3 +180,32 @@ fn forms_are_written(rt: HostRuntime) -> Result<(), Fail> {
     is_written(&rt, alloc, &Form::Dequeue, b"q:")?;
     Ok(())
 }
+
+#[test]
+fn a_transaction_is_written(rt: HostRuntime) -> Result<(), Fail> {
+    let alloc = rt.alloc();
+    let writer = Key {
+        stamp: 1,
+        id: Id {
+            client: 1,
+            count: 0,
+        },
+    };
+    let mut reads = ListOf::new(alloc);
+    reads.push(Version {
+        key: Text::copied(alloc, b"b")?,
+        writer: Some(writer),
+    })?;
+    let mut writes = ListOf::new(alloc);
+    writes.push(Pair {
+        key: Text::copied(alloc, b"b")?,
+        value: Text::copied(alloc, b"9")?,
+    })?;
+    is_written(
+        &rt,
+        alloc,
+        &Form::Transaction { reads, writes },
+        b"t:b@1.1.0|b=9",
+    )?;
+    Ok(())
+}
