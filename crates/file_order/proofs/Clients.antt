@@ -189,13 +189,18 @@ module _ (script : Script) (columns : Columns) (nodes : ℕ → List Node) (comm
     explains = (
       refl,
       refl,
-      (colours, text, (refl, refl), (
-        one,
-        length column.history,
-        refl,
-        subst (λ (n : Node). AppendsOne (log_of columns' nodes') (caller_of script u) kept n colour stamp (length column.history) (length column.nodes)) (node_is one) appends,
-        refl,
-      )),
+      (
+        colours,
+        text,
+        (refl, refl),
+        (
+          one,
+          length column.history,
+          refl,
+          subst (λ (n : Node). AppendsOne (log_of columns' nodes') (caller_of script u) kept n colour stamp (length column.history) (length column.nodes)) (node_is one) appends,
+          refl,
+        ),
+      ),
     )
 
     pub own_after : Keeps script columns' nodes' u (commands ++ command ∷ []) (replies ++ line_of command (answers.Stood stamp None (point ∷ [])) [] ∷ []) kept'

@@ -195,7 +195,7 @@ module _ (script : Script) (columns : Columns) (nodes : ℕ → List Node) (comm
     seen = keeps.seen;
     known = keeps.known;
     made = keeps.made;
-      rows = keeps.rows;
+    rows = keeps.rows;
     nodes_are = keeps.nodes_are;
     from = keeps.from;
     bounded = keeps.bounded;
@@ -211,7 +211,7 @@ module _ (script : Script) (columns : Columns) (nodes : ℕ → List Node) (comm
     seen = keeps.seen;
     known = keeps.known;
     made = keeps.made;
-      rows = keeps.rows;
+    rows = keeps.rows;
     nodes_are = keeps.nodes_are;
     from = keeps.from;
     bounded = keeps.bounded;
