@@ -15,7 +15,6 @@ use Rattle.col_core.specs.declared.Entry.{Entry}
 use Rattle.col_core.specs.History.{line}
 use Rattle.col_core.specs.Keeping.{updated, updated_at}
 use Rattle.col_core.proofs.Basics.{choice, both, not_true}
-use Rattle.col_core.proofs.Facts.{later_by_growth}
 use Rattle.col_core.proofs.Growth.{line_later}
 use Rattle.col_core.proofs.LawfulPasts.{entries-of}
 use Rattle.col_core.proofs.Pasts as pasts
@@ -23,7 +22,7 @@ use Rattle.col_core.proofs.Pasts.{IsLawfulPast}
 use Rattle.core_laws.specs.declared.steps.Step.{Step}
 use Rattle.core_laws.specs.declared.steps.Step.TheVariants as steps
 use Rattle.core_laws.specs.Worlds.{World, RowState, ClientState, is_begun, row_of, home_of, may_begin, may_mark, may_propose, may_fence, may_decide, may_settle, may_single, may_raise, may_play, may_see, with_client, with_last, with_node, with_mark, begun_node, after_begin, after_propose, proposed_entry, proposed_stamp, after_decide, settled_entry, after_single, single_entry, single_node, played_cut, played_stamp, after, run_steps}
-use Rattle.core_laws.specs.Laws.{RowGrows, EachLineGrows, LogGrows, RowsStay}
+use Rattle.core_laws.specs.Laws.{RowGrows, EachLineGrows, RowsStay}
 use Rattle.core_laws.proofs.Basics.{at_updated, at_updated_at, updated_at-not}
 use Rattle.core_laws.proofs.Held.{Held}
 use Rattle.core_laws.proofs.Marks.{open_is}
@@ -31,7 +30,6 @@ use Rattle.core_laws.proofs.Histories.{lawful_past_in}
 use Rattle.core_laws.proofs.Keeps.{at_last}
 use Rattle.core_laws.proofs.Clients.{begun_client, single_client, raise_entry, still_used}
 use Rattle.core_laws.proofs.OfRows.{may_mark_is, may_fence_marks}
-use Rattle.core_laws.proofs.Runs.{run_held}
 use Rattle.std.proofs.lemmas.Bool.{ltb-true, lt-ltb}
 
 pub prefix-refl : {A : Type 0} (xs : List A) → IsPrefix xs xs
@@ -240,13 +238,6 @@ line_first history n l =
 
 pub each_line_grows : (w : World) → Held w → EachLineGrows w
 each_line_grows w h r c n = line_first (w.histories r c) n (lawful_past_in w h r c)
-
-pub log_grows : (w : World) → Held w → LogGrows w
-log_grows w h more =
-    let g = run_grows w more in
-    let w' = run_steps w more in
-    later_by_growth w'.shape.regions (record { histories = w.histories; nodes = w.nodes })
-    (record { histories = w'.histories; nodes = w'.nodes }) g.histories g.nodes (run_held w h more).lawful
 
 pub rows_stay : (w : World) → RowsStay w
 rows_stay w more row b = let g = run_grows w more in (

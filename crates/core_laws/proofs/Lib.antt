@@ -18,5 +18,6 @@ mod LawfulRows
 mod Wanted
 mod Listed
 mod Untrimmed
+mod LaterLogs
 pub mod CallerLemmas
 mod SmallRuns

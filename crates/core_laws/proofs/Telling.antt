@@ -347,7 +347,7 @@ opened_told shape = record {
   clients = λ a n lt. absurd (let x : ⊥ = omega (arith, lt) in x);
 }
 
-run_told : (w : World) → Held w → Told w → (steps : List Step) → Told (run_steps w steps)
+pub run_told : (w : World) → Held w → Told w → (steps : List Step) → Told (run_steps w steps)
 run_told w h t [] = t
 run_told w h t (s ∷ steps) = run_told (after w s) (after_held w h s) (after_told w h t s) steps
 

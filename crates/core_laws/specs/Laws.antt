@@ -130,11 +130,33 @@ abbrev pub CanComplete : World → Type 0
 CanComplete w = (by : ℕ) (row : Row) (found : ℕ → Bool) → IsTrue (is_begun w row)
     → Completes w row found (complete_steps w by row found)
 
--- Growth
+-- Rows
+
+-- a begun row with the marks of its node's colours
+abbrev pub begun_row : World → Row → BegunRow
+begun_row w row = record {
+  row = row;
+  node = (row_of w row).node;
+  marks = map (λ colour. record { colour = colour; mark = (row_of w row).marks colour }) (colours_of w row);
+  last = (row_of w row).last;
+}
+
+-- the rows that a client has begun
+abbrev pub rows_of_client : World → ℕ → List BegunRow
+rows_of_client w client =
+    map (λ number. begun_row w (record { client = client; number = number })) (range_with_len 0 (w.clients client).used)
+
+-- the rows that the clients of a region have begun
+abbrev pub rows_of_region : World → ℕ → List BegunRow
+rows_of_region w region =
+    flat_map (λ client. if home_of w client == region then rows_of_client w client else [])
+    (range_with_len 0 (length w.shape.homes))
 
 -- what a world says as a log
 abbrev pub log_of : World → Log
-log_of w = record { histories = w.histories; nodes = w.nodes }
+log_of w = record { histories = w.histories; nodes = w.nodes; rows = rows_of_region w }
+
+-- Growth
 
 -- a line only grows at its end, event by event
 abbrev pub EachLineGrows : World → Type 0
@@ -162,26 +184,6 @@ RowsStay w = (more : List Step) (row : Row) → IsTrue (is_begun w row)
 abbrev pub HaveLawfulHistories : World → Type 0
 HaveLawfulHistories w = (region colour : ℕ)
     → IsColumnHistory region w.shape.regions (dated region (w.histories region colour))
-
--- a begun row with the marks of its node's colours
-abbrev pub begun_row : World → Row → BegunRow
-begun_row w row = record {
-  row = row;
-  node = (row_of w row).node;
-  marks = map (λ colour. record { colour = colour; mark = (row_of w row).marks colour }) (colours_of w row);
-  last = (row_of w row).last;
-}
-
--- the rows that a client has begun
-abbrev pub rows_of_client : World → ℕ → List BegunRow
-rows_of_client w client =
-    map (λ number. begun_row w (record { client = client; number = number })) (range_with_len 0 (w.clients client).used)
-
--- the rows that the clients of a region have begun
-abbrev pub rows_of_region : World → ℕ → List BegunRow
-rows_of_region w region =
-    flat_map (λ client. if home_of w client == region then rows_of_client w client else [])
-    (range_with_len 0 (length w.shape.homes))
 
 -- the rows of each region are lawful beside the histories of its columns
 abbrev pub HaveLawfulRows : World → Type 0
