@@ -1,0 +1,1 @@
+// Laws of the runs in the order of the file.
