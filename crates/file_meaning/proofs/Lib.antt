@@ -1,2 +1,4 @@
 mod WorkedRuns
 mod Rows
+mod Moves
+mod Clearing
