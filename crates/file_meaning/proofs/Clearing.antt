@@ -192,14 +192,14 @@ pub record HelpedOne (by own colour : ℕ) (key : Key) (e : Standing) (w w' : Wo
   pub less : (x : Standing) → In x (open_below key (w'.histories own colour))
       → In x (open_below key (w.histories own colour)) × (x ≢ e)
 
-open_of : (key : Key) (h : List Entry) (x : Standing) → In x (open_below key h)
+pub open_of : (key : Key) (h : List Entry) (x : Standing) → In x (open_below key h)
     → In x (entries h) × (x.settled ≡ false) × (key_below x.key key ≡ true)
 open_of key h x i =
     let p = in_filter (λ (e : Standing). not e.settled && key_below e.key key) x (entries h) i in
     let q = both (not x.settled) _ p.1 in
     (p.0, not_true x.settled q.0, q.1)
 
-of_open : (key : Key) (h : List Entry) (x : Standing) → In x (entries h) → x.settled ≡ false → key_below x.key key ≡ true
+pub of_open : (key : Key) (h : List Entry) (x : Standing) → In x (entries h) → x.settled ≡ false → key_below x.key key ≡ true
     → In x (open_below key h)
 of_open key h x i o b =
     in_filter-back (λ (e : Standing). not e.settled && key_below e.key key) x (entries h) i

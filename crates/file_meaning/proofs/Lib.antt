@@ -2,3 +2,4 @@ mod WorkedRuns
 mod Rows
 mod Moves
 mod Clearing
+mod Lines

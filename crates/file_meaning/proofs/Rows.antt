@@ -198,7 +198,7 @@ waits_number marks.None last st s a e = absurd (let x : ⊥ = cc in x)
 waits_number (marks.Fenced why) last st s a e = absurd (let x : ⊥ = cc in x)
 waits_number (marks.Number n) last st s a e = (n, refl)
 
-in_past : (w : World) → Held w → (r c : ℕ) (id : Id) (x : Standing)
+pub in_past : (w : World) → Held w → (r c : ℕ) (id : Id) (x : Standing)
     → standing_of id (status_in (w.histories r c) id) ≡ Some x → In x (entries (w.histories r c))
 in_past w h r c id x e =
     subst (λ (es : List Standing). In x es) (sym (entries-of (w.histories r c)))
