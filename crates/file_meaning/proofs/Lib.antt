@@ -3,3 +3,5 @@ mod Rows
 mod Moves
 mod Clearing
 mod Lines
+mod Kept
+mod One

@@ -105,7 +105,7 @@ settle_still w h by other c row b ne ok =
           (other_id w h row other b (both (is_begun w other) _ ok).0 ne));
     }
 
-single_still : (w : World) → Held w → (client c : ℕ) (text : List ℕ) (row : Row) → is_begun w row ≡ true
+pub single_still : (w : World) → Held w → (client c : ℕ) (text : List ℕ) (row : Row) → is_begun w row ≡ true
     → IsStill w (after_single w client c text) row
 single_still w h client c text row b =
     let id = node_id w row in
