@@ -5,3 +5,7 @@ mod Clearing
 mod Lines
 mod Kept
 mod One
+mod Plain
+mod Lists
+mod Plays
+mod Sets
