@@ -8,4 +8,5 @@ mod One
 mod Plain
 mod Lists
 mod Plays
+mod Sync
 mod Sets

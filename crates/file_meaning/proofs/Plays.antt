@@ -200,7 +200,7 @@ fresh_before own regions before (events.Give region from) stamp id l t = absurd 
 fresh_before own regions before (events.Carry region start heads) stamp id l t = absurd (true≢false (sym t))
 fresh_before own regions before (events.Trim counts) stamp id l t = absurd (true≢false (sym t))
 
-zeros_own : (r : ℕ) → r < 4 → at zeros r ≡ 0
+pub zeros_own : (r : ℕ) → r < 4 → at zeros r ≡ 0
 zeros_own zero lt = refl
 zeros_own (suc zero) lt = refl
 zeros_own (suc (suc zero)) lt = refl
