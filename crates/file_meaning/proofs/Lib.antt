@@ -9,4 +9,5 @@ mod Plain
 mod Lists
 mod Plays
 mod Sync
+mod Leading
 mod Sets
