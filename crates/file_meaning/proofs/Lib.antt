@@ -9,5 +9,6 @@ mod Plain
 mod Lists
 mod Plays
 mod Sync
+mod Begun
 mod Leading
 mod Sets
