@@ -10,5 +10,6 @@ mod Lists
 mod Plays
 mod Sync
 mod Begun
+mod First
 mod Leading
 mod Sets
