@@ -11,5 +11,7 @@ mod Plays
 mod Sync
 mod Begun
 mod First
+mod Several
+mod Points
 mod Leading
 mod Sets

@@ -1,6 +1,6 @@
 -- Ranges, and one item more at the end of a list.
 use Rattle.std.proofs.Common.{◌≡◌, ◌≢◌, ℕ, zero, suc, ◌+◌, ◌<◌, ◌≤◌, List, [], ◌∷◌, ◌++◌, cond, Some, slice_get, refl, ap, sym, ◌∙◌, inl, inr, ◌⊎◌, arith, eq-eqb, ne_eqb, append-nil}
-use Rattle.std.specs.Prelude.{◌==◌}
+use Rattle.std.specs.Prelude.{◌==◌, map}
 use Rattle.std.specs.List.{filter, range_with_len}
 use Rattle.std.proofs.lemmas.Bool.{cases_lt}
 use Rattle.std.proofs.lemmas.List.Elements.{filter-append}
@@ -20,6 +20,11 @@ range_in a (suc k) n le lt =
       turn : (a < n) ⊎ (n ≤ a) → (a < n → In n (range_with_len (a + 1) k)) → (a ≡ n) ⊎ In n (range_with_len (a + 1) k)
       turn (inl less) rest = inr (rest less)
       turn (inr more) rest = inl (omega (arith, le, more))
+
+pub in_map_back : {A B : Type 0} (f : A → B) (xs : List A) (x : A) → In x xs → In (f x) (map f xs)
+in_map_back f [] x i = absurd i
+in_map_back f (y ∷ xs) x (inl e) = inl (ap f e)
+in_map_back f (y ∷ xs) x (inr i) = inr (in_map_back f xs x i)
 
 -- the commands of a client
 abbrev pub asked_by : ℕ → List Command → List Command
