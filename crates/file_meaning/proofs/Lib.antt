@@ -13,5 +13,6 @@ mod Begun
 mod First
 mod Several
 mod Points
+mod Final
 mod Leading
 mod Sets

@@ -84,7 +84,7 @@ none_missing_in all why ne e =
     by_test _ (list_any is_missing all)
     (λ t. absurd (ne (sym e ∙ if_true (list_any is_missing all) _ _ t))) (λ f. f)
 
-not_any : (test : Mark → Bool) (f : ℕ → Mark) (cs : List ℕ) (c : ℕ) → In c cs → list_any test (map f cs) ≡ false
+pub not_any : (test : Mark → Bool) (f : ℕ → Mark) (cs : List ℕ) (c : ℕ) → In c cs → list_any test (map f cs) ≡ false
     → test (f c) ≡ false
 not_any test f cs c i e =
     by_test _ (test (f c))
@@ -106,7 +106,7 @@ fence_is (marks.Number s) e = absurd (true≢false (sym e))
 fence_is (marks.Fenced Memory) e = absurd (true≢false (sym e))
 fence_is (marks.Fenced StampEnd) e = refl
 
-mark_number : (m : Mark) → is_missing m ≡ false → is_stamp_end_fence m ≡ false → is_memory_fence m ≡ false
+pub mark_number : (m : Mark) → is_missing m ≡ false → is_stamp_end_fence m ≡ false → is_memory_fence m ≡ false
     → (s : ℕ) × (m ≡ marks.Number s)
 mark_number marks.None a b c = absurd (true≢false a)
 mark_number (marks.Number s) a b c = (s, refl)
@@ -182,44 +182,44 @@ module _ (objects : List Object) (S : ℕ → Type 0) (found : Found) (w : World
   abbrev w3 : World
   w3 = run_steps w1 L
 
-  on : (s : Step) → In s L → IsOn u row s
+  pub on : (s : Step) → In s L → IsOn u row s
   on = complete_steps_on w1 u row found.marks
 
-  reached3 : IsReached w3
+  pub reached3 : IsReached w3
   reached3 = begun.reached3 objects w reached u colours text ok L on
 
   held3 : Held w3
   held3 = held_of w3 reached3
 
-  begun3 : is_begun w3 row ≡ true
+  pub begun3 : is_begun w3 row ≡ true
   begun3 = begun.begun3 objects w reached u colours text ok L on
 
-  begun1 : is_begun w1 row ≡ true
+  pub begun1 : is_begun w1 row ≡ true
   begun1 = begun.begun1 objects w reached u colours text ok L on
 
-  reached1 : IsReached w1
+  pub reached1 : IsReached w1
   reached1 = begun.reached1 objects w reached u colours text ok L on
 
-  node3 : (row_of w3 row).node ≡ begun_node w u colours text
+  pub node3 : (row_of w3 row).node ≡ begun_node w u colours text
   node3 = begun.node3 objects w reached u colours text ok L on
 
   done3 : IsDone w3 row
   done3 = completed_done w1 (held_of w1 reached1) u row found.marks begun1 begun3
 
-  finished3 : Finished S w3
+  pub finished3 : Finished S w3
   finished3 = begun.finished_done objects w reached u colours text ok L on S fin done3
 
   abbrev last : Outcome
   last = (row_of w3 row).last
 
   -- its colours are those of the row
-  colours_are : colours_of w3 row ≡ members colours
+  pub colours_are : colours_of w3 row ≡ members colours
   colours_are = ap (λ (n : Node). members n.colours) node3
 
   marks_are : marks_of (row_of w3 row) ≡ map (row_of w3 row).marks (members colours)
   marks_are = ap (map (row_of w3 row).marks) colours_are
 
-  last_is : last ≡ outcome_of (map (row_of w3 row).marks (members colours))
+  pub last_is : last ≡ outcome_of (map (row_of w3 row).marks (members colours))
   last_is = kept_marks w3 held3 row begun3 done3.decided ∙ ap outcome_of marks_are
 
   set_all : (c : ℕ) → In c (members colours) → is_missing ((row_of w3 row).marks c) ≡ false
@@ -231,7 +231,7 @@ module _ (objects : List Object) (S : ℕ → Type 0) (found : Found) (w : World
   mark_in c i = in_map_back (λ (d : ℕ). record { colour = d; mark = (row_of w3 row).marks d }) (colours_of w3 row) c
       (subst (λ (l : List ℕ). In c l) (sym colours_are) i)
 
-  shape3 : w3.shape ≡ w.shape
+  pub shape3 : w3.shape ≡ w.shape
   shape3 = begun.shape3 objects w reached u colours text ok L on
 
   abbrev places : ℕ → List ℕ
@@ -240,12 +240,12 @@ module _ (objects : List Object) (S : ℕ → Type 0) (found : Found) (w : World
   steps3 : run_steps w (Begin u colours text ∷ L) ≡ w3
   steps3 = begun.steps_run objects w reached u colours text ok L on
 
-  adds3 : (r c : ℕ) → Adds (MadeBy u (whats.Append colours text)) (w.histories r c) (w3.histories r c)
+  pub adds3 : (r c : ℕ) → Adds (MadeBy u (whats.Append colours text)) (w.histories r c) (w3.histories r c)
   adds3 r c = adds_map (StepIn own u id row L r c) (MadeBy u (whats.Append colours text)) (w.histories r c)
       (w3.histories r c) (λ e s. record { made = s.made; may = λ _. refl })
       ((begun.on3 objects w reached u colours text ok L on).adds r c)
 
-  others3 : (n : ℕ) → n ≢ u → w3.clients n ≡ w.clients n
+  pub others3 : (n : ℕ) → n ≢ u → w3.clients n ≡ w.clients n
   others3 = begun.others3 objects w reached u colours text ok L on
 
   module _ (kept : Kept) (k : IsKeptBy w u kept) where
@@ -262,7 +262,7 @@ module _ (objects : List Object) (S : ℕ → Type 0) (found : Found) (w : World
       contains_in _ _ (mark_in c i),
     )
 
-    has_outcome : HasOutcome (log_of w3) node last
+    pub has_outcome : HasOutcome (log_of w3) node last
     has_outcome = (begun_row w3 row, begun.of_row objects w reached u colours text ok L on kept k, refl)
 
     keeps3 : IsKeptBy w3 u (with_made (with_row kept) own places)
