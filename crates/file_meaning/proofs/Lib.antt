@@ -14,5 +14,6 @@ mod First
 mod Several
 mod Points
 mod Final
+mod Refusing
 mod Leading
 mod Sets
