@@ -15,5 +15,7 @@ mod Several
 mod Points
 mod Final
 mod Refusing
+mod Marking
+mod Stopping
 mod Leading
 mod Sets

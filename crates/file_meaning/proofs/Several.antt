@@ -115,7 +115,7 @@ mark_number (marks.Fenced StampEnd) a b c = absurd (true≢false b)
 
 -- Colours rise
 
-pub Rising : List ℕ → Type 0
+unfoldable pub Rising : List ℕ → Type 0
 Rising [] = Unit {0}
 Rising (x ∷ xs) = ((y : ℕ) → In y xs → x < y) × Rising xs
 
