@@ -243,7 +243,7 @@ module _ (objects : List Object) (S : ℕ → Type 0) (found : Found) (w : World
     shape6 : w6.shape ≡ w.shape
     shape6 = clears.helped.shape ∙ shape3
 
-    after_is : all_cleared found u key (members colours) (after w3 (Seen u f)) ≡ w6
+    pub after_is : all_cleared found u key (members colours) (after w3 (Seen u f)) ≡ w6
     after_is = ap (λ (x : World). all_cleared found u key (members colours) x) seen_is
 
     run36 : run_steps w3 (Seen u f ∷ clears.helped.steps) ≡ w6

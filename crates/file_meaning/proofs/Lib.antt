@@ -18,4 +18,5 @@ mod Refusing
 mod Marking
 mod Stopping
 mod Leading
+mod Whole
 mod Sets

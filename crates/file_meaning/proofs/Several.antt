@@ -203,7 +203,7 @@ module _ (objects : List Object) (S : ℕ → Type 0) (found : Found) (w : World
   pub node3 : (row_of w3 row).node ≡ begun_node w u colours text
   node3 = begun.node3 objects w reached u colours text ok L on
 
-  done3 : IsDone w3 row
+  pub done3 : IsDone w3 row
   done3 = completed_done w1 (held_of w1 reached1) u row found.marks begun1 begun3
 
   pub finished3 : Finished S w3
