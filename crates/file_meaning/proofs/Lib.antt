@@ -19,4 +19,6 @@ mod Marking
 mod Stopping
 mod Leading
 mod Whole
+mod Rowing
+mod Lawfulness
 mod Sets

@@ -42,7 +42,7 @@ use Rattle.file_meaning.proofs.Refusing.{did_end_one, did_full, did_stop_at_once
 use Rattle.file_meaning.proofs.Stopping as stopping
 use Rattle.file_meaning.proofs.Leading.{IsStopped, Runs, IsFit, runs_opening, runs_done, runs_stopped, free}
 
-all_at : {A : Type 0} (P : A → Type 0) (xs : List A) → All P xs → (x : A) → In x xs → P x
+pub all_at : {A : Type 0} (P : A → Type 0) (xs : List A) → All P xs → (x : A) → In x xs → P x
 all_at P xs all x i = let c = contains_in xs x i in subst P c.2 (all c.0 x c.1)
 
 at_or : {A : Type 0} (xs : List A) (i : ℕ) (x d : A) → slice_get xs i ≡ Some x → slice_index_or xs i d ≡ x
