@@ -74,14 +74,14 @@ numbered-second : {A : Type 0} (n : ℕ) (xs : List A) → map (λ (p : ℕ × A
 numbered-second n [] = refl
 numbered-second n (x ∷ xs) = ap (λ l. x ∷ l) (numbered-second (n + 1) xs)
 
-numbered-get : {A : Type 0} (n : ℕ) (xs : List A) (i : ℕ) (p : ℕ × A) → slice_get (enumerate_from n xs) i ≡ Some p
+pub numbered-get : {A : Type 0} (n : ℕ) (xs : List A) (i : ℕ) (p : ℕ × A) → slice_get (enumerate_from n xs) i ≡ Some p
     → p.0 ≡ n + i
 numbered-get n [] i p e = absurd cc
 numbered-get {A} n (x ∷ xs) zero p e =
     let f : (n, x) ≡ p = cc (e) in let g : n ≡ p.0 = ap (λ (q : ℕ × A). q.0) f in omega arith
 numbered-get n (x ∷ xs) (suc i) p e = let f = numbered-get (n + 1) xs i p e in omega arith
 
-numbered-at : {A : Type 0} (n : ℕ) (xs : List A) (i : ℕ) → i < length xs
+pub numbered-at : {A : Type 0} (n : ℕ) (xs : List A) (i : ℕ) → i < length xs
     → (p : ℕ × A) × (slice_get (enumerate_from n xs) i ≡ Some p)
 numbered-at n [] i lt = absurd (let f : ⊥ = omega (arith, lt) in f)
 numbered-at n (x ∷ xs) zero lt = ((n, x), refl)

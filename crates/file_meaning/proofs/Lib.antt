@@ -21,4 +21,6 @@ mod Leading
 mod Whole
 mod Rowing
 mod Lawfulness
+mod Exactly
+mod Exactness
 mod Sets
