@@ -162,7 +162,7 @@ module _ (objects : List Object) (w : World) (reached : IsReached w) (u : ℕ) (
   pub still3 : (other : Row) → is_begun w other ≡ true → IsStill w w3 other
   still3 other b =
       let first = subst (λ (x : World). IsStill w x other) begin_is
-          (step_still w (held_of w reached) (Begin u colours text) other b (λ t. t)) in
+      (step_still w (held_of w reached) (Begin u colours text) other b (λ t. t)) in
       still_trans w w1 w3 other first
       (run_still w1 (held_of w1 reached1) L other (still_there other b)
       (λ s i t. new other b (on_touches u row other s (on s i) t))) where
@@ -254,10 +254,10 @@ module _ (objects : List Object) (w : World) (reached : IsReached w) (u : ℕ) (
         let a : (w.clients u).count ≡ kept.ids = sym k.ids in
         let f : (w.clients u).floor ≡ kept.floor = sym k.floor in
         let s : map (w.clients u).played (members colours) ≡ map kept.starts (members colours) =
-            ap (λ (g : ℕ → Counts). map g (members colours)) (sym k.starts) in
+        ap (λ (g : ℕ → Counts). map g (members colours)) (sym k.starts) in
         let r : Some row ≡ named_row u kept.rows (members colours) =
-            ap (λ (n : ℕ). Some (record { client = u; number = n })) (sym k.rows)
-            ∙ sym (if_true (nat_lt 1 (length (members colours))) _ _ (lt-ltb 1 (length (members colours)) several)) in
+        ap (λ (n : ℕ). Some (record { client = u; number = n })) (sym k.rows)
+        ∙ sym (if_true (nat_lt 1 (length (members colours))) _ _ (lt-ltb 1 (length (members colours)) several)) in
         ap (λ (n : ℕ). record (begun_node w u colours text) { id = record { client = u; count = n } }) a
         ∙ (ap (λ (n : ℕ). record (begun_node w u colours text) { id = record { client = u; count = kept.ids }; floor = n }) f
         ∙ (ap (λ (n : List Counts). record (begun_node w u colours text) { id = record { client = u; count = kept.ids }; floor = kept.floor; wants = n }) s

@@ -178,7 +178,7 @@ help_row w h by own row found b ne at undone = record {
       let is : node_id w k.row ≡ x.key.id = sym (ap (λ (y : RowState). y.node.id) s.same) ∙ k.is in (
         open_before w w2 h h2 r c x i k.row is s,
         λ e. let p = same_number w h k.row.client k.row.number row.client row.number (ltb-true _ _ b2) (ltb-true _ _ b)
-        (is ∙ e) in row_apart k.row row f (row_of_parts k.row row p.0 p.1),
+            (is ∙ e) in row_apart k.row row f (row_of_parts k.row row p.0 p.1),
       )) where
         row_of_parts : (a b : Row) → a.client ≡ b.client → a.number ≡ b.number → a ≡ b
         row_of_parts a b e f = ap (λ (x : ℕ). record { client = x; number = a.number }) e
@@ -217,12 +217,12 @@ help_one S found by own colour key h reached fin free at e i =
     let undone = waits_not_done w k.row own colour e.key.stamp k.waits in
     let lt = ltb-true k.row.number (w.clients k.row.client).used k.begun in
     let listed : node_with w e.key.id ≡ Some (row_of w k.row).node =
-        ap (λ (n : ℕ). slice_get (w.nodes n) e.key.id.count) (sym k.client)
-        ∙ (ap (λ (x : Id). slice_get (w.nodes k.row.client) x.count) (sym k.is)
-        ∙ (listed_of w reached).rows k.row.client k.row.number lt) in
+    ap (λ (n : ℕ). slice_get (w.nodes n) e.key.id.count) (sym k.client)
+    ∙ (ap (λ (x : Id). slice_get (w.nodes k.row.client) x.count) (sym k.is)
+    ∙ (listed_of w reached).rows k.row.client k.row.number lt) in
     let is : helped_node found by h (node_with w e.key.id) ≡ helped_row found by h (Some k.row) =
-        ap (helped_node found by h) listed
-        ∙ ap (helped_row found by h) ((told_of w reached).rows k.row.client k.row.number lt).row in
+    ap (helped_node found by h) listed
+    ∙ ap (helped_row found by h) ((told_of w reached).rows k.row.client k.row.number lt).row in
     let ne : k.row.client ≢ by = λ same. stopped (fin k.row k.begun) (λ s. free (subst S same s)) undone in
     let r = help_row w held by own k.row (found.helps h.helps) k.begun ne (sym k.home) undone in
     subst (λ (x : Helping). HelpedOne by own colour key e w x.world) (sym is) (record {
@@ -265,7 +265,7 @@ fewer [] ys r sub = omega arith
 fewer (x ∷ xs) ys r sub =
     let z = without x ys (sub x (inl refl)) in
     let n = fewer xs z.0 r.1 (λ y i. z.2 y (sub y (inr i)) (λ e. key-irrefl x.key
-        (subst (λ (k : Standing). key_below x.key k.key ≡ true) e (r.0 y i)))) in
+    (subst (λ (k : Standing). key_below x.key k.key ≡ true) e (r.0 y i)))) in
     let l = z.1 in
     omega (arith, n, l)
 
@@ -318,7 +318,7 @@ clear_times S (suc n) found by own colour key h reached fin free at le =
           → Clears by own colour key h.world (helped_times n found by colour key h').world
       rest h' again g le' =
           let c = again (helped_reached by own h.world h'.world g reached)
-              (helped_finished S by own h.world h'.world g fin) (home_kept h.world h'.world by g.shape ∙ at) le' in
+          (helped_finished S by own h.world h'.world g fin) (home_kept h.world h'.world by g.shape ∙ at) le' in
           record {
             helped = helped_trans by own h.world h'.world (helped_times n found by colour key h').world g c.helped;
             clear = c.clear;
@@ -338,13 +338,13 @@ clear_times S (suc n) found by own colour key h reached fin free at le =
           (let z : length (open_below key (h.world.histories own colour)) ≡ 0 = ap length e in omega (arith, z)))
       of_list (x ∷ es) e again le' =
           let i : In x (open_below key (h.world.histories own colour)) =
-              subst (λ (l : List Standing). In x l) (sym e) (inl refl) in
+          subst (λ (l : List Standing). In x l) (sym e) (inl refl) in
           let o = help_one S found by own colour key h reached fin free at x i in
           let h' = helped_node found by h (node_with h.world x.key.id) in
           let reached' = helped_reached by own h.world h'.world o.helped reached in
           let lt = fewer_less (open_below key (h'.world.histories own colour))
-              (open_below key (h.world.histories own colour)) x
-              (below_rises h'.world (held_of h'.world reached') own colour key) i o.less in
+          (open_below key (h.world.histories own colour)) x
+          (below_rises h'.world (held_of h'.world reached') own colour key) i o.less in
           subst (λ (y : Helping). Clears by own colour key h.world (helped_times n found by colour key y).world)
           (sym (ap (λ (k : ℕ). helped_first found by h (open_below key (h.world.histories k colour))) at
           ∙ ap (helped_first found by h) e))
@@ -382,8 +382,8 @@ clear_list S found by own key (c ∷ colours) h reached fin free at =
     let one = clear_one S found by own c key h reached fin free at in
     let h' = cleared found by key h c in
     let rest = clear_list S found by own key colours h' (helped_reached by own h.world h'.world one.helped reached)
-        (helped_finished S by own h.world h'.world one.helped fin) free
-        (home_kept h.world h'.world by one.helped.shape ∙ at) in
+    (helped_finished S by own h.world h'.world one.helped fin) free
+    (home_kept h.world h'.world by one.helped.shape ∙ at) in
     record {
       helped = helped_trans by own h.world h'.world (fold (cleared found by key) h' colours).world one.helped rest.helped;
       clear = λ d i. turn d i (stays_clear by own c key h'.world (fold (cleared found by key) h' colours).world

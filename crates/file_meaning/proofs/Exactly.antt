@@ -55,7 +55,7 @@ no_fence : (w : World) (row : Row) (c : ℕ) → is_begun w row ≡ true → has
     → is_missing ((row_of w row).marks c) ≡ true → IsClean (after w (steps.Fence row c Memory)) → ⊥
 no_fence w row c b has miss clean =
     let ok : may_mark w row c ≡ true =
-        and_from (is_begun w row) _ b (and_from (is_member (row_of w row).node.colours c) _ has miss) in
+    and_from (is_begun w row) _ b (and_from (is_member (row_of w row).node.colours c) _ has miss) in
     let new = record (row_of w row) { marks = updated (row_of w row).marks c (marks.Fenced Memory) } in
     let w' = with_mark w row c (marks.Fenced Memory) in
     let is : after w (steps.Fence row c Memory) ≡ w' = if_true (may_fence w row c Memory) w' w ok in
@@ -73,7 +73,7 @@ step_exact w by row found c b has miss clean =
     (cond (found c) (steps.Propose by row c) (steps.Fence row c Memory)) t
     ∙ sym (if_true (is_row_at_end w row c) (steps.Fence row c StampEnd) (steps.Propose by row c) t))
     (λ f. let is : mark_step w by row found c ≡ cond (found c) (steps.Propose by row c) (steps.Fence row c Memory) =
-        if_false (is_row_at_end w row c) _ _ f in
+    if_false (is_row_at_end w row c) _ _ f in
     by_test _ (found c)
     (λ t. is ∙ (if_true (found c) (steps.Propose by row c) (steps.Fence row c Memory) t
     ∙ sym (if_false (is_row_at_end w row c) (steps.Fence row c StampEnd) (steps.Propose by row c) f)))
@@ -91,20 +91,20 @@ first_exact w by row found (c ∷ cs) tail (suc n) b sub clean =
     let s = mark_step w by row found c in
     let t = mark_step w by row found_all c in
     let sub' : (d : ℕ) → has_colour cs d ≡ true → has_colour (colours_of w row) d ≡ true =
-        λ d i. sub d (or_right (c == d) _ i) in
+    λ d i. sub d (or_right (c == d) _ i) in
     by_test _ (is_missing ((row_of w row).marks c))
     (λ miss.
     let is_f : mark_steps w by row found (c ∷ cs) ≡ s ∷ mark_steps (after w s) by row found cs = if_true _ _ _ miss in
     let is_t : mark_steps w by row found_all (c ∷ cs) ≡ t ∷ mark_steps (after w t) by row found_all cs =
-        if_true _ _ _ miss in
+    if_true _ _ _ miss in
     let clean' : IsClean (run_steps (after w s) (take n (mark_steps (after w s) by row found cs ++ tail))) =
-        subst (λ (l : List Step). IsClean (run_steps w (take (suc n) (l ++ tail)))) is_f clean in
+    subst (λ (l : List Step). IsClean (run_steps w (take (suc n) (l ++ tail)))) is_f clean in
     let has = sub c (or_left (c == c) _ (eq-eqb c c refl)) in
     let same = step_exact w by row found c b has miss (clean_before (after w s)
-        (take n (mark_steps (after w s) by row found cs ++ tail)) clean') in
+    (take n (mark_steps (after w s) by row found cs ++ tail)) clean') in
     let m = mark_step_marks w by row found c b has miss in
     let rest = first_exact (after w s) by row found cs tail n (still_begun w s row b)
-        (λ d i. subst (λ (x : Node). has_colour (members x.colours) d ≡ true) (sym m.goes.same) (sub' d i)) clean' in
+    (λ d i. subst (λ (x : Node). has_colour (members x.colours) d ≡ true) (sym m.goes.same) (sub' d i)) clean' in
     ap (λ (l : List Step). take (suc n) (l ++ tail)) is_f
     ∙ (ap (λ (l : List Step). s ∷ l) rest
     ∙ (ap (λ (x : Step). x ∷ take n (mark_steps (after w x) by row found_all cs ++ tail)) same
@@ -127,20 +127,20 @@ marks_exact w by row found (c ∷ cs) b sub clean =
     let s = mark_step w by row found c in
     let t = mark_step w by row found_all c in
     let sub' : (d : ℕ) → has_colour cs d ≡ true → has_colour (colours_of w row) d ≡ true =
-        λ d i. sub d (or_right (c == d) _ i) in
+    λ d i. sub d (or_right (c == d) _ i) in
     by_test _ (is_missing ((row_of w row).marks c))
     (λ miss.
     let is_f : mark_steps w by row found (c ∷ cs) ≡ s ∷ mark_steps (after w s) by row found cs = if_true _ _ _ miss in
     let is_t : mark_steps w by row found_all (c ∷ cs) ≡ t ∷ mark_steps (after w t) by row found_all cs =
-        if_true _ _ _ miss in
+    if_true _ _ _ miss in
     let clean' : IsClean (run_steps (after w s) (mark_steps (after w s) by row found cs)) =
-        subst (λ (l : List Step). IsClean (run_steps w l)) is_f clean in
+    subst (λ (l : List Step). IsClean (run_steps w l)) is_f clean in
     let has = sub c (or_left (c == c) _ (eq-eqb c c refl)) in
     let same = step_exact w by row found c b has miss (clean_before (after w s)
-        (mark_steps (after w s) by row found cs) clean') in
+    (mark_steps (after w s) by row found cs) clean') in
     let m = mark_step_marks w by row found c b has miss in
     let rest = marks_exact (after w s) by row found cs (still_begun w s row b)
-        (λ d i. subst (λ (x : Node). has_colour (members x.colours) d ≡ true) (sym m.goes.same) (sub' d i)) clean' in
+    (λ d i. subst (λ (x : Node). has_colour (members x.colours) d ≡ true) (sym m.goes.same) (sub' d i)) clean' in
     is_f ∙ (ap (λ (l : List Step). s ∷ l) rest
     ∙ (ap (λ (x : Step). x ∷ mark_steps (after w x) by row found_all cs) same ∙ sym is_t)))
     (λ set.

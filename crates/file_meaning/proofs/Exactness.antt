@@ -177,7 +177,7 @@ module _ (found : Found) (state : State) (command : Command) where
   one_exact text c clean =
       by_test _ (may_single w u c)
       (λ t. let is : appended_one found state command text c ≡ of_world (with_single found w u text c) =
-          if_true (may_single w u c) _ _ t in
+      if_true (may_single w u c) _ _ t in
       is ∙ (ap of_world (single_exact text c (subst (λ (s : State). IsClean s.world) is clean))
       ∙ sym (if_true (may_single w u c) (of_world (with_single all_found w u text c))
       (answered state command w (answers.StampEnd c) []) t)))
@@ -216,7 +216,7 @@ module _ (found : Found) (state : State) (command : Command) where
       (λ f. let is : appended_several found state command colours text ≡ rest = if_false (is_full w u) full rest f in
       let clean' : IsClean rest.world = subst (λ (s : State). IsClean s.world) is clean in
       let same : v ≡ v' = complete_exact (after w (Begin u colours text)) u row found.marks
-          (clean_from v rest.world (by_runs v row cs (row_of v row).last) clean') in
+      (clean_from v rest.world (by_runs v row cs (row_of v row).last) clean') in
       is ∙ (by_exact v row cs (row_of v row).last clean'
       ∙ (ap (λ (x : World). appended_by all_found state command x row cs (row_of x row).last) same
       ∙ sym (if_false (is_full w u) full rest' f))))
@@ -296,13 +296,13 @@ module _ (script : Script) (fits : IsFitting script) where
   exact_leads (next {commands} {state} command found leads) rest is clean tells =
       let whole : script.commands ≡ commands ++ command ∷ rest = is ∙ append_assoc commands (command ∷ []) rest in
       let there : In command script.commands =
-          subst (λ (l : List Command). In command l) (sym whole) (in_right command commands (command ∷ rest) (inl refl)) in
+      subst (λ (l : List Command). In command l) (sym whole) (in_right command commands (command ∷ rest) (inl refl)) in
       let caller = all_at (λ (c : Command). c.client < length script.shape.homes) script.commands fits.callers command
-          there in
+      there in
       let more = done_extends found state command in
       let before = exact_leads leads (command ∷ rest) whole
-          (clean_from state.world (done found state command).world more.world clean)
-          (λ n lt r i. tells n lt r (more.replies n r i)) in
+      (clean_from state.world (done found state command).world more.world clean)
+      (λ n lt r i. tells n lt r (more.replies n r i)) in
       done_exact found state command clean (tells command.client caller)
       ∙ (ap (λ (s : State). done all_found s command) before
       ∙ sym (fold-append (done all_found) (opening script) commands (command ∷ [])))
@@ -316,12 +316,12 @@ module _ (script : Script) (fits : IsFitting script) where
       let same : p.0.0 ≡ n = omega (arith, number) in
       let shown : ClientReport = record { name = p.0.1; replies = state.replies p.0.0 } in
       let there : slice_get (report_of script state).clients n ≡ Some shown =
-          slice_get-map (λ (q : ℕ × List ℕ). record { name = q.1; replies = state.replies q.0 })
-          (enumerate_from 0 script.clients) n
-          ∙ ap (option_map (λ (q : ℕ × List ℕ). record { name = q.1; replies = state.replies q.0 })) p.1 in
+      slice_get-map (λ (q : ℕ × List ℕ). record { name = q.1; replies = state.replies q.0 })
+      (enumerate_from 0 script.clients) n
+      ∙ ap (option_map (λ (q : ℕ × List ℕ). record { name = q.1; replies = state.replies q.0 })) p.1 in
       let all = all_at (λ (c : ClientReport). All (λ (x : ReplyLine). x.answer ≢ answers.NoMemory) c.replies)
-          (report_of script state).clients finds.replies shown
-          (slice_in (report_of script state).clients n shown there) in
+      (report_of script state).clients finds.replies shown
+      (slice_in (report_of script state).clients n shown there) in
       all_at (λ (x : ReplyLine). x.answer ≢ answers.NoMemory) (state.replies p.0.0) all r
       (subst (λ (k : ℕ). In r (state.replies k)) (sym same) i)
 
@@ -333,18 +333,18 @@ module _ (script : Script) (fits : IsFitting script) where
       let lt = ltb-true row.number (w.clients row.client).used b in
       let region = home_of w row.client in
       let client : row.client < length script.shape.homes =
-          subst (λ (s : Shape). row.client < length s.homes) runs.shape (told.clients row.client row.number lt) in
+      subst (λ (s : Shape). row.client < length s.homes) runs.shape (told.clients row.client row.number lt) in
       let few : region < script.shape.regions =
-          subst (λ (s : Shape). slice_index s.homes row.client < script.shape.regions) (sym runs.shape)
-          (fits.shape.homes row.client 0 client) in
+      subst (λ (s : Shape). slice_index s.homes row.client < script.shape.regions) (sym runs.shape)
+      (fits.shape.homes row.client 0 client) in
       let r = begun_row w row in
       let here : In r (rows_of_region w region) = row_stands w told region row.client row.number lt refl in
       let shown : In (row_report region r) (report_of script state).rows =
-          flat_map_there (λ k. map (row_report k) (rows_of_region w k)) (range_with_len 0 script.shape.regions) region
-          (row_report region r) (range_in 0 script.shape.regions region (omega arith) (omega (arith, few)))
-          (in_map_back (row_report region) (rows_of_region w region) r here) in
+      flat_map_there (λ k. map (row_report k) (rows_of_region w k)) (range_with_len 0 script.shape.regions) region
+      (row_report region r) (range_in 0 script.shape.regions region (omega arith) (omega (arith, few)))
+      (in_map_back (row_report region) (rows_of_region w region) r here) in
       let all = all_at (λ (x : RowReport). All (λ (m : ColourMark). m.mark ≢ marks.Fenced Memory) x.marks)
-          (report_of script state).rows finds.marks (row_report region r) shown in
+      (report_of script state).rows finds.marks (row_report region r) shown in
       all_at (λ (m : ColourMark). m.mark ≢ marks.Fenced Memory) r.marks all
       (record { colour = c; mark = (row_of w row).marks c })
       (in_map_back (λ (d : ℕ). record { colour = d; mark = (row_of w row).marks d }) (colours_of w row) c

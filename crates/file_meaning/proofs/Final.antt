@@ -69,7 +69,6 @@ use Rattle.file_meaning.proofs.Begun.{begins_later}
 use Rattle.file_meaning.proofs.First.{ProposesFirst, proposes_first, in_any}
 use Rattle.core_laws.proofs.RegionRows.{all_in, in_map}
 use Rattle.file_meaning.proofs.Lists.{in_range, range_in, in_map_back}
-
 use Rattle.file_meaning.proofs.Several as several
 use Rattle.file_meaning.proofs.Several.{mark_number, not_any}
 use Rattle.file_meaning.proofs.Points.{PointsKept, IsBoundedPoint, points_kept}
@@ -150,17 +149,17 @@ module _ (objects : List Object) (S : ℕ → Type 0) (found : Found) (w : World
     stamp_within : (c : ℕ) (i : In c (members colours)) → (first c i).entry.stamp ≤ f
     stamp_within c i =
         let a = number_within (row_of w3 row).marks (members colours) c (first c i).entry.stamp
-            (in_colours (members colours) c i) (first c i).mark in
+        (in_colours (members colours) c i) (first c i).mark in
         let b = marks_final.3 in
         omega (arith, a, b)
 
     final3 : (c : ℕ) → In c (members colours) → In (standing_as f id true) (entries (w3.histories own c))
     final3 c i =
         let comp = can_complete w1 (held_of w1 (several.reached1 objects S found w reached fin u colours text free ok)) u row
-            found.marks (several.begun1 objects S found w reached fin u colours text free ok) in
+        found.marks (several.begun1 objects S found w reached fin u colours text free ok) in
         let st = subst (StandsAsDecided w3 row) e comp.stands in
         let x = in_contains _ _ (st c (contains_in _ _ (subst (λ (l : List ℕ). In c l)
-            (sym (several.colours_are objects S found w reached fin u colours text free ok)) i))) in
+        (sym (several.colours_are objects S found w reached fin u colours text free ok)) i))) in
         subst (λ (n : Id). In (standing_as f n true) (entries (w3.histories own c))) (ap (λ (n : Node). n.id) node3)
         (subst (λ (s : Shape). In (standing_as f (node_id w3 row) true) (entries (w3.histories (slice_index s.homes u) c)))
         shape3 x)
@@ -184,7 +183,7 @@ module _ (objects : List Object) (S : ℕ → Type 0) (found : Found) (w : World
     clock_there c i =
         let h = held_of w3 reached3 in
         let x = entry_within (reverse (w3.histories own c)) (lawful_past_in w3 h own c) (standing_as f id true)
-            (subst (λ (es : List Standing). In (standing_as f id true) es) (entries-of (w3.histories own c)) (final3 c i)) in
+        (subst (λ (es : List Standing). In (standing_as f id true) es) (entries-of (w3.histories own c)) (final3 c i)) in
         subst (λ (n : ℕ). f ≤ n) (sym (clock-of (w3.histories own c))) x
 
     sees : may_see w3 u f ≡ true

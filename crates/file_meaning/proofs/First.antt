@@ -88,23 +88,23 @@ module _ (objects : List Object) (w : World) (reached : IsReached w) (u : ℕ) (
   of_first c e rest is s (events.Propose other floor wants) ev =
       let same : other ≡ id = subst (IsStepOf id) ev s.of in
       let there : slice_get (w3.histories own c) (length (w.histories own c)) ≡ Some e =
-          ap (λ (l : List Entry). slice_get l (length (w.histories own c))) is
-          ∙ (let z : length (w.histories own c) ≡ length (w.histories own c) + 0 = omega arith in
-          ap (slice_get (w.histories own c ++ e ∷ rest)) z ∙ begun.get_behind (w.histories own c) (e ∷ rest) 0) in
+      ap (λ (l : List Entry). slice_get l (length (w.histories own c))) is
+      ∙ (let z : length (w.histories own c) ≡ length (w.histories own c) + 0 = omega arith in
+      ap (slice_get (w.histories own c ++ e ∷ rest)) z ∙ begun.get_behind (w.histories own c) (e ∷ rest) 0) in
       let f = subst (λ (x : Event). FitsEvent w3 own c x e.stamp) (ev ∙ ap (λ (i : Id). events.Propose i floor wants) same)
-          ((told_of w3 reached3).events own c e (slice_in (w3.histories own c) _ e there)) in
+      ((told_of w3 reached3).events own c e (slice_in (w3.histories own c) _ e there)) in
       let number : f.number ≡ (w.clients u).used =
-          (same_number w3 (held_of w3 reached3) u f.number u (w.clients u).used f.begun begun3
-          (f.is ∙ ap (λ (n : Node). n.id) (sym node3))).1 in
+      (same_number w3 (held_of w3 reached3) u f.number u (w.clients u).used f.begun begun3
+      (f.is ∙ ap (λ (n : Node). n.id) (sym node3))).1 in
       let floor_is : node.floor ≡ floor =
-          ap (λ (n : Node). n.floor) (sym node3)
-          ∙ (ap (λ (n : ℕ). (w3.rows u n).node.floor) (sym number) ∙ f.floor_is) in
+      ap (λ (n : Node). n.floor) (sym node3)
+      ∙ (ap (λ (n : ℕ). (w3.rows u n).node.floor) (sym number) ∙ f.floor_is) in
       let wants_is : node_wants node c ≡ wants =
-          ap (λ (n : Node). node_wants n c) (sym node3)
-          ∙ (ap (λ (n : ℕ). node_wants (w3.rows u n).node c) (sym number) ∙ f.wants_is) in
+      ap (λ (n : Node). node_wants n c) (sym node3)
+      ∙ (ap (λ (n : ℕ). node_wants (w3.rows u n).node c) (sym number) ∙ f.wants_is) in
       let lawful = (lawful_front (reverse rest) (e ∷ reverse (w.histories own c))
-          (subst IsLawfulPast (ap reverse is ∙ reverse-split (w.histories own c) rest e)
-          (lawful_past_in w3 (held_of w3 reached3) own c))).0 in
+      (subst IsLawfulPast (ap reverse is ∙ reverse-split (w.histories own c) rest e)
+      (lawful_past_in w3 (held_of w3 reached3) own c))).0 in
       let enter = subst (λ (x : Event). IsLawfulNext (reverse (w.histories own c)) x e.stamp) ev lawful in
       let stamped = enter.stamped in
       record {
@@ -120,11 +120,11 @@ module _ (objects : List Object) (w : World) (reached : IsReached w) (u : ℕ) (
   of_first c e rest is s (events.Settle other outcome) ev =
       let same : other ≡ id = subst (IsStepOf id) ev s.of in
       let lawful = (lawful_front (reverse rest) (e ∷ reverse (w.histories own c))
-          (subst IsLawfulPast (ap reverse is ∙ reverse-split (w.histories own c) rest e)
-          (lawful_past_in w3 (held_of w3 reached3) own c))).0 in
+      (subst IsLawfulPast (ap reverse is ∙ reverse-split (w.histories own c) rest e)
+      (lawful_past_in w3 (held_of w3 reached3) own c))).0 in
       let settle = subst (λ (x : Event). IsLawfulNext (reverse (w.histories own c)) x e.stamp) ev lawful in
       let waits : status id (reverse (w.histories own c)) ≡ Waits settle.stamp =
-          ap (λ (i : Id). status i (reverse (w.histories own c))) (sym same) ∙ settle.waits in
+      ap (λ (i : Id). status i (reverse (w.histories own c))) (sym same) ∙ settle.waits in
       let none = absent c in
       absurd (let f : ⊥ = cc in f)
   of_first c e rest is s (events.Raise to) ev = absurd (subst (IsStepOf id) ev s.of)
@@ -142,7 +142,7 @@ module _ (objects : List Object) (w : World) (reached : IsReached w) (u : ℕ) (
         of_more [] is each =
             let same : w3.histories own c ≡ w.histories own c = is ∙ append-nil (w.histories own c) in
             let i : In e (w.histories own c) =
-                subst (λ (l : List Entry). In e l) same (slice_in (w3.histories own c) n e at_n) in
+            subst (λ (l : List Entry). In e l) same (slice_in (w3.histories own c) n e at_n) in
             let t : enters id e.event ≡ true = ap (enters id) ev ∙ same_id-is id id refl in
             absurd (apart (has_entered id (w.histories own c))
             (in_any (λ (x : Entry). enters id x.event) (w.histories own c) e i t)

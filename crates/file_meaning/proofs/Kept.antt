@@ -86,7 +86,7 @@ kept_other objects client what w w' answer nodes d r n ne kept k =
           let y = prefix_length (w.histories a c) (w'.histories a c) (later.histories a c) in omega (arith, x, y);
       known = λ c. let x = k.known c in
           let y = prefix_length (line (home_history w n c)) (line (w'.histories (home_of w n) c))
-              (later.lines (home_of w n) c) in
+          (later.lines (home_of w n) c) in
           subst (λ (s : ℕ). kept.known c ≤ length (line (w'.histories s c)))
           (sym (ap (λ (s : Shape). slice_index s.homes n) d.shape)) (omega (arith, x, y));
       made = λ a c. others_places n (w.histories a c) (w'.histories a c)

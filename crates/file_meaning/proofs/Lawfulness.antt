@@ -193,9 +193,9 @@ module _ (script : Script) (fits : IsFitting script) (state : State) (is : Runs 
   client_there n c there =
       let lt = get_within (report_of script state).clients n c there in
       let long : length (report_of script state).clients ≡ length script.clients =
-          length-map (enumerate_from 0 script.clients) (λ (p : ℕ × List ℕ). record { name = p.1; replies = state.replies p.0 })
-          ∙ (sym (length-map (enumerate_from 0 script.clients) (λ (p : ℕ × List ℕ). p.1))
-          ∙ ap length (numbered-second 0 script.clients)) in
+      length-map (enumerate_from 0 script.clients) (λ (p : ℕ × List ℕ). record { name = p.1; replies = state.replies p.0 })
+      ∙ (sym (length-map (enumerate_from 0 script.clients) (λ (p : ℕ × List ℕ). p.1))
+      ∙ ap length (numbered-second 0 script.clients)) in
       let c = fits.clients in
       subst (λ (s : Shape). n < length s.homes) (sym is.shape) (omega (arith, lt, long, c))
 
@@ -236,7 +236,7 @@ module _ (script : Script) (fits : IsFitting script) (state : State) (is : Runs 
   has_stopped : (n : ℕ) → IsStopped script.commands state.replies n → HasStopped (report_of script state) n
   has_stopped n s =
       let lt = all_at (λ (c : Command). c.client < length script.shape.homes) script.commands fits.callers s.command
-          s.there in
+      s.there in
       let less : n < length script.clients = let e = s.of_client in let f = fits.clients in omega (arith, lt, e, f) in
       let p = numbered-at 0 script.clients n less in
       let number = numbered-get 0 script.clients n p.0 p.1 in

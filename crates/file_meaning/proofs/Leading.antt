@@ -195,7 +195,7 @@ module _ (script : Script) (commands : List Command) (state : State) (command : 
         let d = does.keeps c.kept c.keeps in
         let later = later_log w w' does.steps runs.reached does.run in
         let called : caller_in w' script.objects u ≡ caller_of script u =
-            ap (λ (s : Shape). of_shape s) does.shape ∙ caller_is u in
+        ap (λ (s : Shape). of_shape s) does.shape ∙ caller_is u in
         record {
           kept = d.after;
           explained = subst (λ (cs : List Command). Explained (log_of w') (caller_of script u) cs replies' d.after)

@@ -62,7 +62,7 @@ one_key w h r c k l i j same =
     let a = in_line (entries (w.histories r c)) k i in
     let b = in_line (entries (w.histories r c)) l j in
     let ids : a.0.key.id ≡ b.0.key.id =
-        ap (λ (x : Key). x.id) a.2 ∙ (same_id-true k.id l.id same ∙ ap (λ (x : Key). x.id) (sym b.2)) in
+    ap (λ (x : Key). x.id) a.2 ∙ (same_id-true k.id l.id same ∙ ap (λ (x : Key). x.id) (sym b.2)) in
     let sa = entry_shown w h r c a.0 a.1 in
     let sb = entry_shown w h r c b.0 b.1 in
     let e : Some a.0 ≡ Some b.0 = sym sa ∙ (ap (λ (x : Id). standing_of x (status_in (w.histories r c) x)) ids ∙ sb) in
@@ -187,10 +187,10 @@ pub final_stays : (P : Entry → Type 0) (w w' : World) → Held w → Held w' �
 final_stays P w w' h h' r c a stamp id i =
     let shows = entry_shown w h r c (standing_as stamp id true) i in
     let split : reverse (w'.histories r c) ≡ reverse a.more ++ reverse (w.histories r c) =
-        ap reverse a.is ∙ reverse-append (w.histories r c) a.more in
+    ap reverse a.is ∙ reverse-append (w.histories r c) a.more in
     let same : status_in (w'.histories r c) id ≡ status_in (w.histories r c) id =
-        ap (status id) split
-        ∙ last_later (reverse a.more) (reverse (w.histories r c)) id
-        (subst IsLawfulPast split (lawful_past_in w' h' r c))
-        (final_last id (status_in (w.histories r c) id) stamp shows) in
+    ap (status id) split
+    ∙ last_later (reverse a.more) (reverse (w.histories r c)) id
+    (subst IsLawfulPast split (lawful_past_in w' h' r c))
+    (final_last id (status_in (w.histories r c) id) stamp shows) in
     in_past w' h' r c id (standing_as stamp id true) (ap (standing_of id) same ∙ shows)

@@ -121,9 +121,12 @@ mark_list w by row found (c ∷ cs) rising missing =
           → (x : Step) × (slice_get (mark_step w by row found c
           ∷ mark_steps (after w (mark_step w by row found c)) by row found cs) m ≡ Some x) × MarksColour d x
       at_place each zero d e =
-          let is : c ≡ d = cc in
-          (mark_step w by row found c, refl, subst (λ (k : ℕ). MarksColour k (mark_step w by row found c)) is
-              (step_marks w by row found c))
+          let is : c ≡ d = cc in (
+            mark_step w by row found c,
+            refl,
+            subst (λ (k : ℕ). MarksColour k (mark_step w by row found c)) is
+                (step_marks w by row found c),
+          )
       at_place each (suc m) d e = each m d e
 
 mark_kept : (w : World) (list : List Step) (row : Row) (c : ℕ) → is_begun w row ≡ true

@@ -218,9 +218,9 @@ places_append k client [] ys = let e : k ≡ k + 0 = omega arith in ap (λ (n : 
 places_append k client (x ∷ xs) ys =
     let e : k + 1 + length xs ≡ k + length (x ∷ xs) = omega arith in
     let r : places_from (k + 1) client (xs ++ ys)
-        ≡ places_from (k + 1) client xs ++ places_from (k + length (x ∷ xs)) client ys =
-        places_append (k + 1) client xs ys
-        ∙ ap (λ (n : ℕ). places_from (k + 1) client xs ++ places_from n client ys) e in
+    ≡ places_from (k + 1) client xs ++ places_from (k + length (x ∷ xs)) client ys =
+    places_append (k + 1) client xs ys
+    ∙ ap (λ (n : ℕ). places_from (k + 1) client xs ++ places_from n client ys) e in
     by_bool ((x.by == client) && is_own client x.event) (places_from (k + 1) client (xs ++ ys))
     (places_from (k + 1) client xs) (places_from (k + length (x ∷ xs)) client ys) r where
       by_bool : (b : Bool) (all left right : List ℕ) → all ≡ left ++ right

@@ -195,7 +195,7 @@ module _ (objects : List Object) (S : ℕ → Type 0) (found : Found) (w : World
         let b : record { 0 = 2 ^ c } ≡ colours = sym set in
         let f : (w.clients u).floor ≡ kept.floor = sym k.floor in
         let s : (w.clients u).played c ∷ [] ≡ map kept.starts (members colours) =
-            ap (λ (g : ℕ → Counts). g c ∷ []) (sym k.starts) ∙ ap (map kept.starts) (sym one) in
+        ap (λ (g : ℕ → Counts). g c ∷ []) (sym k.starts) ∙ ap (map kept.starts) (sym one) in
         let r : None ≡ row_of u kept.rows (members colours) = ap (row_of u kept.rows) (sym one) in
         ap (λ (n : ℕ). record (single_node w u c text) { id = record { client = u; count = n } }) a
         ∙ (ap (λ (n : Colours). record (single_node w u c text) { id = record { client = u; count = kept.ids }; colours = n }) b

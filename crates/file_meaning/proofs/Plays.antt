@@ -244,11 +244,11 @@ module _ (w : World) (reached : IsReached w) (own c : ℕ) (in_range : own < 4) 
       → In k (line (take n h)) → k.id ≡ id → ⊥
   not_before n d id at_n t k i same =
       let fresh = fresh_before own w.shape.regions (take n ds) d.entry.event d.entry.stamp id
-          ((held_of w reached).lawful own c n d at_n) t in
+      ((held_of w reached).lawful own c n d at_n) t in
       let x = in_line (entries (take n h)) k i in
       let lawful = lawful_first h n (lawful_past_in w (held_of w reached) own c) in
       let entered = shown_entered (reverse (take n h)) lawful x.0
-          (subst (λ (es : List Standing). In x.0 es) (entries-of (take n h)) x.1) in
+      (subst (λ (es : List Standing). In x.0 es) (entries-of (take n h)) x.1) in
       let is : x.0.key.id ≡ id = ap (λ (y : Key). y.id) x.2 ∙ same in
       apart (has_entered id (take n h))
       (ap (λ (y : Id). has_entered y (take n h)) (sym is)
@@ -268,13 +268,13 @@ module _ (w : World) (reached : IsReached w) (own c : ℕ) (in_range : own < 4) 
         let n = r.0 in
         let d = r.1 in
         let e : at (needs_of ds k.id) own ≡ at (needs_in d.entry.event d.cut_before) own =
-            ap (λ (v : Counts). at v own) r.4 in
+        ap (λ (v : Counts). at v own) r.4 in
         let a = needs_in_own d.entry.event d.cut_before own in_range in
         let b = reached_within (chain own (take n ds)) ((dated-is_dated own h).each n d r.2).reached own in_range in
         let f : length (chain own (take n ds) own) ≡ length (line (take n h)) =
-            ap length (if_true (own == own) _ _ (eq-eqb own own refl))
-            ∙ (length-map (line (entries_of (take n ds))) (head_with (take n ds))
-            ∙ ap (λ (x : List Entry). length (line x)) (first_events n)) in
+        ap length (if_true (own == own) _ _ (eq-eqb own own refl))
+        ∙ (length-map (line (entries_of (take n ds))) (head_with (take n ds))
+        ∙ ap (λ (x : List Entry). length (line x)) (first_events n)) in
         let g = outside n d r.2 r.3 in
         omega (arith, e, a, b, f, g) where
           outside : (n : ℕ) (d : Dated) → slice_get ds n ≡ Some d → enters k.id d.entry.event ≡ true
@@ -286,8 +286,8 @@ module _ (w : World) (reached : IsReached w) (own c : ℕ) (in_range : own < 4) 
                 let p = each_line_grows w (held_of w reached) own c n in
                 let x = got_at (line (take n h)) i lt in
                 let same : Some x.0 ≡ Some k =
-                    sym (get-append (line (take n h)) p.0 i x.0 x.1)
-                    ∙ (ap (λ (l : List Key). slice_get l i) p.1 ∙ at_i) in
+                sym (get-append (line (take n h)) p.0 i x.0 x.1)
+                ∙ (ap (λ (l : List Key). slice_get l i) p.1 ∙ at_i) in
                 let e : x.0 ≡ k = cc in
                 absurd (not_before n d k.id at_n t x.0 (slice_in (line (take n h)) i x.0 x.1)
                 (ap (λ (y : Key). y.id) e))
@@ -323,7 +323,7 @@ module _ (w : World) (reached : IsReached w) (own c : ℕ) (in_range : own < 4) 
         let y : at b.needs p.region ≡ at b.needs own = ap (λ (r : Place). at b.needs r.region) is in
         let k = key_at (from + j) b (stands_at j q b at_j stands) in
         let n : at b.needs own ≤ from + j =
-            subst (λ (a : Head). at a.needs own ≤ from + j) k.2 (needs_before (from + j) k.0 k.1) in
+        subst (λ (a : Head). at a.needs own ≤ from + j) k.2 (needs_before (from + j) k.0 k.1) in
         omega (arith, x, y, n, needed)
 
     none_overtakes : (i j : ℕ) (p q : Place) (a b : Head) → i < j → slice_get (own_places own from to) i ≡ Some p
@@ -333,10 +333,10 @@ module _ (w : World) (reached : IsReached w) (own c : ℕ) (in_range : own < 4) 
         let k = key_at (from + i) a (stands_at i p a at_i stands_a) in
         let l = key_at (from + j) b (stands_at j q b at_j stands_b) in
         let below : key_below k.0 l.0 ≡ true =
-            each_line_rises w (held_of w reached) own c (from + i) (from + j) k.0 l.0 (omega (arith, lt)) k.1 l.1 in
+        each_line_rises w (held_of w reached) own c (from + i) (from + j) k.0 l.0 (omega (arith, lt)) k.1 l.1 in
         let up : key_below a.key b.key ≡ true =
-            subst (λ (x : Head). key_below x.key b.key ≡ true) k.2
-            (subst (λ (x : Head). key_below k.0 x.key ≡ true) l.2 below) in
+        subst (λ (x : Head). key_below x.key b.key ≡ true) k.2
+        (subst (λ (x : Head). key_below k.0 x.key ≡ true) l.2 below) in
         let x = ap (λ (r : Place). r.region) (place_at own from (to - from) i p at_i) in
         let y = ap (λ (r : Place). r.region) (place_at own from (to - from) j q at_j) in
         or_from _ _

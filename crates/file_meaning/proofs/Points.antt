@@ -40,11 +40,11 @@ points_kept own seen_max known_max (p ∷ points) kept all seen known =
     let one = all p (inl refl) in
     let kept1 = kept_after_point kept own p.colour p.at p.position in
     let rest = points_kept own seen_max known_max points kept1 (λ q i. all q (inr i))
-        (λ r c. at_updated_at (λ (n : ℕ). n ≤ seen_max r c) kept.seen own p.colour (seen_after p.at) r c
-        (λ er ec. subst (λ (n : ℕ). seen_after p.at ≤ seen_max n c) (sym er)
-        (subst (λ (n : ℕ). seen_after p.at ≤ seen_max own n) (sym ec) one.seen)) (λ _. seen r c))
-        (λ c. at_updated (λ (n : ℕ). n ≤ known_max c) kept.known p.colour (p.position + 1) c
-        (λ ec. subst (λ (n : ℕ). p.position + 1 ≤ known_max n) (sym ec) one.known) (λ _. known c)) in
+    (λ r c. at_updated_at (λ (n : ℕ). n ≤ seen_max r c) kept.seen own p.colour (seen_after p.at) r c
+    (λ er ec. subst (λ (n : ℕ). seen_after p.at ≤ seen_max n c) (sym er)
+    (subst (λ (n : ℕ). seen_after p.at ≤ seen_max own n) (sym ec) one.seen)) (λ _. seen r c))
+    (λ c. at_updated (λ (n : ℕ). n ≤ known_max c) kept.known p.colour (p.position + 1) c
+    (λ ec. subst (λ (n : ℕ). p.position + 1 ≤ known_max n) (sym ec) one.known) (λ _. known c)) in
     record {
       floor = rest.floor;
       starts = rest.starts;

@@ -47,15 +47,23 @@ pub did_end_one : (objects : List Object) (u c : ℕ) (colours : Colours) (text 
     → members colours ≡ c ∷ [] → is_client w u ≡ true → is_column w (home_of w u) c ≡ true → may_single w u c ≡ false
     → Does objects u (whats.Append colours text) w w (answers.StampEnd c) []
 did_end_one objects u c colours text w one client column refused =
-    same_world objects u (whats.Append colours text) w (answers.StampEnd c) (λ kept k.
-    (refl, (λ a b e. absurd (let x : ⊥ = cc in x)), (colours, text, (refl, refl), none_for_one one (record {
-      events = length (w.histories (home_of w u) c);
-      unseen = k.seen (home_of w u) c;
-      there = omega arith;
-      ended = subst (λ (h : List Entry). IsAtEnd h kept.floor)
-          (sym (take_all (length (w.histories (home_of w u) c)) (w.histories (home_of w u) c) (omega arith)))
-          (subst (λ (n : ℕ). IsAtEnd (w.histories (home_of w u) c) n) (sym k.floor) at_end);
-    })))) where
+    same_world objects u (whats.Append colours text) w (answers.StampEnd c) (λ kept k. (
+      refl,
+      (λ a b e. absurd (let x : ⊥ = cc in x)),
+      (
+        colours,
+        text,
+        (refl, refl),
+        none_for_one one (record {
+          events = length (w.histories (home_of w u) c);
+          unseen = k.seen (home_of w u) c;
+          there = omega arith;
+          ended = subst (λ (h : List Entry). IsAtEnd h kept.floor)
+              (sym (take_all (length (w.histories (home_of w u) c)) (w.histories (home_of w u) c) (omega arith)))
+              (subst (λ (n : ℕ). IsAtEnd (w.histories (home_of w u) c) n) (sym k.floor) at_end);
+        }),
+      ),
+    )) where
       ended : is_at_end (w.histories (home_of w u) c) (w.clients u).floor ≡ true
       ended = by_test _ (is_at_end (w.histories (home_of w u) c) (w.clients u).floor) (λ t. t)
           (λ f. absurd (apart (may_single w u c)
@@ -69,12 +77,21 @@ pub did_full : (objects : List Object) (u : ℕ) (what : What) (colours : Colour
     → AsksOf what colours text → IsNoStopAtOnce what → 1 < length (members colours) → is_full w u ≡ true
     → Does objects u what w w (answers.Full (w.clients u).used) []
 did_full objects u what colours text w reached asks no_stop several full =
-    same_world objects u what w (answers.Full (w.clients u).used) (λ kept k.
-    (refl, no_stop, refl, (colours, text, asks (caller_in w objects u) kept, record {
-      several = several;
-      shown = sym k.rows;
-      all = k.rows ∙ all_rows;
-    }))) where
+    same_world objects u what w (answers.Full (w.clients u).used) (λ kept k. (
+      refl,
+      no_stop,
+      refl,
+      (
+        colours,
+        text,
+        asks (caller_in w objects u) kept,
+        record {
+          several = several;
+          shown = sym k.rows;
+          all = k.rows ∙ all_rows;
+        },
+      ),
+    )) where
       all_rows : (w.clients u).used ≡ w.shape.rows
       all_rows =
           let f = not_true (nat_lt (w.clients u).used w.shape.rows) full in

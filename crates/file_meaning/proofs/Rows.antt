@@ -150,8 +150,11 @@ step_still w h (steps.Single client c text) row b ne =
     (λ ok. single_still w h client c text row b) (λ _. still w row)
 step_still w h (steps.Raise by region c to) row b ne =
     choice (λ (x : World). IsStill w x row) (may_raise w region c to) (after_raise w by region c to) w
-    (λ ok. record { same = refl; status = λ r d. status_stays w region c (raise_entry by to) (node_id w row) r d
-    (λ st. refl) }) (λ _. still w row)
+    (λ ok. record {
+      same = refl;
+      status = λ r d. status_stays w region c (raise_entry by to) (node_id w row) r d
+          (λ st. refl);
+    }) (λ _. still w row)
 step_still w h (steps.Play client c) row b ne =
     choice (λ (x : World). IsStill w x row) (may_play w client c) (after_play w client c) w
     (λ ok. record { same = refl; status = λ r d. refl }) (λ _. still w row)
@@ -289,12 +292,12 @@ pub complete_steps_on : (w : World) (by : ℕ) (row : Row) (found : ℕ → Bool
     → In s (complete_steps w by row found) → IsOn by row s
 complete_steps_on w by row found s i =
     turn (in_append s (mark_steps w by row found (colours_of w row)) (steps.Decide row ∷ settle_steps by row (colours_of w row)) i)
-    where
-      turn : In s (mark_steps w by row found (colours_of w row))
-          ⊎ In s (steps.Decide row ∷ settle_steps by row (colours_of w row)) → IsOn by row s
-      turn (inl j) = mark_steps_on w by row found (colours_of w row) s j
-      turn (inr (inl e)) = subst (IsOn by row) e refl
-      turn (inr (inr j)) = settle_steps_on by row (colours_of w row) s j
+  where
+    turn : In s (mark_steps w by row found (colours_of w row))
+        ⊎ In s (steps.Decide row ∷ settle_steps by row (colours_of w row)) → IsOn by row s
+    turn (inl j) = mark_steps_on w by row found (colours_of w row) s j
+    turn (inr (inl e)) = subst (IsOn by row) e refl
+    turn (inr (inr j)) = settle_steps_on by row (colours_of w row) s j
 
 -- a step on a row touches no other
 pub on_touches : (by : ℕ) (row other : Row) (s : Step) → IsOn by row s → Touches other s → other ≡ row

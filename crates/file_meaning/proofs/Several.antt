@@ -281,7 +281,7 @@ module _ (objects : List Object) (S : ℕ → Type 0) (found : Found) (w : World
     gone_at_end e =
         let any = any_of is_stamp_end_fence (row_of w3 row).marks (members colours) (gone_end (map (row_of w3 row).marks (members colours)) (sym last_is ∙ e)) in
         let d = first_passes (λ colour. is_stamp_end_fence ((row_of w3 row).marks colour)) (members colours)
-            (colours_rise colours) any.0 any.1 any.2 in
+        (colours_rise colours) any.0 any.1 any.2 in
         let colour = ended_colour w3 row (members colours) in
         record {
           begins = begins;
@@ -289,12 +289,12 @@ module _ (objects : List Object) (S : ℕ → Type 0) (found : Found) (w : World
           fence = subst (HasMark (log_of w3) node colour) (fence_is ((row_of w3 row).marks colour) d.1) (has_mark colour d.0);
           least = all_in (λ other. other < colour → (mark : Mark) × (mark ≢ marks.None)
               × (mark ≢ marks.Fenced StampEnd) × HasMark (log_of w3) node other mark) (members colours) (λ other i lt. (
-            (row_of w3 row).marks other,
-            (λ none. apart (is_missing ((row_of w3 row).marks other)) (ap is_missing none) (set_all other i)),
-            (λ fence. apart (is_stamp_end_fence ((row_of w3 row).marks other)) (ap is_stamp_end_fence fence)
-                (d.2 other i lt)),
-            has_mark other i,
-          ));
+                (row_of w3 row).marks other,
+                (λ none. apart (is_missing ((row_of w3 row).marks other)) (ap is_missing none) (set_all other i)),
+                (λ fence. apart (is_stamp_end_fence ((row_of w3 row).marks other)) (ap is_stamp_end_fence fence)
+                    (d.2 other i lt)),
+                has_mark other i,
+              ));
         }
 
   pub does_gone_memory : last ≡ Gone Memory

@@ -156,7 +156,7 @@ no_open w h r c id none = find_none (is_open_id id) (entries (w.histories r c)) 
       (λ t. let p = and_parts (not x.settled) (same_id x.key.id id) t in
       let same = same_id-true x.key.id id p.1 in
       let waits = open_waits x.key.id (status_in (w.histories r c) x.key.id) x (entry_shown w h r c x i)
-          (not_true x.settled p.0) in
+      (not_true x.settled p.0) in
       absurd (apart _ (ap is_waiting (ap (status_in (w.histories r c)) (sym same) ∙ waits)) none))
       (λ f. f)
 
@@ -304,10 +304,10 @@ module _ (objects : List Object) (S : ℕ → Type 0) (found : Found) (w : World
     not_waiting m c e lt =
         let s = settle_all wd held_d u row (take j cs) decides.begun decides.decided in
         let has : has_colour (take j cs) c ≡ true =
-            in_colours (take j cs) c (slice_in (take j cs) m c (get_taken j cs m c lt e)) in
+        in_colours (take j cs) c (slice_in (take j cs) m c (get_taken j cs m c lt e)) in
         let x = s.none c has in
         let y : is_waiting (status_in (row_history w3 row c) (node_id w3 row)) ≡ false =
-            subst (λ (x : World). is_waiting (status_in (row_history x row c) (node_id x row)) ≡ false) (sym w3_is) x in
+        subst (λ (x : World). is_waiting (status_in (row_history x row c) (node_id x row)) ≡ false) (sym w3_is) x in
         subst (λ (i : Id). is_waiting (status_in (w3.histories own c) i) ≡ false) (ap (λ (x : Node). x.id) node3)
         (subst (λ (s : Shape). is_waiting (status_in (w3.histories (slice_index s.homes u) c) (node_id w3 row)) ≡ false)
         shape3 y) where
@@ -350,9 +350,11 @@ module _ (objects : List Object) (S : ℕ → Type 0) (found : Found) (w : World
 
     is_decided : length cs + 2 ≤ n + 1 → IsDecided (log_of w3) node
     is_decided le =
-        let j = split (omega (arith, le)) in
-        ((row_of w3 row).last, decided3 j.0 j.1,
-          (begun_row w3 row, begun.of_row objects w reached u colours text ok L on kept k, refl))
+        let j = split (omega (arith, le)) in (
+          (row_of w3 row).last,
+          decided3 j.0 j.1,
+          (begun_row w3 row, begun.of_row objects w reached u colours text ok L on kept k, refl),
+        )
 
     for_good : (c : ℕ) (m : Mark) → (row_of w3 row).marks c ≡ m → is_missing m ≡ false → In c cs
         → ((why : Why) × HasMark (log_of w3) node c (marks.Fenced why))
@@ -362,10 +364,10 @@ module _ (objects : List Object) (S : ℕ → Type 0) (found : Found) (w : World
     for_good c (marks.Number s) e set i =
         let p = ((told_of w3 reached3).rows u (w.clients u).used (ltb-true _ _ begun3)).numbers c s e in
         let there : slice_get (w3.histories own c) p.0 ≡ Some p.1 =
-            ap (λ (x : Shape). slice_get (w3.histories (slice_index x.homes u) c) p.0) (sym shape3) ∙ p.4 in
+        ap (λ (x : Shape). slice_get (w3.histories (slice_index x.homes u) c) p.0) (sym shape3) ∙ p.4 in
         let t : enters node.id p.1.event ≡ true =
-            ap (enters node.id) p.5
-            ∙ same_id-is node.id (row_of w3 row).node.id (sym id_is ∙ ap (λ (x : Node). x.id) (sym node3)) in
+        ap (enters node.id) p.5
+        ∙ same_id-is node.id (row_of w3 row).node.id (sym id_is ∙ ap (λ (x : Node). x.id) (sym node3)) in
         inr (in_any (λ (x : Entry). enters node.id x.event) (w3.histories own c) p.1
         (slice_in (w3.histories own c) p.0 p.1 there) t)
 
@@ -375,7 +377,7 @@ module _ (objects : List Object) (S : ℕ → Type 0) (found : Found) (w : World
         let j = split (omega (arith, lt)) in
         let j_is = j.1 in
         let none = subst (λ (i : Id). is_waiting (status_in (w3.histories own c) i) ≡ false) id_is
-            (not_waiting j.0 j.1 m c e (omega (arith, lt, j_is))) in
+        (not_waiting j.0 j.1 m c e (omega (arith, lt, j_is))) in
         let whole = take_all (length (w3.histories own c)) (w3.histories own c) (omega arith) in
         record {
           events = length (w3.histories own c);
@@ -394,13 +396,13 @@ module _ (objects : List Object) (S : ℕ → Type 0) (found : Found) (w : World
         let x = in_slice L (steps.Propose u row c) f in
         let t = taken_at n (complete_steps w1 u row found.marks) x.0 (steps.Propose u row c) x.1 in
         let lt = proposed_at u row cs ms list rising n x.0 m c t.0
-            (ap (λ (l : List Step). slice_get l x.0) (sym all_is) ∙ t.1) e in
+        (ap (λ (l : List Step). slice_get l x.0) (sym all_is) ∙ t.1) e in
         omega (arith, lt)
     step_within m c e (events.Settle other outcome) f =
         let x = in_slice L (steps.Settle u row c) f in
         let t = taken_at n (complete_steps w1 u row found.marks) x.0 (steps.Settle u row c) x.1 in
         let lt = settled_at u row cs ms list rising n x.0 m c t.0
-            (ap (λ (l : List Step). slice_get l x.0) (sym all_is) ∙ t.1) e in
+        (ap (λ (l : List Step). slice_get l x.0) (sym all_is) ∙ t.1) e in
         omega (arith, lt)
     step_within m c e (events.Raise to) f = f
     step_within m c e (events.Give region from) f = f

@@ -85,10 +85,11 @@ entered_node w reached r c e i (events.Single other floor wants) is id t =
     (f.node, ap (node_with w) (same_id-true id other t) ∙ f.listed)
 entered_node w reached r c e i (events.Propose other floor wants) is id t =
     let f = subst (λ (ev : Event). FitsEvent w r c ev e.stamp) is ((told_of w reached).events r c e i) in
-    let l = (listed_of w reached).rows other.client f.number f.begun in
-    ((w.rows other.client f.number).node,
+    let l = (listed_of w reached).rows other.client f.number f.begun in (
+      (w.rows other.client f.number).node,
       ap (node_with w) (same_id-true id other t)
-      ∙ (ap (λ (x : Id). slice_get (w.nodes other.client) x.count) (sym f.is) ∙ l))
+          ∙ (ap (λ (x : Id). slice_get (w.nodes other.client) x.count) (sym f.is) ∙ l),
+    )
 entered_node w reached r c e i (events.Settle other o) is id t = absurd (true≢false (sym t))
 entered_node w reached r c e i (events.Raise to) is id t = absurd (true≢false (sym t))
 entered_node w reached r c e i (events.Give region from) is id t = absurd (true≢false (sym t))
@@ -101,10 +102,10 @@ line_node w reached r c k i =
     let h = w.histories r c in
     let x = in_line (entries h) k i in
     let entered = shown_entered (reverse h) (lawful_past_in w (held_of w reached) r c) x.0
-        (subst (λ (es : List Standing). In x.0 es) (entries-of h) x.1) in
+    (subst (λ (es : List Standing). In x.0 es) (entries-of h) x.1) in
     let t : has_entered k.id h ≡ true =
-        ap (λ (y : Key). has_entered y.id h) (sym x.2)
-        ∙ (ap (has_entered x.0.key.id) (sym (reverse-reverse h)) ∙ entered) in
+    ap (λ (y : Key). has_entered y.id h) (sym x.2)
+    ∙ (ap (has_entered x.0.key.id) (sym (reverse-reverse h)) ∙ entered) in
     let e = any_in (λ (y : Entry). enters k.id y.event) h t in
     entered_node w reached r c e.0 e.1 e.0.event refl k.id e.2
 

@@ -183,8 +183,8 @@ module _ (script : Script) (commands : List Command) (state : State) (command : 
         let w1 = after_begin w u colours text in
         let w3 = run_steps w1 (take n (complete_steps w1 u (next_row w u) found.marks)) in
         let is : run_steps w (take (suc n) (append_steps found w u colours text)) ≡ w3 =
-            ap (λ (x : World). run_steps x (take n (complete_steps x u (next_row w u) found.marks)))
-            (if_true (may_begin w u colours) w1 w ok) in
+        ap (λ (x : World). run_steps x (take n (complete_steps x u (next_row w u) found.marks)))
+        (if_true (may_begin w u colours) w1 w ok) in
         subst (λ (x : World). Runs script commands' (answered state command x (answers.Stopped (suc n)) [])) (sym is)
         (runs_stopped script commands state command runs fit w3 (answers.Stopped (suc n)) []
         (subst (λ (what : What). Does script.objects u what w w3 (answers.Stopped (suc n)) []) (sym asked)
@@ -299,7 +299,7 @@ module _ (script : Script) (fits : IsFitting script)
       → script.commands ≡ commands ++ command ∷ rest → IsFit script commands command
   fit_at commands command rest is =
       let there : In command script.commands =
-          subst (λ (l : List Command). In command l) (sym is) (in_right command commands (command ∷ rest) (inl refl)) in
+      subst (λ (l : List Command). In command l) (sym is) (in_right command commands (command ∷ rest) (inl refl)) in
       record {
         caller = all_at (λ (c : Command). c.client < length script.shape.homes) script.commands fits.callers command there;
         home = home_at command.client
@@ -312,15 +312,15 @@ module _ (script : Script) (fits : IsFitting script)
             let x = in_slice commands c i in
             let lt = get_within commands x.0 c x.1 in
             let total : length script.commands ≡ length commands + suc (length rest) =
-                ap length is ∙ length-append commands (command ∷ rest) in
+            ap length is ∙ length-append commands (command ∷ rest) in
             let first : slice_index_or script.commands x.0 command ≡ c =
-                at_or script.commands x.0 c command
-                (ap (λ (l : List Command). slice_get l x.0) is ∙ get-append commands (command ∷ rest) x.0 c x.1) in
+            at_or script.commands x.0 c command
+            (ap (λ (l : List Command). slice_get l x.0) is ∙ get-append commands (command ∷ rest) x.0 c x.1) in
             let z : length commands ≡ length commands + 0 = omega arith in
             let second : slice_index_or script.commands (length commands) command ≡ command =
-                at_or script.commands (length commands) command command
-                (ap (λ (l : List Command). slice_get l (length commands)) is
-                ∙ (ap (slice_get (commands ++ command ∷ rest)) z ∙ begun.get_behind commands (command ∷ rest) 0)) in
+            at_or script.commands (length commands) command command
+            (ap (λ (l : List Command). slice_get l (length commands)) is
+            ∙ (ap (slice_get (commands ++ command ∷ rest)) z ∙ begun.get_behind commands (command ∷ rest) 0)) in
             let pair = last x.0 (length commands) command lt (omega (arith, total)) in
             subst (λ (d : Command). d.client ≡ c.client → ⊥) second
             (subst (λ (d : Command). (slice_index_or script.commands (length commands) command).client ≡ d.client → ⊥)
