@@ -85,7 +85,7 @@ propose_marks w by row c b ok =
     (λ _. with_mark_goes w (after_propose w by row c) row c _ b (updated_at-here w.rows row.client row.number _) refl)
     (λ f. absurd (apart _ ok f))
 
-mark_step_marks : (w : World) (by : ℕ) (row : Row) (found : ℕ → Bool) (c : ℕ) → is_begun w row ≡ true
+pub mark_step_marks : (w : World) (by : ℕ) (row : Row) (found : ℕ → Bool) (c : ℕ) → is_begun w row ≡ true
     → has_colour (colours_of w row) c ≡ true → is_missing ((row_of w row).marks c) ≡ true
     → Marks w (after w (mark_step w by row found c)) row c
 mark_step_marks w by row found c b has miss =

@@ -1,23 +1,23 @@
 pub mod Basics
 pub mod Held
-mod Marks
+pub mod Marks
 pub mod Histories
 pub mod Keeps
-mod Clients
-mod OfRows
+pub mod Clients
+pub mod OfRows
 pub mod Runs
-mod Agreement
-mod Later
-mod Growing
-mod Completing
-mod Completion
-mod Told
-mod Telling
-mod RegionRows
-mod LawfulRows
-mod Wanted
-mod Listed
-mod Untrimmed
-mod LaterLogs
+pub mod Agreement
+pub mod Later
+pub mod Growing
+pub mod Completing
+pub mod Completion
+pub mod Told
+pub mod Telling
+pub mod RegionRows
+pub mod LawfulRows
+pub mod Wanted
+pub mod Listed
+pub mod Untrimmed
+pub mod LaterLogs
 pub mod CallerLemmas
 mod SmallRuns

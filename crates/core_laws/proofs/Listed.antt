@@ -27,7 +27,7 @@ use Rattle.core_laws.proofs.OfRows.{may_fence_marks}
 use Rattle.core_laws.proofs.Growing.{Grows, played_client, grows_begin, grows_mark, grows_propose, grows_decide, grows_last, grows_client, grows_single}
 
 -- what the lists say of an event
-abbrev FitsSingle : World → ℕ → ℕ → ℕ → Event → Type 0
+abbrev pub FitsSingle : World → ℕ → ℕ → ℕ → Event → Type 0
 FitsSingle w r c by (events.Single id floor wants) = HasSingleNode w r c by id floor wants
 FitsSingle w r c by (events.Propose _ _ _) = Unit {0}
 FitsSingle w r c by (events.Settle _ _) = Unit {0}

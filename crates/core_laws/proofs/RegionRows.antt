@@ -87,7 +87,7 @@ abbrev pub row_in : World → ℕ → ℕ → BegunRow
 row_in w a n = begun_row w (row_at a n)
 
 -- a client's rows, if it is of the region
-abbrev home_rows : World → ℕ → ℕ → List BegunRow
+abbrev pub home_rows : World → ℕ → ℕ → List BegunRow
 home_rows w region a = if home_of w a == region then rows_of_client w a else []
 
 -- what stands in the list is a begun row of a client of the region
@@ -97,7 +97,7 @@ pub record OfRegion (w : World) (region a : ℕ) (x : BegunRow) : Type 0 where
   pub home : home_of w a ≡ region
   pub is : row_in w a number ≡ x
 
-of_home : (w : World) (region a : ℕ) (x : BegunRow) → In x (home_rows w region a) → OfRegion w region a x
+pub of_home : (w : World) (region a : ℕ) (x : BegunRow) → In x (home_rows w region a) → OfRegion w region a x
 of_home w region a x =
     choice (λ (l : List BegunRow). In x l → OfRegion w region a x) (home_of w a == region) (rows_of_client w a) []
     (λ t i.
@@ -157,7 +157,7 @@ filter_home w region c a =
     (rows_of_client w a) []
     (λ _. filter_rows w c a (range_with_len 0 (w.clients a).used)) (λ _. sym (cond_same (a == c) []))
 
-filter_step : (w : World) (region c b k : ℕ)
+pub filter_step : (w : World) (region c b k : ℕ)
     → filter (is_of c) (flat_map (home_rows w region) (range_with_len b (suc k))) ≡ cond (b == c)
     (home_rows w region b) [] ++ filter (is_of c) (flat_map (home_rows w region) (range_with_len (b + 1) k))
 filter_step w region c b k =
@@ -165,7 +165,7 @@ filter_step w region c b k =
     ∙ ap (λ (l : List BegunRow). l ++ filter (is_of c) (flat_map (home_rows w region) (range_with_len (b + 1) k)))
     (filter_home w region c b)
 
-none_later : (w : World) (region c b k : ℕ) → c < b
+pub none_later : (w : World) (region c b k : ℕ) → c < b
     → filter (is_of c) (flat_map (home_rows w region) (range_with_len b k)) ≡ []
 none_later w region c b zero lt = refl
 none_later w region c b (suc k) lt =

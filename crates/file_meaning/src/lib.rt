@@ -1,0 +1,6 @@
+//! What it means to do a script's commands in the order of the file, and that each such run is lawful.
+#![tactic(auto)]
+
+mod laws;
+
+pub use laws::{runs_are_exact, runs_are_lawful};
