@@ -23,4 +23,5 @@ mod Rowing
 mod Lawfulness
 mod Exactly
 mod Exactness
+mod LastStops
 mod Sets
