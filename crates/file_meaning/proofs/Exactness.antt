@@ -126,7 +126,8 @@ module _ (found : Found) (state : State) (command : Command) where
   append_extends colours text (c ∷ []) = one_extends text c
   append_extends colours text (c ∷ d ∷ ms) = several_extends colours text
 
-  stop_extends : (colours : Colours) (text : List ℕ) (n : ℕ) → Extends state (stopped found state command colours text n)
+  stop_extends : (colours : Colours) (text : List ℕ) (n : ℕ) → Extends state
+      (stopped found state command colours text n)
   stop_extends colours text zero = answer_extends state command w (answers.Stopped 0) [] (stays_there w)
   stop_extends colours text (suc n) =
       let v = run_steps w (take (suc n) (append_steps found w u colours text)) in

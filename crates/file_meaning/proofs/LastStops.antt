@@ -34,7 +34,8 @@ unfolding Last
 last_pairs [] l = λ i j d lt within. absurd (let f : ⊥ = omega (arith, within) in f)
 last_pairs (c ∷ cs) l = AllPairs-cons ComesAfter c cs (all_in (ComesAfter c) cs l.0) (last_pairs cs l.1)
 
-last_more : (cs : List Command) (d : Command) → Last cs → ((c : Command) → In c cs → ComesAfter c d) → Last (cs ++ d ∷ [])
+last_more : (cs : List Command) (d : Command) → Last cs → ((c : Command) → In c cs → ComesAfter c d) → Last
+    (cs ++ d ∷ [])
 unfolding Last
 last_more [] d l h = (λ x i. absurd i, tt)
 last_more (c ∷ cs) d l h =
@@ -101,4 +102,5 @@ pub scripts_stop_last : ScriptsStopLast
 unfolding Last
 scripts_stop_last bytes script is =
     subst StopsAreLast (sym is.same)
-    (last_pairs (commands is.said) (all_last [] (kept_lines (enumerate_from 1 (lines_of bytes))) is.said tt is.lines.say))
+    (last_pairs (commands is.said) (all_last [] (kept_lines (enumerate_from 1
+        (lines_of bytes))) is.said tt is.lines.say))
