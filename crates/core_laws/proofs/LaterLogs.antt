@@ -42,13 +42,12 @@ rows_later : (w w' : World) → Grows w w' → Told w' → (region : ℕ) (r : B
 rows_later w w' g t region r c =
     let x = of_region w region r (in_contains (rows_of_region w region) r c) in
     let a = x.0 in
-    let o = x.1 in
-    (
+    let o = x.1 in (
       row_in w' a o.number,
       contains_in (rows_of_region w' region) (row_in w' a o.number)
-      (row_stands w' t region a o.number (g.used a o.number o.begun) (same_home a ∙ o.home)),
+          (row_stands w' t region a o.number (g.used a o.number o.begun) (same_home a ∙ o.home)),
       subst (λ (y : BegunRow). IsLaterRow y (row_in w' a o.number)) o.is
-      (row_later w w' a o.number (g.rows a o.number o.begun)),
+          (row_later w w' a o.number (g.rows a o.number o.begun)),
     ) where
       same_home : (a : ℕ) → home_of w' a ≡ home_of w a
       same_home a = ap (λ (shape : Shape). slice_index shape.homes a) g.shape

@@ -262,13 +262,22 @@ module _ (objects : List Object) (w : World) (reached : IsReached w) (u : ℕ) (
         ∙ sym (if_true (nat_lt 1 (length (members colours))) _ _ (lt-ltb 1 (length (members colours)) several)) in
         ap (λ (n : ℕ). record (begun_node w u colours text) { id = record { client = u; count = n } }) a
         ∙ (ap (λ (n : ℕ). record
-            (begun_node w u colours text) { id = record { client = u; count = kept.ids }; floor = n }) f
+        (begun_node w u colours text) { id = record { client = u; count = kept.ids }; floor = n }) f
         ∙ (ap (λ (n : List Counts). record
-            (begun_node w u colours text) { id = record { client = u; count = kept.ids }; floor = kept.floor; wants =
-                n }) s
+        (begun_node w u colours text) {
+          id = record { client = u; count = kept.ids };
+          floor = kept.floor;
+          wants =
+              n;
+        }) s
         ∙ ap (λ (n : Option Row). record
-            (begun_node w u colours text) { id = record { client = u; count = kept.ids }; floor = kept.floor; wants =
-                map kept.starts (members colours); row = n }) r))
+        (begun_node w u colours text) {
+          id = record { client = u; count = kept.ids };
+          floor = kept.floor;
+          wants =
+              map kept.starts (members colours);
+          row = n;
+        }) r))
 
     pub id_is : id ≡ node.id
     id_is = ap (λ (n : ℕ). record { client = u; count = n }) (sym k.ids)

@@ -358,7 +358,7 @@ pub clear_one : (S : ℕ → Type 0) (found : Found) (by own colour : ℕ) (key 
     → Clears by own colour key h.world (cleared found by key h colour).world
 clear_one S found by own colour key h reached fin free at =
     clear_times S (length
-        (open_below key (home_history h.world by colour))) found by own colour key h reached fin free at
+    (open_below key (home_history h.world by colour))) found by own colour key h reached fin free at
     (subst (λ (k : ℕ). length (open_below key (h.world.histories own colour))
     ≤ length (open_below key (h.world.histories k colour))) (sym at) (omega arith))
 
@@ -400,7 +400,7 @@ clear_list S found by own key (c ∷ colours) h reached fin free at =
           → IsClear key (fold (cleared found by key) (cleared found by key h c) colours).world own d
       turn d (inl e) first rest =
           subst (λ (k : ℕ). IsClear key (fold (cleared found by key)
-              (cleared found by key h c) colours).world own k) e first
+          (cleared found by key h c) colours).world own k) e first
       turn d (inr i) first rest = rest i
 
 pub clear_all : (S : ℕ → Type 0) (found : Found) (by own : ℕ) (key : Key) (colours : List ℕ) (w : World) → IsReached w

@@ -157,14 +157,14 @@ module _ (objects : List Object) (S : ℕ → Type 0) (found : Found) (w : World
     final3 : (c : ℕ) → In c (members colours) → In (standing_as f id true) (entries (w3.histories own c))
     final3 c i =
         let comp = can_complete w1
-            (held_of w1 (several.reached1 objects S found w reached fin u colours text free ok)) u row
+        (held_of w1 (several.reached1 objects S found w reached fin u colours text free ok)) u row
         found.marks (several.begun1 objects S found w reached fin u colours text free ok) in
         let st = subst (StandsAsDecided w3 row) e comp.stands in
         let x = in_contains _ _ (st c (contains_in _ _ (subst (λ (l : List ℕ). In c l)
         (sym (several.colours_are objects S found w reached fin u colours text free ok)) i))) in
         subst (λ (n : Id). In (standing_as f n true) (entries (w3.histories own c))) (ap (λ (n : Node). n.id) node3)
         (subst (λ (s : Shape). In (standing_as f (node_id w3 row) true)
-            (entries (w3.histories (slice_index s.homes u) c)))
+        (entries (w3.histories (slice_index s.homes u) c)))
         shape3 x)
 
     begin_parts : (1 < length (members colours))
@@ -187,7 +187,7 @@ module _ (objects : List Object) (S : ℕ → Type 0) (found : Found) (w : World
         let h = held_of w3 reached3 in
         let x = entry_within (reverse (w3.histories own c)) (lawful_past_in w3 h own c) (standing_as f id true)
         (subst (λ (es : List Standing). In (standing_as f id true) es) (entries-of (w3.histories own c))
-            (final3 c i)) in
+        (final3 c i)) in
         subst (λ (n : ℕ). f ≤ n) (sym (clock-of (w3.histories own c))) x
 
     sees : may_see w3 u f ≡ true

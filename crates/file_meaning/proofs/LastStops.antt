@@ -76,7 +76,7 @@ item_last before (items.Declared object) l ok = subst Last (sym (same_more befor
 item_last before items.Begin l ok = subst Last (sym (same_more before items.Begin refl)) l
 item_last before (items.Asks command) l ok =
     let none : has_stopped before command.client ≡ false =
-        not_true (has_stopped before command.client) (middle ok) in
+    not_true (has_stopped before command.client) (middle ok) in
     subst Last (sym (command_more before (items.Asks command) command refl))
     (last_more (commands before) command l (going_on before command none)) where
       pick : (a b c d : Bool) → (a && b && c && d) ≡ true → c ≡ true
@@ -103,4 +103,4 @@ unfolding Last
 scripts_stop_last bytes script is =
     subst StopsAreLast (sym is.same)
     (last_pairs (commands is.said) (all_last [] (kept_lines (enumerate_from 1
-        (lines_of bytes))) is.said tt is.lines.say))
+    (lines_of bytes))) is.said tt is.lines.say))

@@ -59,7 +59,7 @@ flat_map-all : {A B : Type 0} (P : B → Type 0) (f : A → List B) (xs : List A
 flat_map-all P f [] all = All-nil P
 flat_map-all {A} P f (x ∷ xs) all =
     All-append P (f x) (flat_map f xs) (all 0 x (omega arith))
-        (flat_map-all P f xs (λ k d lt. all (suc k) d (omega arith)))
+    (flat_map-all P f xs (λ k d lt. all (suc k) d (omega arith)))
 
 map-flat_map : {A B C : Type 0} (g : B → C) (f : A → List B) (xs : List A)
     → map g (flat_map f xs) ≡ flat_map (λ x. map g (f x)) xs
@@ -197,7 +197,7 @@ module _ (script : Script) (fits : IsFitting script) (state : State) (is : Runs 
       let lt = get_within (report_of script state).clients n c there in
       let long : length (report_of script state).clients ≡ length script.clients =
       length-map (enumerate_from 0 script.clients)
-          (λ (p : ℕ × List ℕ). record { name = p.1; replies = state.replies p.0 })
+      (λ (p : ℕ × List ℕ). record { name = p.1; replies = state.replies p.0 })
       ∙ (sym (length-map (enumerate_from 0 script.clients) (λ (p : ℕ × List ℕ). p.1))
       ∙ ap length (numbered-second 0 script.clients)) in
       let c = fits.clients in
@@ -284,11 +284,11 @@ module _ (script : Script) (fits : IsFitting script) (state : State) (is : Runs 
         → HasStopped (report_of script state) r.row.client
     open_in region r o undecided = turn (is.finished (record { client = o.0; number = o.1.number })
         (lt-ltb _ _ o.1.begun)) where
-      turn : IsStopped script.commands state.replies o.0 ⊎ IsDone w (record { client = o.0; number = o.1.number })
-          → HasStopped (report_of script state) r.row.client
-      turn (inl s) = subst (HasStopped (report_of script state)) (ap (λ (y : BegunRow). y.row.client) o.1.is)
-          (has_stopped o.0 s)
-      turn (inr d) = absurd (d.decided (ap (λ (y : BegunRow). y.last) o.1.is ∙ undecided))
+          turn : IsStopped script.commands state.replies o.0 ⊎ IsDone w (record { client = o.0; number = o.1.number })
+              → HasStopped (report_of script state) r.row.client
+          turn (inl s) = subst (HasStopped (report_of script state)) (ap (λ (y : BegunRow). y.row.client) o.1.is)
+              (has_stopped o.0 s)
+          turn (inr d) = absurd (d.decided (ap (λ (y : BegunRow). y.last) o.1.is ∙ undecided))
 
   lawful : LawfulRun script (report_of script state)
   lawful = record {

@@ -206,7 +206,7 @@ module _ (script : Script) (commands : List Command) (state : State) (command : 
               (answers_plainly (log_of w') (caller_of script u) c.kept command answer nodes d.after
               (plain command.what fit.built)
               (subst (λ (x : Caller). Explains
-                  (log_of w') x c.kept command.what answer nodes d.after) called d.explains)));
+              (log_of w') x c.kept command.what answer nodes d.after) called d.explains)));
           keeps = d.keeps;
         } where
           of_shape : Shape → Caller
@@ -235,7 +235,7 @@ module _ (script : Script) (commands : List Command) (state : State) (command : 
     clients_after : (n : ℕ) → IsExplained script w' n (asked_by n commands') (state'.replies n)
     clients_after n =
         at_updated (λ (rs : List ReplyLine). IsExplained script w' n
-            (asked_by n commands') rs) state.replies u replies' n
+        (asked_by n commands') rs) state.replies u replies' n
         (λ e. subst (λ (k : ℕ). IsExplained script w' k (asked_by k commands') replies') (sym e) own_after)
         (λ f. other_after n (λ e. apart (n == u) (eq-eqb n u e) f))
 

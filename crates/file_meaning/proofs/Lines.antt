@@ -153,12 +153,12 @@ last_next : (past : List Entry) (ev : Event) (stamp : ℕ) (id : Id) → IsLawfu
 last_next past (events.Single other floor wants) stamp id l last =
     by_test _ (same_id id other)
     (λ t. absurd (not_absent (status id past) last (ap (λ (i : Id). status i past) (same_id-true id other t)
-        ∙ l.fresh)))
+    ∙ l.fresh)))
     (λ f. if_false (same_id id other) (Alone stamp) (status id past) f)
 last_next past (events.Propose other floor wants) stamp id l last =
     by_test _ (same_id id other)
     (λ t. absurd (not_absent (status id past) last (ap (λ (i : Id). status i past) (same_id-true id other t)
-        ∙ l.fresh)))
+    ∙ l.fresh)))
     (λ f. if_false (same_id id other) (Waits stamp) (status id past) f)
 last_next past (events.Settle other o) stamp id l last =
     by_test _ (same_id id other)

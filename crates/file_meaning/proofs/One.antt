@@ -200,24 +200,39 @@ module _ (objects : List Object) (S : ℕ → Type 0) (found : Found) (w : World
         let r : None ≡ row_of u kept.rows (members colours) = ap (row_of u kept.rows) (sym one) in
         ap (λ (n : ℕ). record (single_node w u c text) { id = record { client = u; count = n } }) a
         ∙ (ap (λ (n : Colours). record
-            (single_node w u c text) { id = record { client = u; count = kept.ids }; colours = n }) b
+        (single_node w u c text) { id = record { client = u; count = kept.ids }; colours = n }) b
         ∙ (ap (λ (n : ℕ). record
-            (single_node w u c text) { id = record { client = u; count = kept.ids }; colours = colours; floor = n }) f
+        (single_node w u c text) { id = record { client = u; count = kept.ids }; colours = colours; floor = n }) f
         ∙ (ap (λ (n : List Counts). record
-            (single_node w u c text) { id = record { client = u; count = kept.ids }; colours = colours; floor =
-                kept.floor; wants = n }) s
+        (single_node w u c text) {
+          id = record { client = u; count = kept.ids };
+          colours = colours;
+          floor =
+              kept.floor;
+          wants = n;
+        }) s
         ∙ ap (λ (n : Option Row). record
-            (single_node w u c text) { id = record { client = u; count = kept.ids }; colours = colours; floor =
-                kept.floor; wants = map kept.starts (members colours); row = n }) r)))
+        (single_node w u c text) {
+          id = record { client = u; count = kept.ids };
+          colours = colours;
+          floor =
+              kept.floor;
+          wants = map kept.starts (members colours);
+          row = n;
+        }) r)))
 
     entry_is : e ≡ record { by = u; event = events.Single node.id kept.floor (kept.starts c); stamp = stamp }
     entry_is =
-        ap (λ (n : ℕ). record { by = u; event = events.Single (record { client = u; count = n }) (w.clients u).floor
-            ((w.clients u).played c); stamp = stamp }) (sym k.ids)
+        ap (λ (n : ℕ). record {
+          by = u;
+          event = events.Single (record { client = u; count = n }) (w.clients u).floor
+              ((w.clients u).played c);
+          stamp = stamp;
+        }) (sym k.ids)
         ∙ (ap (λ (n : ℕ). record { by = u; event = events.Single node.id n ((w.clients u).played c); stamp = stamp })
-            (sym k.floor)
+        (sym k.floor)
         ∙ ap (λ (g : ℕ → Counts). record { by = u; event = events.Single node.id kept.floor (g c); stamp = stamp })
-            (sym k.starts))
+        (sym k.starts))
 
     id_is : id ≡ node.id
     id_is = ap (λ (n : ℕ). record { client = u; count = n }) (sym k.ids)

@@ -223,7 +223,7 @@ final_waits w h row b f st r c s e =
     let fin = st c (contains_in (colours_of w row) c (colour_in (colours_of w row) c has)) in
     let shows = entry_shown w h home c _ (in_contains _ _ fin) in
     let waits : status_in (w.histories home c) id ≡ Waits s = subst
-        (λ (k : ℕ). status_in (w.histories k c) id ≡ Waits s)
+    (λ (k : ℕ). status_in (w.histories k c) id ≡ Waits s)
     m.0 e in
     differ s f id (sym (ap (standing_of id) waits) ∙ shows) where
       differ : (s f : ℕ) (id : Id) → Some (standing_as s id false) ≡ Some (standing_as f id true) → ⊥
@@ -239,8 +239,12 @@ stands_done w h row b (Gone why) e st = record {
   waits = λ r c. by_test _ (is_waiting (status_in (w.histories r c) (node_id w row)))
       (λ t. let z = waiting_is (status_in (w.histories r c) (node_id w row)) t in
       let x : Standing = record { key = entry_key z.0 (node_id w row); settled = false } in
-      absurd (st r c (x, contains_in _ _ (in_past w h r c (node_id w row) x
-          (ap (standing_of (node_id w row)) z.1)), refl)))
+      absurd (st r c (
+        x,
+        contains_in _ _ (in_past w h r c (node_id w row) x
+            (ap (standing_of (node_id w row)) z.1)),
+        refl,
+      )))
       (λ f. f);
 }
 stands_done w h row b (Final f) e st = record {
@@ -296,7 +300,7 @@ pub complete_steps_on : (w : World) (by : ℕ) (row : Row) (found : ℕ → Bool
     → In s (complete_steps w by row found) → IsOn by row s
 complete_steps_on w by row found s i =
     turn (in_append s (mark_steps w by row found (colours_of w row))
-        (steps.Decide row ∷ settle_steps by row (colours_of w row)) i)
+    (steps.Decide row ∷ settle_steps by row (colours_of w row)) i)
   where
     turn : In s (mark_steps w by row found (colours_of w row))
         ⊎ In s (steps.Decide row ∷ settle_steps by row (colours_of w row)) → IsOn by row s
@@ -376,5 +380,5 @@ pub open_before : (w w' : World) → Held w → Held w' → (r c : ℕ) (x : Sta
 open_before w w' h h' r c x i row is s =
     in_past w h r c x.key.id x
     (ap (standing_of x.key.id) (sym (subst (λ (k : Id). status_in (w'.histories r c) k ≡ status_in
-        (w.histories r c) k) is
+    (w.histories r c) k) is
     (s.status r c))) ∙ entry_shown w' h' r c x i)

@@ -282,7 +282,7 @@ module _ (objects : List Object) (S : ℕ → Type 0) (found : Found) (w : World
         → IsGoneAtEnd (log_of w3) (caller_in w objects u) kept node (ended_colour w3 row (members colours)) places
     gone_at_end e =
         let any = any_of is_stamp_end_fence (row_of w3 row).marks (members colours)
-            (gone_end (map (row_of w3 row).marks (members colours)) (sym last_is ∙ e)) in
+        (gone_end (map (row_of w3 row).marks (members colours)) (sym last_is ∙ e)) in
         let d = first_passes (λ colour. is_stamp_end_fence ((row_of w3 row).marks colour)) (members colours)
         (colours_rise colours) any.0 any.1 any.2 in
         let colour = ended_colour w3 row (members colours) in

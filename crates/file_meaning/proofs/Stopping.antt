@@ -186,7 +186,7 @@ module _ (objects : List Object) (S : ℕ → Type 0) (found : Found) (w : World
       let x = in_slice L s i in
       complete_steps_on w1 u row found.marks s
       (slice_in (complete_steps w1 u row found.marks) x.0 s (taken_at n
-          (complete_steps w1 u row found.marks) x.0 s x.1).1)
+      (complete_steps w1 u row found.marks) x.0 s x.1).1)
 
   reached1 : IsReached w1
   reached1 = begun.reached1 objects w reached u colours text ok L on
@@ -244,7 +244,7 @@ module _ (objects : List Object) (S : ℕ → Type 0) (found : Found) (w : World
   marked m c e lt =
       subst (λ (x : World). is_missing ((row_of x row).marks c) ≡ false) (sym run_is)
       (marked_first w1 u row found.marks cs
-          (steps.Decide row ∷ settle_steps u row cs) n begun1 sub rising missing m c e lt)
+      (steps.Decide row ∷ settle_steps u row cs) n begun1 sub rising missing m c e lt)
 
   -- where the decision is among the steps
   module _ (j : ℕ) (n_is : n ≡ length cs + suc j) where
@@ -448,7 +448,7 @@ module _ (objects : List Object) (S : ℕ → Type 0) (found : Found) (w : World
     same_steps kept k =
         let e : n + 1 ≡ suc n = omega arith in
         subst (λ (m : ℕ). Stops (log_of w3) (caller_in w objects u) kept
-            (node_of (caller_in w objects u) kept colours text) m
+        (node_of (caller_in w objects u) kept colours text) m
         (with_made (with_row kept) own places)) e (stopped_after n places (stops kept k))
 
   pub finished_stop : Finished (λ m. S m ⊎ (m ≡ u)) w3

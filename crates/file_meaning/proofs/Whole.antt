@@ -111,7 +111,7 @@ module _ (script : Script) (commands : List Command) (state : State) (command : 
   -- the row of an append to several colours may begin
   begins : (colours : Colours) → 1 < length (members colours)
       → ((c : ℕ) → In c (members colours) → c < script.shape.colours) → is_full w u ≡ false → may_begin w u colours
-          ≡ true
+      ≡ true
   begins colours many below full =
       and_from (is_client w u) _ client_ok
       (and_from (nat_lt (w.clients u).used w.shape.rows) _ (left (nat_lt (w.clients u).used w.shape.rows) full)
@@ -141,7 +141,7 @@ module _ (script : Script) (commands : List Command) (state : State) (command : 
         (several.finished3 script.objects S found w runs.reached runs.finished u colours text going ok)
     by_outcome ok (Gone StampEnd) e =
         runs_done script commands state command runs fit w3 (answers.StampEnd
-            (ended_colour w3 row (members colours))) []
+        (ended_colour w3 row (members colours))) []
         (subst (λ (what : What). Does script.objects u what w w3
         (answers.StampEnd (ended_colour w3 row (members colours))) []) (sym asked)
         (several.does_gone_end script.objects S found w runs.reached runs.finished u colours text going ok e))
@@ -153,7 +153,7 @@ module _ (script : Script) (commands : List Command) (state : State) (command : 
         (subst (λ (what : What). Does script.objects u what w after_all answer []) (sym asked)
         (final.does_final script.objects S found w runs.reached runs.finished u colours text going ok f e))
         (subst (Finished S) (sym
-            (final.after_is script.objects S found w runs.reached runs.finished u colours text going ok f e))
+        (final.after_is script.objects S found w runs.reached runs.finished u colours text going ok f e))
         (final.finished6 script.objects S found w runs.reached runs.finished u colours text going ok f e))
 
     stepped_is : (ok : may_begin w u colours ≡ true) → run_steps w (append_steps found w u colours text) ≡ w3
