@@ -48,13 +48,15 @@ get_behind {A} (x ∷ xs) ys i =
     ap (slice_get (x ∷ (xs ++ ys))) (sym e) ∙ get_behind xs ys i
 
 -- a row that a later log has is begun for its node there, and its steps stand there
-pub begins_later : (old new : Log) → IsLater old new → (caller : Caller) (kept : Kept) (node : Node) (places : ℕ → List ℕ)
+pub begins_later : (old new : Log) → IsLater old new → (caller : Caller) (kept : Kept) (node : Node)
+    (places : ℕ → List ℕ)
     → BeginsRow old caller kept node places → BeginsRow new caller kept node places
 begins_later old new later caller kept node places b =
     let r = later.rows node.region b.row b.begun.begun in
     record {
       several = b.several;
-      next = prefix_get (old.nodes caller.client) (new.nodes caller.client) kept.ids node (later.nodes caller.client) b.next;
+      next = prefix_get (old.nodes caller.client) (new.nodes caller.client) kept.ids node
+          (later.nodes caller.client) b.next;
       room = b.room;
       row = r.0;
       begun = record { begun = r.1; of_node = r.2.node ∙ b.begun.of_node };
@@ -259,9 +261,23 @@ module _ (objects : List Object) (w : World) (reached : IsReached w) (u : ℕ) (
         ap (λ (n : ℕ). Some (record { client = u; number = n })) (sym k.rows)
         ∙ sym (if_true (nat_lt 1 (length (members colours))) _ _ (lt-ltb 1 (length (members colours)) several)) in
         ap (λ (n : ℕ). record (begun_node w u colours text) { id = record { client = u; count = n } }) a
-        ∙ (ap (λ (n : ℕ). record (begun_node w u colours text) { id = record { client = u; count = kept.ids }; floor = n }) f
-        ∙ (ap (λ (n : List Counts). record (begun_node w u colours text) { id = record { client = u; count = kept.ids }; floor = kept.floor; wants = n }) s
-        ∙ ap (λ (n : Option Row). record (begun_node w u colours text) { id = record { client = u; count = kept.ids }; floor = kept.floor; wants = map kept.starts (members colours); row = n }) r))
+        ∙ (ap (λ (n : ℕ). record
+        (begun_node w u colours text) { id = record { client = u; count = kept.ids }; floor = n }) f
+        ∙ (ap (λ (n : List Counts). record
+        (begun_node w u colours text) {
+          id = record { client = u; count = kept.ids };
+          floor = kept.floor;
+          wants =
+              n;
+        }) s
+        ∙ ap (λ (n : Option Row). record
+        (begun_node w u colours text) {
+          id = record { client = u; count = kept.ids };
+          floor = kept.floor;
+          wants =
+              map kept.starts (members colours);
+          row = n;
+        }) r))
 
     pub id_is : id ≡ node.id
     id_is = ap (λ (n : ℕ). record { client = u; count = n }) (sym k.ids)
@@ -298,7 +314,8 @@ module _ (objects : List Object) (w : World) (reached : IsReached w) (u : ℕ) (
       floor = k.floor ∙ ap (λ (s : ClientState). s.floor) (sym mine3);
       starts = k.starts ∙ ap (λ (s : ClientState). s.played) (sym mine3);
       seen = λ r c. let a = k.seen r c in let b = longer3 r c in omega (arith, a, b);
-      known = λ c. subst (λ (s : Shape). kept.known c ≤ length (line (w3.histories (slice_index s.homes u) c))) (sym shape3)
+      known = λ c. subst (λ (s : Shape). kept.known c ≤ length (line (w3.histories (slice_index s.homes u) c)))
+          (sym shape3)
           (let a = k.known c in let b = longer_line3 own c in omega (arith, a, b));
       made = own_places3 kept.made k.made;
       ids = ap (λ (n : ℕ). n + 1) k.ids ∙ ap (λ (s : ClientState). s.count) (sym mine3);

@@ -155,13 +155,15 @@ help_row w h by own row found b ne at undone = record {
   w' = run_steps w (complete_steps w by row found)
 
   on : OnRow own by (node_id w row) row (complete_steps w by row found) w (run_steps w (complete_steps w by row found))
-  on = on_steps w own by (node_id w row) row (complete_steps w by row found) b refl at (complete_steps_on w by row found)
+  on = on_steps w own by (node_id w row) row (complete_steps w by row found) b refl at
+      (complete_steps_on w by row found)
 
   other : (node_id w row).client ≡ by → ⊥
   other e = ne (sym (h.rows row.client row.number (ltb-true _ _ b)).of_client ∙ e)
 
   done : IsDone (run_steps w (complete_steps w by row found)) row
-  done = completed_done w h by row found b (begun_same w (run_steps w (complete_steps w by row found)) on.clients row ∙ b)
+  done = completed_done w h by row found b (begun_same w (run_steps w (complete_steps w by row found)) on.clients row
+      ∙ b)
 
   kept : (r c : ℕ) (x : Standing) → In x (entries ((run_steps w (complete_steps w by row found)).histories r c))
       → x.settled ≡ false → In x (entries (w.histories r c)) × (x.key.id ≢ node_id w row)
@@ -199,7 +201,8 @@ open_of key h x i =
     let q = both (not x.settled) _ p.1 in
     (p.0, not_true x.settled q.0, q.1)
 
-pub of_open : (key : Key) (h : List Entry) (x : Standing) → In x (entries h) → x.settled ≡ false → key_below x.key key ≡ true
+pub of_open : (key : Key) (h : List Entry) (x : Standing) → In x (entries h) → x.settled ≡ false → key_below x.key key
+    ≡ true
     → In x (open_below key h)
 of_open key h x i o b =
     in_filter-back (λ (e : Standing). not e.settled && key_below e.key key) x (entries h) i
@@ -354,7 +357,8 @@ pub clear_one : (S : ℕ → Type 0) (found : Found) (by own colour : ℕ) (key 
     → Finished S h.world → (S by → ⊥) → home_of h.world by ≡ own
     → Clears by own colour key h.world (cleared found by key h colour).world
 clear_one S found by own colour key h reached fin free at =
-    clear_times S (length (open_below key (home_history h.world by colour))) found by own colour key h reached fin free at
+    clear_times S (length
+    (open_below key (home_history h.world by colour))) found by own colour key h reached fin free at
     (subst (λ (k : ℕ). length (open_below key (h.world.histories own colour))
     ≤ length (open_below key (h.world.histories k colour))) (sym at) (omega arith))
 
@@ -385,7 +389,8 @@ clear_list S found by own key (c ∷ colours) h reached fin free at =
     (helped_finished S by own h.world h'.world one.helped fin) free
     (home_kept h.world h'.world by one.helped.shape ∙ at) in
     record {
-      helped = helped_trans by own h.world h'.world (fold (cleared found by key) h' colours).world one.helped rest.helped;
+      helped = helped_trans by own h.world h'.world
+          (fold (cleared found by key) h' colours).world one.helped rest.helped;
       clear = λ d i. turn d i (stays_clear by own c key h'.world (fold (cleared found by key) h' colours).world
           rest.helped one.clear) (rest.clear d);
     } where
@@ -394,7 +399,8 @@ clear_list S found by own key (c ∷ colours) h reached fin free at =
           → (In d colours → IsClear key (fold (cleared found by key) (cleared found by key h c) colours).world own d)
           → IsClear key (fold (cleared found by key) (cleared found by key h c) colours).world own d
       turn d (inl e) first rest =
-          subst (λ (k : ℕ). IsClear key (fold (cleared found by key) (cleared found by key h c) colours).world own k) e first
+          subst (λ (k : ℕ). IsClear key (fold (cleared found by key)
+          (cleared found by key h c) colours).world own k) e first
       turn d (inr i) first rest = rest i
 
 pub clear_all : (S : ℕ → Type 0) (found : Found) (by own : ℕ) (key : Key) (colours : List ℕ) (w : World) → IsReached w

@@ -52,9 +52,9 @@ use Rattle.file_meaning.proofs.Whole.{all_at, runs_all}
 -- One command
 
 -- some steps lead to the state, and replies are kept
-record Extends (old new : State) : Type 0 where
-  world : RunsTo old.world new.world
-  replies : (n : ℕ) (r : ReplyLine) → In r (old.replies n) → In r (new.replies n)
+pub record Extends (old new : State) : Type 0 where
+  pub world : RunsTo old.world new.world
+  pub replies : (n : ℕ) (r : ReplyLine) → In r (old.replies n) → In r (new.replies n)
 
 answer_extends : (state : State) (command : Command) (w' : World) (answer : Answer) (nodes : List PlacedNode)
     → RunsTo state.world w' → Extends state (answered state command w' answer nodes)
@@ -126,7 +126,8 @@ module _ (found : Found) (state : State) (command : Command) where
   append_extends colours text (c ∷ []) = one_extends text c
   append_extends colours text (c ∷ d ∷ ms) = several_extends colours text
 
-  stop_extends : (colours : Colours) (text : List ℕ) (n : ℕ) → Extends state (stopped found state command colours text n)
+  stop_extends : (colours : Colours) (text : List ℕ) (n : ℕ) → Extends state
+      (stopped found state command colours text n)
   stop_extends colours text zero = answer_extends state command w (answers.Stopped 0) [] (stays_there w)
   stop_extends colours text (suc n) =
       let v = run_steps w (take (suc n) (append_steps found w u colours text)) in
@@ -158,7 +159,7 @@ module _ (found : Found) (state : State) (command : Command) where
   one_command_extends (whats.Enq object value) = nothing_done
   one_command_extends (whats.Deq object) = nothing_done
 
-  done_extends : Extends state (done found state command)
+  pub done_extends : Extends state (done found state command)
   done_extends =
       choice (Extends state) found.start (done_one found state command command.what)
       (answered state command w answers.NoMemory [])

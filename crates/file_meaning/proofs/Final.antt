@@ -86,7 +86,8 @@ map_same : (f : ℕ → ℕ) (xs : List ℕ) → ((x : ℕ) → f x ≡ x) → m
 map_same f [] h = refl
 map_same f (x ∷ xs) h = ap (λ (y : ℕ). y ∷ map f xs) (h x) ∙ ap (λ (l : List ℕ). x ∷ l) (map_same f xs h)
 
-module _ (objects : List Object) (S : ℕ → Type 0) (found : Found) (w : World) (reached : IsReached w) (fin : Finished S w)
+module _ (objects : List Object) (S : ℕ → Type 0) (found : Found) (w : World) (reached : IsReached w)
+    (fin : Finished S w)
     (u : ℕ) (colours : Colours) (text : List ℕ) (free : S u → ⊥) (ok : may_begin w u colours ≡ true) where
   abbrev own : ℕ
   own = home_of w u
@@ -155,13 +156,15 @@ module _ (objects : List Object) (S : ℕ → Type 0) (found : Found) (w : World
 
     final3 : (c : ℕ) → In c (members colours) → In (standing_as f id true) (entries (w3.histories own c))
     final3 c i =
-        let comp = can_complete w1 (held_of w1 (several.reached1 objects S found w reached fin u colours text free ok)) u row
+        let comp = can_complete w1
+        (held_of w1 (several.reached1 objects S found w reached fin u colours text free ok)) u row
         found.marks (several.begun1 objects S found w reached fin u colours text free ok) in
         let st = subst (StandsAsDecided w3 row) e comp.stands in
         let x = in_contains _ _ (st c (contains_in _ _ (subst (λ (l : List ℕ). In c l)
         (sym (several.colours_are objects S found w reached fin u colours text free ok)) i))) in
         subst (λ (n : Id). In (standing_as f n true) (entries (w3.histories own c))) (ap (λ (n : Node). n.id) node3)
-        (subst (λ (s : Shape). In (standing_as f (node_id w3 row) true) (entries (w3.histories (slice_index s.homes u) c)))
+        (subst (λ (s : Shape). In (standing_as f (node_id w3 row) true)
+        (entries (w3.histories (slice_index s.homes u) c)))
         shape3 x)
 
     begin_parts : (1 < length (members colours))
@@ -183,7 +186,8 @@ module _ (objects : List Object) (S : ℕ → Type 0) (found : Found) (w : World
     clock_there c i =
         let h = held_of w3 reached3 in
         let x = entry_within (reverse (w3.histories own c)) (lawful_past_in w3 h own c) (standing_as f id true)
-        (subst (λ (es : List Standing). In (standing_as f id true) es) (entries-of (w3.histories own c)) (final3 c i)) in
+        (subst (λ (es : List Standing). In (standing_as f id true) es) (entries-of (w3.histories own c))
+        (final3 c i)) in
         subst (λ (n : ℕ). f ≤ n) (sym (clock-of (w3.histories own c))) x
 
     sees : may_see w3 u f ≡ true
@@ -215,7 +219,8 @@ module _ (objects : List Object) (S : ℕ → Type 0) (found : Found) (w : World
     finished5 : Finished S w5
     finished5 other b = turn (several.finished3 objects S found w reached fin u colours text free ok other begun) where
       begun : is_begun w3 other ≡ true
-      begun = at_updated (λ (s : ClientState). nat_lt other.number s.used ≡ true → is_begun w3 other ≡ true) w3.clients u
+      begun = at_updated (λ (s : ClientState). nat_lt other.number s.used ≡ true → is_begun w3 other
+          ≡ true) w3.clients u
           (record (w3.clients u) { floor = f }) other.client
           (λ same x. ap (λ (n : ℕ). nat_lt other.number (w3.clients n).used) same ∙ x) (λ _ x. x) b
 
@@ -320,7 +325,8 @@ module _ (objects : List Object) (S : ℕ → Type 0) (found : Found) (w : World
       bounded p i = of_point (in_map point (members colours) p i) where
         of_point : (c : ℕ) × In c (members colours) × (point c ≡ p)
             → IsBoundedPoint own (λ r c. length (w6.histories r c)) (λ c. length (line (w6.histories own c))) p
-        of_point x = subst (IsBoundedPoint own (λ r c. length (w6.histories r c)) (λ c. length (line (w6.histories own c))))
+        of_point x = subst (IsBoundedPoint own (λ r c. length (w6.histories r c))
+            (λ c. length (line (w6.histories own c))))
             x.2 (record {
               seen = let a = get_within (w6.histories own x.0) (length (w.histories own x.0)) (first x.0 x.1).entry
                   (there6 x.0 x.1) in omega (arith, a);
@@ -330,7 +336,8 @@ module _ (objects : List Object) (S : ℕ → Type 0) (found : Found) (w : World
 
       all_points : PointsKept (λ r c. length (w6.histories r c)) (λ c. length (line (w6.histories own c))) kept
           (kept_after_points kept own points)
-      all_points = points_kept own (λ r c. length (w6.histories r c)) (λ c. length (line (w6.histories own c))) points kept
+      all_points = points_kept own (λ r c. length (w6.histories r c))
+          (λ c. length (line (w6.histories own c))) points kept
           bounded (λ r c. let a = k.seen r c in let b = longer6 r c in omega (arith, a, b))
           (λ c. let a = k.known c in let b = longer_line6 c in omega (arith, a, b))
 

@@ -91,7 +91,8 @@ module _ (objects : List Object) (w : World) (reached : IsReached w) (u : ℕ) (
       ap (λ (l : List Entry). slice_get l (length (w.histories own c))) is
       ∙ (let z : length (w.histories own c) ≡ length (w.histories own c) + 0 = omega arith in
       ap (slice_get (w.histories own c ++ e ∷ rest)) z ∙ begun.get_behind (w.histories own c) (e ∷ rest) 0) in
-      let f = subst (λ (x : Event). FitsEvent w3 own c x e.stamp) (ev ∙ ap (λ (i : Id). events.Propose i floor wants) same)
+      let f = subst (λ (x : Event). FitsEvent w3 own c x e.stamp)
+      (ev ∙ ap (λ (i : Id). events.Propose i floor wants) same)
       ((told_of w3 reached3).events own c e (slice_in (w3.histories own c) _ e there)) in
       let number : f.number ≡ (w.clients u).used =
       (same_number w3 (held_of w3 reached3) u f.number u (w.clients u).used f.begun begun3

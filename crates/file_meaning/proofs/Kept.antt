@@ -59,7 +59,8 @@ pub record KeptAfter (w : World) (objects : List Object) (client : ℕ) (kept : 
   pub explains : Explains (log_of w) (caller_in w objects client) kept what answer nodes after
 
 -- a command of the client, with its answer, between two worlds
-pub record Does (objects : List Object) (client : ℕ) (what : What) (w w' : World) (answer : Answer) (nodes : List PlacedNode) :
+pub record Does (objects : List Object) (client : ℕ) (what : What) (w w' : World) (answer : Answer)
+    (nodes : List PlacedNode) :
     Type 0 where
   pub steps : List Step
   pub run : run_steps w steps ≡ w'
@@ -69,7 +70,8 @@ pub record Does (objects : List Object) (client : ℕ) (what : What) (w w' : Wor
   pub keeps : (kept : Kept) → IsKeptBy w client kept → KeptAfter w' objects client kept what answer nodes
 
 -- the log after some steps is a later one
-pub later_log : (w w' : World) (steps : List Step) → IsReached w → run_steps w steps ≡ w' → IsLater (log_of w) (log_of w')
+pub later_log : (w w' : World) (steps : List Step) → IsReached w → run_steps w steps ≡ w' → IsLater (log_of w)
+    (log_of w')
 later_log w w' steps r run =
     subst (λ (x : World). IsLater (log_of w) (log_of x)) run (log_grows w (held_of w r) (told_of w r) steps)
 

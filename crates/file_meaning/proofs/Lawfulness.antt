@@ -58,7 +58,8 @@ flat_map-all : {A B : Type 0} (P : B → Type 0) (f : A → List B) (xs : List A
     → All P (flat_map f xs)
 flat_map-all P f [] all = All-nil P
 flat_map-all {A} P f (x ∷ xs) all =
-    All-append P (f x) (flat_map f xs) (all 0 x (omega arith)) (flat_map-all P f xs (λ k d lt. all (suc k) d (omega arith)))
+    All-append P (f x) (flat_map f xs) (all 0 x (omega arith))
+    (flat_map-all P f xs (λ k d lt. all (suc k) d (omega arith)))
 
 map-flat_map : {A B C : Type 0} (g : B → C) (f : A → List B) (xs : List A)
     → map g (flat_map f xs) ≡ flat_map (λ x. map g (f x)) xs
@@ -100,7 +101,8 @@ module _ (script : Script) (fits : IsFitting script) (state : State) (is : Runs 
   abbrev colours : ℕ
   colours = script.shape.colours
 
-  named : (names : List (List ℕ)) (n : ℕ) → n < length names → slice_get names n ≡ Some (unwrap_or (slice_get names n) [])
+  named : (names : List (List ℕ)) (n : ℕ) → n < length names → slice_get names n ≡ Some
+      (unwrap_or (slice_get names n) [])
   named [] n lt = absurd (omega arith)
   named (name ∷ names) zero lt = refl
   named (name ∷ names) (suc n) lt = named names n (omega arith)
@@ -153,7 +155,8 @@ module _ (script : Script) (fits : IsFitting script) (state : State) (is : Runs 
   begun = record {
     all = refl;
     by_client = λ region lt. by_client w region;
-    lawful = λ region lt. subst (λ (s : Shape). AreLawfulRows region s.colours (w.histories region) (rows_of_region w region))
+    lawful = λ region lt. subst (λ (s : Shape). AreLawfulRows region s.colours (w.histories region)
+        (rows_of_region w region))
         is.shape (have_lawful_rows w (held_of w is.reached) (told_of w is.reached) region);
   }
 
@@ -193,7 +196,8 @@ module _ (script : Script) (fits : IsFitting script) (state : State) (is : Runs 
   client_there n c there =
       let lt = get_within (report_of script state).clients n c there in
       let long : length (report_of script state).clients ≡ length script.clients =
-      length-map (enumerate_from 0 script.clients) (λ (p : ℕ × List ℕ). record { name = p.1; replies = state.replies p.0 })
+      length-map (enumerate_from 0 script.clients)
+      (λ (p : ℕ × List ℕ). record { name = p.1; replies = state.replies p.0 })
       ∙ (sym (length-map (enumerate_from 0 script.clients) (λ (p : ℕ × List ℕ). p.1))
       ∙ ap length (numbered-second 0 script.clients)) in
       let c = fits.clients in
@@ -212,7 +216,8 @@ module _ (script : Script) (fits : IsFitting script) (state : State) (is : Runs 
         nodes = (listed_of w is.reached).counts n ∙ sym k.keeps.ids;
         rows = subst (λ (r : ℕ). length (filter (is_of n) (rows_of_region w r)) ≡ k.kept.rows) home
             (rows_begun w n (client_there n c there) ∙ sym k.keeps.rows);
-        row_nodes = λ r among of_client. row_node r (of_region w (slice_index script.shape.homes n) r (in_contains _ _ among))
+        row_nodes = λ r among of_client. row_node r (of_region w (slice_index script.shape.homes n) r
+            (in_contains _ _ among))
             of_client;
       }) where
         row_node : (r : BegunRow) → (a : ℕ) × OfRegion w (slice_index script.shape.homes n) a r → r.row.client ≡ n
@@ -277,12 +282,13 @@ module _ (script : Script) (fits : IsFitting script) (state : State) (is : Runs 
 
     open_in : (region : ℕ) (r : BegunRow) → (a : ℕ) × OfRegion w region a r → r.last ≡ Open
         → HasStopped (report_of script state) r.row.client
-    open_in region r o undecided = turn (is.finished (record { client = o.0; number = o.1.number }) (lt-ltb _ _ o.1.begun)) where
-      turn : IsStopped script.commands state.replies o.0 ⊎ IsDone w (record { client = o.0; number = o.1.number })
-          → HasStopped (report_of script state) r.row.client
-      turn (inl s) = subst (HasStopped (report_of script state)) (ap (λ (y : BegunRow). y.row.client) o.1.is)
-          (has_stopped o.0 s)
-      turn (inr d) = absurd (d.decided (ap (λ (y : BegunRow). y.last) o.1.is ∙ undecided))
+    open_in region r o undecided = turn (is.finished (record { client = o.0; number = o.1.number })
+        (lt-ltb _ _ o.1.begun)) where
+          turn : IsStopped script.commands state.replies o.0 ⊎ IsDone w (record { client = o.0; number = o.1.number })
+              → HasStopped (report_of script state) r.row.client
+          turn (inl s) = subst (HasStopped (report_of script state)) (ap (λ (y : BegunRow). y.row.client) o.1.is)
+              (has_stopped o.0 s)
+          turn (inr d) = absurd (d.decided (ap (λ (y : BegunRow). y.last) o.1.is ∙ undecided))
 
   lawful : LawfulRun script (report_of script state)
   lawful = record {

@@ -151,7 +151,8 @@ runs_opening script = record {
   none : (n : ℕ) → nat_lt n 0 ≡ true → ⊥
   none n b = let x = ltb-true n 0 b in omega (arith, x)
 
-module _ (script : Script) (commands : List Command) (state : State) (command : Command) (runs : Runs script commands state)
+module _ (script : Script) (commands : List Command) (state : State) (command : Command)
+    (runs : Runs script commands state)
     (fit : IsFit script commands command) where
   abbrev u : ℕ
   u = command.client
@@ -204,7 +205,8 @@ module _ (script : Script) (commands : List Command) (state : State) (command : 
               (explained_later (log_of w) (log_of w') later (caller_of script u) c.explained)
               (answers_plainly (log_of w') (caller_of script u) c.kept command answer nodes d.after
               (plain command.what fit.built)
-              (subst (λ (x : Caller). Explains (log_of w') x c.kept command.what answer nodes d.after) called d.explains)));
+              (subst (λ (x : Caller). Explains
+              (log_of w') x c.kept command.what answer nodes d.after) called d.explains)));
           keeps = d.keeps;
         } where
           of_shape : Shape → Caller
@@ -222,7 +224,8 @@ module _ (script : Script) (commands : List Command) (state : State) (command : 
         let c = runs.clients n in
         record {
           kept = c.kept;
-          explained = subst (λ (cs : List Command). Explained (log_of w') (caller_of script n) cs (state.replies n) c.kept)
+          explained = subst (λ (cs : List Command). Explained (log_of w') (caller_of script n) cs
+              (state.replies n) c.kept)
               (sym (asked-other n commands command (λ e. ne (sym e))))
               (explained_later (log_of w) (log_of w') (later_log w w' does.steps runs.reached does.run)
               (caller_of script n) c.explained);
@@ -231,7 +234,8 @@ module _ (script : Script) (commands : List Command) (state : State) (command : 
 
     clients_after : (n : ℕ) → IsExplained script w' n (asked_by n commands') (state'.replies n)
     clients_after n =
-        at_updated (λ (rs : List ReplyLine). IsExplained script w' n (asked_by n commands') rs) state.replies u replies' n
+        at_updated (λ (rs : List ReplyLine). IsExplained script w' n
+        (asked_by n commands') rs) state.replies u replies' n
         (λ e. subst (λ (k : ℕ). IsExplained script w' k (asked_by k commands') replies') (sym e) own_after)
         (λ f. other_after n (λ e. apart (n == u) (eq-eqb n u e) f))
 

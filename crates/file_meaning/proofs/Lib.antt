@@ -1,12 +1,12 @@
 mod WorkedRuns
-mod Rows
+pub mod Rows
 mod Moves
-mod Clearing
+pub mod Clearing
 mod Lines
 mod Kept
 mod One
 mod Plain
-mod Lists
+pub mod Lists
 mod Plays
 mod Sync
 mod Begun
@@ -17,10 +17,12 @@ mod Final
 mod Refusing
 mod Marking
 mod Stopping
-mod Leading
-mod Whole
+pub mod Leading
+pub mod Whole
 mod Rowing
 mod Lawfulness
 mod Exactly
 mod Exactness
+mod LastStops
+pub mod CallerLemmas
 mod Sets

@@ -56,7 +56,8 @@ position_behind (k ∷ old) more id none =
 -- Lines
 
 -- the keys of a line with one id are one
-pub one_key : (w : World) → Held w → (r c : ℕ) (k l : Key) → In k (line (w.histories r c)) → In l (line (w.histories r c))
+pub one_key : (w : World) → Held w → (r c : ℕ) (k l : Key) → In k (line (w.histories r c)) → In l
+    (line (w.histories r c))
     → same_id k.id l.id ≡ true → k ≡ l
 one_key w h r c k l i j same =
     let a = in_line (entries (w.histories r c)) k i in
@@ -103,7 +104,8 @@ in_clear_line w h r c stamp id i clear =
       key : Key
       key = entry_key stamp id
 
-      each : (f : Standing) → In f (entries (w.histories r c)) → (f.settled || key_below (entry_key stamp id) f.key) ≡ true
+      each : (f : Standing) → In f (entries (w.histories r c)) → (f.settled || key_below (entry_key stamp id) f.key)
+          ≡ true
       each f j =
           by_test _ f.settled (λ t. or_left f.settled _ t)
           (λ o. or_right f.settled _ (key-total f.key (entry_key stamp id)
@@ -145,15 +147,18 @@ not_waiting (Alone n) s l e = let x : ⊥ = cc in x
 not_waiting (Waits n) s l e = l
 not_waiting (Settled o) s l e = let x : ⊥ = cc in x
 
-last_next : (past : List Entry) (ev : Event) (stamp : ℕ) (id : Id) → IsLawfulNext past ev stamp → IsLast (status id past)
+last_next : (past : List Entry) (ev : Event) (stamp : ℕ) (id : Id) → IsLawfulNext past ev stamp → IsLast
+    (status id past)
     → after_event id ev stamp (status id past) ≡ status id past
 last_next past (events.Single other floor wants) stamp id l last =
     by_test _ (same_id id other)
-    (λ t. absurd (not_absent (status id past) last (ap (λ (i : Id). status i past) (same_id-true id other t) ∙ l.fresh)))
+    (λ t. absurd (not_absent (status id past) last (ap (λ (i : Id). status i past) (same_id-true id other t)
+    ∙ l.fresh)))
     (λ f. if_false (same_id id other) (Alone stamp) (status id past) f)
 last_next past (events.Propose other floor wants) stamp id l last =
     by_test _ (same_id id other)
-    (λ t. absurd (not_absent (status id past) last (ap (λ (i : Id). status i past) (same_id-true id other t) ∙ l.fresh)))
+    (λ t. absurd (not_absent (status id past) last (ap (λ (i : Id). status i past) (same_id-true id other t)
+    ∙ l.fresh)))
     (λ f. if_false (same_id id other) (Waits stamp) (status id past) f)
 last_next past (events.Settle other o) stamp id l last =
     by_test _ (same_id id other)

@@ -54,7 +54,8 @@ mark_other : (w w' : World) (row : Row) (c d : ℕ) (m : Mark) → d ≢ c
     → (row_of w' row).marks d ≡ (row_of w row).marks d
 mark_other w w' row c d m ne e =
     ap (λ (r : RowState). r.marks d) e
-    ∙ at_updated (λ (x : Mark). x ≡ (row_of w row).marks d) (row_of w row).marks c m d (λ same. absurd (ne same)) (λ _. refl)
+    ∙ at_updated (λ (x : Mark). x ≡ (row_of w row).marks d) (row_of w row).marks c m d (λ same. absurd (ne same))
+    (λ _. refl)
 
 fence_other : (w : World) (row : Row) (c d : ℕ) (why : Why) → d ≢ c
     → (row_of (after w (steps.Fence row c why)) row).marks d ≡ (row_of w row).marks d
@@ -147,7 +148,8 @@ marked_first w by row found (c0 ∷ cs) tail zero b sub rising missing m c e lt 
     absurd (let f : ⊥ = omega (arith, lt) in f)
 marked_first w by row found (c0 ∷ cs) tail (suc n) b sub rising missing m c e lt =
     let s = mark_step w by row found c0 in
-    let here = mark_step_marks w by row found c0 b (sub c0 (or_left (c0 == c0) _ (eq-eqb c0 c0 refl))) (missing c0 (inl refl)) in
+    let here = mark_step_marks w by row found c0 b (sub c0 (or_left (c0 == c0) _ (eq-eqb c0 c0 refl)))
+    (missing c0 (inl refl)) in
     subst (λ (l : List Step). is_missing ((row_of (run_steps w (take (suc n) (l ++ tail))) row).marks c) ≡ false)
     (sym (if_true (is_missing ((row_of w row).marks c0)) (s ∷ mark_steps (after w s) by row found cs)
     (mark_steps w by row found cs) (missing c0 (inl refl))))

@@ -58,7 +58,8 @@ adds_last P w region colour e p r c =
       here : r ≡ region → c ≡ colour → Adds (P r c) (w.histories r c) (w.histories region colour ++ e ∷ [])
       here er ec = record {
         more = e ∷ [];
-        is = ap (λ (k : ℕ). w.histories k colour ++ e ∷ []) (sym er) ∙ ap (λ (k : ℕ). w.histories r k ++ e ∷ []) (sym ec);
+        is = ap (λ (k : ℕ). w.histories k colour ++ e ∷ []) (sym er) ∙ ap (λ (k : ℕ). w.histories r k ++ e ∷ [])
+            (sym ec);
         each = λ f i. turn er ec f i;
       } where
         turn : r ≡ region → c ≡ colour → (f : Entry) → (e ≡ f) ⊎ ⊥ → P r c f
@@ -163,7 +164,8 @@ on_step w home by id row (steps.Play client c) is at o = absurd o
 on_step w home by id row (steps.Seen client to) is at o = absurd o
 
 -- of more steps there are as many events
-from_more : (by : ℕ) (row : Row) (list longer : List Step) → ((s : Step) → In s list → In s longer) → (c : ℕ) (ev : Event)
+from_more : (by : ℕ) (row : Row) (list longer : List Step) → ((s : Step) → In s list → In s longer) → (c : ℕ)
+    (ev : Event)
     → From by row list c ev → From by row longer c ev
 from_more by row list longer more c (events.Single id floor wants) f = f
 from_more by row list longer more c (events.Propose id floor wants) f = more (steps.Propose by row c) f

@@ -71,7 +71,8 @@ helped_places by own w w' h r c =
     (no_places (length (w.histories r c)) by a.more (λ e i same. help_not_own by e.event (a.each e i).help))
     ∙ append-nil (places_of by (w.histories r c))))
 
-module _ (objects : List Object) (S : ℕ → Type 0) (found : Found) (w : World) (reached : IsReached w) (fin : Finished S w)
+module _ (objects : List Object) (S : ℕ → Type 0) (found : Found) (w : World) (reached : IsReached w)
+    (fin : Finished S w)
     (u c : ℕ) (text : List ℕ) (free : S u → ⊥) (ok : may_single w u c ≡ true) where
   abbrev own : ℕ
   own = home_of w u
@@ -198,16 +199,40 @@ module _ (objects : List Object) (S : ℕ → Type 0) (found : Found) (w : World
         ap (λ (g : ℕ → Counts). g c ∷ []) (sym k.starts) ∙ ap (map kept.starts) (sym one) in
         let r : None ≡ row_of u kept.rows (members colours) = ap (row_of u kept.rows) (sym one) in
         ap (λ (n : ℕ). record (single_node w u c text) { id = record { client = u; count = n } }) a
-        ∙ (ap (λ (n : Colours). record (single_node w u c text) { id = record { client = u; count = kept.ids }; colours = n }) b
-        ∙ (ap (λ (n : ℕ). record (single_node w u c text) { id = record { client = u; count = kept.ids }; colours = colours; floor = n }) f
-        ∙ (ap (λ (n : List Counts). record (single_node w u c text) { id = record { client = u; count = kept.ids }; colours = colours; floor = kept.floor; wants = n }) s
-        ∙ ap (λ (n : Option Row). record (single_node w u c text) { id = record { client = u; count = kept.ids }; colours = colours; floor = kept.floor; wants = map kept.starts (members colours); row = n }) r)))
+        ∙ (ap (λ (n : Colours). record
+        (single_node w u c text) { id = record { client = u; count = kept.ids }; colours = n }) b
+        ∙ (ap (λ (n : ℕ). record
+        (single_node w u c text) { id = record { client = u; count = kept.ids }; colours = colours; floor = n }) f
+        ∙ (ap (λ (n : List Counts). record
+        (single_node w u c text) {
+          id = record { client = u; count = kept.ids };
+          colours = colours;
+          floor =
+              kept.floor;
+          wants = n;
+        }) s
+        ∙ ap (λ (n : Option Row). record
+        (single_node w u c text) {
+          id = record { client = u; count = kept.ids };
+          colours = colours;
+          floor =
+              kept.floor;
+          wants = map kept.starts (members colours);
+          row = n;
+        }) r)))
 
     entry_is : e ≡ record { by = u; event = events.Single node.id kept.floor (kept.starts c); stamp = stamp }
     entry_is =
-        ap (λ (n : ℕ). record { by = u; event = events.Single (record { client = u; count = n }) (w.clients u).floor ((w.clients u).played c); stamp = stamp }) (sym k.ids)
-        ∙ (ap (λ (n : ℕ). record { by = u; event = events.Single node.id n ((w.clients u).played c); stamp = stamp }) (sym k.floor)
-        ∙ ap (λ (g : ℕ → Counts). record { by = u; event = events.Single node.id kept.floor (g c); stamp = stamp }) (sym k.starts))
+        ap (λ (n : ℕ). record {
+          by = u;
+          event = events.Single (record { client = u; count = n }) (w.clients u).floor
+              ((w.clients u).played c);
+          stamp = stamp;
+        }) (sym k.ids)
+        ∙ (ap (λ (n : ℕ). record { by = u; event = events.Single node.id n ((w.clients u).played c); stamp = stamp })
+        (sym k.floor)
+        ∙ ap (λ (g : ℕ → Counts). record { by = u; event = events.Single node.id kept.floor (g c); stamp = stamp })
+        (sym k.starts))
 
     id_is : id ≡ node.id
     id_is = ap (λ (n : ℕ). record { client = u; count = n }) (sym k.ids)

@@ -175,7 +175,14 @@ needs_first : (ds : List Dated) (id : Id) → (needs_of ds id ≡ zeros)
 needs_first [] id = inl refl
 needs_first (d ∷ ds) id =
     by_test _ (enters id d.entry.event)
-    (λ t. inr (0, d, refl, t, if_true (enters id d.entry.event) (needs_in d.entry.event d.cut_before) (needs_of ds id) t))
+    (λ t. inr (
+      0,
+      d,
+      refl,
+      t,
+      if_true (enters id d.entry.event) (needs_in d.entry.event d.cut_before)
+          (needs_of ds id) t,
+    ))
     (λ f. turn (cond-false (enters id d.entry.event) (needs_in d.entry.event d.cut_before) (needs_of ds id) f)
     (needs_first ds id)) where
       turn : needs_of (d ∷ ds) id ≡ needs_of ds id → (needs_of ds id ≡ zeros)

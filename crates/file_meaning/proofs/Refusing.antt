@@ -73,7 +73,8 @@ did_end_one objects u c colours text w one client column refused =
       at_end = eqb-true _ _ ended
 
 -- all rows are begun
-pub did_full : (objects : List Object) (u : ℕ) (what : What) (colours : Colours) (text : List ℕ) (w : World) → IsReached w
+pub did_full : (objects : List Object) (u : ℕ) (what : What) (colours : Colours) (text : List ℕ) (w : World)
+    → IsReached w
     → AsksOf what colours text → IsNoStopAtOnce what → 1 < length (members colours) → is_full w u ≡ true
     → Does objects u what w w (answers.Full (w.clients u).used) []
 did_full objects u what colours text w reached asks no_stop several full =

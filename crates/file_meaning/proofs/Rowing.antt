@@ -76,11 +76,14 @@ clients_rise w region b zero = tt
 clients_rise w region b (suc k) =
     subst NeverFalls (sym (map-append client_of (home_rows w region b)
     (flat_map (home_rows w region) (range_with_len (b + 1) k))))
-    (joined (map client_of (home_rows w region b)) (map client_of (flat_map (home_rows w region) (range_with_len (b + 1) k)))
+    (joined (map client_of (home_rows w region b)) (map client_of
+    (flat_map (home_rows w region) (range_with_len (b + 1) k)))
     (all_same (map client_of (home_rows w region b)) b (clients_of w region b)) (clients_rise w region (b + 1) k)
-    (λ x y i j. let e = clients_of w region b x i in let le = clients_from w region (b + 1) k y j in omega (arith, e, le)))
+    (λ x y i j. let e = clients_of w region b x i in let le = clients_from w region (b + 1) k y j in omega
+    (arith, e, le)))
 
-pub by_client : (w : World) (region : ℕ) → IsNonDecreasing (map (λ (r : BegunRow). r.row.client) (rows_of_region w region))
+pub by_client : (w : World) (region : ℕ) → IsNonDecreasing (map (λ (r : BegunRow). r.row.client)
+    (rows_of_region w region))
 by_client w region = never_falls _ (clients_rise w region 0 (length w.shape.homes))
 
 -- as many rows of a client as it has begun

@@ -165,7 +165,8 @@ step_still w h (steps.Seen client to) row b ne =
 pub still_trans : (w v u : World) (row : Row) → IsStill w v row → IsStill v u row → IsStill w u row
 still_trans w v u row a b = record {
   same = b.same ∙ a.same;
-  status = λ r c. subst (λ (x : RowState). status_in (u.histories r c) x.node.id ≡ status_in (v.histories r c) x.node.id)
+  status = λ r c. subst (λ (x : RowState). status_in (u.histories r c) x.node.id ≡ status_in
+      (v.histories r c) x.node.id)
       a.same (b.status r c) ∙ a.status r c;
 }
 
@@ -221,7 +222,8 @@ final_waits w h row b f st r c s e =
     let has = colour_of_mark w h row c b (λ none. let k = m.1 in let x : ⊥ = cc in x) in
     let fin = st c (contains_in (colours_of w row) c (colour_in (colours_of w row) c has)) in
     let shows = entry_shown w h home c _ (in_contains _ _ fin) in
-    let waits : status_in (w.histories home c) id ≡ Waits s = subst (λ (k : ℕ). status_in (w.histories k c) id ≡ Waits s)
+    let waits : status_in (w.histories home c) id ≡ Waits s = subst
+    (λ (k : ℕ). status_in (w.histories k c) id ≡ Waits s)
     m.0 e in
     differ s f id (sym (ap (standing_of id) waits) ∙ shows) where
       differ : (s f : ℕ) (id : Id) → Some (standing_as s id false) ≡ Some (standing_as f id true) → ⊥
@@ -237,7 +239,12 @@ stands_done w h row b (Gone why) e st = record {
   waits = λ r c. by_test _ (is_waiting (status_in (w.histories r c) (node_id w row)))
       (λ t. let z = waiting_is (status_in (w.histories r c) (node_id w row)) t in
       let x : Standing = record { key = entry_key z.0 (node_id w row); settled = false } in
-      absurd (st r c (x, contains_in _ _ (in_past w h r c (node_id w row) x (ap (standing_of (node_id w row)) z.1)), refl)))
+      absurd (st r c (
+        x,
+        contains_in _ _ (in_past w h r c (node_id w row) x
+            (ap (standing_of (node_id w row)) z.1)),
+        refl,
+      )))
       (λ f. f);
 }
 stands_done w h row b (Final f) e st = record {
@@ -262,7 +269,8 @@ IsOn client row (steps.Raise by region colour to) = ⊥
 IsOn client row (steps.Play _ colour) = ⊥
 IsOn client row (steps.Seen _ to) = ⊥
 
-pub mark_step_on : (w : World) (by : ℕ) (row : Row) (found : ℕ → Bool) (c : ℕ) → IsOn by row (mark_step w by row found c)
+pub mark_step_on : (w : World) (by : ℕ) (row : Row) (found : ℕ → Bool) (c : ℕ) → IsOn by row
+    (mark_step w by row found c)
 mark_step_on w by row found c =
     choice (IsOn by row) (is_row_at_end w row c) (steps.Fence row c StampEnd)
     (cond (found c) (steps.Propose by row c) (steps.Fence row c Memory)) (λ _. refl)
@@ -291,7 +299,8 @@ settle_steps_on by row (c ∷ cs) s (inr i) = settle_steps_on by row cs s i
 pub complete_steps_on : (w : World) (by : ℕ) (row : Row) (found : ℕ → Bool) (s : Step)
     → In s (complete_steps w by row found) → IsOn by row s
 complete_steps_on w by row found s i =
-    turn (in_append s (mark_steps w by row found (colours_of w row)) (steps.Decide row ∷ settle_steps by row (colours_of w row)) i)
+    turn (in_append s (mark_steps w by row found (colours_of w row))
+    (steps.Decide row ∷ settle_steps by row (colours_of w row)) i)
   where
     turn : In s (mark_steps w by row found (colours_of w row))
         ⊎ In s (steps.Decide row ∷ settle_steps by row (colours_of w row)) → IsOn by row s
@@ -370,5 +379,6 @@ pub open_before : (w w' : World) → Held w → Held w' → (r c : ℕ) (x : Sta
     → (row : Row) → node_id w row ≡ x.key.id → IsStill w w' row → In x (entries (w.histories r c))
 open_before w w' h h' r c x i row is s =
     in_past w h r c x.key.id x
-    (ap (standing_of x.key.id) (sym (subst (λ (k : Id). status_in (w'.histories r c) k ≡ status_in (w.histories r c) k) is
+    (ap (standing_of x.key.id) (sym (subst (λ (k : Id). status_in (w'.histories r c) k ≡ status_in
+    (w.histories r c) k) is
     (s.status r c))) ∙ entry_shown w' h' r c x i)

@@ -29,7 +29,8 @@ one_is_power set c one lt =
 
       only : (i : ℕ) → i < 64 → has set i ≡ true → i ≡ c
       only i less t = turn (subst (λ (l : List ℕ). In i l) one
-          (in_filter-back (has set) i (range_with_len 0 64) (range_in 0 64 i (omega arith) (omega (arith, less))) t)) where
+          (in_filter-back (has set) i (range_with_len 0 64) (range_in 0 64 i (omega arith)
+          (omega (arith, less))) t)) where
             turn : (c ≡ i) ⊎ ⊥ → i ≡ c
             turn (inl e) = sym e
             turn (inr none) = absurd none

@@ -79,7 +79,8 @@ gone_end all e = by_bools (list_any is_missing all) (list_any is_stamp_end_fence
       by_bools false false true f e = absurd (let x : ⊥ = cc in x)
       by_bools false false false f e = absurd (let x : ⊥ = cc in x)
 
-none_missing_in : (all : List Mark) (why : Outcome) → why ≢ Open → outcome_of all ≡ why → list_any is_missing all ≡ false
+none_missing_in : (all : List Mark) (why : Outcome) → why ≢ Open → outcome_of all ≡ why → list_any is_missing all
+    ≡ false
 none_missing_in all why ne e =
     by_test _ (list_any is_missing all)
     (λ t. absurd (ne (sym e ∙ if_true (list_any is_missing all) _ _ t))) (λ f. f)
@@ -162,7 +163,8 @@ first_passes test (x ∷ xs) r c i t =
 
 -- The world after the steps
 
-module _ (objects : List Object) (S : ℕ → Type 0) (found : Found) (w : World) (reached : IsReached w) (fin : Finished S w)
+module _ (objects : List Object) (S : ℕ → Type 0) (found : Found) (w : World) (reached : IsReached w)
+    (fin : Finished S w)
     (u : ℕ) (colours : Colours) (text : List ℕ) (free : S u → ⊥) (ok : may_begin w u colours ≡ true) where
   abbrev own : ℕ
   own = home_of w u
@@ -279,14 +281,16 @@ module _ (objects : List Object) (S : ℕ → Type 0) (found : Found) (w : World
     gone_at_end : last ≡ Gone StampEnd
         → IsGoneAtEnd (log_of w3) (caller_in w objects u) kept node (ended_colour w3 row (members colours)) places
     gone_at_end e =
-        let any = any_of is_stamp_end_fence (row_of w3 row).marks (members colours) (gone_end (map (row_of w3 row).marks (members colours)) (sym last_is ∙ e)) in
+        let any = any_of is_stamp_end_fence (row_of w3 row).marks (members colours)
+        (gone_end (map (row_of w3 row).marks (members colours)) (sym last_is ∙ e)) in
         let d = first_passes (λ colour. is_stamp_end_fence ((row_of w3 row).marks colour)) (members colours)
         (colours_rise colours) any.0 any.1 any.2 in
         let colour = ended_colour w3 row (members colours) in
         record {
           begins = begins;
           outcome = subst (HasOutcome (log_of w3) node) e has_outcome;
-          fence = subst (HasMark (log_of w3) node colour) (fence_is ((row_of w3 row).marks colour) d.1) (has_mark colour d.0);
+          fence = subst (HasMark (log_of w3) node colour) (fence_is ((row_of w3 row).marks colour) d.1)
+              (has_mark colour d.0);
           least = all_in (λ other. other < colour → (mark : Mark) × (mark ≢ marks.None)
               × (mark ≢ marks.Fenced StampEnd) × HasMark (log_of w3) node other mark) (members colours) (λ other i lt. (
                 (row_of w3 row).marks other,

@@ -160,7 +160,8 @@ no_open w h r c id none = find_none (is_open_id id) (entries (w.histories r c)) 
       absurd (apart _ (ap is_waiting (ap (status_in (w.histories r c)) (sym same) ∙ waits)) none))
       (λ f. f)
 
-module _ (objects : List Object) (S : ℕ → Type 0) (found : Found) (w : World) (reached : IsReached w) (fin : Finished S w)
+module _ (objects : List Object) (S : ℕ → Type 0) (found : Found) (w : World) (reached : IsReached w)
+    (fin : Finished S w)
     (u : ℕ) (colours : Colours) (text : List ℕ) (ok : may_begin w u colours ≡ true) (n : ℕ) where
   abbrev own : ℕ
   own = home_of w u
@@ -184,7 +185,8 @@ module _ (objects : List Object) (S : ℕ → Type 0) (found : Found) (w : World
   on s i =
       let x = in_slice L s i in
       complete_steps_on w1 u row found.marks s
-      (slice_in (complete_steps w1 u row found.marks) x.0 s (taken_at n (complete_steps w1 u row found.marks) x.0 s x.1).1)
+      (slice_in (complete_steps w1 u row found.marks) x.0 s (taken_at n
+      (complete_steps w1 u row found.marks) x.0 s x.1).1)
 
   reached1 : IsReached w1
   reached1 = begun.reached1 objects w reached u colours text ok L on
@@ -241,7 +243,8 @@ module _ (objects : List Object) (S : ℕ → Type 0) (found : Found) (w : World
   marked : (m c : ℕ) → slice_get cs m ≡ Some c → m < n → is_missing ((row_of w3 row).marks c) ≡ false
   marked m c e lt =
       subst (λ (x : World). is_missing ((row_of x row).marks c) ≡ false) (sym run_is)
-      (marked_first w1 u row found.marks cs (steps.Decide row ∷ settle_steps u row cs) n begun1 sub rising missing m c e lt)
+      (marked_first w1 u row found.marks cs
+      (steps.Decide row ∷ settle_steps u row cs) n begun1 sub rising missing m c e lt)
 
   -- where the decision is among the steps
   module _ (j : ℕ) (n_is : n ≡ length cs + suc j) where
@@ -334,7 +337,8 @@ module _ (objects : List Object) (S : ℕ → Type 0) (found : Found) (w : World
     has_mark c i = (
       begun_row w3 row,
       begun.of_row objects w reached u colours text ok L on kept k,
-      contains_in _ _ (in_map_back (λ (d : ℕ). record { colour = d; mark = (row_of w3 row).marks d }) (colours_of w3 row) c
+      contains_in _ _ (in_map_back (λ (d : ℕ). record { colour = d; mark = (row_of w3 row).marks d })
+          (colours_of w3 row) c
           (subst (λ (l : List ℕ). In c l) (sym (ap (λ (x : Node). members x.colours) node3)) i)),
     )
 
@@ -443,7 +447,8 @@ module _ (objects : List Object) (S : ℕ → Type 0) (found : Found) (w : World
         (with_made (with_row kept) own places)
     same_steps kept k =
         let e : n + 1 ≡ suc n = omega arith in
-        subst (λ (m : ℕ). Stops (log_of w3) (caller_in w objects u) kept (node_of (caller_in w objects u) kept colours text) m
+        subst (λ (m : ℕ). Stops (log_of w3) (caller_in w objects u) kept
+        (node_of (caller_in w objects u) kept colours text) m
         (with_made (with_row kept) own places)) e (stopped_after n places (stops kept k))
 
   pub finished_stop : Finished (λ m. S m ⊎ (m ≡ u)) w3

@@ -178,9 +178,11 @@ drop-nil (suc n) = refl
 log_same : (w : World) (u : ℕ) (s : ClientState) → s.used ≡ (w.clients u).used
     → log_of (with_client w u s) ≡ log_of w
 log_same w u s e =
-    ap (λ (rows : ℕ → List BegunRow). record { histories = w.histories; nodes = w.nodes; rows = rows }) (fun_ext (λ region.
+    ap (λ (rows : ℕ → List BegunRow). record { histories = w.histories; nodes = w.nodes; rows = rows })
+    (fun_ext (λ region.
     ap (λ (used : ℕ → ℕ). flat_map (λ client. if home_of w client == region
-    then map (λ number. begun_row w (record { client = client; number = number })) (range_with_len 0 (used client)) else [])
+    then map (λ number. begun_row w (record { client = client; number = number }))
+    (range_with_len 0 (used client)) else [])
     (range_with_len 0 (length w.shape.homes))) same)) where
       same : ◌≡◌ {A = ℕ → ℕ} (λ client. (updated w.clients u s client).used) (λ client. (w.clients client).used)
       same = fun_ext (λ n. at_updated (λ (x : ClientState). x.used ≡ (w.clients n).used) w.clients u s n
@@ -259,7 +261,8 @@ module _ (objects : List Object) (w : World) (reached : IsReached w) (u c : ℕ)
   caller : Caller
   caller = caller_in w objects u
 
-  shows : (i : ℕ) (item : PlacedNode) → slice_get (map (placed w) (drop from (map (head_with ds) (line h)))) i ≡ Some item
+  shows : (i : ℕ) (item : PlacedNode) → slice_get (map (placed w) (drop from (map (head_with ds) (line h)))) i
+      ≡ Some item
       → ShowsNode log (caller_in w objects u) c (length h) (record { region = own; position = from + i }) item
   shows i item e = found (slice_get (line h) (from + i)) refl
       (sym (slice_get-map (placed w) (drop from (map (head_with ds) (line h))) i
@@ -275,7 +278,8 @@ module _ (objects : List Object) (w : World) (reached : IsReached w) (u c : ℕ)
             subst (λ (x : PlacedNode). ShowsNode log (caller_in w objects u) c (length h)
             (record { region = own; position = from + i }) x) is (record {
               head = head_with ds k;
-              stands = subst (λ (y : List Dated). slice_get (chain own y own) (from + i) ≡ Some (head_with ds k)) (sym all)
+              stands = subst (λ (y : List Dated). slice_get (chain own y own) (from + i) ≡ Some (head_with ds k))
+                  (sym all)
                   (ap (λ (l : List Head). slice_get l (from + i)) (own_chain w reached own c in_range)
                   ∙ (slice_get-map (head_with ds) (line h) (from + i) ∙ ap (option_map (head_with ds)) there));
               key = refl;
@@ -297,7 +301,8 @@ module _ (objects : List Object) (w : World) (reached : IsReached w) (u c : ℕ)
 
   shown_lines : AllZip (ShowsNode log (caller_in w objects u) c (length h)) (own_places own from n) nodes
   shown_lines =
-      subst (λ (l : List PlacedNode). AllZip (ShowsNode log (caller_in w objects u) c (length h)) (own_places own from n) l)
+      subst (λ (l : List PlacedNode). AllZip (ShowsNode log (caller_in w objects u) c (length h))
+      (own_places own from n) l)
       (sym nodes_are)
       (subst (λ (l : List Place). AllZip (ShowsNode log (caller_in w objects u) c (length h)) l
       (map (placed w) (drop from (map (head_with ds) (line h))))) places_are
@@ -312,7 +317,8 @@ module _ (objects : List Object) (w : World) (reached : IsReached w) (u c : ℕ)
       ∙ ap (λ (l : List Head). greatest (map (λ (x : Head). x.key.stamp) l)) (sym (only_own between own in_range
       (λ r ne. ap (λ (l : List Head). drop (at ((w.clients u).played c) r) (take (at snapshot r) l))
       (other_chain w reached own c r ne)
-      ∙ (ap (drop (at ((w.clients u).played c) r)) (take-nil (at snapshot r)) ∙ drop-nil (at ((w.clients u).played c) r)))))
+      ∙ (ap (drop (at ((w.clients u).played c) r)) (take-nil (at snapshot r)) ∙ drop-nil
+      (at ((w.clients u).played c) r)))))
 
   mine : w'.clients u ≡ played_client w u c
   mine = updated-here w.clients u (played_client w u c)
@@ -339,7 +345,8 @@ module _ (objects : List Object) (w : World) (reached : IsReached w) (u c : ℕ)
       order = own_places own from n;
       played = subst (λ (x : List Dated). IsPlayOrder (chain own x) (kept.starts c) snapshot (own_places own from n))
           (sym all) (subst (λ (v : Counts). IsPlayOrder (chain own ds) v snapshot (own_places own from n)) (sym start)
-          (own_order w reached own c in_range ((w.clients u).played c) snapshot from n refl up_to others_none from_within));
+          (own_order w reached own c in_range
+          ((w.clients u).played c) snapshot from n refl up_to others_none from_within));
       lines = shown_lines;
     }
 

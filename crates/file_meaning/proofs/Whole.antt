@@ -110,7 +110,8 @@ module _ (script : Script) (commands : List Command) (state : State) (command : 
 
   -- the row of an append to several colours may begin
   begins : (colours : Colours) → 1 < length (members colours)
-      → ((c : ℕ) → In c (members colours) → c < script.shape.colours) → is_full w u ≡ false → may_begin w u colours ≡ true
+      → ((c : ℕ) → In c (members colours) → c < script.shape.colours) → is_full w u ≡ false → may_begin w u colours
+      ≡ true
   begins colours many below full =
       and_from (is_client w u) _ client_ok
       (and_from (nat_lt (w.clients u).used w.shape.rows) _ (left (nat_lt (w.clients u).used w.shape.rows) full)
@@ -139,7 +140,8 @@ module _ (script : Script) (commands : List Command) (state : State) (command : 
         (several.does_gone_memory script.objects S found w runs.reached runs.finished u colours text going ok e))
         (several.finished3 script.objects S found w runs.reached runs.finished u colours text going ok)
     by_outcome ok (Gone StampEnd) e =
-        runs_done script commands state command runs fit w3 (answers.StampEnd (ended_colour w3 row (members colours))) []
+        runs_done script commands state command runs fit w3 (answers.StampEnd
+        (ended_colour w3 row (members colours))) []
         (subst (λ (what : What). Does script.objects u what w w3
         (answers.StampEnd (ended_colour w3 row (members colours))) []) (sym asked)
         (several.does_gone_end script.objects S found w runs.reached runs.finished u colours text going ok e))
@@ -150,7 +152,8 @@ module _ (script : Script) (commands : List Command) (state : State) (command : 
         runs_done script commands state command runs fit after_all answer []
         (subst (λ (what : What). Does script.objects u what w after_all answer []) (sym asked)
         (final.does_final script.objects S found w runs.reached runs.finished u colours text going ok f e))
-        (subst (Finished S) (sym (final.after_is script.objects S found w runs.reached runs.finished u colours text going ok f e))
+        (subst (Finished S) (sym
+        (final.after_is script.objects S found w runs.reached runs.finished u colours text going ok f e))
         (final.finished6 script.objects S found w runs.reached runs.finished u colours text going ok f e))
 
     stepped_is : (ok : may_begin w u colours ≡ true) → run_steps w (append_steps found w u colours text) ≡ w3
@@ -301,7 +304,8 @@ module _ (script : Script) (fits : IsFitting script)
       let there : In command script.commands =
       subst (λ (l : List Command). In command l) (sym is) (in_right command commands (command ∷ rest) (inl refl)) in
       record {
-        caller = all_at (λ (c : Command). c.client < length script.shape.homes) script.commands fits.callers command there;
+        caller = all_at (λ (c : Command). c.client < length script.shape.homes) script.commands fits.callers command
+            there;
         home = home_at command.client
             (all_at (λ (c : Command). c.client < length script.shape.homes) script.commands fits.callers command there);
         few = fits.shape.few_regions;

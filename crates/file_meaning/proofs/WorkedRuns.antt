@@ -187,7 +187,8 @@ stopped_so-final = refl
 stopped_so-open : (row_of stopped_so.world (row c 0)).last ≡ Open
 stopped_so-open = refl
 
-stopped_so-lines : map (line_in stopped_so) (x ∷ y ∷ []) ≡ (entry_key 1 (id b 0) ∷ []) ∷ (entry_key 1 (id b 0) ∷ []) ∷ []
+stopped_so-lines : map (line_in stopped_so) (x ∷ y ∷ []) ≡ (entry_key 1 (id b 0) ∷ []) ∷
+    (entry_key 1 (id b 0) ∷ []) ∷ []
 stopped_so-lines = refl
 
 stopped_so-queue : queue_of (entries (stopped_so.world.histories 0 x)) ≡ []

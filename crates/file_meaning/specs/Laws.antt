@@ -1,8 +1,9 @@
 -- What the runs in the order of the file have for consequences.
-use Rattle.std.specs.Prelude.{◌≡◌, IsTrue}
+use Rattle.std.specs.Prelude.{◌≡◌, IsTrue, ℕ, List}
 use Rattle.std.specs.List.{All}
 use Rattle.script_text.specs.declared.script.Command.{Command}
 use Rattle.script_text.specs.declared.script.Script.{Script}
+use Rattle.script_text.specs.Grammar.{IsScript}
 use Rattle.script_text.specs.Fitting.{IsFitting}
 use Rattle.lawful_run.specs.Lawful.{LawfulRun}
 use Rattle.file_meaning.specs.Meaning.{State, is_built, StopsAreLast, LeadTo, report_of, step_report, FindsMemory}
@@ -22,3 +23,7 @@ RunsAreExact =
     (script : Script) → IsFitting script → All (λ (c : Command). IsTrue (is_built c.what)) script.commands
     → StopsAreLast script → (state : State) → LeadTo script script.commands state
     → FindsMemory (report_of script state) → report_of script state ≡ step_report script
+
+-- What is read as a script has no command of a client after its stop.
+abbrev pub ScriptsStopLast : Type 0
+ScriptsStopLast = (bytes : List ℕ) (script : Script) → IsScript bytes script → StopsAreLast script

@@ -188,7 +188,8 @@ appended_one found state command text colour =
 abbrev pub is_full : World → ℕ → Bool
 is_full w client = not (nat_lt (w.clients client).used w.shape.rows)
 
--- the steps of an append to several colours: the row begins, its colours are marked, it is decided, and it is settled in
+-- the steps of an append to several colours: the row begins, its colours are marked, it is decided, and it is settled
+-- in
 -- each colour
 abbrev pub append_steps : Found → World → ℕ → Colours → List ℕ → List Step
 append_steps found w client colours text =
@@ -200,7 +201,8 @@ abbrev pub ended_colour : World → Row → List ℕ → ℕ
 ended_colour w row colours =
     slice_index_or (filter (λ colour. is_stamp_end_fence ((row_of w row).marks colour)) colours) 0 0
 
--- The append of a client whose world was the first one, and is the second after the steps, is answered by the outcome of
+-- The append of a client whose world was the first one, and is the second after the steps, is answered by the outcome
+-- of
 -- its row: where that is final the client has seen the stamp, and each colour is cleared below the node's key.
 abbrev pub appended_by : Found → State → Command → World → Row → List ℕ → Outcome → State
 appended_by found state command w row colours Open = answered state command w answers.NoMemory []
@@ -325,7 +327,8 @@ column_report script w region colour =
 -- region and colour.
 abbrev pub report_of : Script → State → Report
 report_of script state = record {
-  clients = map (λ (c : ℕ × List ℕ). record { name = c.1; replies = state.replies c.0 }) (enumerate_from 0 script.clients);
+  clients = map (λ (c : ℕ × List ℕ). record { name = c.1; replies = state.replies c.0 })
+      (enumerate_from 0 script.clients);
   rows = flat_map (λ region. map (row_report region) (rows_of_region state.world region))
       (range_with_len 0 script.shape.regions);
   columns = flat_map (λ region. map (column_report script state.world region)
@@ -344,5 +347,6 @@ pub record IsStepReport (script : Script) (report : Report) : Type 0 where
 
 -- no reply and no mark tells of want of memory
 pub record FindsMemory (report : Report) : Type 0 where
-  pub replies : All (λ (c : ClientReport). All (λ (r : ReplyLine). r.answer ≢ answers.NoMemory) c.replies) report.clients
+  pub replies : All (λ (c : ClientReport). All
+      (λ (r : ReplyLine). r.answer ≢ answers.NoMemory) c.replies) report.clients
   pub marks : All (λ (r : RowReport). All (λ (m : ColourMark). m.mark ≢ marks.Fenced Memory) r.marks) report.rows

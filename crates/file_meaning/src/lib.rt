@@ -3,4 +3,4 @@
 
 mod laws;
 
-pub use laws::{runs_are_exact, runs_are_lawful};
+pub use laws::{runs_are_exact, runs_are_lawful, scripts_stop_last};
