@@ -27,13 +27,13 @@ use Rattle.col_core.specs.Computed.{cut, dated}
 use Rattle.col_core.specs.Log.{Log, first, HasText}
 use Rattle.col_core.specs.Keeping.{Kept, updated, updated_at, kept_after_sync}
 use Rattle.col_core.specs.Rows.{BegunRow}
-use Rattle.col_core.specs.PlayOrder.{Place, IsPlayOrder, nodes_between}
+use Rattle.col_core.specs.PlayOrder.{Place, IsPlayOrder, nodes_between, greatest_between}
 use Rattle.col_core.proofs.Basics.{choice, by_test, both, if_true, same_id-true}
 use Rattle.col_core.proofs.CutLaws.{cut-is_greatest, within, within-at, reached_within}
 use Rattle.col_core.proofs.LawfulPasts.{shown_entered, entries-of}
 use Rattle.col_core.proofs.Members.{In, in_line}
 use Rattle.core_laws.specs.declared.steps.Step.TheVariants.{Play}
-use Rattle.core_laws.specs.Worlds.{World, ClientState, home_of, home_history, after, run_steps, chains_after, cut_after, base_after, may_play, played_cut, played_stamp, greatest_between, after_play, with_client, no_row, is_client, is_column}
+use Rattle.core_laws.specs.Worlds.{World, ClientState, home_of, home_history, after, run_steps, chains_after, cut_after, base_after, may_play, played_cut, played_stamp, after_play, with_client, no_row, is_client, is_column}
 use Rattle.core_laws.specs.Laws.{IsReached, begun_row, log_of, StaysWithinCuts, NothingIsTrimmed}
 use Rattle.core_laws.proofs.Basics.{at_updated, updated-here, at_updated_at, slice_in}
 use Rattle.core_laws.proofs.Clients.{head_with}
