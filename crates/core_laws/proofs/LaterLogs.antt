@@ -2,15 +2,12 @@
 use Rattle.std.proofs.Common.{◌≡◌, ℕ, List, [], ◌∷◌, map, refl, subst, ap, sym, ◌∙◌}
 use Rattle.std.specs.Prelude.{slice_index}
 use Rattle.std.specs.List.{AllZip, Contains}
-use Rattle.log_node.specs.declared.ids.Row.{Row}
 use Rattle.log_node.specs.declared.node.Node.{Node}
 use Rattle.log_node.specs.declared.node.Shape.{Shape}
 use Rattle.log_node.specs.Sets.{members}
-use Rattle.skeen_core.specs.declared.marks.ColourMark.{ColourMark}
 use Rattle.col_core.specs.Rows.{BegunRow}
 use Rattle.col_core.specs.Log.{IsLaterMark, IsLaterRow}
 use Rattle.col_core.proofs.Facts.{later_by_growth}
-use Rattle.core_laws.specs.declared.steps.Step.{Step}
 use Rattle.core_laws.specs.Worlds.{World, RowState, home_of, run_steps}
 use Rattle.core_laws.specs.Laws.{RowGrows, log_of, LogGrows, rows_of_region}
 use Rattle.core_laws.proofs.Basics.{in_contains, contains_in}
@@ -19,7 +16,7 @@ use Rattle.core_laws.proofs.Told.{Told}
 use Rattle.core_laws.proofs.Growing.{Grows, run_grows}
 use Rattle.core_laws.proofs.Runs.{run_held}
 use Rattle.core_laws.proofs.Telling.{run_told}
-use Rattle.core_laws.proofs.RegionRows.{row_at, row_in, OfRegion, of_region, row_stands}
+use Rattle.core_laws.proofs.RegionRows.{row_in, of_region, row_stands}
 
 marks_later : (r s : RowState) → RowGrows r s → (colours : List ℕ)
     → AllZip IsLaterMark (map (λ colour. record { colour = colour; mark = r.marks colour }) colours)

@@ -1,8 +1,8 @@
 -- An append to several colours that has begun, and taken some steps on its row.
-use Rattle.std.proofs.Common.{◌≡◌, ◌≢◌, ◌⊎◌, inl, inr, ℕ, zero, suc, ◌+◌, ◌<◌, ◌≤◌, List, [], ◌∷◌, ◌++◌, length, map, Option, Some, None, Bool, true, false, cond, refl, ap, sym, subst, ◌∙◌, arith, eq-eqb, append-nil, length-append}
+use Rattle.std.proofs.Common.{◌≡◌, ◌≢◌, ◌⊎◌, inl, inr, ℕ, suc, ◌+◌, ◌<◌, ◌≤◌, List, [], ◌∷◌, ◌++◌, length, map, Option, Some, true, refl, ap, sym, subst, ◌∙◌, arith, eq-eqb, append-nil}
 use Rattle.std.specs.Prelude.{◌==◌, ◌&&◌, nat_lt, slice_get, slice_index}
 use Rattle.std.specs.List.{All}
-use Rattle.std.proofs.lemmas.Bool.{ltb-true, lt-ltb, eqb-true, ne_eqb}
+use Rattle.std.proofs.lemmas.Bool.{ltb-true, lt-ltb, eqb-true}
 use Rattle.log_node.specs.declared.ids.Id.{Id}
 use Rattle.log_node.specs.declared.ids.Row.{Row}
 use Rattle.log_node.specs.declared.ids.Colours.{Colours}
@@ -12,31 +12,27 @@ use Rattle.log_node.specs.declared.node.Shape.{Shape}
 use Rattle.log_node.specs.Sets.{members}
 use Rattle.skeen_core.specs.declared.marks.Mark.TheVariants as marks
 use Rattle.skeen_core.specs.declared.marks.Outcome.TheVariants.{Open}
-use Rattle.col_core.specs.declared.Event.TheVariants as events
-use Rattle.col_core.specs.declared.Event.{Event}
 use Rattle.col_core.specs.declared.Entry.{Entry}
 use Rattle.col_core.specs.History.{line}
-use Rattle.col_core.specs.Rows.{BegunRow}
-use Rattle.col_core.specs.Log.{Log, IsLater, IsBegunFor, is_own, places_from, places_of}
+use Rattle.col_core.specs.Log.{Log, IsLater, IsBegunFor, places_from, places_of}
 use Rattle.col_core.specs.Keeping.{Kept, updated, with_made, with_row}
-use Rattle.col_core.proofs.Basics.{choice, by_test, both, apart, if_true}
+use Rattle.col_core.proofs.Basics.{by_test, both, apart, if_true}
 use Rattle.col_core.proofs.Members.{In}
 use Rattle.core_laws.specs.declared.steps.Step.{Step}
 use Rattle.core_laws.specs.declared.steps.Step.TheVariants.{Begin}
-use Rattle.core_laws.specs.Worlds.{World, ClientState, RowState, home_of, home_history, after, run_steps, is_begun, row_of, next_id, next_row, is_client, may_begin, begun_node, after_begin}
+use Rattle.core_laws.specs.Worlds.{World, ClientState, RowState, home_of, after, run_steps, is_begun, row_of, next_id, next_row, is_client, may_begin, begun_node, after_begin}
 use Rattle.core_laws.specs.Laws.{IsReached, log_of, begun_row}
-use Rattle.core_laws.proofs.Basics.{at_updated, updated-here, updated_at-here, in_append, contains_in, slice_last, slice_in}
-use Rattle.core_laws.proofs.Held.{Held}
+use Rattle.core_laws.proofs.Basics.{at_updated, updated-here, updated_at-here, contains_in, slice_last, slice_in}
 use Rattle.core_laws.proofs.Clients.{begun_client, used_before}
 use Rattle.core_laws.proofs.Growing.{Grows, run_grows}
 use Rattle.core_laws.proofs.RegionRows.{row_stands}
 use Rattle.core_laws.proofs.CallerLemmas.{after_reached, run_reached}
 use Rattle.script_text.specs.declared.script.Object.{Object}
 use Rattle.lawful_run.specs.Callers.{Caller, node_of, row_of as named_row}
-use Rattle.lawful_run.specs.Appends.{IsStepOf, AreSteps, BeginsRow}
+use Rattle.lawful_run.specs.Appends.{IsStepOf, BeginsRow}
 use Rattle.lawful_run.proofs.Prefixes.{prefix_length, prefix_get}
-use Rattle.file_meaning.proofs.Rows.{node_id, IsDone, IsStill, done_still, still_trans, step_still, run_still, IsOn, on_touches}
-use Rattle.file_meaning.proofs.Moves.{Adds, StepIn, OnRow, on_steps, places_more, no_places, all_from}
+use Rattle.file_meaning.proofs.Rows.{IsDone, IsStill, done_still, still_trans, step_still, run_still, IsOn, on_touches}
+use Rattle.file_meaning.proofs.Moves.{StepIn, OnRow, on_steps, places_more, no_places, all_from}
 use Rattle.file_meaning.proofs.Clearing.{held_of, told_of, listed_of, Finished}
 use Rattle.file_meaning.proofs.Kept.{caller_in, IsKeptBy, later_log}
 use Rattle.file_meaning.proofs.One.{updated-not}

@@ -1,13 +1,13 @@
--- For those who do the commands: each state to which commands lead has a world of the script's shape that steps have made.
+-- For those who do the commands: each state to which commands lead has a world of the script's shape that steps have
+-- made.
 use Rattle.std.proofs.Common.{◌≡◌, List, refl, subst, ◌∙◌, ap, sym}
-use Rattle.log_node.specs.declared.node.Shape.{Shape}
 use Rattle.core_laws.specs.Worlds.{World}
 use Rattle.core_laws.specs.Laws.{IsReached}
 use Rattle.core_laws.proofs.CallerLemmas.{opened_reached, run_reached}
 use Rattle.core_laws.proofs.Growing.{run_grows}
 use Rattle.script_text.specs.declared.script.Command.{Command}
 use Rattle.script_text.specs.declared.script.Script.{Script}
-use Rattle.file_meaning.specs.Meaning.{State, LeadTo, nothing, next, done}
+use Rattle.file_meaning.specs.Meaning.{State, LeadTo, nothing, next}
 use Rattle.file_meaning.proofs.Exactness.{done_extends}
 
 pub lead_reached : (script : Script) {commands : List Command} {state : State} → LeadTo script commands state

@@ -1,22 +1,21 @@
 -- Helping: what it adds and leaves, and that a cleared column has no open entry below the key.
-use Rattle.std.proofs.Common.{◌≡◌, ℕ, zero, suc, ◌+◌, ◌<◌, ◌≤◌, List, [], ◌∷◌, ◌++◌, length, Option, Some, None, Bool, true, false, cond, refl, subst, ap, sym, ◌∙◌, inl, inr, ◌⊎◌, arith, eq-eqb, append-nil}
+use Rattle.std.proofs.Common.{◌≡◌, ℕ, zero, suc, ◌<◌, ◌≤◌, List, [], ◌∷◌, ◌++◌, length, Some, Bool, true, false, refl, subst, ap, sym, ◌∙◌, inl, inr, ◌⊎◌, arith, eq-eqb}
 use Rattle.std.specs.Prelude.{◌==◌, ◌&&◌, ◌≢◌, not, nat_lt, slice_get, slice_index}
 use Rattle.std.specs.List.{fold, filter}
 use Rattle.std.proofs.lemmas.Bool.{ltb-true, eqb-true, and_from}
 use Rattle.log_node.specs.declared.ids.Id.{Id}
 use Rattle.log_node.specs.declared.ids.Key.{Key}
 use Rattle.log_node.specs.declared.ids.Row.{Row}
-use Rattle.log_node.specs.declared.node.Node.{Node}
 use Rattle.log_node.specs.declared.node.Shape.{Shape}
 use Rattle.log_node.specs.Order.{key_below}
 use Rattle.skeen_core.specs.Standings.{Standing}
 use Rattle.col_core.specs.declared.Entry.{Entry}
 use Rattle.col_core.specs.History.{entries}
-use Rattle.col_core.proofs.Basics.{choice, by_test, both, apart, not_true}
+use Rattle.col_core.proofs.Basics.{by_test, both, apart, not_true}
 use Rattle.col_core.proofs.KeyOrder.{key-irrefl}
 use Rattle.col_core.proofs.LawfulPasts.{entries-of}
 use Rattle.col_core.proofs.Members.{In, in_filter, in_filter-back, Rises, rises, rises-filter}
-use Rattle.col_core.proofs.Pasts.{Status, Waits}
+use Rattle.col_core.proofs.Pasts.{Waits}
 use Rattle.core_laws.specs.declared.steps.Step.{Step}
 use Rattle.core_laws.specs.Worlds.{World, ClientState, RowState, home_of, home_history, run_steps, is_begun, row_of}
 use Rattle.core_laws.specs.Completing.{complete_steps}
@@ -31,7 +30,7 @@ use Rattle.core_laws.proofs.RegionRows.{same_number}
 use Rattle.core_laws.proofs.Runs.{held, run_held, run_steps-append}
 use Rattle.core_laws.proofs.CallerLemmas.{run_reached}
 use Rattle.file_meaning.specs.Meaning.{Found, Helping, open_below, node_with, helped_row, helped_node, helped_first, helped_times, cleared, all_cleared}
-use Rattle.file_meaning.proofs.Rows.{node_id, IsDone, IsStill, done_still, still_trans, completed_done, completed_still, complete_steps_on, HasRow, open_row, open_before}
+use Rattle.file_meaning.proofs.Rows.{node_id, IsDone, IsStill, done_still, still_trans, completed_done, completed_still, complete_steps_on, open_row, open_before}
 use Rattle.file_meaning.proofs.Moves.{Adds, adds_none, adds_trans, adds_map, StepIn, OnRow, on_steps, HelpIn, help_of}
 
 -- What holds of a world that is reached

@@ -1,30 +1,25 @@
 -- Where memory is found, a command does what it does with memory found everywhere.
-use Rattle.std.proofs.Common.{◌≡◌, ◌≢◌, ◌⊎◌, inl, inr, ℕ, zero, suc, ◌+◌, ◌<◌, ◌≤◌, List, [], ◌∷◌, ◌++◌, length, map, take, Option, Some, None, Bool, true, false, cond, refl, ap, sym, subst, ◌∙◌, arith, eq-eqb}
-use Rattle.std.specs.Prelude.{◌==◌, ◌&&◌, not}
+use Rattle.std.proofs.Common.{◌≡◌, ◌≢◌, inl, inr, ℕ, zero, suc, ◌+◌, List, [], ◌∷◌, ◌++◌, length, take, Option, Some, None, Bool, true, false, cond, refl, ap, sym, subst, ◌∙◌, eq-eqb}
+use Rattle.std.specs.Prelude.{◌==◌}
 use Rattle.std.specs.List.{fold}
 use Rattle.std.proofs.lemmas.Bool.{and_from, and_left, ltb-true, lt-ltb, or_left, or_right}
 use Rattle.log_node.specs.declared.ids.Key.{Key}
 use Rattle.log_node.specs.declared.ids.Row.{Row}
-use Rattle.log_node.specs.declared.ids.Colours.{Colours}
 use Rattle.log_node.specs.declared.node.Node.{Node}
 use Rattle.log_node.specs.Sets.{members}
 use Rattle.skeen_core.specs.declared.marks.Why.TheVariants.{Memory, StampEnd}
-use Rattle.skeen_core.specs.declared.marks.Mark.{Mark}
 use Rattle.skeen_core.specs.declared.marks.Mark.TheVariants as marks
-use Rattle.skeen_core.specs.declared.marks.Outcome.{Outcome}
-use Rattle.skeen_core.specs.declared.marks.Outcome.TheVariants.{Open, Gone, Final}
 use Rattle.skeen_core.specs.Outcomes.{is_missing}
 use Rattle.skeen_core.specs.Standings.{Standing}
-use Rattle.col_core.specs.History.{entry_key}
 use Rattle.col_core.specs.Keeping.{updated}
-use Rattle.col_core.proofs.Basics.{choice, by_test, both, apart, if_true, if_false}
+use Rattle.col_core.proofs.Basics.{by_test, if_true, if_false}
 use Rattle.col_core.proofs.Members.{In}
 use Rattle.core_laws.specs.declared.steps.Step.{Step}
 use Rattle.core_laws.specs.declared.steps.Step.TheVariants as steps
-use Rattle.core_laws.specs.Worlds.{World, RowState, home_history, after, run_steps, is_begun, row_of, is_member, is_row_at_end, may_mark, may_propose, may_fence, may_decide, may_settle, with_mark, next_row}
+use Rattle.core_laws.specs.Worlds.{World, RowState, home_history, after, run_steps, is_begun, row_of, is_member, is_row_at_end, may_mark, may_propose, may_fence, may_decide, may_settle, with_mark}
 use Rattle.core_laws.specs.Completing.{mark_step, mark_steps, colours_of, settle_steps, complete_steps}
-use Rattle.core_laws.proofs.Basics.{at_updated, updated-here, updated_at-here}
-use Rattle.core_laws.proofs.Marks.{has_colour, colour_in}
+use Rattle.core_laws.proofs.Basics.{updated-here, updated_at-here}
+use Rattle.core_laws.proofs.Marks.{has_colour}
 use Rattle.core_laws.proofs.Completing.{mark_step_marks}
 use Rattle.core_laws.proofs.Growing.{run_grows}
 use Rattle.core_laws.proofs.Runs.{run_steps-append}

@@ -1,6 +1,6 @@
 -- A run in which memory is found everywhere gives the one report that the meaning has.
-use Rattle.std.proofs.Common.{◌≡◌, ◌≢◌, ◌⊎◌, inl, inr, ℕ, zero, suc, ◌+◌, ◌<◌, ◌≤◌, List, [], ◌∷◌, ◌++◌, length, map, take, Option, Some, None, Bool, true, false, cond, refl, ap, sym, subst, ◌∙◌, arith, append-nil, append_assoc}
-use Rattle.std.specs.Prelude.{IsTrue, slice_get, slice_index}
+use Rattle.std.proofs.Common.{◌≡◌, ◌≢◌, inl, inr, ℕ, zero, suc, ◌<◌, List, [], ◌∷◌, ◌++◌, length, map, take, Some, None, refl, ap, sym, subst, ◌∙◌, arith, append-nil, append_assoc}
+use Rattle.std.specs.Prelude.{slice_get, slice_index}
 use Rattle.std.specs.List.{All, fold, flat_map, range_with_len, enumerate_from}
 use Rattle.std.proofs.lemmas.Bool.{ltb-true}
 use Rattle.std.proofs.lemmas.Grind.{fold-append}
@@ -17,16 +17,14 @@ use Rattle.skeen_core.specs.declared.marks.ColourMark.{ColourMark}
 use Rattle.skeen_core.specs.declared.marks.Outcome.{Outcome}
 use Rattle.skeen_core.specs.declared.marks.Outcome.TheVariants.{Open, Gone, Final}
 use Rattle.col_core.specs.History.{entry_key}
-use Rattle.col_core.specs.Keeping.{updated}
-use Rattle.col_core.specs.Rows.{BegunRow}
 use Rattle.col_core.proofs.Basics.{choice, by_test, if_true, if_false}
 use Rattle.col_core.proofs.Members.{In}
 use Rattle.core_laws.specs.declared.steps.Step.TheVariants.{Begin, Single, Play, Seen}
-use Rattle.core_laws.specs.Worlds.{World, home_of, after, run_steps, is_begun, row_of, next_id, next_row, may_single, single_stamp}
-use Rattle.core_laws.specs.Completing.{complete_steps, colours_of}
+use Rattle.core_laws.specs.Worlds.{World, home_of, after, run_steps, row_of, next_id, next_row, may_single, single_stamp}
+use Rattle.core_laws.specs.Completing.{colours_of}
 use Rattle.core_laws.specs.Laws.{begun_row, rows_of_region}
-use Rattle.core_laws.proofs.Basics.{at_updated, updated-here, contains_in, in_left, in_right, slice_in}
-use Rattle.core_laws.proofs.Marks.{has_colour, colour_in}
+use Rattle.core_laws.proofs.Basics.{at_updated, updated-here, in_left, in_right, slice_in}
+use Rattle.core_laws.proofs.Marks.{colour_in}
 use Rattle.core_laws.proofs.RegionRows.{row_stands}
 use Rattle.script_text.specs.declared.script.What.{What}
 use Rattle.script_text.specs.declared.script.What.TheVariants as whats
@@ -38,9 +36,8 @@ use Rattle.report_text.specs.declared.report.Answer.TheVariants as answers
 use Rattle.report_text.specs.declared.report.ReplyLine.{ReplyLine}
 use Rattle.report_text.specs.declared.report.ClientReport.{ClientReport}
 use Rattle.report_text.specs.declared.report.RowReport.{RowReport}
-use Rattle.report_text.specs.declared.report.Report.{Report}
 use Rattle.lawful_run.specs.Columns.{row_report}
-use Rattle.file_meaning.specs.Meaning.{State, Found, all_found, opening, is_built, StopsAreLast, answered, with_single, appended_one, appended_by, appended_several, appended, stopped, synced, done_one, done, is_full, append_steps, ended_colour, point_in, all_cleared, nodes_played, LeadTo, nothing, next, report_of, step_report, FindsMemory}
+use Rattle.file_meaning.specs.Meaning.{State, Found, all_found, opening, answered, with_single, appended_one, appended_by, appended_several, appended, stopped, done_one, done, is_full, append_steps, ended_colour, point_in, all_cleared, nodes_played, LeadTo, nothing, next, report_of, FindsMemory}
 use Rattle.file_meaning.specs.Laws.{RunsAreExact}
 use Rattle.file_meaning.proofs.Clearing.{told_of}
 use Rattle.file_meaning.proofs.Exactly.{IsClean, RunsTo, stays_there, runs_on, clean_from, complete_exact, taken_exact, clears_run, clears_exact}

@@ -1,5 +1,5 @@
 -- The first event that a begun append adds to a column is its proposal.
-use Rattle.std.proofs.Common.{◌≡◌, ◌≢◌, ◌⊎◌, inl, inr, ℕ, zero, suc, ◌+◌, ◌<◌, ◌≤◌, max, List, [], ◌∷◌, ◌++◌, length, map, Option, Some, None, Bool, true, false, cond, refl, ap, sym, subst, ◌∙◌, arith, eq-eqb, append-nil}
+use Rattle.std.proofs.Common.{◌≡◌, inl, inr, ℕ, ◌+◌, ◌<◌, List, [], ◌∷◌, ◌++◌, length, Some, Bool, true, refl, ap, sym, subst, ◌∙◌, arith, append-nil}
 use Rattle.std.specs.Prelude.{slice_get, reverse}
 use Rattle.std.specs.List.{list_any}
 use Rattle.std.proofs.lemmas.Bool.{ltb-true, or_left, or_right}
@@ -8,7 +8,6 @@ use Rattle.log_node.specs.declared.ids.Row.{Row}
 use Rattle.log_node.specs.declared.ids.Colours.{Colours}
 use Rattle.log_node.specs.declared.ids.Counts.{Counts}
 use Rattle.log_node.specs.declared.node.Node.{Node}
-use Rattle.log_node.specs.Order.{same_id}
 use Rattle.skeen_core.specs.declared.marks.Mark.TheVariants as marks
 use Rattle.col_core.specs.declared.Event.TheVariants as events
 use Rattle.col_core.specs.declared.Event.{Event}
@@ -18,22 +17,22 @@ use Rattle.col_core.specs.Rows.{node_wants}
 use Rattle.col_core.proofs.Basics.{apart, same_id-is}
 use Rattle.col_core.proofs.LawfulPasts.{lawful_front}
 use Rattle.col_core.proofs.Members.{In}
-use Rattle.col_core.proofs.Pasts.{Absent, Waits, status, top, IsLawfulPast, IsLawfulNext}
+use Rattle.col_core.proofs.Pasts.{Absent, Waits, status, IsLawfulPast, IsLawfulNext}
 use Rattle.core_laws.specs.declared.steps.Step.{Step}
 use Rattle.core_laws.specs.Worlds.{World, home_of, row_of, next_id, next_row, may_begin, begun_node, run_steps, after_begin}
 use Rattle.core_laws.specs.Laws.{IsReached}
 use Rattle.core_laws.proofs.Basics.{slice_in}
-use Rattle.core_laws.proofs.Held.{status_in, Held}
+use Rattle.core_laws.proofs.Held.{status_in}
 use Rattle.core_laws.proofs.Histories.{lawful_past_in, not_entered}
 use Rattle.core_laws.proofs.Keeps.{next_absent}
 use Rattle.core_laws.proofs.Later.{reverse-split}
 use Rattle.core_laws.proofs.RegionRows.{same_number}
-use Rattle.core_laws.proofs.Told.{FitsPropose, FitsEvent}
+use Rattle.core_laws.proofs.Told.{FitsEvent}
 use Rattle.script_text.specs.declared.script.Object.{Object}
 use Rattle.lawful_run.specs.Appends.{IsStepOf}
-use Rattle.file_meaning.proofs.Rows.{node_id, IsOn}
-use Rattle.file_meaning.proofs.Moves.{Adds, StepIn, OnRow}
-use Rattle.file_meaning.proofs.Clearing.{held_of, told_of, listed_of}
+use Rattle.file_meaning.proofs.Rows.{IsOn}
+use Rattle.file_meaning.proofs.Moves.{StepIn, OnRow}
+use Rattle.file_meaning.proofs.Clearing.{held_of, told_of}
 use Rattle.file_meaning.proofs.Begun as begun
 
 pub in_any : {A : Type 0} (test : A → Bool) (xs : List A) (x : A) → In x xs → test x ≡ true → list_any test xs ≡ true

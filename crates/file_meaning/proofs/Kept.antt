@@ -1,20 +1,17 @@
 -- What a client keeps beside a world, and what a command does to both.
-use Rattle.std.proofs.Common.{◌≡◌, ℕ, ◌+◌, ◌<◌, ◌≤◌, List, [], ◌∷◌, ◌++◌, length, refl, subst, ap, sym, ◌∙◌, arith}
+use Rattle.std.proofs.Common.{◌≡◌, ℕ, ◌≤◌, List, [], length, refl, subst, ap, sym, ◌∙◌, arith}
 use Rattle.std.specs.Prelude.{◌≢◌, IsTrue, slice_index}
-use mathlib.Core.List.{IsPrefix}
 use Rattle.log_node.specs.declared.node.Shape.{Shape}
 use Rattle.log_node.specs.Seen.{PlacedNode}
 use Rattle.col_core.specs.declared.Entry.{Entry}
 use Rattle.col_core.specs.History.{line}
-use Rattle.col_core.specs.Log.{Log, IsLater, places_of}
+use Rattle.col_core.specs.Log.{IsLater, places_of}
 use Rattle.col_core.specs.Keeping.{Kept}
 use Rattle.core_laws.specs.declared.steps.Step.{Step}
 use Rattle.core_laws.specs.Worlds.{World, ClientState, home_of, home_history, run_steps}
 use Rattle.core_laws.specs.Laws.{IsReached, log_of}
 use Rattle.core_laws.proofs.LaterLogs.{log_grows}
-use Rattle.core_laws.proofs.CallerLemmas.{run_reached}
 use Rattle.script_text.specs.declared.script.What.{What}
-use Rattle.script_text.specs.declared.script.Command.{Command}
 use Rattle.script_text.specs.declared.script.Object.{Object}
 use Rattle.report_text.specs.declared.report.Answer.{Answer}
 use Rattle.report_text.specs.declared.report.Answer.TheVariants as answers

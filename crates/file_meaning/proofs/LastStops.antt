@@ -1,21 +1,20 @@
 -- What is read as a script has no command of a client after its stop.
 use Rattle.std.proofs.Common.{◌≡◌, ◌≢◌, ◌⊎◌, inl, inr, ℕ, List, [], ◌∷◌, ◌++◌, Option, Some, None, Bool, true, false, refl, ap, sym, subst, ◌∙◌, arith, append-nil, append_assoc}
-use Rattle.std.specs.Prelude.{IsTrue, ◌<◌, nat_lt, length, ◌==◌, ◌&&◌, not}
-use Rattle.std.specs.List.{AllPairs, cons_option, filter_map, list_any, enumerate_from}
+use Rattle.std.specs.Prelude.{IsTrue, nat_lt, length, ◌==◌, ◌&&◌, not}
+use Rattle.std.specs.List.{AllPairs, cons_option, enumerate_from}
 use Rattle.std.proofs.lemmas.Bool.{and_from, eq-eqb}
 use Rattle.std.proofs.lemmas.List.Elements.{filter_map-append}
 use Rattle.std.proofs.lemmas.List.Kept.{AllPairs-cons}
-use Rattle.col_core.proofs.Basics.{both, apart, not_true}
+use Rattle.col_core.proofs.Basics.{apart, not_true}
 use Rattle.col_core.proofs.Members.{In}
 use Rattle.core_laws.proofs.Basics.{in_append}
 use Rattle.core_laws.proofs.RegionRows.{all_in}
 use Rattle.script_text.specs.declared.script.Command.{Command}
-use Rattle.script_text.specs.declared.script.Script.{Script}
 use Rattle.script_text.specs.declared.item.Item.{Item}
 use Rattle.script_text.specs.declared.item.Item.TheVariants as items
 use Rattle.script_text.specs.Items.{is_stop, client_names, commands, commands_in, has_stopped, has_begun}
 use Rattle.script_text.specs.Pieces.{lines_of}
-use Rattle.script_text.specs.Grammar.{may_follow, is_lawful_what, Say, kept_lines, IsScript}
+use Rattle.script_text.specs.Grammar.{may_follow, is_lawful_what, Say, kept_lines}
 use Rattle.file_meaning.specs.Meaning.{StopsAreLast}
 use Rattle.file_meaning.specs.Laws.{ScriptsStopLast}
 use Rattle.file_meaning.proofs.First.{in_any}

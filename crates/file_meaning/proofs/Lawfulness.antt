@@ -1,5 +1,5 @@
 -- The report of a state to which a script's commands lead is that of a lawful run.
-use Rattle.std.proofs.Common.{◌≡◌, ◌≢◌, ◌⊎◌, inl, inr, ℕ, zero, suc, ◌+◌, ◌<◌, ◌≤◌, List, [], ◌∷◌, ◌++◌, length, map, Option, Some, None, slice_get, refl, ap, sym, subst, ◌∙◌, arith, Bool, true, false, length-append}
+use Rattle.std.proofs.Common.{◌≡◌, ◌⊎◌, inl, inr, ℕ, zero, suc, ◌+◌, ◌<◌, ◌≤◌, List, [], ◌∷◌, ◌++◌, length, map, Option, Some, None, slice_get, refl, ap, sym, subst, ◌∙◌, arith, length-append}
 use Rattle.std.specs.Prelude.{IsTrue, slice_index, unwrap_or}
 use Rattle.std.specs.Option.{option_map}
 use Rattle.std.specs.List.{All, Contains, filter, flat_map, range_with_len, enumerate_from}
@@ -13,17 +13,16 @@ use Rattle.log_node.specs.declared.node.Shape.{Shape}
 use Rattle.skeen_core.specs.declared.marks.Outcome.TheVariants.{Open}
 use Rattle.skeen_core.specs.Standings.{Standing, queue_of}
 use Rattle.col_core.specs.declared.Entry.{Entry}
-use Rattle.col_core.specs.History.{entries, line}
-use Rattle.col_core.specs.Cuts.{Dated, chain}
+use Rattle.col_core.specs.History.{entries}
+use Rattle.col_core.specs.Cuts.{chain}
 use Rattle.col_core.specs.Computed.{dated}
 use Rattle.col_core.specs.Legal.{IsColumnHistory}
 use Rattle.col_core.specs.Rows.{BegunRow, AreLawfulRows, is_of}
 use Rattle.col_core.specs.Log.{Log}
 use Rattle.col_core.proofs.Basics.{by_test}
 use Rattle.col_core.proofs.CutLaws.{cut-is_greatest}
-use Rattle.col_core.proofs.Members.{In}
 use Rattle.core_laws.specs.Worlds.{World, home_of}
-use Rattle.core_laws.specs.Laws.{IsReached, log_of, rows_of_region}
+use Rattle.core_laws.specs.Laws.{log_of, rows_of_region}
 use Rattle.core_laws.proofs.Basics.{in_contains, contains_in, slice_last}
 use Rattle.core_laws.proofs.LawfulRows.{have_lawful_rows}
 use Rattle.core_laws.proofs.RegionRows.{all_in, OfRegion, of_region}
@@ -34,11 +33,9 @@ use Rattle.report_text.specs.declared.report.QueueKey.{QueueKey}
 use Rattle.report_text.specs.declared.report.ReplyLine.{ReplyLine}
 use Rattle.report_text.specs.declared.report.ClientReport.{ClientReport}
 use Rattle.report_text.specs.declared.report.ColumnReport.{ColumnReport}
-use Rattle.report_text.specs.declared.report.Report.{Report}
-use Rattle.lawful_run.specs.Callers.{caller_of, commands_of}
-use Rattle.lawful_run.specs.Columns.{column_numbers, ShowsClosing, IsColumnReport, AreColumns, AreRows, AreCopies, row_report}
+use Rattle.lawful_run.specs.Columns.{IsColumnReport, AreColumns, AreRows, AreCopies}
 use Rattle.lawful_run.specs.Lawful.{IsClientRun, IsHelp, HasHelping, HasStopped, LeavesOpen, LawfulRun}
-use Rattle.file_meaning.specs.Meaning.{State, is_built, StopsAreLast, LeadTo, column_report, report_of}
+use Rattle.file_meaning.specs.Meaning.{State, column_report, report_of}
 use Rattle.file_meaning.specs.Laws.{RunsAreLawful}
 use Rattle.lawful_run.proofs.Prefixes.{get_within}
 use Rattle.file_meaning.proofs.Lists.{in_range}
@@ -46,7 +43,7 @@ use Rattle.file_meaning.proofs.Rows.{IsDone, HasRow, open_row}
 use Rattle.file_meaning.proofs.Clearing.{held_of, told_of, listed_of, waits_not_done}
 use Rattle.file_meaning.proofs.Plain.{other_chain, none_noted}
 use Rattle.file_meaning.proofs.Rowing.{by_client, rows_begun}
-use Rattle.file_meaning.proofs.Leading.{IsStopped, Runs, MayHelp}
+use Rattle.file_meaning.proofs.Leading.{IsStopped, Runs}
 use Rattle.file_meaning.proofs.Whole.{all_at, runs_all}
 
 -- Lists

@@ -1,5 +1,5 @@
 -- What holds of the state after each command.
-use Rattle.std.proofs.Common.{◌≡◌, ◌≢◌, ◌⊎◌, inl, inr, ℕ, zero, suc, ◌+◌, ◌<◌, ◌≤◌, List, [], ◌∷◌, ◌++◌, length, Option, Some, None, Bool, true, false, cond, refl, ap, sym, subst, ◌∙◌, arith, eq-eqb}
+use Rattle.std.proofs.Common.{◌≡◌, ◌≢◌, ◌⊎◌, inl, inr, ℕ, ◌<◌, ◌≤◌, List, [], ◌∷◌, ◌++◌, length, None, true, refl, ap, sym, subst, ◌∙◌, arith, eq-eqb}
 use Rattle.std.specs.Prelude.{IsTrue, nat_lt, slice_index, ◌==◌}
 use Rattle.std.proofs.lemmas.Bool.{eqb-true, ltb-true}
 use Rattle.log_node.specs.declared.ids.Row.{Row}
@@ -7,10 +7,10 @@ use Rattle.log_node.specs.declared.node.Shape.{Shape}
 use Rattle.log_node.specs.Seen.{PlacedNode}
 use Rattle.col_core.specs.declared.Entry.{Entry}
 use Rattle.col_core.specs.Log.{Log}
-use Rattle.col_core.specs.Keeping.{Kept, nothing_kept, updated}
+use Rattle.col_core.specs.Keeping.{Kept, nothing_kept}
 use Rattle.col_core.proofs.Basics.{by_test, apart}
 use Rattle.col_core.proofs.Members.{In}
-use Rattle.core_laws.specs.Worlds.{World, opened}
+use Rattle.core_laws.specs.Worlds.{World}
 use Rattle.core_laws.specs.Laws.{IsReached, log_of}
 use Rattle.core_laws.proofs.Basics.{at_updated, updated-here, in_append, in_left, in_right}
 use Rattle.core_laws.proofs.CallerLemmas.{opened_reached, run_reached}
@@ -32,9 +32,8 @@ use Rattle.lawful_run.specs.Lawful.{IsHelp}
 use Rattle.lawful_run.proofs.Later.{explained_later}
 use Rattle.file_meaning.specs.Meaning.{State, opening, is_built, answered}
 use Rattle.file_meaning.proofs.Rows.{IsDone}
-use Rattle.file_meaning.proofs.Moves.{Adds}
 use Rattle.file_meaning.proofs.Clearing.{Finished}
-use Rattle.file_meaning.proofs.Kept.{caller_in, IsKeptBy, MadeBy, KeptAfter, Does, later_log, kept_other}
+use Rattle.file_meaning.proofs.Kept.{caller_in, IsKeptBy, MadeBy, Does, later_log, kept_other}
 use Rattle.file_meaning.proofs.Lists.{asked_by, asked-own, asked-other}
 
 -- Replies

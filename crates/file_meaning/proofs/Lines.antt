@@ -1,19 +1,18 @@
 -- Where a node stands in a line, and that a final entry stays.
-use Rattle.std.proofs.Common.{◌≡◌, ℕ, zero, suc, ◌+◌, ◌<◌, ◌≤◌, List, [], ◌∷◌, ◌++◌, length, map, Option, Some, None, Bool, true, false, cond, refl, subst, ap, sym, ◌∙◌, inl, inr, ◌⊎◌, arith}
-use Rattle.std.specs.Prelude.{◌&&◌, ◌||◌, not, slice_get, reverse}
+use Rattle.std.proofs.Common.{◌≡◌, ℕ, suc, ◌+◌, ◌≤◌, List, [], ◌∷◌, ◌++◌, length, map, Some, Bool, true, false, refl, subst, ap, sym, ◌∙◌, inl, inr, ◌⊎◌, arith}
+use Rattle.std.specs.Prelude.{◌||◌, slice_get, reverse}
 use Rattle.std.specs.List.{list_all, filter}
 use Rattle.std.proofs.lemmas.Bool.{true≢false, and_from, or_left, or_right}
 use Rattle.std.proofs.lemmas.List.{reverse-append}
 use Rattle.log_node.specs.declared.ids.Id.{Id}
 use Rattle.log_node.specs.declared.ids.Key.{Key}
 use Rattle.log_node.specs.Order.{same_id, key_below}
-use Rattle.skeen_core.specs.declared.marks.Outcome.TheVariants.{Open, Gone, Final}
-use Rattle.skeen_core.specs.Standings.{Standing, is_delivered, line_of}
+use Rattle.skeen_core.specs.Standings.{Standing, is_delivered}
 use Rattle.col_core.specs.declared.Event.{Event}
 use Rattle.col_core.specs.declared.Event.TheVariants as events
 use Rattle.col_core.specs.declared.Entry.{Entry}
 use Rattle.col_core.specs.History.{entries, entry_key, line}
-use Rattle.col_core.proofs.Basics.{choice, by_test, both, apart, if_true, if_false, same_id-true, same_id-is}
+use Rattle.col_core.proofs.Basics.{choice, by_test, apart, if_false, same_id-true, same_id-is}
 use Rattle.col_core.proofs.KeyOrder.{key-total}
 use Rattle.col_core.proofs.Members.{In, in_line, in_filter-back, no_standing}
 use Rattle.col_core.proofs.Pasts.{Status, Absent, Alone, Waits, Settled, status, after_event, standing_of, IsLawfulPast, IsLawfulNext}
@@ -21,7 +20,7 @@ use Rattle.core_laws.specs.Worlds.{World}
 use Rattle.core_laws.proofs.Held.{status_in, Held}
 use Rattle.core_laws.proofs.Histories.{lawful_past_in}
 use Rattle.core_laws.proofs.Agreement.{entry_shown}
-use Rattle.file_meaning.specs.Meaning.{position_of, open_below}
+use Rattle.file_meaning.specs.Meaning.{position_of}
 use Rattle.file_meaning.proofs.Rows.{in_past, standing_as}
 use Rattle.file_meaning.proofs.Moves.{Adds}
 use Rattle.file_meaning.proofs.Clearing.{of_open, IsClear}

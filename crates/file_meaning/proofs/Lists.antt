@@ -1,5 +1,5 @@
 -- Ranges, and one item more at the end of a list.
-use Rattle.std.proofs.Common.{◌≡◌, ◌≢◌, ℕ, zero, suc, ◌+◌, ◌<◌, ◌≤◌, List, [], ◌∷◌, ◌++◌, cond, Some, slice_get, refl, ap, sym, ◌∙◌, inl, inr, ◌⊎◌, arith, eq-eqb, ne_eqb, append-nil}
+use Rattle.std.proofs.Common.{◌≡◌, ◌≢◌, ℕ, zero, suc, ◌+◌, ◌<◌, ◌≤◌, List, [], ◌∷◌, ◌++◌, cond, ap, ◌∙◌, inl, inr, ◌⊎◌, arith, eq-eqb, ne_eqb, append-nil}
 use Rattle.std.specs.Prelude.{◌==◌, map}
 use Rattle.std.specs.List.{filter, range_with_len}
 use Rattle.std.proofs.lemmas.Bool.{cases_lt}

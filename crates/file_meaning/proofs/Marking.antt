@@ -1,9 +1,7 @@
 -- The steps of a completion one by one: which step stands where, and what the first of them have done.
-use Rattle.std.proofs.Common.{◌≡◌, ◌≢◌, ◌⊎◌, inl, inr, ℕ, zero, suc, ◌+◌, ◌-◌, ◌<◌, ◌≤◌, List, [], ◌∷◌, ◌++◌, length, map, take, Option, Some, None, Bool, true, false, cond, refl, ap, sym, subst, ◌∙◌, arith, eq-eqb}
-use Rattle.std.specs.Prelude.{◌==◌, ◌&&◌, slice_get}
-use Rattle.std.specs.List.{list_any}
-use Rattle.std.proofs.lemmas.Bool.{ltb-true, lt-ltb, eqb-true, cases_lt, or_left, or_right, or_cases}
-use Rattle.std.proofs.lemmas.List.{length-map}
+use Rattle.std.proofs.Common.{◌≡◌, ◌≢◌, inl, inr, ℕ, zero, suc, ◌+◌, ◌<◌, List, [], ◌∷◌, ◌++◌, length, take, Some, Bool, true, false, cond, refl, ap, sym, subst, ◌∙◌, arith, eq-eqb}
+use Rattle.std.specs.Prelude.{◌==◌, slice_get}
+use Rattle.std.proofs.lemmas.Bool.{ltb-true, or_left, or_right}
 use Rattle.log_node.specs.declared.ids.Row.{Row}
 use Rattle.log_node.specs.declared.node.Node.{Node}
 use Rattle.log_node.specs.Sets.{members}
@@ -11,23 +9,19 @@ use Rattle.skeen_core.specs.declared.marks.Why.{Why}
 use Rattle.skeen_core.specs.declared.marks.Why.TheVariants.{Memory, StampEnd}
 use Rattle.skeen_core.specs.declared.marks.Mark.{Mark}
 use Rattle.skeen_core.specs.declared.marks.Mark.TheVariants as marks
-use Rattle.skeen_core.specs.declared.marks.Outcome.TheVariants.{Open}
 use Rattle.skeen_core.specs.Outcomes.{is_missing}
 use Rattle.col_core.specs.Keeping.{updated}
-use Rattle.col_core.proofs.Basics.{choice, by_test, apart, if_true}
+use Rattle.col_core.proofs.Basics.{choice, apart, if_true}
 use Rattle.col_core.proofs.Members.{In}
 use Rattle.core_laws.specs.declared.steps.Step.{Step}
 use Rattle.core_laws.specs.declared.steps.Step.TheVariants as steps
-use Rattle.core_laws.specs.Worlds.{World, RowState, home_of, after, run_steps, is_begun, row_of, row_history, marks_of, is_row_at_end, may_propose, may_fence, proposed_stamp, after_propose, with_mark}
-use Rattle.core_laws.specs.Completing.{mark_step, mark_steps, colours_of, settle_steps, complete_steps}
+use Rattle.core_laws.specs.Worlds.{World, RowState, after, run_steps, is_begun, row_of, is_row_at_end, may_propose, may_fence, proposed_stamp, after_propose, with_mark}
+use Rattle.core_laws.specs.Completing.{mark_step, mark_steps, colours_of}
 use Rattle.core_laws.proofs.Basics.{at_updated, updated_at-here, slice_in}
-use Rattle.core_laws.proofs.Held.{status_in, Held}
-use Rattle.core_laws.proofs.Marks.{has_colour, is_waiting, colour_in, in_colours, missing_none}
-use Rattle.core_laws.proofs.Completing.{mark_step_marks, none_missing, Decides, decide_decides, settle_all}
-use Rattle.core_laws.proofs.Growing.{Grows, run_grows, after_grows}
-use Rattle.core_laws.proofs.Runs.{run_held, after_held, run_steps-append}
+use Rattle.core_laws.proofs.Marks.{has_colour}
+use Rattle.core_laws.proofs.Completing.{mark_step_marks}
+use Rattle.core_laws.proofs.Growing.{run_grows}
 use Rattle.file_meaning.proofs.Rows.{still_begun}
-use Rattle.file_meaning.proofs.Plays.{got_at}
 use Rattle.file_meaning.proofs.Several.{Rising}
 
 -- the step sets the mark of the colour

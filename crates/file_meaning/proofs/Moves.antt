@@ -1,8 +1,8 @@
 -- What steps add to histories, and where a client's own events then stand.
-use Rattle.std.proofs.Common.{◌≡◌, ℕ, zero, suc, ◌+◌, ◌<◌, ◌≤◌, List, [], ◌∷◌, ◌++◌, length, Some, Bool, true, false, cond, refl, subst, ap, sym, ◌∙◌, inl, inr, ◌⊎◌, arith, append-nil, append_assoc, length-append, eq-eqb}
-use Rattle.std.specs.Prelude.{◌==◌, ◌&&◌, ◌≢◌, slice_get, slice_index}
+use Rattle.std.proofs.Common.{◌≡◌, ℕ, suc, ◌+◌, List, [], ◌∷◌, ◌++◌, length, Some, Bool, true, false, cond, refl, subst, ap, sym, ◌∙◌, inl, inr, ◌⊎◌, arith, append-nil, append_assoc}
+use Rattle.std.specs.Prelude.{◌==◌, ◌&&◌, slice_get, slice_index}
 use Rattle.std.specs.List.{All}
-use Rattle.std.proofs.lemmas.Bool.{ltb-true, lt-ltb, ne_eqb, eqb-true}
+use Rattle.std.proofs.lemmas.Bool.{ltb-true, ne_eqb, eqb-true}
 use Rattle.std.proofs.lemmas.List.Elements.{All-cons, All-nil}
 use Rattle.log_node.specs.declared.ids.Id.{Id}
 use Rattle.log_node.specs.declared.ids.Row.{Row}
@@ -13,16 +13,14 @@ use Rattle.col_core.specs.declared.Event.{Event}
 use Rattle.col_core.specs.declared.Event.TheVariants as events
 use Rattle.col_core.specs.declared.Entry.{Entry}
 use Rattle.col_core.specs.Log.{is_own, places_from, places_of}
-use Rattle.col_core.proofs.Basics.{choice, by_test, both, apart}
+use Rattle.col_core.proofs.Basics.{choice, both, apart}
 use Rattle.col_core.proofs.Members.{In}
 use Rattle.core_laws.specs.declared.steps.Step.{Step}
 use Rattle.core_laws.specs.declared.steps.Step.TheVariants as steps
-use Rattle.core_laws.specs.Worlds.{World, ClientState, home_of, after, run_steps, is_begun, row_of, may_propose, may_fence, may_decide, may_settle, with_last, with_mark, after_propose, proposed_entry, after_decide, after_settle, settled_entry}
-use Rattle.core_laws.proofs.Basics.{in_append, in_left, in_right}
-use Rattle.core_laws.proofs.Held.{Held}
+use Rattle.core_laws.specs.Worlds.{World, home_of, after, run_steps, is_begun, may_propose, may_fence, may_decide, may_settle, with_last, with_mark, after_propose, proposed_entry, after_decide, after_settle, settled_entry}
+use Rattle.core_laws.proofs.Basics.{in_append}
 use Rattle.core_laws.proofs.Keeps.{at_last}
 use Rattle.core_laws.proofs.Growing.{after_grows}
-use Rattle.core_laws.proofs.Runs.{after_held}
 use Rattle.lawful_run.specs.Appends.{IsStepOf}
 use Rattle.lawful_run.specs.Lawful.{IsHelp}
 use Rattle.file_meaning.proofs.Rows.{node_id, IsOn, still_begun}

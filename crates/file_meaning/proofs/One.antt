@@ -1,8 +1,7 @@
 -- An append to one colour.
-use Rattle.std.proofs.Common.{◌≡◌, ℕ, zero, suc, ◌+◌, ◌^◌, ◌<◌, ◌≤◌, max, List, [], ◌∷◌, ◌++◌, length, map, Option, Some, None, Bool, true, false, cond, refl, subst, ap, sym, ◌∙◌, inl, inr, ◌⊎◌, arith, eq-eqb, append-nil}
-use Rattle.std.specs.Prelude.{◌==◌, ◌&&◌, ◌≢◌, not, slice_get, slice_index, take}
-use Rattle.std.proofs.lemmas.Bool.{ltb-true, lt-ltb, ne_eqb, eqb-true}
-use Rattle.std.proofs.lemmas.List.{take_all}
+use Rattle.std.proofs.Common.{◌≡◌, ℕ, ◌+◌, ◌^◌, ◌≤◌, max, List, [], ◌∷◌, ◌++◌, length, map, Option, Some, None, Bool, true, false, cond, refl, subst, ap, sym, ◌∙◌, inl, inr, ◌⊎◌, arith, eq-eqb, append-nil}
+use Rattle.std.specs.Prelude.{◌==◌, ◌&&◌, ◌≢◌, slice_get, slice_index}
+use Rattle.std.proofs.lemmas.Bool.{ltb-true, lt-ltb, ne_eqb}
 use Rattle.log_node.specs.declared.ids.Id.{Id}
 use Rattle.log_node.specs.declared.ids.Key.{Key}
 use Rattle.log_node.specs.declared.ids.Row.{Row}
@@ -12,17 +11,16 @@ use Rattle.log_node.specs.declared.node.At.TheVariants.{Event}
 use Rattle.log_node.specs.declared.node.Node.{Node}
 use Rattle.log_node.specs.declared.node.Shape.{Shape}
 use Rattle.log_node.specs.Sets.{members}
-use Rattle.skeen_core.specs.Standings.{Standing}
 use Rattle.col_core.specs.declared.Event.TheVariants as events
 use Rattle.col_core.specs.declared.Entry.{Entry}
-use Rattle.col_core.specs.History.{clock, entries, entry_key, line, last_stamp, IsAtEnd}
+use Rattle.col_core.specs.History.{entries, entry_key, line}
 use Rattle.col_core.specs.Log.{places_from, places_of}
 use Rattle.col_core.specs.Keeping.{Kept, updated, updated_at, kept_after_single}
-use Rattle.col_core.proofs.Basics.{choice, by_test, both, apart, if_true, if_false, same_id-refl}
+use Rattle.col_core.proofs.Basics.{if_true, if_false, same_id-refl}
 use Rattle.col_core.proofs.Members.{In}
-use Rattle.col_core.proofs.Pasts.{Status, Alone, standing_of}
+use Rattle.col_core.proofs.Pasts.{Alone, standing_of}
 use Rattle.core_laws.specs.declared.steps.Step.TheVariants.{Single}
-use Rattle.core_laws.specs.Worlds.{World, ClientState, home_of, home_history, after, run_steps, is_begun, is_at_end, next_id, may_single, single_stamp, single_entry, single_node, after_single, with_client, is_client, is_column}
+use Rattle.core_laws.specs.Worlds.{World, ClientState, home_of, after, run_steps, is_begun, next_id, may_single, single_stamp, single_entry, single_node, after_single, with_client}
 use Rattle.core_laws.specs.Laws.{IsReached, log_of}
 use Rattle.core_laws.proofs.Basics.{at_updated, updated-here, at_updated_at, updated_at-here, not_place, slice_last}
 use Rattle.core_laws.proofs.Held.{status_in, Held}
@@ -35,15 +33,15 @@ use Rattle.script_text.specs.declared.script.What.TheVariants as whats
 use Rattle.report_text.specs.declared.report.PointPiece.{PointPiece}
 use Rattle.report_text.specs.declared.report.Answer.TheVariants as answers
 use Rattle.lawful_run.specs.Callers.{Caller, node_of, row_of}
-use Rattle.lawful_run.specs.Appends.{AppendsOne, HadNoStamp, none_for_one}
+use Rattle.lawful_run.specs.Appends.{AppendsOne}
 use Rattle.lawful_run.specs.Explains.{Explains}
 use Rattle.lawful_run.proofs.Prefixes.{prefix_length, get-append, get_within}
 use Rattle.file_meaning.specs.Meaning.{Found, all_cleared, position_of, point_in, with_single}
 use Rattle.file_meaning.proofs.Rows.{IsDone, single_still, done_still, in_past, standing_as}
-use Rattle.file_meaning.proofs.Moves.{Adds, adds_none, adds_trans, adds_map, adds_last, HelpIn, help_not_own, places_more, no_places}
+use Rattle.file_meaning.proofs.Moves.{adds_trans, adds_map, adds_last, HelpIn, help_not_own, places_more, no_places}
 use Rattle.file_meaning.proofs.Clearing.{held_of, listed_of, Finished, Helped, helped_reached, helped_finished, ClearsAll, clear_all}
 use Rattle.file_meaning.proofs.Lines.{stands_there, final_stays, absent_line, position_behind}
-use Rattle.file_meaning.proofs.Kept.{caller_in, IsKeptBy, MadeBy, KeptAfter, Does, later_log}
+use Rattle.file_meaning.proofs.Kept.{caller_in, IsKeptBy, MadeBy, Does, later_log}
 
 pub caller_same : (w w' : World) (objects : List Object) (client : ℕ) → w'.shape ≡ w.shape
     → caller_in w' objects client ≡ caller_in w objects client

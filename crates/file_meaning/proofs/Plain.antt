@@ -1,11 +1,9 @@
 -- No step gives, carries or trims: other regions' chains are empty, and nothing is noted.
-use Rattle.std.proofs.Common.{◌≡◌, ℕ, List, [], ◌∷◌, ◌++◌, length, refl, subst, ap, ◌∙◌, inl, inr, ◌⊎◌, arith}
-use Rattle.std.specs.Prelude.{◌≢◌, ◌==◌, map}
+use Rattle.std.proofs.Common.{◌≡◌, ℕ, List, [], ◌∷◌, ◌++◌, refl, subst, ap, ◌∙◌, inl, inr, ◌⊎◌, arith}
+use Rattle.std.specs.Prelude.{◌≢◌, ◌==◌}
 use Rattle.std.specs.List.{flat_map}
 use Rattle.std.proofs.lemmas.Bool.{ne_eqb}
 use Rattle.log_node.specs.declared.node.Head.{Head}
-use Rattle.log_node.specs.declared.node.Shape.{Shape}
-use Rattle.skeen_core.specs.Outcomes.{greatest}
 use Rattle.col_core.specs.declared.Event.TheVariants as events
 use Rattle.col_core.specs.declared.Event.{Event}
 use Rattle.col_core.specs.declared.Entry.{Entry}

@@ -1,29 +1,27 @@
 -- A sync of a column to which no other region's chain came: the own nodes are played in the order of their line.
-use Rattle.std.proofs.Common.{◌≡◌, ◌≢◌, ◌⊎◌, inl, inr, ℕ, zero, suc, ◌+◌, ◌-◌, ◌<◌, ◌≤◌, List, [], ◌∷◌, ◌++◌, length, map, take, drop, cond, Bool, true, false, Some, refl, ap, sym, subst, ◌∙◌, arith, eq-eqb, ne_eqb, le-leb, lt-ltb, le-ltb}
+use Rattle.std.proofs.Common.{◌≡◌, ◌≢◌, ◌⊎◌, inl, inr, ℕ, zero, suc, ◌+◌, ◌-◌, ◌<◌, ◌≤◌, List, [], ◌∷◌, length, map, take, cond, Bool, true, false, Some, refl, ap, sym, subst, ◌∙◌, arith, eq-eqb, ne_eqb, le-leb, lt-ltb, le-ltb}
 use Rattle.std.specs.Prelude.{◌==◌, ◌&&◌, nat_lt, nat_le, slice_get, if◌then◌else◌, reverse}
 use Rattle.std.specs.List.{count_by, fold, range_with_len}
 use Rattle.std.proofs.lemmas.Bool.{cond-true, cond-false, and_from, and_left, and_right, or_from, lt-leb, cases_lt, cases_order, true≢false, eqb-true, ltb-true}
 use Rattle.std.proofs.lemmas.List.{take-map, reverse-reverse, length-map}
-use Rattle.std.proofs.lemmas.Option.{none-some, same_Some, slice_get-map}
-use Rattle.std.specs.Option.{option_map}
-use mathlib.Core.List.{IsPrefix}
+use Rattle.std.proofs.lemmas.Option.{none-some, same_Some}
 use Rattle.log_node.specs.declared.ids.Id.{Id}
 use Rattle.log_node.specs.declared.ids.Key.{Key}
 use Rattle.log_node.specs.declared.ids.Counts.{Counts}
 use Rattle.log_node.specs.declared.node.Head.{Head}
-use Rattle.log_node.specs.Order.{same_id, key_below}
-use Rattle.log_node.specs.Vectors.{at, zeros, IsWithin, least}
+use Rattle.log_node.specs.Order.{key_below}
+use Rattle.log_node.specs.Vectors.{at, zeros, least}
 use Rattle.skeen_core.specs.Standings.{Standing}
 use Rattle.col_core.specs.declared.Event.{Event}
 use Rattle.col_core.specs.declared.Event.TheVariants as events
 use Rattle.col_core.specs.declared.Entry.{Entry}
 use Rattle.col_core.specs.History.{entries, line, enters, has_entered}
-use Rattle.col_core.specs.Cuts.{Chains, Dated, entries_of, needs_in, needs_of, chain}
+use Rattle.col_core.specs.Cuts.{Dated, entries_of, needs_in, needs_of, chain}
 use Rattle.col_core.specs.Computed.{cut, dated}
-use Rattle.col_core.specs.Legal.{IsLawfulEvent, IsColumnHistory}
+use Rattle.col_core.specs.Legal.{IsLawfulEvent}
 use Rattle.col_core.specs.PlayOrder.{Place, same_place, is_between, Stands, WaitsFor, goes_first, IsPlayOrder}
-use Rattle.col_core.proofs.Basics.{choice, by_test, apart, if_true, same_id-true, same_id-is}
-use Rattle.col_core.proofs.CutLaws.{within-at, reached_within}
+use Rattle.col_core.proofs.Basics.{by_test, apart, if_true, same_id-true}
+use Rattle.col_core.proofs.CutLaws.{reached_within}
 use Rattle.col_core.proofs.DatedLaws.{dated-is_dated}
 use Rattle.col_core.proofs.KeyOrder.{key-trans, key-irrefl}
 use Rattle.col_core.proofs.LawfulPasts.{shown_entered, entries-of}
@@ -32,7 +30,6 @@ use Rattle.core_laws.specs.Worlds.{World}
 use Rattle.core_laws.specs.Laws.{IsReached}
 use Rattle.core_laws.proofs.Basics.{slice_in}
 use Rattle.core_laws.proofs.Clients.{head_with}
-use Rattle.core_laws.proofs.Held.{Held}
 use Rattle.core_laws.proofs.Histories.{entries_dated, lawful_past_in}
 use Rattle.core_laws.proofs.Later.{lawful_first}
 use Rattle.core_laws.proofs.Agreement.{each_line_rises}

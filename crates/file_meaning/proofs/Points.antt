@@ -1,8 +1,6 @@
 -- What a client keeps after the points of an append.
-use Rattle.std.proofs.Common.{◌≡◌, ℕ, zero, suc, ◌+◌, ◌<◌, ◌≤◌, List, [], ◌∷◌, length, refl, subst, sym, ◌∙◌, inl, inr, ◌⊎◌, arith}
-use Rattle.log_node.specs.declared.ids.Counts.{Counts}
-use Rattle.col_core.specs.declared.Entry.{Entry}
-use Rattle.col_core.specs.Keeping.{Kept, updated, updated_at, seen_after, kept_after_point}
+use Rattle.std.proofs.Common.{◌≡◌, ℕ, ◌+◌, ◌≤◌, List, [], ◌∷◌, refl, subst, sym, inl, inr}
+use Rattle.col_core.specs.Keeping.{Kept, seen_after, kept_after_point}
 use Rattle.col_core.proofs.Members.{In}
 use Rattle.core_laws.proofs.Basics.{at_updated, at_updated_at}
 use Rattle.report_text.specs.declared.report.PointPiece.{PointPiece}

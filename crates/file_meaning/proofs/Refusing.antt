@@ -1,6 +1,6 @@
 -- Commands that change nothing.
-use Rattle.std.proofs.Common.{◌≡◌, ◌≢◌, ◌⊎◌, inl, inr, ℕ, suc, ◌<◌, ◌≤◌, List, [], ◌∷◌, length, Bool, true, false, refl, ap, sym, subst, ◌∙◌, arith}
-use Rattle.std.specs.Prelude.{◌==◌, ◌&&◌, not, nat_lt, take}
+use Rattle.std.proofs.Common.{◌≡◌, ◌⊎◌, inl, inr, ℕ, ◌<◌, ◌≤◌, List, [], ◌∷◌, length, true, false, refl, ap, sym, subst, ◌∙◌, arith}
+use Rattle.std.specs.Prelude.{not, nat_lt}
 use Rattle.std.proofs.lemmas.Bool.{and_from, eqb-true, lt-ltb, cases_lt}
 use Rattle.std.proofs.lemmas.List.{take_all}
 use Rattle.log_node.specs.declared.ids.Colours.{Colours}
@@ -18,12 +18,12 @@ use Rattle.report_text.specs.declared.report.Answer.{Answer}
 use Rattle.report_text.specs.declared.report.Answer.TheVariants as answers
 use Rattle.lawful_run.specs.Callers.{Caller}
 use Rattle.lawful_run.specs.Asks.{AsksToAppend}
-use Rattle.lawful_run.specs.Appends.{HadNoStamp, none_for_one, IsFull, stopped_at_once}
+use Rattle.lawful_run.specs.Appends.{none_for_one, stopped_at_once}
 use Rattle.lawful_run.specs.Explains.{Explains, IsNoStopAtOnce}
 use Rattle.file_meaning.specs.Meaning.{is_full}
 use Rattle.file_meaning.proofs.Moves.{adds_none}
 use Rattle.file_meaning.proofs.Clearing.{told_of}
-use Rattle.file_meaning.proofs.Kept.{caller_in, IsKeptBy, MadeBy, KeptAfter, Does}
+use Rattle.file_meaning.proofs.Kept.{caller_in, IsKeptBy, MadeBy, Does}
 
 -- the command asks for an append, whatever its client keeps
 abbrev pub AsksOf : What → Colours → List ℕ → Type 0

@@ -1,13 +1,13 @@
 -- The begun rows of a region as its clients see them: by rising client, and as many as each has begun.
-use Rattle.std.proofs.Common.{◌≡◌, ◌≢◌, ◌⊎◌, inl, inr, ℕ, zero, suc, ◌+◌, ◌<◌, ◌≤◌, List, [], ◌∷◌, ◌++◌, length, map, true, false, refl, ap, sym, subst, ◌∙◌, arith, eq-eqb, append-nil}
-use Rattle.std.specs.Prelude.{◌==◌, slice_index_or, if◌then◌else◌}
+use Rattle.std.proofs.Common.{◌≡◌, ◌≢◌, ◌⊎◌, inl, inr, ℕ, zero, suc, ◌+◌, ◌<◌, ◌≤◌, List, [], ◌∷◌, ◌++◌, length, map, refl, ap, sym, subst, ◌∙◌, arith, eq-eqb, append-nil}
+use Rattle.std.specs.Prelude.{◌==◌, slice_index_or}
 use Rattle.std.specs.List.{filter, flat_map, range_with_len}
 use Rattle.std.specs.List.Sorted.{IsNonDecreasing}
 use Rattle.std.proofs.lemmas.Bool.{eqb-true}
 use Rattle.std.proofs.lemmas.List.{map-append}
 use Rattle.std.proofs.lemmas.List.FromFn.{length-map-range_with_len}
 use Rattle.col_core.specs.Rows.{BegunRow, is_of}
-use Rattle.col_core.proofs.Basics.{choice, by_test, apart, if_true, if_false}
+use Rattle.col_core.proofs.Basics.{choice, apart, if_true}
 use Rattle.col_core.proofs.Members.{In}
 use Rattle.core_laws.specs.Worlds.{World, home_of}
 use Rattle.core_laws.specs.Laws.{rows_of_client, rows_of_region}

@@ -1,7 +1,6 @@
 -- What becomes of begun rows: a step changes one row at most, and a completed row waits nowhere.
-use Rattle.std.proofs.Common.{◌≡◌, ℕ, ◌<◌, List, [], ◌∷◌, ◌++◌, Some, Bool, true, false, cond, refl, subst, ap, sym, ◌∙◌, inl, inr, ◌⊎◌, arith}
-use Rattle.std.specs.Prelude.{◌==◌, ◌&&◌, ◌≢◌, not, reverse}
-use Rattle.std.specs.List.{Contains}
+use Rattle.std.proofs.Common.{◌≡◌, ℕ, ◌<◌, List, [], ◌∷◌, Some, Bool, true, false, cond, refl, subst, ap, sym, ◌∙◌, inl, inr, ◌⊎◌, arith}
+use Rattle.std.specs.Prelude.{◌==◌, ◌&&◌, ◌≢◌}
 use Rattle.std.proofs.lemmas.Bool.{true≢false, ltb-true, lt-ltb, eqb-true}
 use Rattle.log_node.specs.declared.ids.Id.{Id}
 use Rattle.log_node.specs.declared.ids.Row.{Row}
@@ -13,15 +12,14 @@ use Rattle.skeen_core.specs.declared.marks.Outcome.{Outcome}
 use Rattle.skeen_core.specs.declared.marks.Outcome.TheVariants.{Open, Gone, Final}
 use Rattle.skeen_core.specs.Outcomes.{is_missing}
 use Rattle.skeen_core.specs.Standings.{Standing}
-use Rattle.col_core.specs.declared.Entry.{Entry}
 use Rattle.col_core.specs.History.{entries, entry_key}
-use Rattle.col_core.proofs.Basics.{choice, by_test, both, apart, if_false}
+use Rattle.col_core.proofs.Basics.{choice, by_test, both, if_false}
 use Rattle.col_core.proofs.LawfulPasts.{entries-of, open_waits}
 use Rattle.col_core.proofs.Members.{In, stands}
-use Rattle.col_core.proofs.Pasts.{Status, Absent, Alone, Waits, Settled, status, after_event, standing_of}
+use Rattle.col_core.proofs.Pasts.{Status, Absent, Alone, Waits, Settled, standing_of}
 use Rattle.core_laws.specs.declared.steps.Step.{Step}
 use Rattle.core_laws.specs.declared.steps.Step.TheVariants as steps
-use Rattle.core_laws.specs.Worlds.{World, RowState, home_of, after, run_steps, is_begun, row_of, is_row_at_end, next_id, next_row, may_begin, may_mark, may_propose, may_fence, may_decide, may_settle, may_single, may_raise, may_play, may_see, with_client, with_mark, with_row, after_begin, after_propose, proposed_entry, proposed_stamp, after_decide, after_settle, settled_entry, after_single, single_entry, after_raise, after_play, after_seen}
+use Rattle.core_laws.specs.Worlds.{World, RowState, home_of, after, run_steps, is_begun, row_of, is_row_at_end, next_id, next_row, may_begin, may_mark, may_propose, may_fence, may_decide, may_settle, may_single, may_raise, may_play, may_see, with_mark, with_row, after_begin, after_propose, proposed_entry, proposed_stamp, after_decide, after_settle, settled_entry, after_single, single_entry, after_raise, after_play, after_seen}
 use Rattle.core_laws.specs.Completing.{mark_step, mark_steps, colours_of, settle_steps, complete_steps}
 use Rattle.core_laws.specs.Laws.{StandsAsDecided}
 use Rattle.core_laws.proofs.Basics.{updated_at-not, in_contains, contains_in, in_append, not_same}
@@ -30,7 +28,6 @@ use Rattle.core_laws.proofs.Marks.{is_waiting, waiting_is, colour_in}
 use Rattle.core_laws.proofs.Histories.{lawful_past_in}
 use Rattle.core_laws.proofs.Keeps.{status_stays, row_agrees, next_unborn}
 use Rattle.core_laws.proofs.Clients.{raise_entry}
-use Rattle.core_laws.proofs.OfRows.{may_fence_marks}
 use Rattle.core_laws.proofs.Agreement.{entry_shown, colour_of_mark}
 use Rattle.core_laws.proofs.RegionRows.{same_number}
 use Rattle.core_laws.proofs.Growing.{after_grows}

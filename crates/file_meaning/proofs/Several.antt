@@ -1,71 +1,49 @@
 -- An append to several colours that is done to its end.
-use Rattle.std.proofs.Common.{◌≡◌, ◌≢◌, ◌⊎◌, inl, inr, ℕ, zero, suc, ◌+◌, ◌<◌, ◌≤◌, max, List, [], ◌∷◌, ◌++◌, length, map, Option, Some, None, Bool, true, false, cond, refl, ap, sym, subst, ◌∙◌, arith, eq-eqb, append-nil}
-use Rattle.std.specs.Prelude.{◌==◌, ◌&&◌, nat_lt, nat_le, slice_get, slice_index, slice_index_or, reverse}
-use Rattle.std.specs.List.{All, fold, filter, list_any, list_all, range_with_len}
-use Rattle.std.proofs.lemmas.Bool.{or_cases, ltb-true, lt-ltb, le-leb, true≢false, and_from, or_left}
-use Rattle.std.proofs.lemmas.List.Elements.{All-map}
-use Rattle.std.proofs.lemmas.Simd.{map-map}
+use Rattle.std.proofs.Common.{◌≡◌, ◌≢◌, ◌⊎◌, inl, inr, ℕ, zero, suc, ◌+◌, ◌<◌, List, [], ◌∷◌, map, Bool, true, false, cond, refl, ap, sym, subst, ◌∙◌, arith}
+use Rattle.std.specs.Prelude.{slice_index_or}
+use Rattle.std.specs.List.{filter, list_any, range_with_len}
+use Rattle.std.proofs.lemmas.Bool.{or_cases, true≢false}
 use Rattle.log_node.specs.declared.ids.Id.{Id}
-use Rattle.log_node.specs.declared.ids.Key.{Key}
 use Rattle.log_node.specs.declared.ids.Row.{Row}
 use Rattle.log_node.specs.declared.ids.Colours.{Colours}
-use Rattle.log_node.specs.declared.node.At.{At}
-use Rattle.log_node.specs.declared.node.At.TheVariants.{Event, Look}
 use Rattle.log_node.specs.declared.node.Node.{Node}
-use Rattle.log_node.specs.declared.node.Shape.{Shape}
 use Rattle.log_node.specs.Sets.{has, members}
 use Rattle.skeen_core.specs.declared.marks.Why.TheVariants.{Memory, StampEnd}
 use Rattle.skeen_core.specs.declared.marks.Mark.{Mark}
 use Rattle.skeen_core.specs.declared.marks.Mark.TheVariants as marks
-use Rattle.skeen_core.specs.declared.marks.ColourMark.{ColourMark}
 use Rattle.skeen_core.specs.declared.marks.Outcome.{Outcome}
 use Rattle.skeen_core.specs.declared.marks.Outcome.TheVariants.{Open, Gone, Final}
 use Rattle.skeen_core.specs.Outcomes.{outcome_of, is_missing, is_stamp_end_fence, is_memory_fence, number_of, greatest}
-use Rattle.col_core.specs.declared.Event.TheVariants as events
-use Rattle.col_core.specs.declared.Entry.{Entry}
-use Rattle.col_core.specs.History.{clock, entries, entry_key, line}
-use Rattle.col_core.specs.Log.{Log, IsLater, HasMark, HasOutcome, places_of}
-use Rattle.col_core.specs.Keeping.{Kept, updated, updated_at, seen_after, kept_after_point, with_made, with_row, with_floor}
-use Rattle.col_core.proofs.Basics.{choice, by_test, both, apart, if_true, if_false, not_true}
-use Rattle.col_core.proofs.Facts.{outcome_stays}
-use Rattle.col_core.proofs.Growth.{entry_within}
-use Rattle.col_core.proofs.LawfulPasts.{entries-of, clock-of}
-use Rattle.col_core.proofs.Members.{In, in_filter, in_filter-back}
+use Rattle.col_core.specs.Log.{HasMark, HasOutcome}
+use Rattle.col_core.specs.Keeping.{Kept, with_made, with_row}
+use Rattle.col_core.proofs.Basics.{choice, by_test, apart, if_true}
+use Rattle.col_core.proofs.Members.{In, in_filter}
 use Rattle.core_laws.specs.declared.steps.Step.{Step}
-use Rattle.core_laws.specs.declared.steps.Step.TheVariants.{Begin, Seen}
-use Rattle.core_laws.specs.Worlds.{World, ClientState, RowState, home_of, home_history, after, run_steps, is_begun, row_of, marks_of, next_id, next_row, is_client, is_column, may_begin, may_see, begun_node, after_begin, after_seen, with_client}
+use Rattle.core_laws.specs.declared.steps.Step.TheVariants.{Begin}
+use Rattle.core_laws.specs.Worlds.{World, home_of, run_steps, is_begun, row_of, marks_of, next_id, next_row, may_begin, begun_node, after_begin}
 use Rattle.core_laws.specs.Completing.{colours_of, complete_steps}
-use Rattle.core_laws.specs.Laws.{IsReached, log_of, begun_row, StandsAsDecided}
-use Rattle.core_laws.proofs.Basics.{at_updated, updated-here, at_updated_at, in_append, in_contains, contains_in}
-use Rattle.core_laws.proofs.Held.{status_in, Held}
-use Rattle.core_laws.proofs.Marks.{in_colours, final_is, any_mark, number_within}
-use Rattle.core_laws.proofs.Histories.{lawful_past_in}
-use Rattle.core_laws.proofs.Keeps.{next_absent}
+use Rattle.core_laws.specs.Laws.{IsReached, log_of, begun_row}
+use Rattle.core_laws.proofs.Basics.{contains_in}
+use Rattle.core_laws.proofs.Held.{Held}
+use Rattle.core_laws.proofs.Marks.{in_colours, any_mark}
 use Rattle.core_laws.proofs.Completing.{kept_marks}
-use Rattle.core_laws.proofs.Completion.{can_complete}
-use Rattle.core_laws.proofs.CallerLemmas.{after_reached}
-use Rattle.core_laws.proofs.Runs.{run_steps-append}
 use Rattle.script_text.specs.declared.script.Object.{Object}
 use Rattle.script_text.specs.declared.script.What.TheVariants as whats
-use Rattle.report_text.specs.declared.report.PointPiece.{PointPiece}
 use Rattle.report_text.specs.declared.report.Answer.TheVariants as answers
 use Rattle.lawful_run.specs.Callers.{Caller, node_of}
-use Rattle.lawful_run.specs.Appends.{BeginsRow, EntersAt, StandsUnder, StandsAt, AppendsSeveral, IsGoneAtEnd, none_for_several, IsGoneForMemory, kept_after_points}
+use Rattle.lawful_run.specs.Appends.{BeginsRow, IsGoneAtEnd, none_for_several, IsGoneForMemory}
 use Rattle.lawful_run.specs.Refusals.{gone}
 use Rattle.lawful_run.specs.Explains.{Explains}
-use Rattle.lawful_run.proofs.Prefixes.{prefix_length, prefix_get, get_within}
-use Rattle.file_meaning.specs.Meaning.{Found, all_cleared, position_of, point_in, ended_colour}
-use Rattle.file_meaning.proofs.Rows.{node_id, IsDone, IsStill, done_still, standing_as, completed_done, complete_steps_on, IsOn}
-use Rattle.file_meaning.proofs.Moves.{Adds, adds_trans, adds_map, StepIn, HelpIn}
-use Rattle.file_meaning.proofs.Clearing.{held_of, told_of, Finished, Helped, helped_reached, helped_finished, ClearsAll, clear_all}
-use Rattle.file_meaning.proofs.Lines.{stands_there, final_stays, absent_line, position_behind}
-use Rattle.file_meaning.proofs.Kept.{caller_in, IsKeptBy, MadeBy, KeptAfter, Does, later_log}
-use Rattle.file_meaning.proofs.One.{caller_same, updated-not, helped_places}
+use Rattle.file_meaning.specs.Meaning.{Found, ended_colour}
+use Rattle.file_meaning.proofs.Rows.{IsDone, completed_done, complete_steps_on, IsOn}
+use Rattle.file_meaning.proofs.Moves.{Adds, adds_map, StepIn}
+use Rattle.file_meaning.proofs.Clearing.{held_of, Finished}
+use Rattle.file_meaning.proofs.Kept.{caller_in, IsKeptBy, MadeBy, Does}
+use Rattle.file_meaning.proofs.One.{caller_same}
 use Rattle.file_meaning.proofs.Begun as begun
 use Rattle.file_meaning.proofs.Begun.{begins_later}
-use Rattle.file_meaning.proofs.First.{ProposesFirst, proposes_first, in_any}
 use Rattle.core_laws.proofs.RegionRows.{all_in}
-use Rattle.file_meaning.proofs.Lists.{in_range, range_in, in_map_back}
+use Rattle.file_meaning.proofs.Lists.{in_range, in_map_back}
 
 -- Marks and outcomes
 

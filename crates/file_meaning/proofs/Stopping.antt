@@ -1,14 +1,12 @@
 -- A stop: the first steps of an append to several colours, and no more.
-use Rattle.std.proofs.Common.{◌≡◌, ◌≢◌, ◌⊎◌, inl, inr, ℕ, zero, suc, ◌+◌, ◌-◌, ◌<◌, ◌≤◌, List, [], ◌∷◌, ◌++◌, length, map, take, Option, Some, None, Bool, true, false, cond, refl, ap, sym, subst, ◌∙◌, arith}
-use Rattle.std.specs.Prelude.{◌&&◌, IsTrue, not, slice_get, slice_index}
-use Rattle.std.specs.List.{All, find, list_any}
-use Rattle.std.proofs.lemmas.Bool.{ltb-true, lt-ltb, cases_lt, and_parts}
-use Rattle.std.proofs.lemmas.List.{take_all, length-map}
-use Rattle.std.proofs.lemmas.Option.{slice_get-map}
+use Rattle.std.proofs.Common.{◌≡◌, ◌≢◌, ◌⊎◌, inl, inr, ℕ, zero, suc, ◌+◌, ◌-◌, ◌<◌, ◌≤◌, List, [], ◌∷◌, ◌++◌, length, map, take, Some, None, Bool, true, false, refl, ap, sym, subst, ◌∙◌, arith}
+use Rattle.std.specs.Prelude.{IsTrue, not, slice_get, slice_index}
+use Rattle.std.specs.List.{find, list_any}
+use Rattle.std.proofs.lemmas.Bool.{ltb-true, lt-ltb, and_parts}
+use Rattle.std.proofs.lemmas.List.{take_all}
 use Rattle.log_node.specs.declared.ids.Id.{Id}
 use Rattle.log_node.specs.declared.ids.Row.{Row}
 use Rattle.log_node.specs.declared.ids.Colours.{Colours}
-use Rattle.log_node.specs.declared.ids.Counts.{Counts}
 use Rattle.log_node.specs.declared.node.Node.{Node}
 use Rattle.log_node.specs.declared.node.Shape.{Shape}
 use Rattle.log_node.specs.Order.{same_id}
@@ -16,7 +14,6 @@ use Rattle.log_node.specs.Sets.{members}
 use Rattle.skeen_core.specs.declared.marks.Why.{Why}
 use Rattle.skeen_core.specs.declared.marks.Mark.{Mark}
 use Rattle.skeen_core.specs.declared.marks.Mark.TheVariants as marks
-use Rattle.skeen_core.specs.declared.marks.ColourMark.{ColourMark}
 use Rattle.skeen_core.specs.declared.marks.Outcome.TheVariants.{Open}
 use Rattle.skeen_core.specs.Outcomes.{is_missing}
 use Rattle.skeen_core.specs.Standings.{Standing, is_open_id, open_entry}
@@ -24,12 +21,11 @@ use Rattle.col_core.specs.declared.Event.TheVariants as events
 use Rattle.col_core.specs.declared.Event.{Event}
 use Rattle.col_core.specs.declared.Entry.{Entry}
 use Rattle.col_core.specs.History.{entries, enters, has_entered}
-use Rattle.col_core.specs.Log.{Log, HasMark, HasOutcome}
+use Rattle.col_core.specs.Log.{HasMark}
 use Rattle.col_core.specs.Keeping.{Kept, with_made, with_row}
-use Rattle.col_core.proofs.Basics.{by_test, apart, if_true, if_false, not_true, same_id-true, same_id-is}
+use Rattle.col_core.proofs.Basics.{by_test, apart, if_false, not_true, same_id-true, same_id-is}
 use Rattle.col_core.proofs.LawfulPasts.{open_waits}
 use Rattle.col_core.proofs.Members.{In}
-use Rattle.col_core.proofs.Pasts.{Status, Waits}
 use Rattle.core_laws.specs.declared.steps.Step.{Step}
 use Rattle.core_laws.specs.declared.steps.Step.TheVariants as steps
 use Rattle.core_laws.specs.Worlds.{World, RowState, home_of, after, run_steps, is_begun, row_of, row_history, marks_of, next_id, next_row, may_begin, begun_node, after_begin}
@@ -40,20 +36,20 @@ use Rattle.core_laws.proofs.Held.{status_in, Held}
 use Rattle.core_laws.proofs.Marks.{has_colour, is_waiting, colour_in, in_colours}
 use Rattle.core_laws.proofs.Agreement.{entry_shown}
 use Rattle.core_laws.proofs.Completing.{none_missing, Decides, decide_decides, settle_all}
-use Rattle.core_laws.proofs.Growing.{Grows, run_grows}
+use Rattle.core_laws.proofs.Growing.{run_grows}
 use Rattle.core_laws.proofs.Runs.{run_held, after_held, run_steps-append}
 use Rattle.script_text.specs.declared.script.Object.{Object}
 use Rattle.script_text.specs.declared.script.What.TheVariants as whats
 use Rattle.report_text.specs.declared.report.Answer.TheVariants as answers
 use Rattle.lawful_run.specs.Callers.{Caller, node_of}
-use Rattle.lawful_run.specs.Appends.{BeginsRow, IsMarked, IsDecided, IsSettledIn, IsStepWithin, StopsAfter, Stops, stopped_after}
+use Rattle.lawful_run.specs.Appends.{IsMarked, IsDecided, IsSettledIn, IsStepWithin, StopsAfter, Stops, stopped_after}
 use Rattle.lawful_run.specs.Explains.{Explains}
 use Rattle.lawful_run.proofs.Prefixes.{get_within}
 use Rattle.file_meaning.specs.Meaning.{Found}
-use Rattle.file_meaning.proofs.Rows.{node_id, IsOn, complete_steps_on, still_begun}
-use Rattle.file_meaning.proofs.Moves.{Adds, adds_map, StepIn, From}
+use Rattle.file_meaning.proofs.Rows.{node_id, IsOn, complete_steps_on}
+use Rattle.file_meaning.proofs.Moves.{adds_map, StepIn, From}
 use Rattle.file_meaning.proofs.Clearing.{held_of, told_of, Finished}
-use Rattle.file_meaning.proofs.Kept.{caller_in, IsKeptBy, MadeBy, KeptAfter, Does}
+use Rattle.file_meaning.proofs.Kept.{caller_in, IsKeptBy, MadeBy, Does}
 use Rattle.file_meaning.proofs.One.{caller_same}
 use Rattle.file_meaning.proofs.Begun as begun
 use Rattle.file_meaning.proofs.First.{in_any}

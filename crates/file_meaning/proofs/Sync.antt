@@ -1,6 +1,6 @@
 -- A sync.
-use Rattle.std.proofs.Common.{◌≡◌, ◌≢◌, ℕ, zero, suc, ◌+◌, ◌-◌, ◌<◌, ◌≤◌, max, List, [], ◌∷◌, ◌++◌, length, map, take, drop, Option, Some, None, Bool, true, false, cond, refl, subst, ap, sym, ◌∙◌, inl, inr, ◌⊎◌, arith, append-nil}
-use Rattle.std.specs.Prelude.{◌==◌, ◌&&◌, ◌||◌, slice_get, unwrap_or, reverse, if◌then◌else◌}
+use Rattle.std.proofs.Common.{◌≡◌, ◌≢◌, ℕ, zero, suc, ◌+◌, ◌-◌, ◌<◌, ◌≤◌, max, List, [], ◌∷◌, ◌++◌, length, map, take, drop, Option, Some, None, Bool, true, refl, subst, ap, sym, ◌∙◌, inl, inr, ◌⊎◌, arith, append-nil}
+use Rattle.std.specs.Prelude.{◌==◌, slice_get, unwrap_or, reverse, if◌then◌else◌}
 use mathlib.Core.Path.{fun_ext}
 use Rattle.std.specs.Option.{option_map}
 use Rattle.std.specs.List.{AllZip, flat_map, list_any, range_with_len}
@@ -14,7 +14,6 @@ use Rattle.log_node.specs.declared.ids.Counts.{Counts}
 use Rattle.log_node.specs.declared.node.Head.{Head}
 use Rattle.log_node.specs.declared.node.Node.{Node}
 use Rattle.log_node.specs.Seen.{PlacedNode}
-use Rattle.log_node.specs.Order.{same_id}
 use Rattle.log_node.specs.Vectors.{at, zeros, IsWithin, is_within, all_regions}
 use Rattle.skeen_core.specs.Outcomes.{greatest}
 use Rattle.skeen_core.specs.Standings.{Standing}
@@ -22,23 +21,22 @@ use Rattle.col_core.specs.declared.Event.{Event}
 use Rattle.col_core.specs.declared.Event.TheVariants as events
 use Rattle.col_core.specs.declared.Entry.{Entry}
 use Rattle.col_core.specs.History.{entries, line, enters, has_entered}
-use Rattle.col_core.specs.Cuts.{Dated, Chains, chain, base, IsGreatestReachable}
-use Rattle.col_core.specs.Computed.{cut, dated}
-use Rattle.col_core.specs.Log.{Log, first, HasText}
-use Rattle.col_core.specs.Keeping.{Kept, updated, updated_at, kept_after_sync}
+use Rattle.col_core.specs.Cuts.{Dated, chain, base, IsGreatestReachable}
+use Rattle.col_core.specs.Computed.{dated}
+use Rattle.col_core.specs.Log.{Log, first}
+use Rattle.col_core.specs.Keeping.{Kept, updated, kept_after_sync}
 use Rattle.col_core.specs.Rows.{BegunRow}
-use Rattle.col_core.specs.PlayOrder.{Place, IsPlayOrder, nodes_between, greatest_between}
-use Rattle.col_core.proofs.Basics.{choice, by_test, both, if_true, same_id-true}
+use Rattle.col_core.specs.PlayOrder.{Place, IsPlayOrder, nodes_between}
+use Rattle.col_core.proofs.Basics.{if_true, same_id-true}
 use Rattle.col_core.proofs.CutLaws.{cut-is_greatest, within, within-at, reached_within}
 use Rattle.col_core.proofs.LawfulPasts.{shown_entered, entries-of}
 use Rattle.col_core.proofs.Members.{In, in_line}
 use Rattle.core_laws.specs.declared.steps.Step.TheVariants.{Play}
-use Rattle.core_laws.specs.Worlds.{World, ClientState, home_of, home_history, after, run_steps, chains_after, cut_after, base_after, may_play, played_cut, played_stamp, after_play, with_client, no_row, is_client, is_column}
+use Rattle.core_laws.specs.Worlds.{World, ClientState, home_of, after, chains_after, base_after, may_play, played_cut, played_stamp, after_play, with_client, no_row, is_client, is_column}
 use Rattle.core_laws.specs.Laws.{IsReached, begun_row, log_of, StaysWithinCuts, NothingIsTrimmed}
 use Rattle.core_laws.proofs.Basics.{at_updated, updated-here, at_updated_at, slice_in}
 use Rattle.core_laws.proofs.Clients.{head_with}
 use Rattle.core_laws.proofs.Growing.{played_client}
-use Rattle.core_laws.proofs.Held.{Held}
 use Rattle.core_laws.proofs.Histories.{lawful_past_in}
 use Rattle.core_laws.proofs.Runs.{held}
 use Rattle.core_laws.proofs.Told.{FitsEvent}
@@ -53,9 +51,9 @@ use Rattle.lawful_run.specs.Callers.{Caller}
 use Rattle.lawful_run.specs.Reads.{Syncs, ShowsNode, ShowsPlayed, greatest_stamp}
 use Rattle.lawful_run.specs.Explains.{Explains}
 use Rattle.file_meaning.specs.Meaning.{node_with, placed, nodes_played}
-use Rattle.file_meaning.proofs.Moves.{Adds, adds_none}
+use Rattle.file_meaning.proofs.Moves.{adds_none}
 use Rattle.file_meaning.proofs.Clearing.{held_of, told_of, listed_of}
-use Rattle.file_meaning.proofs.Kept.{caller_in, IsKeptBy, MadeBy, KeptAfter, Does}
+use Rattle.file_meaning.proofs.Kept.{caller_in, IsKeptBy, MadeBy, Does}
 use Rattle.file_meaning.proofs.One.{updated-not}
 use Rattle.file_meaning.proofs.Plain.{other_chain}
 use Rattle.file_meaning.proofs.Plays.{own_places, own_chain, own_order, zeros_own}

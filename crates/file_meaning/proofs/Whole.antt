@@ -1,7 +1,7 @@
 -- Each state to which a fitting script's commands lead keeps what `Runs` says.
-use Rattle.std.proofs.Common.{◌≡◌, ◌≢◌, ◌⊎◌, inl, inr, ℕ, zero, suc, ◌+◌, ◌^◌, ◌<◌, ◌≤◌, List, [], ◌∷◌, ◌++◌, length, take, Option, Some, None, Bool, true, false, cond, refl, ap, sym, subst, ◌∙◌, arith, append-nil, append_assoc, length-append, map}
-use Rattle.std.specs.Prelude.{IsTrue, ◌&&◌, not, nat_lt, slice_get, slice_index, slice_index_or}
-use Rattle.std.specs.List.{All, AllPairs, list_all}
+use Rattle.std.proofs.Common.{◌≡◌, ◌⊎◌, inl, inr, ℕ, zero, suc, ◌+◌, ◌^◌, ◌<◌, ◌≤◌, List, [], ◌∷◌, ◌++◌, length, take, Some, None, Bool, true, false, refl, ap, sym, subst, ◌∙◌, arith, append-nil, append_assoc, length-append, map}
+use Rattle.std.specs.Prelude.{IsTrue, not, nat_lt, slice_get, slice_index, slice_index_or}
+use Rattle.std.specs.List.{All, list_all}
 use Rattle.std.proofs.lemmas.Bool.{and_from, ltb-true, lt-ltb, cases_lt}
 use Rattle.log_node.specs.declared.ids.Row.{Row}
 use Rattle.log_node.specs.declared.ids.Colours.{Colours}
@@ -10,13 +10,11 @@ use Rattle.log_node.specs.Sets.{members}
 use Rattle.skeen_core.specs.declared.marks.Why.TheVariants.{Memory, StampEnd}
 use Rattle.skeen_core.specs.declared.marks.Outcome.{Outcome}
 use Rattle.skeen_core.specs.declared.marks.Outcome.TheVariants.{Open, Gone, Final}
-use Rattle.col_core.proofs.Basics.{choice, by_test, both, apart, not_true, if_true}
+use Rattle.col_core.proofs.Basics.{choice, both, apart, not_true, if_true}
 use Rattle.col_core.proofs.Members.{In}
-use Rattle.core_laws.specs.declared.steps.Step.{Step}
-use Rattle.core_laws.specs.declared.steps.Step.TheVariants.{Begin, Play, Seen}
+use Rattle.core_laws.specs.declared.steps.Step.TheVariants.{Play, Seen}
 use Rattle.core_laws.specs.Worlds.{World, ClientState, home_of, home_history, is_begun, may_play, after_play, played_cut, after, run_steps, row_of, next_row, is_client, is_column, may_begin, may_single, after_begin, single_stamp, next_id}
 use Rattle.core_laws.specs.Completing.{complete_steps}
-use Rattle.core_laws.specs.Laws.{IsReached}
 use Rattle.core_laws.proofs.Basics.{contains_in, in_slice, in_right, at_updated}
 use Rattle.script_text.specs.declared.script.What.{What}
 use Rattle.script_text.specs.declared.script.What.TheVariants as whats
@@ -27,7 +25,7 @@ use Rattle.script_text.specs.Fitting.{IsFitting, IsWithin}
 use Rattle.report_text.specs.declared.report.Answer.TheVariants as answers
 use Rattle.col_core.specs.History.{entry_key}
 use Rattle.lawful_run.proofs.Prefixes.{get_within, get-append}
-use Rattle.file_meaning.specs.Meaning.{State, Found, opening, has_colours, is_built, StopsAreLast, answered, appended_one, appended_by, appended_several, appended, stopped, synced, done_one, done, is_full, append_steps, with_single, point_in, ended_colour, all_cleared, nodes_played, LeadTo, nothing, next}
+use Rattle.file_meaning.specs.Meaning.{State, Found, has_colours, is_built, StopsAreLast, answered, appended_one, appended_by, appended_several, appended, stopped, done_one, done, is_full, append_steps, with_single, point_in, ended_colour, all_cleared, nodes_played, LeadTo, nothing, next}
 use Rattle.core_laws.proofs.Growing.{played_client}
 use Rattle.file_meaning.proofs.Rows.{IsDone}
 use Rattle.file_meaning.proofs.Clearing.{Finished}

@@ -16,7 +16,6 @@ use Rattle.skeen_core.specs.declared.marks.Mark.TheVariants as marks
 use Rattle.skeen_core.specs.declared.marks.Outcome.TheVariants.{Open, Gone, Final}
 use Rattle.skeen_core.specs.Standings.{queue_of}
 use Rattle.col_core.specs.declared.Event.TheVariants as events
-use Rattle.col_core.specs.declared.Entry.{Entry}
 use Rattle.col_core.specs.History.{line, entries, entry_key, last_stamp}
 use Rattle.core_laws.specs.declared.steps.Step.TheVariants.{Raise}
 use Rattle.core_laws.specs.Worlds.{opened, row_of, run_steps}
