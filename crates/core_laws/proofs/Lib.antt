@@ -1,10 +1,10 @@
 pub mod Basics
 pub mod Held
-mod Marks
+pub mod Marks
 pub mod Histories
 pub mod Keeps
 mod Clients
-mod OfRows
+pub mod OfRows
 pub mod Runs
 mod Agreement
 mod Later
@@ -17,7 +17,7 @@ mod RegionRows
 mod LawfulRows
 mod Wanted
 mod Listed
-mod Untrimmed
+pub mod Untrimmed
 mod LaterLogs
 pub mod CallerLemmas
 mod SmallRuns
