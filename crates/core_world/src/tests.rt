@@ -81,7 +81,7 @@ enum Shown {
     Other,
 }
 
-fn shown(event: &Event) -> Shown {
+fn event_of(event: &Event) -> Shown {
     match event {
         Event::Single { id, .. } => Shown::Single(*id),
         Event::Propose { id, .. } => Shown::Propose(*id),
@@ -100,7 +100,7 @@ fn entry(world: &World, colour: u8, at: usize) -> Option<(u8, Shown, u64)> {
         return None;
     }
     let entry = world.column(0, colour).journal().get(at)?;
-    Some((entry.by, shown(&entry.event), entry.stamp))
+    Some((entry.by, event_of(&entry.event), entry.stamp))
 }
 
 // A key of the line of a colour of region 0.
@@ -128,30 +128,80 @@ fn a_stopped_append_is_completed_by_another_client(rt: HostRuntime) -> Result<()
     let mut world = World::open(alloc, shape(alloc)?)?;
     let text = Text::copied(alloc, b"one")?;
     let begun = world.begin(alloc, 0, Colours(3), text)?;
-    assert_eq!(rt; begun, Reply::Begun { row: ROW, id: FIRST });
-    assert_eq!(rt; world.propose(0, ROW, 0)?, Reply::Event { place: 0, stamp: 1 });
+    assert_eq!(rt;
+        begun,
+        Reply::Begun {
+            row: ROW,
+            id: FIRST
+        }
+    );
+    assert_eq!(rt;
+        world.propose(0, ROW, 0)?,
+        Reply::Event { place: 0, stamp: 1 }
+    );
     let text = Text::copied(alloc, b"two")?;
-    assert_eq!(rt; world.single(alloc, 1, 0, text)?, Reply::Event { place: 1, stamp: 2 });
+    assert_eq!(rt;
+        world.single(alloc, 1, 0, text)?,
+        Reply::Event { place: 1, stamp: 2 }
+    );
     let outcome = Outcome::Final(1);
     assert_eq!(rt; world.settle(1, ROW, 0), Reply::Nothing);
-    assert_eq!(rt; world.propose(1, ROW, 1)?, Reply::Event { place: 0, stamp: 1 });
+    assert_eq!(rt;
+        world.propose(1, ROW, 1)?,
+        Reply::Event { place: 0, stamp: 1 }
+    );
     assert_eq!(rt; world.propose(1, ROW, 1)?, Reply::Nothing);
     assert_eq!(rt; world.decide(ROW), Reply::Decided(outcome));
-    assert_eq!(rt; world.settle(1, ROW, 0), Reply::Event { place: 2, stamp: 0 });
-    assert_eq!(rt; world.settle(1, ROW, 1), Reply::Event { place: 1, stamp: 0 });
+    assert_eq!(rt;
+        world.settle(1, ROW, 0),
+        Reply::Event { place: 2, stamp: 0 }
+    );
+    assert_eq!(rt;
+        world.settle(1, ROW, 1),
+        Reply::Event { place: 1, stamp: 0 }
+    );
     assert_eq!(rt; world.settle(1, ROW, 1), Reply::Nothing);
     assert_eq!(rt; entry(&world, 0, 0), Some((0, Shown::Propose(FIRST), 1)));
     assert_eq!(rt; entry(&world, 0, 1), Some((1, Shown::Single(SECOND), 2)));
-    assert_eq!(rt; entry(&world, 0, 2), Some((1, Shown::Settle(FIRST, outcome), 0)));
+    assert_eq!(rt;
+        entry(&world, 0, 2),
+        Some((1, Shown::Settle(FIRST, outcome), 0))
+    );
     assert_eq!(rt; entry(&world, 0, 3), None);
     assert_eq!(rt; entry(&world, 1, 0), Some((1, Shown::Propose(FIRST), 1)));
-    assert_eq!(rt; entry(&world, 1, 1), Some((1, Shown::Settle(FIRST, outcome), 0)));
+    assert_eq!(rt;
+        entry(&world, 1, 1),
+        Some((1, Shown::Settle(FIRST, outcome), 0))
+    );
     assert_eq!(rt; entry(&world, 1, 2), None);
-    assert_eq!(rt; key(&world, 0, 0), Some(Key { stamp: 1, id: FIRST }));
-    assert_eq!(rt; key(&world, 0, 1), Some(Key { stamp: 2, id: SECOND }));
-    assert_eq!(rt; key(&world, 1, 0), Some(Key { stamp: 1, id: FIRST }));
+    assert_eq!(rt;
+        key(&world, 0, 0),
+        Some(Key {
+            stamp: 1,
+            id: FIRST
+        })
+    );
+    assert_eq!(rt;
+        key(&world, 0, 1),
+        Some(Key {
+            stamp: 2,
+            id: SECOND
+        })
+    );
+    assert_eq!(rt;
+        key(&world, 1, 0),
+        Some(Key {
+            stamp: 1,
+            id: FIRST
+        })
+    );
     assert_eq!(rt; key(&world, 1, 1), None);
-    assert_eq!(rt; world.play(1, 0), Reply::Played { cut: Counts([2, 0, 0, 0]) });
+    assert_eq!(rt;
+        world.play(1, 0),
+        Reply::Played {
+            cut: Counts([2, 0, 0, 0])
+        }
+    );
     Ok(())
 }
 
@@ -161,26 +211,44 @@ fn an_append_past_the_last_stamp_is_gone(rt: HostRuntime) -> Result<(), Fail> {
     let alloc = rt.alloc();
     let mut world = World::open(alloc, shape(alloc)?)?;
     let last = 4611686018427387903;
-    assert_eq!(rt; world.raise(1, 0, 0, last)?, Reply::Event { place: 0, stamp: 0 });
+    assert_eq!(rt;
+        world.raise(1, 0, 0, last)?,
+        Reply::Event { place: 0, stamp: 0 }
+    );
     let text = Text::copied(alloc, b"one")?;
     let begun = world.begin(alloc, 0, Colours(3), text)?;
-    assert_eq!(rt; begun, Reply::Begun { row: ROW, id: FIRST });
+    assert_eq!(rt;
+        begun,
+        Reply::Begun {
+            row: ROW,
+            id: FIRST
+        }
+    );
     assert_eq!(rt; world.fence(ROW, 1, Why::StampEnd), Reply::Nothing);
     assert_eq!(rt; world.decide(ROW), Reply::Nothing);
     let outcome = Outcome::Gone(Why::StampEnd);
     let fence = Mark::Fenced(Why::StampEnd);
     assert_eq!(rt; world.propose(0, ROW, 0)?, Reply::Nothing);
     assert_eq!(rt; world.fence(ROW, 0, Why::StampEnd), Reply::Marked(fence));
-    assert_eq!(rt; world.propose(0, ROW, 1)?, Reply::Event { place: 0, stamp: 1 });
+    assert_eq!(rt;
+        world.propose(0, ROW, 1)?,
+        Reply::Event { place: 0, stamp: 1 }
+    );
     assert_eq!(rt; world.decide(ROW), Reply::Decided(outcome));
     assert_eq!(rt; world.settle(0, ROW, 0), Reply::Nothing);
-    assert_eq!(rt; world.settle(0, ROW, 1), Reply::Event { place: 1, stamp: 0 });
+    assert_eq!(rt;
+        world.settle(0, ROW, 1),
+        Reply::Event { place: 1, stamp: 0 }
+    );
     assert_eq!(rt; mark(&world, 0), Some(fence));
     assert_eq!(rt; mark(&world, 1), Some(Mark::Number(1)));
     assert_eq!(rt; entry(&world, 0, 0), Some((1, Shown::Raise(last), 0)));
     assert_eq!(rt; entry(&world, 0, 1), None);
     assert_eq!(rt; entry(&world, 1, 0), Some((0, Shown::Propose(FIRST), 1)));
-    assert_eq!(rt; entry(&world, 1, 1), Some((0, Shown::Settle(FIRST, outcome), 0)));
+    assert_eq!(rt;
+        entry(&world, 1, 1),
+        Some((0, Shown::Settle(FIRST, outcome), 0))
+    );
     assert_eq!(rt; entry(&world, 1, 2), None);
     assert_eq!(rt; key(&world, 1, 0), None);
     let text = Text::copied(alloc, b"two")?;

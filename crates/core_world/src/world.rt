@@ -447,13 +447,7 @@ impl World {
     }
 
     // The row is begun, for the client's next node.
-    fn add_begin(
-        &mut self,
-        row: Row,
-        colours: Colours,
-        node: Arc<Node>,
-        shared: Arc<Node>,
-    ) -> Reply
+    fn add_begin(&mut self, row: Row, colours: Colours, node: Arc<Node>, shared: Arc<Node>) -> Reply
         requires may { may_begin (world_of self.old) row.client colours ≡ true }
         requires row { row ≡ next_row (world_of self.old) row.client }
         requires node { node.value ≡ next_begun (client_at self.old row.client) row.client

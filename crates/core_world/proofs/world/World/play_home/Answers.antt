@@ -11,9 +11,8 @@ returns-clause-some c =
     let client = c.args.client in
     let colour = c.args.colour in
     let old : WorldKept = record { shape = i.shape; clients = i.clients.items; board = i.board; columns = i.regions.items } in
-    let h = home_is old client c.in-Some.home.now (sym c.in-Some.ensures) in
-    (
+    let h = home_is old client c.in-Some.home.now (sym c.in-Some.ensures) in (
       ap (λ (k : WorldKept). may_play (world_of k) client colour) (sym c.self.view_is)
-      ∙ may_play_there old c.self.invariant client colour h.1 (omega (arith, c.if-colour-self.false)),
-      ap (λ (k : WorldKept). home_of (world_of k) client) (sym c.self.view_is) ∙ h.0
+          ∙ may_play_there old c.self.invariant client colour h.1 (omega (arith, c.if-colour-self.false)),
+      ap (λ (k : WorldKept). home_of (world_of k) client) (sym c.self.view_is) ∙ h.0,
     )
