@@ -20,7 +20,7 @@ use Rattle.core_laws.proofs.Runs.{held}
 use Rattle.core_laws.proofs.CallerLemmas.{of_reached}
 use Rattle.core_world.specs.Clients.{ClientKept, fresh_client, with_spare, with_next_node, next_single}
 use Rattle.core_world.specs.Kept.{WorldKept, no_column, column_at, client_at, world_of, with_client_room, IsWhole}
-use Rattle.core_world.proofs.Changing.{client_shown}
+use Rattle.core_world.proofs.Changing.{client_shown, whole_same}
 use Rattle.core_world.proofs.Placing.{default_free}
 use Rattle.core_world.proofs.Singles as singles
 use Rattle.core_world.proofs.Singles.{MaySingle, has_alone, client_in, home_in, colour_in}
@@ -149,7 +149,7 @@ on_err (Err e) P p = p
 -- the room that a client took shows nowhere in the world
 pub room_world : (kept : WorldKept) (client : ℕ) → IsWhole kept → client < length kept.clients
     → world_of (with_client_room kept client) ≡ world_of kept
-room_world kept client w lt = client_shown kept client (with_spare (client_at kept client)) lt refl refl
+room_world kept client w lt = client_shown kept client (with_spare (client_at kept client)) lt refl refl refl
 
 pub room_there : (kept : WorldKept) (client : ℕ) → client < length kept.clients
     → 0 < (client_at (with_client_room kept client) client).spare
@@ -168,3 +168,17 @@ played_of kept client colour w may =
     let few = w.few_colours in
     let small = may.in_colours in
     (there, omega (arith, few, small), omega (arith, few, small, all))
+
+-- the clients with room for one, as the code changes them
+pub room_list : (kept : WorldKept) (client : ℕ) → client < length kept.clients → (old new : ClientKept)
+    → old ≡ get_or kept.clients client old → new ≡ with_spare old
+    → set kept.clients client new ≡ set kept.clients client (with_spare (client_at kept client))
+room_list kept client lt old new old_is new_is =
+    ap (λ (x : ClientKept). set kept.clients client x)
+    (new_is ∙ ap with_spare (old_is ∙ default_free kept.clients client old fresh_client lt))
+
+pub room_whole : (kept : WorldKept) (client : ℕ) → IsWhole kept → client < length kept.clients
+    → IsWhole (with_client_room kept client)
+room_whole kept client w lt =
+    whole_same kept client (with_spare (client_at kept client)) w lt (w.colours client fresh_client lt) refl
+    (room_world kept client w lt)

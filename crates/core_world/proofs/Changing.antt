@@ -2,23 +2,27 @@
 use Rattle.std.proofs.Common.{◌≡◌, ◌≢◌, ℕ, ◌<◌, false, List, [], ◌∷◌, ◌++◌, length}
 use Rattle.std.proofs.Common.{get_or, set, refl, ap, sym, subst, ◌∙◌, arith, inl, inr, length-set}
 use Rattle.std.proofs.Common.{get_or-set_same, get_or-set_other}
-use Rattle.std.specs.Prelude.{◌==◌}
+use Rattle.std.specs.Prelude.{◌==◌, Some, slice_get, slice_index}
 use Rattle.std.specs.List.{All}
 use mathlib.Core.Path.{fun_ext}
 use Rattle.std.proofs.lemmas.Bool.{cases_eq, eq-eqb}
 use Rattle.std.proofs.lemmas.List.Elements.{All-set}
 use Rattle.log_node.specs.declared.node.Node.{Node}
+use Rattle.log_node.specs.declared.node.Shape.{Shape}
+use Rattle.skeen_core.specs.Boards.{Board, rows_of}
 use Rattle.col_core.specs.declared.Entry.{Entry}
 use Rattle.col_core.proofs.Basics.{apart}
 use Rattle.col_core.specs.Keeping.{updated, updated_at}
 use Rattle.column.specs.Columns.{ColumnState}
 use Rattle.core_laws.specs.declared.steps.Step.{Step}
-use Rattle.core_laws.specs.Worlds.{World, ClientState, after, with_last, with_client}
+use Rattle.core_laws.specs.Worlds.{World, ClientState, RowState, after, with_last, with_client}
 use Rattle.core_laws.specs.Laws.{IsReached}
 use Rattle.core_laws.proofs.Basics.{at_updated, at_updated_at, not_place}
 use Rattle.core_laws.proofs.CallerLemmas.{after_reached}
 use Rattle.core_world.specs.Clients.{ClientKept, fresh_client}
-use Rattle.core_world.specs.Kept.{WorldKept, no_column, column_at, client_at, client_of, world_of, IsPlaced, IsWhole}
+use Rattle.core_world.specs.Kept.{WorldKept, no_column, column_at, client_at, client_of, row_in, world_of, IsPlaced}
+use Rattle.core_world.specs.Kept.{AreRows, IsRowNode, IsWhole}
+use Rattle.core_world.proofs.Worlds.{worlds}
 
 -- the columns with another one at a place
 abbrev pub with_column : List (List ColumnState) → ℕ → ℕ → ColumnState → List (List ColumnState)
@@ -120,24 +124,86 @@ module _ (kept : WorldKept) (region colour : ℕ) (column : ColumnState) (w : Is
         | inr ne ↦ other r c in_r in_c (λ e _. ne e)
       ]
 
+-- all columns are there
+pub record ArePlaced (shape : Shape) (columns : List (List ColumnState)) : Type 0 where
+  pub regions : length columns ≡ shape.regions
+  pub wide : All (λ row. length row ≡ shape.colours) columns
+  pub placed : (region colour : ℕ) → region < shape.regions → colour < shape.colours
+      → IsPlaced (column_at columns region colour) region colour shape.regions
+
+pub placed_of : (kept : WorldKept) → IsWhole kept → ArePlaced kept.shape kept.columns
+placed_of kept w = record { regions = w.regions; wide = w.wide; placed = w.placed }
+
+pub columns_placed : (kept : WorldKept) (region colour : ℕ) (column : ColumnState) → IsWhole kept
+    → region < kept.shape.regions → colour < kept.shape.colours → IsPlaced column region colour kept.shape.regions
+    → ArePlaced kept.shape (with_column kept.columns region colour column)
+columns_placed kept region colour column w lr lc is_placed = record {
+  regions = regions_after kept region colour column w lr lc;
+  wide = wide_after kept region colour column w lr lc;
+  placed = placed_after kept region colour column w lr lc is_placed;
+}
+
+-- all clients and their rows are there
+pub record AreClients (shape : Shape) (clients : List ClientKept) (board : Board) : Type 0 where
+  pub all : length clients ≡ length shape.homes
+  pub colours : All (λ c. length c.played ≡ 16) clients
+  pub board_colours : board.colours ≡ shape.colours
+  pub board_rows : board.rows ≡ shape.rows
+  pub board_clients : length board.begun ≡ length shape.homes
+  pub rows : (client : ℕ) → AreRows (get_or clients client fresh_client).begun (rows_of board client)
+  pub begun : (client number : ℕ) (node : Node)
+      → slice_get (get_or clients client fresh_client).begun number ≡ Some node
+      → IsRowNode (slice_index shape.homes client) client number shape.colours node
+
+pub clients_of : (kept : WorldKept) → IsWhole kept → AreClients kept.shape kept.clients kept.board
+clients_of kept w = record {
+  all = w.clients;
+  colours = w.colours;
+  board_colours = w.board_colours;
+  board_rows = w.board_rows;
+  board_clients = w.board_clients;
+  rows = w.rows;
+  begun = w.begun;
+}
+
+-- the code keeps the world after a step
+pub whole_after : (kept : WorldKept) (clients : List ClientKept) (board : Board) (columns : List (List ColumnState))
+    → IsWhole kept → AreClients kept.shape clients board → ArePlaced kept.shape columns
+    → IsReached (world_of (record { shape = kept.shape; clients = clients; board = board; columns = columns }))
+    → IsWhole (record { shape = kept.shape; clients = clients; board = board; columns = columns })
+whole_after kept clients board columns w cs ps reached = record {
+  few_regions = w.few_regions;
+  few_colours = w.few_colours;
+  homes = w.homes;
+  regions = ps.regions;
+  wide = ps.wide;
+  placed = ps.placed;
+  clients = cs.all;
+  colours = cs.colours;
+  board_colours = cs.board_colours;
+  board_rows = cs.board_rows;
+  board_clients = cs.board_clients;
+  rows = cs.rows;
+  begun = cs.begun;
+  reached = reached;
+}
+
+pub reached_step : (kept : WorldKept) (new : World) (step : Step) → IsWhole kept → new ≡ after (world_of kept) step
+    → IsReached new
+reached_step kept new step w is = subst IsReached (sym is) (after_reached (world_of kept) step w.reached)
+
 -- the code keeps the world after a step that changed one column
 pub whole_column : (kept : WorldKept) (region colour : ℕ) (column : ColumnState) (step : Step) → IsWhole kept
     → region < kept.shape.regions → colour < kept.shape.colours → IsPlaced column region colour kept.shape.regions
     → world_of (record kept { columns = with_column kept.columns region colour column }) ≡ after (world_of kept) step
     → IsWhole (record kept { columns = with_column kept.columns region colour column })
-whole_column kept region colour column step w lr lc is_placed step_is = record {
-  few_regions = w.few_regions;
-  few_colours = w.few_colours;
-  homes = w.homes;
-  regions = regions_after kept region colour column w lr lc;
-  wide = wide_after kept region colour column w lr lc;
-  placed = placed_after kept region colour column w lr lc is_placed;
-  clients = w.clients;
-  colours = w.colours;
-  reached = subst IsReached (sym step_is) (after_reached (world_of kept) step w.reached);
-}
+whole_column kept region colour column step w lr lc is_placed step_is =
+    whole_after kept kept.clients kept.board (with_column kept.columns region colour column) w (clients_of kept w)
+    (columns_placed kept region colour column w lr lc is_placed)
+    (reached_step kept (world_of (record kept { columns = with_column kept.columns region colour column })) step w
+    step_is)
 
-differs : (n m : ℕ) → (n == m) ≡ false → n ≢ m
+pub differs : (n m : ℕ) → (n == m) ≡ false → n ≢ m
 differs n m f e = apart (n == m) (eq-eqb n m e) f
 
 -- the clients are as before but for one, and so are their nodes
@@ -161,73 +227,87 @@ nodes_changed cs client c lt =
     ∙ ap (λ (x : ClientKept). x.nodes) (get_or-set_same cs client c fresh_client lt))
     (λ f. ap (λ (x : ClientKept). x.nodes) (get_or-set_other cs client n c fresh_client (differs n client f))))
 
--- nodes that stay
-nodes_same : (cs : List ClientKept) (client : ℕ) (c : ClientKept) → client < length cs → c.nodes
-    ≡ (get_or cs client fresh_client).nodes
-    → ◌≡◌ {A = ℕ → List Node} (λ n. (get_or (set cs client c) n fresh_client).nodes)
-    (λ n. (get_or cs n fresh_client).nodes)
-nodes_same cs client c lt same = fun_ext (λ n. elim (cases_eq n client) [
+-- what one client keeps stays for all
+pub field_same : {A : Type 0} (f : ClientKept → A) (cs : List ClientKept) (client : ℕ) (c : ClientKept)
+    → client < length cs → f c ≡ f (get_or cs client fresh_client) → (n : ℕ)
+    → f (get_or (set cs client c) n fresh_client) ≡ f (get_or cs n fresh_client)
+field_same f cs client c lt same n = elim (cases_eq n client) [
   | inl e ↦
-      ap (λ (k : ℕ). (get_or (set cs client c) k fresh_client).nodes) e
-      ∙ (ap (λ (x : ClientKept). x.nodes) (get_or-set_same cs client c fresh_client lt)
-      ∙ (same ∙ ap (λ (k : ℕ). (get_or cs k fresh_client).nodes) (sym e)))
-  | inr f ↦ ap (λ (x : ClientKept). x.nodes) (get_or-set_other cs client n c fresh_client f)
-])
+      ap (λ (k : ℕ). f (get_or (set cs client c) k fresh_client)) e
+      ∙ (ap f (get_or-set_same cs client c fresh_client lt)
+      ∙ (same ∙ ap (λ (k : ℕ). f (get_or cs k fresh_client)) (sym e)))
+  | inr g ↦ ap f (get_or-set_other cs client n c fresh_client g)
+]
+
+abbrev nodes_of : List ClientKept → ℕ → List Node
+nodes_of cs n = (get_or cs n fresh_client).nodes
+
+abbrev pub rows_by : List ClientKept → Board → ℕ → ℕ → RowState
+rows_by cs board client number = row_in (get_or cs client fresh_client).begun (rows_of board client) number
+
+nodes_same : (cs : List ClientKept) (client : ℕ) (c : ClientKept) → client < length cs
+    → c.nodes ≡ (get_or cs client fresh_client).nodes
+    → ◌≡◌ {A = ℕ → List Node} (nodes_of (set cs client c)) (nodes_of cs)
+nodes_same cs client c lt same = fun_ext (field_same (λ (x : ClientKept). x.nodes) cs client c lt same)
+
+pub rows_same : (cs : List ClientKept) (board : Board) (client : ℕ) (c : ClientKept) → client < length cs
+    → c.begun ≡ (get_or cs client fresh_client).begun
+    → ◌≡◌ {A = ℕ → ℕ → RowState} (rows_by (set cs client c) board) (rows_by cs board)
+rows_same cs board client c lt same =
+    fun_ext (λ a. fun_ext (λ n. ap (λ (b : List Node). row_in b (rows_of board a) n)
+    (field_same (λ (x : ClientKept). x.begun) cs client c lt same a)))
 
 -- one client's change is one in the world
 pub client_world : (kept : WorldKept) (client : ℕ) (c : ClientKept) → client < length kept.clients
-    → c.nodes ≡ (client_at kept client).nodes
+    → c.nodes ≡ (client_at kept client).nodes → c.begun ≡ (client_at kept client).begun
     → world_of (record kept { clients = set kept.clients client c }) ≡ with_client (world_of kept) client (client_of c)
-client_world kept client c lt same =
-    ap (λ (cs : ℕ → ClientState). with_both cs (λ n. (get_or (set kept.clients client c) n fresh_client).nodes))
-    (clients_changed kept.clients client c lt)
-    ∙ ap (λ (ns : ℕ → List Node). with_both (updated (λ a. client_of (client_at kept a)) client (client_of c)) ns)
-    (nodes_same kept.clients client c lt same) where
-      with_both : (ℕ → ClientState) → (ℕ → List Node) → World
-      with_both cs ns = record (world_of kept) { clients = cs; nodes = ns }
+client_world kept client c lt same begun =
+    worlds kept.shape (world_of kept).histories (world_of kept).histories
+    (clients_changed kept.clients client c lt) (rows_same kept.clients kept.board client c lt begun) refl
+    (nodes_same kept.clients client c lt same)
 
 -- one that the world does not show changes nothing there
 pub client_shown : (kept : WorldKept) (client : ℕ) (c : ClientKept) → client < length kept.clients
-    → c.nodes ≡ (client_at kept client).nodes → client_of c ≡ client_of (client_at kept client)
+    → c.nodes ≡ (client_at kept client).nodes → c.begun ≡ (client_at kept client).begun
+    → client_of c ≡ client_of (client_at kept client)
     → world_of (record kept { clients = set kept.clients client c }) ≡ world_of kept
-client_shown kept client c lt same shown =
-    ap (λ (cs : ℕ → ClientState). with_both cs (λ n. (get_or (set kept.clients client c) n fresh_client).nodes))
-    (clients_changed kept.clients client c lt
-    ∙ fun_ext (λ n. at_updated (λ (v : ClientState). v ≡ client_of (client_at kept n))
-    (λ a. client_of (client_at kept a)) client (client_of c) n
-    (λ e. shown ∙ ap (λ (k : ℕ). client_of (client_at kept k)) (sym e)) (λ _. refl)))
-    ∙ ap (λ (ns : ℕ → List Node). with_both (λ a. client_of (client_at kept a)) ns)
-    (nodes_same kept.clients client c lt same) where
-      with_both : (ℕ → ClientState) → (ℕ → List Node) → World
-      with_both cs ns = record (world_of kept) { clients = cs; nodes = ns }
+client_shown kept client c lt same begun shown =
+    worlds kept.shape (world_of kept).histories (world_of kept).histories
+    (fun_ext (field_same client_of kept.clients client c lt shown))
+    (rows_same kept.clients kept.board client c lt begun) refl
+    (nodes_same kept.clients client c lt same)
+
+-- all clients are there, with one that has begun as many rows
+pub clients_set : (kept : WorldKept) (client : ℕ) (c : ClientKept) → IsWhole kept → client < length kept.clients
+    → length c.played ≡ 16 → c.begun ≡ (client_at kept client).begun
+    → AreClients kept.shape (set kept.clients client c) kept.board
+clients_set kept client c w lt all_colours begun = record {
+  all = length-set kept.clients client c ∙ w.clients;
+  colours = All-set (λ (x : ClientKept). length x.played ≡ 16) kept.clients client c all_colours w.colours;
+  board_colours = w.board_colours;
+  board_rows = w.board_rows;
+  board_clients = w.board_clients;
+  rows = λ a. subst (λ (b : List Node). AreRows b (rows_of kept.board a))
+      (sym (field_same (λ (x : ClientKept). x.begun) kept.clients client c lt begun a)) (w.rows a);
+  begun = λ a n node e. w.begun a n node
+      (ap (λ (b : List Node). slice_get b n)
+      (sym (field_same (λ (x : ClientKept). x.begun) kept.clients client c lt begun a)) ∙ e);
+}
 
 -- the code keeps the world after a step that changed one client
-pub whole_client : (kept : WorldKept) (client : ℕ) (c : ClientKept) (step : Step) → IsWhole kept → length c.played ≡ 16
+pub whole_client : (kept : WorldKept) (client : ℕ) (c : ClientKept) (step : Step) → IsWhole kept
+    → client < length kept.clients → length c.played ≡ 16 → c.begun ≡ (client_at kept client).begun
     → world_of (record kept { clients = set kept.clients client c }) ≡ after (world_of kept) step
     → IsWhole (record kept { clients = set kept.clients client c })
-whole_client kept client c step w all_colours step_is = record {
-  few_regions = w.few_regions;
-  few_colours = w.few_colours;
-  homes = w.homes;
-  regions = w.regions;
-  wide = w.wide;
-  placed = w.placed;
-  clients = length-set kept.clients client c ∙ w.clients;
-  colours = All-set (λ (x : ClientKept). length x.played ≡ 16) kept.clients client c all_colours w.colours;
-  reached = subst IsReached (sym step_is) (after_reached (world_of kept) step w.reached);
-}
+whole_client kept client c step w lt all_colours begun step_is =
+    whole_after kept (set kept.clients client c) kept.board kept.columns w
+    (clients_set kept client c w lt all_colours begun) (placed_of kept w)
+    (reached_step kept (world_of (record kept { clients = set kept.clients client c })) step w step_is)
 
-pub whole_same : (kept : WorldKept) (client : ℕ) (c : ClientKept) → IsWhole kept → length c.played ≡ 16
+pub whole_same : (kept : WorldKept) (client : ℕ) (c : ClientKept) → IsWhole kept → client < length kept.clients
+    → length c.played ≡ 16 → c.begun ≡ (client_at kept client).begun
     → world_of (record kept { clients = set kept.clients client c }) ≡ world_of kept
     → IsWhole (record kept { clients = set kept.clients client c })
-whole_same kept client c w all_colours same = record {
-  few_regions = w.few_regions;
-  few_colours = w.few_colours;
-  homes = w.homes;
-  regions = w.regions;
-  wide = w.wide;
-  placed = w.placed;
-  clients = length-set kept.clients client c ∙ w.clients;
-  colours = All-set (λ (x : ClientKept). length x.played ≡ 16) kept.clients client c all_colours w.colours;
-  reached = subst IsReached (sym same) w.reached;
-}
+whole_same kept client c w lt all_colours begun same =
+    whole_after kept (set kept.clients client c) kept.board kept.columns w
+    (clients_set kept client c w lt all_colours begun) (placed_of kept w) (subst IsReached (sym same) w.reached)

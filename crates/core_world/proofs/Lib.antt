@@ -1,6 +1,17 @@
+pub mod Worlds
 pub mod Changing
 pub mod Placing
 pub mod Opening
 pub mod Seeing
 pub mod Singles
 pub mod Calling
+pub mod Playing
+pub mod Plays
+pub mod Sets
+pub mod Begins
+pub mod Marking
+pub mod Proposing
+pub mod Settling
+pub mod Ranges
+pub mod Deciding
+pub mod MayMark

@@ -1,6 +1,7 @@
 -- The world before the first step.
 use Rattle.std.proofs.Common.{◌≡◌, ℕ, zero, suc, ◌<◌, ◌≤◌, List, [], ◌∷◌, length, get_or, map, replicate, refl, ap, sym}
 use Rattle.std.proofs.Common.{◌∙◌, subst, arith, zero-add}
+use Rattle.std.specs.Prelude.{Some, slice_get}
 use Rattle.std.specs.List.{All, range_with_len}
 use Rattle.std.proofs.lemmas.List.FromFn.{length-map-range_with_len, get_or-map-range_with_len}
 use mathlib.Core.Path.{fun_ext}
@@ -8,16 +9,19 @@ use Rattle.log_node.specs.declared.ids.Counts.{Counts}
 use Rattle.log_node.specs.declared.node.Node.{Node}
 use Rattle.log_node.specs.declared.node.Shape.{Shape}
 use Rattle.log_node.specs.Vectors.{zeros}
+use Rattle.skeen_core.specs.declared.board_row.BoardRow.{BoardRow}
+use Rattle.skeen_core.specs.Boards.{empty_board, rows_of}
 use Rattle.col_core.specs.declared.Entry.{Entry}
 use Rattle.column.specs.Columns.{ColumnState, new_column}
 use Rattle.core_laws.specs.Worlds.{World, ClientState, new_client, no_row, opened}
 use Rattle.core_laws.specs.Laws.{IsReached}
 use Rattle.core_laws.proofs.CallerLemmas.{opened_reached}
 use Rattle.core_world.specs.Clients.{ClientKept, fresh_client}
-use Rattle.core_world.specs.Kept.{WorldKept, no_column, fresh_columns, column_at, client_of, world_of, IsPlaced}
-use Rattle.core_world.specs.Kept.{IsWhole}
+use Rattle.core_world.specs.Kept.{WorldKept, no_column, fresh_columns, column_at, client_at, client_of, row_in, world_of}
+use Rattle.core_world.specs.Kept.{IsPlaced, AreRows, IsWhole}
+use Rattle.core_world.proofs.Worlds.{worlds}
 
-get_replicate : {A : Type 0} (n i : ℕ) (x : A) → get_or (replicate n x) i x ≡ x
+pub get_replicate : {A : Type 0} (n i : ℕ) (x : A) → get_or (replicate n x) i x ≡ x
 get_replicate zero i x = refl
 get_replicate (suc n) zero x = refl
 get_replicate (suc n) (suc i) x = get_replicate n i x
@@ -33,6 +37,7 @@ abbrev pub fresh_world : Shape → WorldKept
 fresh_world shape = record {
   shape = shape;
   clients = replicate (length shape.homes) fresh_client;
+  board = empty_board (length shape.homes) shape.colours shape.rows;
   columns = map (λ region. fresh_columns region shape) (range_with_len 0 shape.regions);
 }
 
@@ -51,16 +56,20 @@ no_history shape r c =
     (range_with_len 0 shape.colours) no_column (λ colour. refl) refl c)
     refl r
 
+no_rows : (shape : Shape) (a n : ℕ)
+    → row_in (client_at (fresh_world shape) a).begun (rows_of (fresh_world shape).board a) n ≡ no_row
+no_rows shape a n =
+    ap (λ (c : ClientKept). row_in c.begun (rows_of (fresh_world shape).board a) n)
+    (get_replicate (length shape.homes) a fresh_client)
+    ∙ ap (λ (rows : List BoardRow). row_in [] rows n) (get_replicate (length shape.homes) a [])
+
 pub fresh_is_opened : (shape : Shape) → world_of (fresh_world shape) ≡ opened shape
 fresh_is_opened shape =
-    ap (λ (cs : ℕ → ClientState). made cs (world_of (fresh_world shape)).histories (world_of (fresh_world shape)).nodes)
+    worlds shape (world_of (fresh_world shape)).histories (λ _ _. [])
     (fun_ext (λ n. ap client_of (get_replicate (length shape.homes) n fresh_client) ∙ fresh_is_new))
-    ∙ (ap (λ (hs : ℕ → ℕ → List Entry). made (λ _. new_client) hs (world_of (fresh_world shape)).nodes)
+    (fun_ext (λ a. fun_ext (λ n. no_rows shape a n)))
     (fun_ext (λ r. fun_ext (λ c. no_history shape r c)))
-    ∙ ap (λ (ns : ℕ → List Node). made (λ _. new_client) (λ _ _. []) ns)
-    (fun_ext (λ n. ap (λ (c : ClientKept). c.nodes) (get_replicate (length shape.homes) n fresh_client)))) where
-      made : (ℕ → ClientState) → (ℕ → ℕ → List Entry) → (ℕ → List Node) → World
-      made cs hs ns = record { shape = shape; clients = cs; rows = λ _ _. no_row; histories = hs; nodes = ns }
+    (fun_ext (λ n. ap (λ (c : ClientKept). c.nodes) (get_replicate (length shape.homes) n fresh_client)))
 
 length_replicate : {A : Type 0} (n : ℕ) (x : A) → length (replicate n x) ≡ n
 length_replicate zero x = refl
@@ -92,8 +101,32 @@ fresh_whole shape few few_colours homes = record {
   clients = length_replicate (length shape.homes) fresh_client;
   colours = all_replicate (λ (c : ClientKept). length c.played ≡ 16) (length shape.homes) fresh_client
       (length_replicate 16 zeros);
+  board_colours = refl;
+  board_rows = refl;
+  board_clients = length_replicate (length shape.homes) [];
+  rows = λ client. none_begun client;
+  begun = λ client n node e. absurd (no_node client n node e);
   reached = subst IsReached (sym (fresh_is_opened shape)) (opened_reached shape);
 } where
+  none : AreRows [] []
+  none = record {
+    used = refl;
+    colours = λ n r e. absurd (let x : ⊥ = cc in x);
+    marks = λ n r e. absurd (let x : ⊥ = cc in x);
+  }
+
+  none_begun : (client : ℕ) → AreRows (client_at (fresh_world shape) client).begun
+      (rows_of (fresh_world shape).board client)
+  none_begun client =
+      subst (λ (c : ClientKept). AreRows c.begun (rows_of (fresh_world shape).board client))
+      (sym (get_replicate (length shape.homes) client fresh_client))
+      (subst (λ (rows : List BoardRow). AreRows [] rows) (sym (get_replicate (length shape.homes) client [])) none)
+
+  no_node : (client n : ℕ) (node : Node) → slice_get (client_at (fresh_world shape) client).begun n ≡ Some node → ⊥
+  no_node client n node e =
+      let f = ap (λ (c : ClientKept). slice_get c.begun n) (sym (get_replicate (length shape.homes) client fresh_client)) ∙ e in
+      let x : ⊥ = cc in x
+
   there : (r c : ℕ) → r < shape.regions → c < shape.colours → column_at (fresh_world shape).columns r c
       ≡ new_column r c shape.regions
   there r c in_r in_c =

@@ -69,13 +69,14 @@ seen_client c to = record c { floor = to }
 pub seen_world : (kept : WorldKept) (client to : ℕ) → client < length kept.clients
     → world_of (record kept { clients = set kept.clients client (seen_client (client_at kept client) to) })
     ≡ after_seen (world_of kept) client to
-seen_world kept client to lt = client_world kept client (seen_client (client_at kept client) to) lt refl
+seen_world kept client to lt = client_world kept client (seen_client (client_at kept client) to) lt refl refl
 
 pub seen_whole : (kept : WorldKept) (client to : ℕ) → IsWhole kept → may_see (world_of kept) client to ≡ true
     → IsWhole (record kept { clients = set kept.clients client (seen_client (client_at kept client) to) })
 seen_whole kept client to w may =
     let lt = client_there kept client to w may in
-    whole_client kept client (seen_client (client_at kept client) to) (steps.Seen client to) w (w.colours client _ lt)
+    whole_client kept client (seen_client (client_at kept client) to) (steps.Seen client to) w lt
+    (w.colours client _ lt) refl
     (seen_world kept client to lt ∙ sym (cond-true (may_see (world_of kept) client to) _ _ may))
 
 -- the clients with one that has seen a stamp, as the code changes them

@@ -21,8 +21,9 @@ use Rattle.core_laws.specs.Laws.{IsReached}
 use Rattle.core_laws.proofs.CallerLemmas.{after_reached}
 use Rattle.core_world.specs.Clients.{ClientKept, fresh_client, with_next_node, next_single}
 use Rattle.core_world.specs.Kept.{WorldKept, column_at, client_at, world_of, IsWhole}
-use Rattle.core_world.proofs.Changing.{with_column, clients_changed, nodes_changed, histories_changed, regions_after}
-use Rattle.core_world.proofs.Changing.{wide_after, placed_after}
+use Rattle.core_world.proofs.Worlds.{worlds}
+use Rattle.core_world.proofs.Changing.{with_column, clients_changed, nodes_changed, histories_changed, rows_same}
+use Rattle.core_world.proofs.Changing.{columns_placed, clients_set, whole_after, reached_step}
 
 -- a fact of each of sixteen numbers
 up_to_16 : (P : ℕ → Type 0) → P 0 → P 1 → P 2 → P 3 → P 4 → P 5 → P 6 → P 7 → P 8 → P 9 → P 10 → P 11 → P 12 → P 13
@@ -136,32 +137,18 @@ module _ (kept : WorldKept) (w : IsWhole kept) (client colour : ℕ) (text : Lis
 
   pub single_world : world_of new_kept ≡ after_single (world_of kept) client colour text
   single_world =
-      ap (λ (cs : ℕ → ClientState). made cs (world_of new_kept).histories (world_of new_kept).nodes)
+      worlds kept.shape (world_of new_kept).histories (after_single (world_of kept) client colour text).histories
       (clients_changed kept.clients client new_client client_in)
-      ∙ (ap (λ (hs : ℕ → ℕ → List Entry). made (after_single (world_of kept) client colour text).clients hs
-      (world_of new_kept).nodes)
+      (rows_same kept.clients kept.board client new_client client_in refl)
       (histories_changed kept.columns home colour new_column home_in colour_in _ entry_is)
-      ∙ ap (λ (ns : ℕ → List Node). made (after_single (world_of kept) client colour text).clients
-      (after_single (world_of kept) client colour text).histories ns)
-      (nodes_changed kept.clients client new_client client_in)) where
-        made : (ℕ → ClientState) → (ℕ → ℕ → List Entry) → (ℕ → List Node) → World
-        made cs hs ns = record (world_of kept) { clients = cs; histories = hs; nodes = ns }
+      (nodes_changed kept.clients client new_client client_in)
 
   pub single_whole : may_single (world_of kept) client colour ≡ true → IsWhole new_kept
   single_whole t =
       let p = w.placed home colour may.in_regions may.in_colours in
-      record {
-        few_regions = w.few_regions;
-        few_colours = w.few_colours;
-        homes = w.homes;
-        regions = regions_after kept home colour new_column w may.in_regions may.in_colours;
-        wide = wide_after kept home colour new_column w may.in_regions may.in_colours;
-        placed = placed_after kept home colour new_column w may.in_regions may.in_colours
-            (record { in_region = p.in_region; of_colour = p.of_colour; of_regions = p.of_regions });
-        clients = length-set kept.clients client new_client ∙ w.clients;
-        colours = All-set (λ (x : ClientKept). length x.played ≡ 16) kept.clients client new_client
-            (w.colours client fresh_client client_in) w.colours;
-        reached = subst IsReached
-            (sym (single_world ∙ sym (cond-true (may_single (world_of kept) client colour) _ _ t)))
-            (after_reached (world_of kept) (steps.Single client colour text) w.reached);
-      }
+      whole_after kept (set kept.clients client new_client) kept.board (with_column kept.columns home colour new_column) w
+      (clients_set kept client new_client w client_in (w.colours client fresh_client client_in) refl)
+      (columns_placed kept home colour new_column w may.in_regions may.in_colours
+      (record { in_region = p.in_region; of_colour = p.of_colour; of_regions = p.of_regions }))
+      (reached_step kept (world_of new_kept) (steps.Single client colour text) w
+      (single_world ∙ sym (cond-true (may_single (world_of kept) client colour) _ _ t)))

@@ -1,22 +1,25 @@
 // What a client has used, seen and played.
 ghost use Rattle.std.specs.Prelude.{◌≡◌, ◌+◌, ◌<◌, ◌++◌, ◌∷◌, [], replicate, max, length, slice_index_or, slice_set};
-ghost use Rattle.std.specs.Prelude.{IfOk, OnOk, OnErr};
+ghost use Rattle.std.specs.Prelude.{◌≤◌, slice_get, Some, None, IfSome, IfOk, OnOk, OnErr};
 ghost use Rattle.log_node.specs.Vectors.{zeros};
-ghost use Rattle.core_world.specs.Clients.{fresh_client, with_spare, with_next_node, next_single};
+ghost use Rattle.log_node.specs.Sets.{members};
+ghost use Rattle.core_world.specs.Clients.{fresh_client, with_spare, with_next_node, with_next_row, next_single};
+ghost use Rattle.core_world.specs.Clients.{next_begun, played_of};
 
-use log_node::{Colours, Counts, Id, ListOf, MAX_COLOURS, Node, Text};
+use log_node::{Colours, Counts, Id, ListOf, MAX_COLOURS, Node, Row, Text};
 use std::alloc::{AllocError, Global};
 use std::marker::Model;
 use std::sync::Arc;
 
 /// A client: how many ids it has used, the greatest stamp that it has seen, for each colour the cut of its last play,
-/// and its nodes in the order of their ids.
+/// its nodes in the order of their ids, and those among them that it began rows for.
 #[derive(Drop)]
 pub struct Client {
     floor: u64,
     played: Vec<Counts>,
     nodes: Vec<Arc<Node>>,
-    // For how many more nodes there is memory.
+    begun: Vec<Arc<Node>>,
+    // For how many more nodes and rows there is memory.
     spare: usize,
 }
 
@@ -31,10 +34,12 @@ impl Model for Client {
       floor = a.floor;
       played = a.played.items;
       nodes = map (λ n. n.value) a.nodes.items;
+      begun = map (λ n. n.value) a.begun.items;
       spare = a.spare;
     } };
 
-    ghost invariant = { λ a. length a.nodes.items + a.spare ≤ vec_capacity a.nodes };
+    ghost invariant = { λ a. (length a.nodes.items + a.spare ≤ vec_capacity a.nodes)
+        × (length a.begun.items + a.spare ≤ vec_capacity a.begun) };
 }
 
 impl Client {
@@ -50,6 +55,7 @@ impl Client {
             floor: 0,
             played,
             nodes: Vec::new(alloc),
+            begun: Vec::new(alloc),
             spare: 0,
         })
     }
@@ -95,7 +101,15 @@ impl Client {
         self.floor = self.floor.max(stamp);
     }
 
-    /// Takes the memory for one node more, unless it is there.
+    /// The node of its row of a number; `None` exactly where it has begun no more than `number` rows.
+    pub fn row_node(&self, number: u32) -> Option<&Arc<Node>>
+        ensures some { IfSome result (λ node. slice_get self.now.begun number ≡ Some node.now.value) }
+        ensures none { result ≡ None → length self.now.begun ≤ number }
+    {
+        self.begun.get(number as usize)
+    }
+
+    /// Takes the memory for one node and one row more, unless it is there.
     pub fn room(&mut self) -> Result<(), AllocError>
         ensures ok { OnOk result (self.new ≡ with_spare self.old) }
         ensures err { OnErr result (self.new ≡ self.old) }
@@ -104,6 +118,7 @@ impl Client {
             return Ok(());
         }
         self.nodes.reserve(1)?;
+        self.begun.reserve(1)?;
         self.spare = 1;
         Ok(())
     }
@@ -116,6 +131,62 @@ impl Client {
         self.nodes.push_reserved(node);
         self.spare -= 1;
         self.floor = stamp;
+    }
+
+    /// Its next row is begun, for its next node.
+    pub fn begin(&mut self, node: Arc<Node>, shared: Arc<Node>)
+        requires room { 0 < self.old.spare }
+        requires shared { shared.value ≡ node.value }
+        ensures { self.new ≡ with_next_row self.old node.value }
+    {
+        self.nodes.push_reserved(node);
+        self.begun.push_reserved(shared);
+        self.spare -= 1;
+    }
+
+    // What it has played of these colours.
+    fn played_of(&self, alloc: Global, colours: Colours) -> Result<ListOf<Counts>, AllocError>
+        requires { length self.now.played ≡ MAX_COLOURS }
+        ensures { IfOk result (λ wants. wants ≡ played_of self.now (members colours)) }
+    {
+        let _bits = colours.0;
+        let mut wants = ListOf::new(alloc);
+        for colour in 0..MAX_COLOURS {
+            if colours.has(colour) {
+                let played = self.played(colour);
+                wants.push(played)?;
+            }
+        }
+        Ok(wants)
+    }
+
+    /// The node of its next append to several colours, for its next row.
+    pub fn begun_node(
+        &self,
+        alloc: Global,
+        home: u8,
+        colours: Colours,
+        text: Text,
+        row: Row,
+    ) -> Result<Node, AllocError>
+        requires played { length self.now.played ≡ MAX_COLOURS }
+        requires row { row.number ≡ length self.now.begun }
+        ensures { IfOk result (λ node. node ≡ next_begun self.now row.client home colours text) }
+    {
+        let wants = self.played_of(alloc, colours)?;
+        let count = self.count();
+        Ok(Node {
+            id: Id {
+                client: row.client,
+                count,
+            },
+            region: home,
+            colours,
+            text,
+            floor: self.floor,
+            wants,
+            row: Some(row),
+        })
     }
 
     /// The node of its next append to one colour.

@@ -3,6 +3,7 @@
 
 mod client;
 mod region;
+mod unplayed;
 mod world;
 
 pub use client::Client;

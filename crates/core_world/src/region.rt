@@ -1,15 +1,17 @@
 // The columns of one region.
 ghost use Rattle.std.specs.Prelude.{◌≡◌, ◌<◌, ◌≤◌, nat_le, length, slice_index_or, slice_set};
-ghost use Rattle.std.specs.Prelude.{true, false, IfOk, IfErr, OnOk, OnErr};
+ghost use Rattle.std.specs.Prelude.{true, false, None, ◌&&◌, if◌then◌else◌, IfOk, IfErr, OnOk, OnErr};
 ghost use Rattle.std.specs.List.{list_any};
-ghost use Rattle.col_core.specs.History.{clock, has_entered};
+ghost use Rattle.col_core.specs.History.{clock, has_entered, entries};
 ghost use Rattle.log_node.specs.Sets.{has};
-ghost use Rattle.column.specs.Columns.{after_raise, after_single, with_room, stamp_for, HasEnterCause};
+ghost use Rattle.skeen_core.specs.Queues.{MaySettle, has_open, is_decided};
+ghost use Rattle.column.specs.Columns.{after_raise, after_single, after_propose, after_settle, with_room, stamp_for};
+ghost use Rattle.column.specs.Columns.{HasEnterCause};
 ghost use Rattle.core_world.specs.Kept.{no_column, fresh_columns};
 
 use column::{Column, ColumnFault};
-use log_node::{At, Node, Shape};
-use skeen_core::MAX_STAMP;
+use log_node::{At, Id, Node, Shape};
+use skeen_core::{MAX_STAMP, Outcome};
 use std::alloc::{AllocError, Global};
 use std::marker::Model;
 use std::sync::Arc;
@@ -89,5 +91,40 @@ impl RegionColumns {
     {
         let answer = self.items[colour as usize].single(by, node)?;
         Ok(answer)
+    }
+
+    /// A node of several colours enters a colour's column as open.
+    pub fn propose(&mut self, by: u8, colour: u8, node: Arc<Node>) -> Result<(At, u64), ColumnFault>
+        requires colour { colour < length self.old }
+        requires fresh { has_entered node.value.id (slice_index_or self.old colour no_column).journal ≡ false }
+        requires region { node.value.region ≡ (slice_index_or self.old colour no_column).region }
+        requires of_colour { has node.value.colours (slice_index_or self.old colour no_column).colour ≡ true }
+        requires floor { node.value.floor ≤ MAX_STAMP }
+        requires row { node.value.row ≡ None → ⊥ }
+        ensures answer { IfOk result (λ r.
+            (r.0 ≡ At.Event (length (slice_index_or self.old colour no_column).journal))
+            × (r.1 ≡ stamp_for (slice_index_or self.old colour no_column) node.value)) }
+        ensures ok { OnOk result (self.new ≡ slice_set self.old colour
+            (after_propose (with_room (slice_index_or self.old colour no_column)) by node.value)) }
+        ensures cause { IfErr result (HasEnterCause (slice_index_or self.old colour no_column) node.value.floor) }
+        ensures err { OnErr result (self.new ≡ self.old) }
+    {
+        let answer = self.items[colour as usize].propose(by, node)?;
+        Ok(answer)
+    }
+
+    /// An id that is open in a colour's column becomes final under its number, or goes.
+    pub fn settle(&mut self, by: u8, colour: u8, id: Id, outcome: Outcome) -> At
+        requires colour { colour < length self.old }
+        requires settles { MaySettle id outcome (entries (slice_index_or self.old colour no_column).journal) MAX_STAMP }
+        ensures answer { let column = slice_index_or self.old colour no_column in
+            let settles = has_open id (entries column.journal) && is_decided outcome in
+            let place = length column.journal in
+            result ≡ (if settles then At.Event place else At.Look place) }
+        ensures columns { let column = slice_index_or self.old colour no_column in
+            let settles = has_open id (entries column.journal) && is_decided outcome in
+            self.new ≡ slice_set self.old colour (if settles then after_settle column by id outcome else column) }
+    {
+        self.items[colour as usize].settle(by, id, outcome)
     }
 }

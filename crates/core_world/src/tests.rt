@@ -1,5 +1,5 @@
 // A world by hand.
-ghost use Rattle.std.specs.Prelude.{◌≡◌, ◌<◌, ◌≤◌, IfOk};
+ghost use Rattle.std.specs.Prelude.{◌≡◌, ◌<◌, ◌≤◌, IfOk, length};
 ghost use Rattle.std.specs.List.{All};
 
 use super::*;
@@ -13,6 +13,8 @@ fn shape(alloc: Global) -> Result<Shape, AllocError>
     ensures regions { IfOk result (λ shape. shape.regions ≡ 1) }
     ensures colours { IfOk result (λ shape. shape.colours ≡ 2) }
     ensures homes { IfOk result (λ shape. All (λ home. home < 1) shape.homes) }
+    ensures clients { IfOk result (λ shape. length shape.homes ≡ 2) }
+    ensures rows { IfOk result (λ shape. shape.rows ≡ 1) }
 {
     let mut homes = ListOf::new(alloc);
     homes.push(0)?;

@@ -1,24 +1,28 @@
 use Rattle.std.proofs.Common.{◌≡◌, ℕ, List, replicate, ap, sym, subst, ◌∙◌}
+use Rattle.skeen_core.specs.Boards.{Board, empty_board}
 use Rattle.column.specs.Columns.{ColumnState}
 use Rattle.core_world.specs.Clients.{ClientKept, fresh_client}
 use Rattle.core_world.specs.Kept.{WorldKept, world_of, IsWhole}
 use Rattle.core_world.proofs.Opening.{fresh_world, fresh_is_opened, fresh_whole}
 use Rattle.core_world.proofs.world.World.open.Goals as goal
 
-abbrev made : goal.In_ok-clients → WorldKept
+abbrev made : goal.In_ok-board → WorldKept
 made c = record {
   shape = c.args.shape;
   clients = c.in_ok-clients.clients.items;
-  columns =
-      c.in_ok-regions.regions.items;
+  board = c.in_ok-board.board;
+  columns = c.in_ok-regions.regions.items;
 }
 
-is_fresh : (c : goal.In_ok-clients) → made c ≡ fresh_world c.args.shape
+is_fresh : (c : goal.In_ok-board) → made c ≡ fresh_world c.args.shape
 is_fresh c =
     ap (λ (l : List ClientKept). let k : WorldKept =
-    record { shape = c.args.shape; clients = l; columns = c.in_ok-regions.regions.items } in k)
-    (c.in_ok-clients.ensures ∙ ap (λ (n : ℕ). replicate n fresh_client) c.len.ensures)
-    ∙ ap (λ (l : List (List ColumnState)). record (fresh_world c.args.shape) { columns = l }) c.in_ok-regions.ensures
+    record { shape = c.args.shape; clients = l; board = c.in_ok-board.board; columns = c.in_ok-regions.regions.items } in k)
+    (c.in_ok-clients.ensures ∙ ap (λ (n : ℕ). replicate n fresh_client) c.len-count.ensures)
+    ∙ (ap (λ (b : Board). record (fresh_world c.args.shape) { board = b; columns = c.in_ok-regions.regions.items })
+    (c.in_ok-board.ensures
+    ∙ ap (λ (n : ℕ). empty_board n c.args.shape.colours c.args.shape.rows) c.len-count.ensures)
+    ∙ ap (λ (l : List (List ColumnState)). record (fresh_world c.args.shape) { columns = l }) c.in_ok-regions.ensures)
 
 pub invariant_of-result : goal.invariant_of-result
 invariant_of-result c =

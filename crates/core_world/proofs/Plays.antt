@@ -1,0 +1,158 @@
+-- What a play makes of the world.
+use Rattle.std.proofs.Common.{◌≡◌, ℕ, ◌<◌, Bool, true, List, [], length, get_or, set, max, refl, ap, sym, subst, ◌∙◌}
+use Rattle.std.proofs.Common.{arith, length-set, get_or-set_same, get_or-set_other}
+use Rattle.std.specs.Prelude.{◌&&◌, nat_lt, slice_index}
+use Rattle.std.specs.List.{All}
+use mathlib.Core.Path.{fun_ext}
+use Rattle.std.proofs.lemmas.Bool.{and_parts, and_from, ltb-true, lt-ltb, cond-true}
+use Rattle.log_node.specs.declared.ids.Counts.{Counts}
+use Rattle.log_node.specs.Vectors.{zeros, is_within}
+use Rattle.col_core.specs.Keeping.{updated}
+use Rattle.col_core.specs.Cuts.{chain}
+use Rattle.col_core.specs.PlayOrder.{greatest_between}
+use Rattle.col_core.proofs.CutLaws.{within}
+use Rattle.column.specs.Columns.{ColumnState, cut_of, history_of}
+use Rattle.column.proofs.OwnCuts.{at-vector}
+use Rattle.core_laws.specs.declared.steps.Step.TheVariants as steps
+use Rattle.core_laws.specs.Worlds.{World, home_of, home_history, is_client, is_column, base_after, may_play, after_play}
+use Rattle.core_laws.specs.Worlds.{played_cut, played_stamp, with_client}
+use Rattle.core_laws.specs.Laws.{NothingIsTrimmed}
+use Rattle.core_laws.proofs.Basics.{at_updated}
+use Rattle.core_laws.proofs.Untrimmed.{nothing_is_trimmed}
+use Rattle.core_laws.proofs.CallerLemmas.{of_reached}
+use Rattle.core_world.specs.Clients.{ClientKept, fresh_client}
+use Rattle.core_world.specs.Kept.{WorldKept, column_at, client_at, client_of, world_of, IsWhole}
+use Rattle.core_world.proofs.Changing.{client_world, whole_client, differs}
+use Rattle.core_world.proofs.Placing.{default_free}
+use Rattle.core_world.proofs.Marking.{set_updated}
+
+zeros_within : (v : Counts) → is_within zeros v ≡ true
+zeros_within v = within zeros v (λ r h. let e = at-vector (λ _. 0) r h in omega (arith, e))
+
+home_there : (kept : WorldKept) → IsWhole kept → (client : ℕ) → client < length kept.shape.homes
+    → home_of (world_of kept) client < kept.shape.regions
+home_there kept w client lt = w.homes client 0 lt
+
+-- Nothing is trimmed, so a client may play whatever column there is.
+pub may_play_there : (kept : WorldKept) → IsWhole kept → (client colour : ℕ) → client < length kept.shape.homes
+    → colour < kept.shape.colours → may_play (world_of kept) client colour ≡ true
+may_play_there kept w client colour lt in_colours =
+    let home = home_of (world_of kept) client in
+    let none = of_reached NothingIsTrimmed nothing_is_trimmed (world_of kept) w.reached home colour in
+    and_from (is_client (world_of kept) client) _ (lt-ltb client (length kept.shape.homes) lt)
+    (and_from (is_column (world_of kept) home colour) _
+    (and_from (nat_lt home kept.shape.regions) _ (lt-ltb home kept.shape.regions (home_there kept w client lt))
+    (lt-ltb colour kept.shape.colours in_colours))
+    (ap (λ (v : Counts). is_within v (((world_of kept).clients client).played colour)) none
+    ∙ zeros_within (((world_of kept).clients client).played colour)))
+
+pub record MayPlay (kept : WorldKept) (client colour : ℕ) : Type 0 where
+  pub is_client : client < length kept.shape.homes
+  pub in_regions : home_of (world_of kept) client < kept.shape.regions
+  pub in_colours : colour < kept.shape.colours
+
+pub may_play_is : (kept : WorldKept) (client colour : ℕ) → may_play (world_of kept) client colour ≡ true
+    → MayPlay kept client colour
+may_play_is kept client colour t =
+    let p = and_parts (is_client (world_of kept) client) _ t in
+    let q = and_parts (is_column (world_of kept) (home_of (world_of kept) client) colour) _ p.1 in
+    let r = and_parts (nat_lt (home_of (world_of kept) client) kept.shape.regions) _ q.0 in
+    record {
+      is_client = ltb-true client (length kept.shape.homes) p.0;
+      in_regions = ltb-true (home_of (world_of kept) client) kept.shape.regions r.0;
+      in_colours = ltb-true colour kept.shape.colours r.1;
+    }
+
+abbrev pub played_client : ClientKept → ℕ → Counts → ℕ → ClientKept
+played_client c colour cut stamp = record c { floor = max c.floor stamp; played = set c.played colour cut }
+
+module _ (kept : WorldKept) (w : IsWhole kept) (client colour : ℕ) (may : MayPlay kept client colour) where
+  abbrev home : ℕ
+  home = home_of (world_of kept) client
+
+  abbrev pub its_column : ColumnState
+  its_column = column_at kept.columns home colour
+
+  pub in_clients : client < length kept.clients
+  in_clients = let n = w.clients in let lt = may.is_client in omega (arith, n, lt)
+
+  pub in_played : colour < length (client_at kept client).played
+  in_played =
+      let all = w.colours client fresh_client in_clients in
+      let few = w.few_colours in
+      let lt = may.in_colours in
+      omega (arith, all, few, lt)
+
+  its_region : its_column.region ≡ home
+  its_region = (w.placed home colour may.in_regions may.in_colours).in_region
+
+  pub cut_is : cut_of its_column ≡ played_cut (world_of kept) client colour
+  cut_is = ap (λ (r : ℕ). cut_of (record its_column { region = r })) its_region
+
+  pub stamp_is : greatest_between (chain its_column.region (history_of its_column))
+      (get_or (client_at kept client).played colour zeros) (cut_of its_column)
+      ≡ played_stamp (world_of kept) client colour
+  stamp_is =
+      ap (λ (r : ℕ). let q : ColumnState = record its_column { region = r } in
+      greatest_between (chain r (history_of q)) (get_or (client_at kept client).played colour zeros) (cut_of q)) its_region
+
+  abbrev pub new_client : ClientKept
+  new_client = played_client (client_at kept client) colour (played_cut (world_of kept) client colour)
+      (played_stamp (world_of kept) client colour)
+
+  pub play_world : world_of (record kept { clients = set kept.clients client new_client })
+      ≡ after_play (world_of kept) client colour
+  play_world =
+      client_world kept client new_client in_clients refl refl
+      ∙ ap (λ (f : ℕ → Counts). with_client (world_of kept) client (record ((world_of kept).clients client) {
+        floor = new_client.floor;
+        played = f;
+      })) (set_updated (client_at kept client).played colour (played_cut (world_of kept) client colour) zeros in_played)
+
+  pub play_whole : may_play (world_of kept) client colour ≡ true
+      → IsWhole (record kept { clients = set kept.clients client new_client })
+  play_whole t =
+      whole_client kept client new_client (steps.Play client colour) w in_clients
+      (length-set (client_at kept client).played colour (played_cut (world_of kept) client colour)
+      ∙ w.colours client fresh_client in_clients) refl
+      (play_world ∙ sym (cond-true (may_play (world_of kept) client colour) _ _ t))
+
+  -- as the code changes the clients
+  pub play_list : (old new : ClientKept) (cut : Counts) (stamp : ℕ) → old ≡ get_or kept.clients client old
+      → new ≡ played_client old colour cut stamp → cut ≡ played_cut (world_of kept) client colour
+      → stamp ≡ played_stamp (world_of kept) client colour
+      → set kept.clients client new ≡ set kept.clients client new_client
+  play_list old new cut stamp old_is new_is is_cut is_stamp =
+      ap (λ (x : ClientKept). set kept.clients client x)
+      (new_is
+      ∙ (ap (λ (x : ClientKept). played_client x colour cut stamp)
+      (old_is ∙ default_free kept.clients client old fresh_client in_clients)
+      ∙ (ap (λ (v : Counts). played_client (client_at kept client) colour v stamp) is_cut
+      ∙ ap (λ (s : ℕ). played_client (client_at kept client) colour (played_cut (world_of kept) client colour) s) is_stamp)))
+
+  -- what the code reads of the column
+  module _ (at_home : ℕ) (home_is : home ≡ at_home) (now : WorldKept) (view : kept ≡ now) (column : ColumnState)
+      (column_is : column ≡ column_at now.columns at_home colour) where
+    column_same : column ≡ its_column
+    column_same =
+        column_is
+        ∙ (ap (λ (k : WorldKept). column_at k.columns at_home colour) (sym view)
+        ∙ ap (λ (h : ℕ). column_at kept.columns h colour) (sym home_is))
+
+    pub code_cut : (cut : Counts) → cut ≡ cut_of column → cut ≡ played_cut (world_of kept) client colour
+    code_cut cut is = is ∙ (ap cut_of column_same ∙ cut_is)
+
+    pub code_list : (reader old new : ClientKept) (played cut : Counts) (stamp : ℕ) → reader ≡ client_at now client
+        → played ≡ get_or reader.played colour zeros → cut ≡ cut_of column
+        → stamp ≡ greatest_between (chain column.region (history_of column)) played (cut_of column)
+        → old ≡ get_or kept.clients client old → new ≡ played_client old colour cut stamp
+        → set kept.clients client new ≡ set kept.clients client new_client
+    code_list reader old new played cut stamp reader_is played_is is_cut is_stamp old_is new_is =
+        play_list old new cut stamp old_is new_is (code_cut cut is_cut)
+        (is_stamp
+        ∙ (ap (λ (q : ColumnState). greatest_between (chain q.region (history_of q)) played (cut_of q)) column_same
+        ∙ (ap (λ (v : Counts). greatest_between (chain its_column.region (history_of its_column)) v (cut_of its_column))
+        (played_is
+        ∙ (ap (λ (x : ClientKept). get_or x.played colour zeros) reader_is
+        ∙ ap (λ (k : WorldKept). get_or (client_at k client).played colour zeros) (sym view)))
+        ∙ stamp_is)))

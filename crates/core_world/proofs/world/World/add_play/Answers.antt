@@ -1,0 +1,49 @@
+use Rattle.std.proofs.Common.{◌≡◌, true, List, set, ap, sym, subst, ◌∙◌}
+use Rattle.core_laws.specs.declared.steps.Reply.TheVariants as replies
+use Rattle.log_node.specs.declared.ids.Counts.{Counts}
+use Rattle.core_laws.specs.Worlds.{may_play, after_play, home_of, played_cut}
+use Rattle.core_world.specs.Clients.{ClientKept}
+use Rattle.core_world.specs.Kept.{WorldKept, world_of, IsWhole}
+use Rattle.core_world.proofs.Plays.{may_play_is, play_world, play_whole, code_cut, code_list}
+use Rattle.core_world.proofs.world.World.add_play.Goals as goal
+
+pub invariant_of-self : goal.invariant_of-self
+invariant_of-self c =
+    let i = c.self.inside in
+    let old : WorldKept =
+    record { shape = i.shape; clients = i.clients.items; board = i.board; columns = i.regions.items } in
+    let client = c.args.client in
+    let colour = c.args.colour in
+    let w = c.self.invariant in
+    let is_true = subst (λ (k : WorldKept). may_play (world_of k) client colour ≡ true) (sym c.self.view_is)
+    c.requires.may in
+    let home_is = subst (λ (k : WorldKept). home_of (world_of k) client ≡ c.args.home) (sym c.self.view_is)
+    c.requires.home in
+    let may = may_play_is old client colour is_true in
+    let changed = code_list old w client colour may c.args.home home_is c.args.self.now c.self.view_is
+    c.column-column.result.now c.column-column.ensures c.client.result.now c.index_mut.result.now c.play.new.self
+    c.played-played.result c.cut-cut.result c.unplayed_stamp-stamp.result c.client.ensures c.played-played.ensures
+    c.cut-cut.ensures c.unplayed_stamp-stamp.ensures c.index_mut.ensures.value c.play.ensures in
+    subst (λ (cs : List ClientKept). IsWhole (record old { clients = cs })) (sym changed)
+    (play_whole old w client colour may is_true)
+
+pub returns-clause-world : goal.returns-clause-world
+returns-clause-world c =
+    let i = c.self.inside in
+    let old : WorldKept =
+    record { shape = i.shape; clients = i.clients.items; board = i.board; columns = i.regions.items } in
+    let client = c.args.client in
+    let colour = c.args.colour in
+    let w = c.self.invariant in
+    let is_true = subst (λ (k : WorldKept). may_play (world_of k) client colour ≡ true) (sym c.self.view_is)
+    c.requires.may in
+    let home_is = subst (λ (k : WorldKept). home_of (world_of k) client ≡ c.args.home) (sym c.self.view_is)
+    c.requires.home in
+    let may = may_play_is old client colour is_true in
+    let changed = code_list old w client colour may c.args.home home_is c.args.self.now c.self.view_is
+    c.column-column.result.now c.column-column.ensures c.client.result.now c.index_mut.result.now c.play.new.self
+    c.played-played.result c.cut-cut.result c.unplayed_stamp-stamp.result c.client.ensures c.played-played.ensures
+    c.cut-cut.ensures c.unplayed_stamp-stamp.ensures c.index_mut.ensures.value c.play.ensures in
+    ap (λ (cs : List ClientKept). world_of (record old { clients = cs })) changed
+    ∙ (play_world old w client colour may
+    ∙ ap (λ (k : WorldKept). after_play (world_of k) client colour) c.self.view_is)
