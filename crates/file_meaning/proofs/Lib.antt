@@ -11,6 +11,7 @@ mod Plays
 mod Sync
 mod Begun
 mod First
+mod Settled
 mod Several
 mod Points
 mod Final

@@ -1,12 +1,13 @@
 -- An append to several colours that is done to its end.
 use Rattle.std.proofs.Common.{◌≡◌, ◌≢◌, ◌⊎◌, inl, inr, ℕ, zero, suc, ◌+◌, ◌<◌, List, [], ◌∷◌, map, Bool, true, false, cond, refl, ap, sym, subst, ◌∙◌, arith}
-use Rattle.std.specs.Prelude.{slice_index_or}
+use Rattle.std.specs.Prelude.{slice_index, slice_index_or}
 use Rattle.std.specs.List.{filter, list_any, range_with_len}
 use Rattle.std.proofs.lemmas.Bool.{or_cases, true≢false}
 use Rattle.log_node.specs.declared.ids.Id.{Id}
 use Rattle.log_node.specs.declared.ids.Row.{Row}
 use Rattle.log_node.specs.declared.ids.Colours.{Colours}
 use Rattle.log_node.specs.declared.node.Node.{Node}
+use Rattle.log_node.specs.declared.node.Shape.{Shape}
 use Rattle.log_node.specs.Sets.{has, members}
 use Rattle.skeen_core.specs.declared.marks.Why.TheVariants.{Memory, StampEnd}
 use Rattle.skeen_core.specs.declared.marks.Mark.{Mark}
@@ -24,20 +25,21 @@ use Rattle.core_laws.specs.Worlds.{World, home_of, run_steps, is_begun, row_of, 
 use Rattle.core_laws.specs.Completing.{colours_of, complete_steps}
 use Rattle.core_laws.specs.Laws.{IsReached, log_of, begun_row}
 use Rattle.core_laws.proofs.Basics.{contains_in}
-use Rattle.core_laws.proofs.Held.{Held}
-use Rattle.core_laws.proofs.Marks.{in_colours, any_mark}
+use Rattle.core_laws.proofs.Held.{status_in, Held}
+use Rattle.core_laws.proofs.Marks.{is_waiting, in_colours, any_mark}
 use Rattle.core_laws.proofs.Completing.{kept_marks}
 use Rattle.script_text.specs.declared.script.Object.{Object}
 use Rattle.script_text.specs.declared.script.What.TheVariants as whats
 use Rattle.report_text.specs.declared.report.Answer.TheVariants as answers
 use Rattle.lawful_run.specs.Callers.{Caller, node_of}
-use Rattle.lawful_run.specs.Appends.{BeginsRow, IsGoneAtEnd, none_for_several, IsGoneForMemory}
+use Rattle.lawful_run.specs.Appends.{BeginsRow, IsSettledIn, IsSettled, IsGoneAtEnd, none_for_several, IsGoneForMemory}
 use Rattle.lawful_run.specs.Refusals.{gone}
 use Rattle.lawful_run.specs.Explains.{Explains}
 use Rattle.file_meaning.specs.Meaning.{Found, ended_colour}
 use Rattle.file_meaning.proofs.Rows.{IsDone, completed_done, complete_steps_on, IsOn}
 use Rattle.file_meaning.proofs.Moves.{Adds, adds_map, StepIn}
 use Rattle.file_meaning.proofs.Clearing.{held_of, Finished}
+use Rattle.file_meaning.proofs.Settled.{settled_in}
 use Rattle.file_meaning.proofs.Kept.{caller_in, IsKeptBy, MadeBy, Does}
 use Rattle.file_meaning.proofs.One.{caller_same}
 use Rattle.file_meaning.proofs.Begun as begun
@@ -248,11 +250,21 @@ module _ (objects : List Object) (S : ℕ → Type 0) (found : Found) (w : World
     keeps3 : IsKeptBy w3 u (with_made (with_row kept) own places)
     keeps3 = begun.keeps3 objects w reached u colours text ok L on kept k
 
+    -- it is open in none of its colours
+    settled : IsSettled (log_of w3) (caller_in w objects u) node
+    settled = all_in (IsSettledIn (log_of w3) (caller_in w objects u) node) (members colours) (λ c i.
+        settled_in w3 reached3 row begun3 (caller_in w objects u) (ap (λ (x : Shape). slice_index x.homes u) shape3) node
+        (ap (λ (x : Node). x.id) node3 ∙ begun.id_is objects w reached u colours text ok L on kept k) c (has_mark c i)
+        (set_all c i)
+        (subst (λ (x : Id). is_waiting (status_in (w3.histories own c) x) ≡ false)
+        (ap (λ (x : Node). x.id) node3 ∙ begun.id_is objects w reached u colours text ok L on kept k) (done3.waits own c)))
+
     -- gone for memory
     gone_memory : last ≡ Gone Memory → IsGoneForMemory (log_of w3) (caller_in w objects u) kept node places
     gone_memory e = record {
       begins = begins;
       outcome = subst (HasOutcome (log_of w3) node) e has_outcome;
+      settled = settled;
     }
 
     -- gone for the stamps' end
@@ -277,6 +289,7 @@ module _ (objects : List Object) (S : ℕ → Type 0) (found : Found) (w : World
                     (d.2 other i lt)),
                 has_mark other i,
               ));
+          settled = settled;
         }
 
   pub does_gone_memory : last ≡ Gone Memory

@@ -1,30 +1,22 @@
 -- A stop: the first steps of an append to several colours, and no more.
-use Rattle.std.proofs.Common.{◌≡◌, ◌≢◌, ◌⊎◌, inl, inr, ℕ, zero, suc, ◌+◌, ◌-◌, ◌<◌, ◌≤◌, List, [], ◌∷◌, ◌++◌, length, map, take, Some, None, Bool, true, false, refl, ap, sym, subst, ◌∙◌, arith}
-use Rattle.std.specs.Prelude.{IsTrue, not, slice_get, slice_index}
-use Rattle.std.specs.List.{find, list_any}
-use Rattle.std.proofs.lemmas.Bool.{ltb-true, lt-ltb, and_parts}
-use Rattle.std.proofs.lemmas.List.{take_all}
+use Rattle.std.proofs.Common.{◌≡◌, ◌≢◌, ◌⊎◌, inl, inr, ℕ, zero, suc, ◌+◌, ◌-◌, ◌<◌, ◌≤◌, List, [], ◌∷◌, ◌++◌, length, map, take, Some, true, false, refl, ap, sym, subst, ◌∙◌, arith}
+use Rattle.std.specs.Prelude.{slice_get, slice_index}
+use Rattle.std.specs.List.{list_any}
+use Rattle.std.proofs.lemmas.Bool.{ltb-true, lt-ltb}
 use Rattle.log_node.specs.declared.ids.Id.{Id}
 use Rattle.log_node.specs.declared.ids.Row.{Row}
 use Rattle.log_node.specs.declared.ids.Colours.{Colours}
 use Rattle.log_node.specs.declared.node.Node.{Node}
 use Rattle.log_node.specs.declared.node.Shape.{Shape}
-use Rattle.log_node.specs.Order.{same_id}
 use Rattle.log_node.specs.Sets.{members}
-use Rattle.skeen_core.specs.declared.marks.Why.{Why}
-use Rattle.skeen_core.specs.declared.marks.Mark.{Mark}
-use Rattle.skeen_core.specs.declared.marks.Mark.TheVariants as marks
 use Rattle.skeen_core.specs.declared.marks.Outcome.TheVariants.{Open}
 use Rattle.skeen_core.specs.Outcomes.{is_missing}
-use Rattle.skeen_core.specs.Standings.{Standing, is_open_id, open_entry}
 use Rattle.col_core.specs.declared.Event.TheVariants as events
 use Rattle.col_core.specs.declared.Event.{Event}
 use Rattle.col_core.specs.declared.Entry.{Entry}
-use Rattle.col_core.specs.History.{entries, enters, has_entered}
 use Rattle.col_core.specs.Log.{HasMark}
 use Rattle.col_core.specs.Keeping.{Kept, with_made, with_row}
-use Rattle.col_core.proofs.Basics.{by_test, apart, if_false, not_true, same_id-true, same_id-is}
-use Rattle.col_core.proofs.LawfulPasts.{open_waits}
+use Rattle.col_core.proofs.Basics.{apart}
 use Rattle.col_core.proofs.Members.{In}
 use Rattle.core_laws.specs.declared.steps.Step.{Step}
 use Rattle.core_laws.specs.declared.steps.Step.TheVariants as steps
@@ -34,7 +26,6 @@ use Rattle.core_laws.specs.Laws.{IsReached, log_of, begun_row}
 use Rattle.core_laws.proofs.Basics.{in_slice, slice_in, contains_in}
 use Rattle.core_laws.proofs.Held.{status_in, Held}
 use Rattle.core_laws.proofs.Marks.{has_colour, is_waiting, colour_in, in_colours}
-use Rattle.core_laws.proofs.Agreement.{entry_shown}
 use Rattle.core_laws.proofs.Completing.{none_missing, Decides, decide_decides, settle_all}
 use Rattle.core_laws.proofs.Growing.{run_grows}
 use Rattle.core_laws.proofs.Runs.{run_held, after_held, run_steps-append}
@@ -48,11 +39,11 @@ use Rattle.lawful_run.proofs.Prefixes.{get_within}
 use Rattle.file_meaning.specs.Meaning.{Found}
 use Rattle.file_meaning.proofs.Rows.{node_id, IsOn, complete_steps_on}
 use Rattle.file_meaning.proofs.Moves.{adds_map, StepIn, From}
-use Rattle.file_meaning.proofs.Clearing.{held_of, told_of, Finished}
+use Rattle.file_meaning.proofs.Clearing.{held_of, Finished}
 use Rattle.file_meaning.proofs.Kept.{caller_in, IsKeptBy, MadeBy, Does}
 use Rattle.file_meaning.proofs.One.{caller_same}
 use Rattle.file_meaning.proofs.Begun as begun
-use Rattle.file_meaning.proofs.First.{in_any}
+use Rattle.file_meaning.proofs.Settled.{settled_in}
 use Rattle.file_meaning.proofs.Several.{Rising, colours_rise}
 use Rattle.file_meaning.proofs.Lists.{in_map_back}
 use Rattle.file_meaning.proofs.Plays.{got_at}
@@ -134,27 +125,6 @@ settled_at by row cs ms list rising n i m c lt e at_m =
           let same : Some x.0 ≡ Some (steps.Settle by row c) = sym x.1 ∙ p.1 in
           let is : x.0 ≡ steps.Settle by row c = cc in
           absurd (subst (MarksColour d.0) is x.2)
-
--- Nothing open
-
-find_none : {A : Type 0} (test : A → Bool) (xs : List A) → ((x : A) → In x xs → test x ≡ false) → find test xs ≡ None
-find_none test [] h = refl
-find_none test (x ∷ xs) h =
-    if_false (test x) (Some x) (find test xs) (h x (inl refl)) ∙ find_none test xs (λ y i. h y (inr i))
-
--- an id that does not wait is not open
-no_open : (w : World) → Held w → (r c : ℕ) (id : Id) → is_waiting (status_in (w.histories r c) id) ≡ false
-    → open_entry id (entries (w.histories r c)) ≡ None
-no_open w h r c id none = find_none (is_open_id id) (entries (w.histories r c)) each where
-  each : (x : Standing) → In x (entries (w.histories r c)) → is_open_id id x ≡ false
-  each x i =
-      by_test _ (is_open_id id x)
-      (λ t. let p = and_parts (not x.settled) (same_id x.key.id id) t in
-      let same = same_id-true x.key.id id p.1 in
-      let waits = open_waits x.key.id (status_in (w.histories r c) x.key.id) x (entry_shown w h r c x i)
-      (not_true x.settled p.0) in
-      absurd (apart _ (ap is_waiting (ap (status_in (w.histories r c)) (sym same) ∙ waits)) none))
-      (λ f. f)
 
 module _ (objects : List Object) (S : ℕ → Type 0) (found : Found) (w : World) (reached : IsReached w)
     (fin : Finished S w)
@@ -356,21 +326,6 @@ module _ (objects : List Object) (S : ℕ → Type 0) (found : Found) (w : World
           (begun_row w3 row, begun.of_row objects w reached u colours text ok L on kept k, refl),
         )
 
-    for_good : (c : ℕ) (m : Mark) → (row_of w3 row).marks c ≡ m → is_missing m ≡ false → In c cs
-        → ((why : Why) × HasMark (log_of w3) node c (marks.Fenced why))
-        ⊎ IsTrue (has_entered node.id (w3.histories own c))
-    for_good c marks.None e set i = absurd (let f : ⊥ = cc in f)
-    for_good c (marks.Fenced why) e set i = inl (why, subst (HasMark (log_of w3) node c) e (has_mark c i))
-    for_good c (marks.Number s) e set i =
-        let p = ((told_of w3 reached3).rows u (w.clients u).used (ltb-true _ _ begun3)).numbers c s e in
-        let there : slice_get (w3.histories own c) p.0 ≡ Some p.1 =
-        ap (λ (x : Shape). slice_get (w3.histories (slice_index x.homes u) c) p.0) (sym shape3) ∙ p.4 in
-        let t : enters node.id p.1.event ≡ true =
-        ap (enters node.id) p.5
-        ∙ same_id-is node.id (row_of w3 row).node.id (sym id_is ∙ ap (λ (x : Node). x.id) (sym node3)) in
-        inr (in_any (λ (x : Entry). enters node.id x.event) (w3.histories own c) p.1
-        (slice_in (w3.histories own c) p.0 p.1 there) t)
-
     is_settled : (m c : ℕ) → slice_get cs m ≡ Some c → m + length cs + 2 < n + 1
         → IsSettledIn (log_of w3) caller node c
     is_settled m c e lt =
@@ -378,16 +333,9 @@ module _ (objects : List Object) (S : ℕ → Type 0) (found : Found) (w : World
         let j_is = j.1 in
         let none = subst (λ (i : Id). is_waiting (status_in (w3.histories own c) i) ≡ false) id_is
         (not_waiting j.0 j.1 m c e (omega (arith, lt, j_is))) in
-        let whole = take_all (length (w3.histories own c)) (w3.histories own c) (omega arith) in
-        record {
-          events = length (w3.histories own c);
-          there = omega arith;
-          not_open = subst (λ (h : List Entry). open_entry node.id (entries h) ≡ None) (sym whole)
-              (no_open w3 (held_of w3 reached3) own c node.id none);
-          for_good = subst (λ (h : List Entry). ((why : Why) × HasMark (log_of w3) node c (marks.Fenced why))
-              ⊎ IsTrue (has_entered node.id h)) (sym whole)
-              (for_good c ((row_of w3 row).marks c) refl (marked m c e (omega (arith, lt))) (slice_in cs m c e));
-        }
+        settled_in w3 reached3 row begun3 caller (ap (λ (x : Shape). slice_index x.homes u) shape3) node
+        (ap (λ (x : Node). x.id) node3 ∙ id_is) c (has_mark c (slice_in cs m c e))
+        (marked m c e (omega (arith, lt))) none
 
     step_within : (m c : ℕ) → slice_get cs m ≡ Some c → (ev : Event) → From u row L c ev
         → IsStepWithin m (length cs) (n + 1) ev

@@ -1,13 +1,11 @@
 -- What a log explains, a later log explains as well.
-use Rattle.std.proofs.Common.{◌≡◌, ℕ, zero, suc, ◌+◌, ◌<◌, ◌≤◌, List, [], ◌∷◌, ◌++◌, length, take, map, Option, Some, None, slice_get, slice_index_or, refl, ap, sym, subst, ◌∙◌, inl, inr, ◌⊎◌, arith}
-use Rattle.std.specs.Prelude.{◌≢◌, IsTrue, min, max}
+use Rattle.std.proofs.Common.{◌≡◌, ℕ, zero, suc, ◌+◌, ◌<◌, ◌≤◌, List, [], ◌∷◌, length, take, Option, Some, None, slice_get, slice_index_or, refl, ap, sym, subst, ◌∙◌, inl, inr, ◌⊎◌, arith}
+use Rattle.std.specs.Prelude.{IsTrue, min, max}
 use Rattle.std.specs.List.{All, AllZip, Contains}
-use mathlib.Core.List.{IsPrefix}
 use Rattle.log_node.specs.declared.node.At.{At}
 use Rattle.log_node.specs.declared.node.At.TheVariants.{Event, Look}
 use Rattle.log_node.specs.declared.ids.Id.{Id}
 use Rattle.log_node.specs.declared.ids.Key.{Key}
-use Rattle.log_node.specs.declared.ids.Colours.{Colours}
 use Rattle.log_node.specs.declared.ids.Counts.{Counts}
 use Rattle.log_node.specs.declared.node.Node.{Node}
 use Rattle.log_node.specs.Seen.{PlacedNode}
@@ -15,18 +13,15 @@ use Rattle.log_node.specs.Sets.{members}
 use Rattle.log_node.specs.Vectors.{at, IsWithin}
 use Rattle.skeen_core.specs.declared.marks.Why.{Why}
 use Rattle.skeen_core.specs.declared.marks.Why.TheVariants.{Memory, StampEnd}
-use Rattle.skeen_core.specs.declared.marks.Mark.{Mark}
 use Rattle.skeen_core.specs.declared.marks.Mark.TheVariants as marks
 use Rattle.skeen_core.specs.Standings.{open_entry}
 use Rattle.skeen_core.specs.declared.marks.ColourMark.{ColourMark}
-use Rattle.skeen_core.specs.declared.marks.Outcome.{Outcome}
 use Rattle.skeen_core.specs.declared.marks.Outcome.TheVariants.{Gone, Final}
 use Rattle.col_core.specs.declared.Entry.{Entry}
 use Rattle.col_core.specs.History.{IsAtEnd, clock, entries, line, has_entered}
 use Rattle.col_core.specs.Cuts.{Dated, IsGreatestReachable, chain, base}
 use Rattle.col_core.specs.Computed.{dated}
 use Rattle.col_core.specs.PlayOrder.{Place, Stands, IsPlayOrder, greatest_between}
-use Rattle.col_core.specs.Rows.{BegunRow}
 use Rattle.col_core.specs.Log.{Log, IsLater, IsLaterMark, first, HasText, HasMark, HasOutcome}
 use Rattle.col_core.specs.Keeping.{Kept, updated, kept_after_sync, seen_after}
 use Rattle.script_text.specs.declared.script.What.{What}
@@ -44,7 +39,7 @@ use Rattle.col_core.specs.RegionOrder.{IsRegionOrder, IsClearUpTo}
 use Rattle.col_core.proofs.Facts.{mark_stays, outcome_stays}
 use Rattle.lawful_run.specs.Callers.{Caller, node_of}
 use Rattle.lawful_run.specs.Asks.{Manner, Appending, Stopping, Syncing, Moving, Getting, Reading, Committing, Dequeuing, colours_synced, manner_of}
-use Rattle.lawful_run.specs.Appends.{AppendsOne, HadNoStamp, AreSteps, BeginsRow, EntersAt, StandsAt, AppendsSeveral, Appends, AppendsUnshown, one_unshown, several_unshown, IsGoneAtEnd, HasNoStamp, none_for_one, none_for_several, IsMarked, IsDecided, IsSettledIn, StopsAfter, Stops, stopped_at_once, stopped_after, IsGoneForMemory}
+use Rattle.lawful_run.specs.Appends.{AppendsOne, HadNoStamp, AreSteps, BeginsRow, EntersAt, StandsAt, AppendsSeveral, Appends, AppendsUnshown, one_unshown, several_unshown, IsGoneAtEnd, HasNoStamp, none_for_one, none_for_several, IsSettledIn, IsSettled, Stops, stopped_at_once, stopped_after, IsGoneForMemory}
 use Rattle.lawful_run.specs.Reads.{Syncs, ShowsNode, ShowsPlayed, played_stamp, kept_after_piece, IsTrimmed, RaisesAt, kept_after_place, Raises, ClearSyncs, events_until, IsReadStamp, ReadsAt, lines_read, AreRead, ShowsKey, HidesSync, not_played, played, HidesSyncs, HidesRead}
 use Rattle.lawful_run.specs.Moves.{GivesAt, GivesTooLow, CarriesAt, Pulls, Trims}
 use Rattle.lawful_run.specs.Objects.{IsObjectNode, AreObjectNodes, own_played, GetsValue, Takes, places_within, IsChainNode, GetsValues}
@@ -182,18 +177,6 @@ module _ (old new : Log) (later : IsLater old new) (caller : Caller) (kept : Kep
       several_unshown places (begins_later node places begins) (final_later old new later node stamp outcome)
       (λ k d lt. let s = stand k d lt in (s.0, line_later old new later caller.own _ s.0 _ s.1)) above
 
-  at_end_later : (node : Node) (colour : ℕ) (places : ℕ → List ℕ) → IsGoneAtEnd old caller kept node colour places → IsGoneAtEnd new caller kept node colour places
-  at_end_later node colour places g = record {
-    begins = begins_later node places g.begins;
-    outcome = outcome_stays old new later node (Gone StampEnd) (λ e. absurd cc) g.outcome;
-    fence = mark_stays old new later node colour (marks.Fenced StampEnd) (λ e. absurd cc) g.fence;
-    least = λ k d lt below. let l = g.least k d lt below in (l.0, l.1, l.2, mark_stays old new later node _ l.0 l.1 l.3);
-  }
-
-  has_no_stamp_later : (node : Node) (colour : ℕ) (after : Kept) → HasNoStamp old caller kept node colour after → HasNoStamp new caller kept node colour after
-  has_no_stamp_later node colour after (none_for_one only h) = none_for_one only (no_stamp_later colour h)
-  has_no_stamp_later node colour after (none_for_several places g) = none_for_several places (at_end_later node colour places g)
-
   settled_later : (node : Node) (colour : ℕ) → IsSettledIn old caller node colour → IsSettledIn new caller node colour
   settled_later node colour s = record {
     events = s.events;
@@ -205,6 +188,22 @@ module _ (old new : Log) (later : IsLater old new) (caller : Caller) (kept : Kep
         → ((why : Why) × HasMark new node colour (marks.Fenced why)) ⊎ IsTrue (has_entered node.id (take s.events (new.histories caller.own colour)))
     good (inl m) = inl (m.0, mark_stays old new later node colour (marks.Fenced m.0) (λ e. absurd cc) m.1)
     good (inr e) = inr (subst (λ (events : List Entry). IsTrue (has_entered node.id events)) (sym (taken_same old new later caller.own colour s.events s.there)) e)
+
+  all_settled_later : (node : Node) → IsSettled old caller node → IsSettled new caller node
+  all_settled_later node s = all_of (IsSettledIn old caller node) (IsSettledIn new caller node) (settled_later node) (members node.colours) s
+
+  at_end_later : (node : Node) (colour : ℕ) (places : ℕ → List ℕ) → IsGoneAtEnd old caller kept node colour places → IsGoneAtEnd new caller kept node colour places
+  at_end_later node colour places g = record {
+    begins = begins_later node places g.begins;
+    outcome = outcome_stays old new later node (Gone StampEnd) (λ e. absurd cc) g.outcome;
+    fence = mark_stays old new later node colour (marks.Fenced StampEnd) (λ e. absurd cc) g.fence;
+    least = λ k d lt below. let l = g.least k d lt below in (l.0, l.1, l.2, mark_stays old new later node _ l.0 l.1 l.3);
+    settled = all_settled_later node g.settled;
+  }
+
+  has_no_stamp_later : (node : Node) (colour : ℕ) (after : Kept) → HasNoStamp old caller kept node colour after → HasNoStamp new caller kept node colour after
+  has_no_stamp_later node colour after (none_for_one only h) = none_for_one only (no_stamp_later colour h)
+  has_no_stamp_later node colour after (none_for_several places g) = none_for_several places (at_end_later node colour places g)
 
   stops_later : (node : Node) (steps : ℕ) (after : Kept) → Stops old caller kept node steps after → Stops new caller kept node steps after
   stops_later node steps after stopped_at_once = stopped_at_once
@@ -220,6 +219,7 @@ module _ (old new : Log) (later : IsLater old new) (caller : Caller) (kept : Kep
   for_memory_later node places g = record {
     begins = begins_later node places g.begins;
     outcome = outcome_stays old new later node (Gone Memory) (λ e. absurd cc) g.outcome;
+    settled = all_settled_later node g.settled;
   }
 
 -- SYNCS AND READS

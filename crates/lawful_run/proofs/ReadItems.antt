@@ -1,9 +1,9 @@
 -- No key up to a stamp comes into a line any more, once the clock is at the stamp and no open entry up to it is left.
-use Rattle.std.proofs.Common.{◌≡◌, ℕ, zero, suc, ◌+◌, ◌<◌, ◌≤◌, max, List, [], ◌∷◌, ◌++◌, length, reverse, true, false, Bool, slice_index_or, refl, ap, sym, subst, ◌∙◌, inl, inr, ◌⊎◌, arith}
-use Rattle.std.specs.Prelude.{not, ◌&&◌, ◌||◌, map}
+use Rattle.std.proofs.Common.{◌≡◌, ℕ, zero, suc, ◌<◌, ◌≤◌, List, [], ◌∷◌, ◌++◌, length, reverse, true, false, Bool, slice_index_or, refl, ap, sym, subst, ◌∙◌, inl, inr, arith}
+use Rattle.std.specs.Prelude.{not, ◌||◌, map}
 use Rattle.std.specs.List.{All, Contains, filter, list_all}
 use Rattle.std.proofs.lemmas.List.{reverse-append}
-use Rattle.std.proofs.lemmas.Bool.{and_from, or_left, or_right, or_cases, lt-ltb}
+use Rattle.std.proofs.lemmas.Bool.{and_from, or_left, or_right, lt-ltb}
 use Rattle.log_node.specs.declared.ids.Id.{Id}
 use Rattle.log_node.specs.declared.ids.Key.{Key}
 use Rattle.log_node.specs.Order.{same_id, key_below}
@@ -14,12 +14,11 @@ use Rattle.col_core.specs.declared.Event.{Event}
 use Rattle.col_core.specs.declared.Entry.{Entry}
 use Rattle.col_core.specs.History as history
 use Rattle.col_core.specs.History.{entry_key, with_event}
-use Rattle.col_core.specs.Cuts.{entries_of}
 use Rattle.col_core.specs.Computed.{dated}
 use Rattle.col_core.specs.Legal.{IsColumnHistory}
 use Rattle.col_core.specs.RegionOrder.{IsClearUpTo}
 use Rattle.col_core.proofs.Pasts.{Waits, status, standing_of, clock, entries, IsLawfulPast, IsLawfulNext}
-use Rattle.col_core.proofs.Members.{In, in_with, in_filter, in_filter-back, in_map, in_line, stands}
+use Rattle.col_core.proofs.Members.{In, in_with, in_filter, in_filter-back, in_line, stands}
 use Rattle.col_core.proofs.LawfulPasts.{entries-of, clock-of, lawful_past}
 use Rattle.col_core.proofs.DatedLaws.{dated-is_dated}
 

@@ -130,13 +130,27 @@ pub data AppendsUnshown (log : Log) (caller : Caller) (kept : Kept) (node : Node
       → kept.floor < stamp
       → AppendsUnshown log caller kept node stamp (with_made (with_row (with_floor kept stamp)) caller.own places)
 
--- The row of an append to several colours is gone, since the colour had no stamp left; it is the least such colour.
+-- the node is open in a colour no more: it never entered there, being fenced, or it has entered and is settled
+pub record IsSettledIn (log : Log) (caller : Caller) (node : Node) (colour : ℕ) : Type 0 where
+  pub events : ℕ
+  pub there : events ≤ length (log.histories caller.own colour)
+  pub not_open : open_entry node.id (entries (take events (log.histories caller.own colour))) ≡ None
+  pub for_good : ((why : Why) × HasMark log node colour (marks.Fenced why))
+      ⊎ IsTrue (has_entered node.id (take events (log.histories caller.own colour)))
+
+-- the node is open in none of its colours any more
+abbrev pub IsSettled : Log → Caller → Node → Type 0
+IsSettled log caller node = All (IsSettledIn log caller node) (members node.colours)
+
+-- The row of an append to several colours is gone, since the colour had no stamp left, which is the least such colour;
+-- and the node is open nowhere.
 pub record IsGoneAtEnd (log : Log) (caller : Caller) (kept : Kept) (node : Node) (colour : ℕ) (places : ℕ → List ℕ) : Type 0 where
   pub begins : BeginsRow log caller kept node places
   pub outcome : HasOutcome log node (Gone StampEnd)
   pub fence : HasMark log node colour (marks.Fenced StampEnd)
   pub least : All (λ other. other < colour
       → (mark : Mark) × (mark ≢ marks.None) × (mark ≢ marks.Fenced StampEnd) × HasMark log node other mark) (members node.colours)
+  pub settled : IsSettled log caller node
 
 -- No stamp was left for the append in this colour; and what the client then keeps.
 pub data HasNoStamp (log : Log) (caller : Caller) (kept : Kept) (node : Node) (colour : ℕ) : Kept → Type 0 where
@@ -158,14 +172,6 @@ IsMarked log node colour = (mark : Mark) × (mark ≢ marks.None) × HasMark log
 -- the node's row keeps an outcome
 abbrev pub IsDecided : Log → Node → Type 0
 IsDecided log node = (outcome : Outcome) × (outcome ≢ Open) × HasOutcome log node outcome
-
--- the node is open in a colour no more: it never entered there, being fenced, or it has entered and is settled
-pub record IsSettledIn (log : Log) (caller : Caller) (node : Node) (colour : ℕ) : Type 0 where
-  pub events : ℕ
-  pub there : events ≤ length (log.histories caller.own colour)
-  pub not_open : open_entry node.id (entries (take events (log.histories caller.own colour))) ≡ None
-  pub for_good : ((why : Why) × HasMark log node colour (marks.Fenced why))
-      ⊎ IsTrue (has_entered node.id (take events (log.histories caller.own colour)))
 
 -- The n-th colour of k has its proposal among so many first steps of the append (after the beginning of the row), and
 -- its settling too (after all proposals and the decision).
@@ -196,7 +202,8 @@ pub data Stops (log : Log) (caller : Caller) (kept : Kept) (node : Node) : ℕ �
   stopped_after : (steps : ℕ) (places : ℕ → List ℕ) → StopsAfter log caller kept node (steps + 1) places
       → Stops log caller kept node (steps + 1) (with_made (with_row kept) caller.own places)
 
--- an append to several colours found no memory: its row is gone for that
+-- An append to several colours found no memory: its row is gone for that, and the node is open nowhere.
 pub record IsGoneForMemory (log : Log) (caller : Caller) (kept : Kept) (node : Node) (places : ℕ → List ℕ) : Type 0 where
   pub begins : BeginsRow log caller kept node places
   pub outcome : HasOutcome log node (Gone Memory)
+  pub settled : IsSettled log caller node

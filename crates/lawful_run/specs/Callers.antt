@@ -1,5 +1,5 @@
 -- The clients of a script: where each calls from, what it asks, and the node that it appends.
-use Rattle.std.specs.Prelude.{◌≡◌, ℕ, ◌==◌, nat_lt, List, length, map, Option, Some, None, slice_index, if◌then◌else◌}
+use Rattle.std.specs.Prelude.{ℕ, ◌==◌, nat_lt, List, length, map, Option, Some, None, slice_index, if◌then◌else◌}
 use Rattle.std.specs.List.{filter}
 use Rattle.log_node.specs.declared.ids.Colours.{Colours}
 use Rattle.log_node.specs.declared.ids.Row.{Row}

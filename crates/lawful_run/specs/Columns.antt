@@ -2,10 +2,10 @@
 use Rattle.std.specs.Prelude.{◌≡◌, ℕ, ◌<◌, List, length, map, Some, slice_get}
 use Rattle.std.specs.List.{All, flat_map, range_with_len}
 use Rattle.std.specs.List.Sorted.{IsNonDecreasing}
-use Rattle.skeen_core.specs.Standings.{Standing, queue_of}
+use Rattle.skeen_core.specs.Standings.{queue_of}
 use Rattle.col_core.specs.declared.Entry.{Entry}
 use Rattle.col_core.specs.History.{clock, entries, line}
-use Rattle.col_core.specs.Cuts.{Dated, IsGreatestReachable, chain, base}
+use Rattle.col_core.specs.Cuts.{IsGreatestReachable, chain, base}
 use Rattle.col_core.specs.Computed.{dated}
 use Rattle.col_core.specs.Legal.{IsColumnHistory}
 use Rattle.col_core.specs.Rows.{BegunRow, AreLawfulRows}
@@ -15,7 +15,6 @@ use Rattle.script_text.specs.declared.script.Script.{Script}
 use Rattle.report_text.specs.declared.report.QueueKey.{QueueKey}
 use Rattle.report_text.specs.declared.report.RowReport.{RowReport}
 use Rattle.report_text.specs.declared.report.ColumnReport.{ColumnReport}
-use Rattle.report_text.specs.declared.report.Report.{Report}
 
 -- the numbers of the columns, by region and then colour
 abbrev pub column_numbers : ℕ → ℕ → List (ℕ × ℕ)

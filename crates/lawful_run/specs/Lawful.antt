@@ -1,7 +1,6 @@
 -- When a report is that of a lawful run of a script.
 use Rattle.std.specs.Prelude.{◌≡◌, ◌≢◌, ◌⊎◌, IsTrue, ℕ, ◌+◌, ◌<◌, List, length, map, Some, slice_get}
 use Rattle.std.specs.List.{All, Contains, filter}
-use Rattle.log_node.specs.declared.ids.Id.{Id}
 use Rattle.skeen_core.specs.declared.marks.Outcome.TheVariants.{Open}
 use Rattle.skeen_core.specs.Standings.{Standing}
 use Rattle.col_core.specs.declared.Event.{Event}

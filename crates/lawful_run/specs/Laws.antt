@@ -1,5 +1,5 @@
 -- Laws of explanations.
-use Rattle.std.specs.Prelude.{ℕ, ◌+◌, ◌≤◌, List, ◌++◌}
+use Rattle.std.specs.Prelude.{ℕ, ◌≤◌, List, ◌++◌}
 use Rattle.std.specs.List.{Contains}
 use Rattle.log_node.specs.declared.ids.Key.{Key}
 use Rattle.col_core.specs.declared.Entry.{Entry}

@@ -9,11 +9,10 @@ use Rattle.log_node.specs.Vectors.{at, all_regions}
 use Rattle.object_fold.specs.declared.verdict.Verdict.{Verdict}
 use Rattle.object_fold.specs.declared.verdict.Verdict.TheVariants.{Committed, Conflict}
 use Rattle.object_fold.specs.Nodes.{ObjectNode}
-use Rattle.object_fold.specs.Maps.{Value, shard_value, values_among}
-use Rattle.object_fold.specs.Transactions.{values_after, verdict_of}
+use Rattle.object_fold.specs.Maps.{Value, shard_value}
 use Rattle.object_fold.specs.Queues.{front_after}
 use Rattle.object_fold.specs.Causal.{ChainNode, IsCausalAnswer}
-use Rattle.col_core.specs.History.{line, entry_key}
+use Rattle.col_core.specs.History.{line}
 use Rattle.col_core.specs.Cuts.{Chains, chain}
 use Rattle.col_core.specs.PlayOrder.{Place, Stands}
 use Rattle.col_core.specs.Log.{Log, first, HasText}

@@ -1,5 +1,5 @@
 -- What a sync and a stamped read say of the log.
-use Rattle.std.specs.Prelude.{◌≡◌, ◌⊎◌, IsFalse, ℕ, ◌+◌, ◌<◌, ◌≤◌, max, List, [], ◌∷◌, length, take, map, Some, slice_get}
+use Rattle.std.specs.Prelude.{◌≡◌, ◌⊎◌, IsFalse, ℕ, ◌≤◌, max, List, [], ◌∷◌, length, take, map, Some, slice_get}
 use Rattle.std.specs.List.{All, AllZip, Contains}
 use Rattle.log_node.specs.declared.ids.Key.{Key}
 use Rattle.log_node.specs.declared.ids.Counts.{Counts}
@@ -10,13 +10,12 @@ use Rattle.log_node.specs.Seen.{PlacedNode}
 use Rattle.log_node.specs.Vectors.{at, IsWithin, is_within}
 use Rattle.skeen_core.specs.Outcomes.{greatest}
 use Rattle.col_core.specs.declared.Event.TheVariants.{Raise}
-use Rattle.col_core.specs.declared.Entry.{Entry}
 use Rattle.col_core.specs.History.{clock, line}
 use Rattle.col_core.specs.Cuts.{IsGreatestReachable, chain, base}
 use Rattle.col_core.specs.PlayOrder.{Place, Stands, IsPlayOrder, greatest_between}
 use Rattle.col_core.specs.RegionOrder.{IsRegionOrder, IsClearUpTo}
 use Rattle.col_core.specs.Log.{Log, first, HasText}
-use Rattle.col_core.specs.Keeping.{Kept, updated, kept_after_event, kept_after_look, kept_after_sync, seen_after, with_made, with_floor}
+use Rattle.col_core.specs.Keeping.{Kept, updated, kept_after_event, kept_after_look, kept_after_sync, with_made, with_floor}
 use Rattle.report_text.specs.declared.report.SyncPiece.{SyncPiece}
 use Rattle.report_text.specs.declared.report.RaisePiece.{RaisePiece}
 use Rattle.lawful_run.specs.Callers.{Caller}

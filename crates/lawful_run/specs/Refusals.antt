@@ -1,5 +1,5 @@
 -- What a command that found no memory may have done, and when an object's home refuses.
-use Rattle.std.specs.Prelude.{◌≡◌, ◌≢◌, ◌⊎◌, ℕ, ◌≤◌, List, [], ◌∷◌, length, Option, Some, None}
+use Rattle.std.specs.Prelude.{◌≡◌, ◌≢◌, ◌⊎◌, ℕ, ◌≤◌, List, length, Option, Some, None}
 use Rattle.std.specs.List.{All}
 use Rattle.log_node.specs.declared.ids.Colours.{Colours}
 use Rattle.col_core.specs.Log.{Log}
