@@ -13,3 +13,4 @@ pub mod Opening
 pub mod Gathering
 pub mod Ending
 pub mod Pairs
+pub mod Zeros

@@ -2,6 +2,7 @@
 #![tactic(auto)]
 
 mod begins;
+mod blank;
 mod board;
 mod close;
 mod decide;

@@ -6,6 +6,7 @@ ghost use Rattle.stamp_board.specs.Law.{PlaysOne};
 ghost use Rattle.stamp_board.specs.Seats.{AreFreshClients, AreFreshColumns};
 ghost use Rattle.stamp_board.specs.Inside.{HasParts};
 
+use crate::blank::blank_words;
 use crate::board::Board;
 use crate::seats::{ColumnSeat, ColumnSeats, Seat, Seats};
 use crate::steps::Inner;
@@ -46,8 +47,7 @@ impl Board {
         requires { IsSize size }
         ensures { IfOk result (λ b. (b.0.size ≡ size) × HasParts b.0 b.1 1) }
     {
-        let zeros = vec![in alloc; 0u64; words(size)]?;
-        let (table, first) = Table::of_words(alloc, zeros.as_slice(), &size)?;
+        let (table, first) = Table::of_words(alloc, blank_words(words(size)), &size)?;
         Ok((Board { table, size }, first))
     }
 

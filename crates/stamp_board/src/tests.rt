@@ -287,3 +287,11 @@ fn a_board_closes_with_its_rows(rt: HostRuntime) -> Result<(), Fail> {
     assert!(rt; rows[0].marks.as_slice() == marks.as_slice());
     Ok(())
 }
+
+#[test]
+fn the_largest_board_opens(rt: HostRuntime) -> Result<(), Fail> {
+    let (board, seats, columns) = Board::open(rt.alloc(), 16, 16, 4096)?;
+    assert!(rt; board.clients() == 16);
+    assert!(rt; seats.as_slice().len() == 16 && columns.as_slice().len() == 16);
+    Ok(())
+}
