@@ -1,4 +1,5 @@
 // Whole reports, printed, and sinks that fail.
 mod made;
+mod regions;
 mod small;
 mod whole;

@@ -1,10 +1,45 @@
-// Parts of reports, for the tests.
-use crate::{Answer, ClientReport, ColumnReport, PointPiece, ReplyLine, Report, SyncPiece};
-use col_core::{Entry, Event};
-use log_node::{At, Colours, Counts, Head, Id, Item, Key, ListOf, Node, Text};
+// Parts of reports, for the tests, each made by a few lines.
+use crate::{Answer, ClientReport, ColumnReport, PointPiece, ReplyLine, Report, SyncPiece, print};
+use col_core::{Entries, Entry, Event};
+use fuzzy_io::{Failed, MemorySink};
+use log_node::{At, Colours, Counts, Head, Id, Item, Items, Key, ListOf, Node, Text};
 use script_text::Word;
 use std::alloc::{AllocError, Global};
+use std::process::Abort;
 use std::sync::Arc;
+use std::test::Fail;
+
+/// Printing the report to a sink that takes all succeeds, and the sink then holds this text.
+pub fn prints(rt: &impl Abort, alloc: Global, report: Report, text: &str) -> Result<(), Fail> {
+    let mut sink = MemorySink::open(alloc, 10_000, &[])?;
+    leaves(rt, &report, &mut sink, Ok(()), text.as_bytes());
+    Ok(())
+}
+
+/// Printing the report to the sink ends so, and the sink then holds these bytes.
+pub fn leaves(
+    rt: &impl Abort,
+    report: &Report,
+    sink: &mut MemorySink,
+    end: Result<(), Failed>,
+    bytes: &[u8],
+) {
+    assert_eq!(rt; print(report, sink), end);
+    assert_eq!(rt; sink.bytes(), bytes);
+}
+
+/// A list of one item.
+pub fn one<T: Drop>(alloc: Global, item: T) -> Result<ListOf<T>, AllocError> {
+    let mut items = ListOf::new(alloc);
+    items.push(item)?;
+    Ok(items)
+}
+
+/// A list with an item more.
+pub fn with<T: Drop>(mut items: ListOf<T>, item: T) -> Result<ListOf<T>, AllocError> {
+    items.push(item)?;
+    Ok(items)
+}
 
 /// The first node of a client, under this stamp.
 pub fn first_key(client: u8, stamp: u64) -> Key {
@@ -25,8 +60,8 @@ pub fn event_point(colour: u8, place: u64, position: u64) -> PointPiece {
 }
 
 /// The answer to an append of one colour.
-pub fn stood(alloc: Global, stamp: u64, point: PointPiece) -> Result<Answer, AllocError> {
-    let points = vec![in alloc; point]?.into();
+fn stood(alloc: Global, stamp: u64, point: PointPiece) -> Result<Answer, AllocError> {
+    let points = one(alloc, point)?;
     Ok(Answer::Stood {
         stamp,
         row: None,
@@ -74,16 +109,42 @@ pub fn reply(alloc: Global, line: u32, word: Word, answer: Answer) -> ReplyLine 
     }
 }
 
+/// The reply to an append of one colour.
+pub fn appended(
+    alloc: Global,
+    line: u32,
+    stamp: u64,
+    point: PointPiece,
+) -> Result<ReplyLine, AllocError> {
+    Ok(reply(alloc, line, Word::Append, stood(alloc, stamp, point)?))
+}
+
+/// The reply to a sync that plays these nodes.
+pub fn shown(line: u32, answer: Answer, nodes: Items) -> ReplyLine {
+    ReplyLine {
+        line,
+        word: Word::Sync,
+        answer,
+        nodes,
+    }
+}
+
 pub fn client(
     alloc: Global,
     name: &[u8],
-    replies: Vec<ReplyLine>,
+    replies: ListOf<ReplyLine>,
 ) -> Result<ClientReport, AllocError> {
     let name = Text::copied(alloc, name)?;
-    Ok(ClientReport {
-        name,
-        replies: replies.into(),
-    })
+    Ok(ClientReport { name, replies })
+}
+
+/// The clients, and one more without a reply.
+pub fn and_silent(
+    alloc: Global,
+    before: ListOf<ClientReport>,
+    name: &[u8],
+) -> Result<ListOf<ClientReport>, AllocError> {
+    with(before, client(alloc, name, ListOf::new(alloc))?)
 }
 
 pub fn single(by: u8, floor: u64, wants: Counts, stamp: u64) -> Entry {
@@ -116,17 +177,41 @@ pub fn column(
     })
 }
 
-/// Three clients a, b and c without a reply, and one region r with the columns x and y.
-pub fn idle(alloc: Global) -> Result<Report, AllocError> {
-    let mut clients = Vec::new(alloc);
-    for name in [b"a", b"b", b"c"] {
-        clients.push(client(alloc, name, Vec::new(alloc))?)?;
-    }
-    let x = column(alloc, 0, 0, (b"r", b"x"))?;
-    let y = column(alloc, 0, 1, (b"r", b"y"))?;
-    Ok(Report {
-        clients: clients.into(),
+/// The columns, and one more with nothing in it.
+pub fn and_column(
+    alloc: Global,
+    before: ListOf<ColumnReport>,
+    region: u8,
+    colour: u8,
+    names: (&[u8], &[u8]),
+) -> Result<ListOf<ColumnReport>, AllocError> {
+    with(before, column(alloc, region, colour, names)?)
+}
+
+/// The column with this journal, and what it shows after it.
+pub fn filled(
+    mut column: ColumnReport,
+    journal: Entries,
+    clock: u64,
+    line: ListOf<Key>,
+    cut: Counts,
+) -> ColumnReport {
+    column.journal = journal;
+    column.clock = clock;
+    column.line = line;
+    column.cut = cut;
+    column
+}
+
+/// The clients' replies and the columns, without a row.
+pub fn rowless(
+    alloc: Global,
+    clients: ListOf<ClientReport>,
+    columns: ListOf<ColumnReport>,
+) -> Report {
+    Report {
+        clients,
         rows: ListOf::new(alloc),
-        columns: vec![in alloc; x, y]?.into(),
-    })
+        columns,
+    }
 }
