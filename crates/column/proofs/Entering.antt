@@ -1,8 +1,9 @@
 -- A node enters: what the steps of the code make together.
-use Rattle.std.proofs.Common.{◌≡◌, ℕ, ◌+◌, ◌<◌, ◌-◌, max, Bool, true, false, List, [], ◌∷◌, ◌++◌, ap, ◌∙◌, arith}
+use Rattle.std.proofs.Common.{◌≡◌, ℕ, ◌+◌, ◌<◌, ◌≤◌, ◌-◌, max, Bool, true, false, List, [], ◌∷◌, ◌++◌, length, ap, ◌∙◌, arith}
 use Rattle.std.proofs.Common.{length-append}
 use Rattle.log_node.specs.declared.ids.Counts.{Counts}
 use Rattle.log_node.specs.declared.node.Node.{Node}
+use Rattle.log_node.specs.Seen.{PlacedNode}
 use Rattle.log_node.specs.Vectors.{least}
 use Rattle.skeen_core.specs.Queues.{Queued, entry_under, entered_queue, stamp_after}
 use Rattle.col_core.specs.declared.Event.TheVariants as events
@@ -12,8 +13,13 @@ use Rattle.col_core.specs.Rows.{node_wants}
 use Rattle.column.specs.Entering.{EnteredNode}
 use Rattle.column.specs.Columns.{ColumnState, cut_of, stamp_for, entered_node, single_event, propose_event}
 use Rattle.column.specs.Columns.{after_single, after_propose}
-use Rattle.column.specs.Inside.{IsRoomFor}
+use Rattle.column.specs.Inside.{IsRoomFor, open_count}
 use Rattle.column.proofs.Opens.{count-with}
+use Rattle.column.proofs.Steps.{next_column}
+
+-- the column with this journal and this queue
+abbrev pub next_column_of : ColumnState → List Entry → Queued EnteredNode → ColumnState
+next_column_of column journal queue = record column { journal = journal; queue = queue }
 
 -- what the code read of the node and of the column
 pub record HasRead (old : ColumnState) (node a b : Node) (wants cut needs : Counts) (stamp : ℕ)
@@ -77,52 +83,24 @@ module _ {old : ColumnState} {node a b : Node} {wants cut needs : Counts} {stamp
       → journal ≡ old.journal ++ record { by = by; event = events.Single a.id b.floor wants; stamp = stamp } ∷ []
       → queue ≡ entered_queue (entry_under stamp a.id true thing) old.queue
       → ◌≡◌ {A = ColumnState}
-      (record {
-        region = old.region;
-        colour = old.colour;
-        regions = old.regions;
-        journal = journal;
-        queue =
-            queue;
-      }) (after_single old by node)
+      (next_column_of old journal queue) (after_single old by node)
   single-state by journal queue journal_is queue_is =
-      ap (λ (l : List Entry). let s : ColumnState =
-      record { region = old.region; colour = old.colour; regions = old.regions; journal = l; queue = queue } in s)
+      ap (λ (l : List Entry). next_column_of old l queue)
       (journal_is ∙ ap (λ (e : Entry). old.journal ++ e ∷ []) (single-entry by))
-      ∙ ap (λ (q : Queued EnteredNode). let s : ColumnState = record {
-        region = old.region;
-        colour = old.colour;
-        regions = old.regions;
-        journal = old.journal
-            ++ record { by = by; event = single_event old.colour node; stamp = stamp_for old node } ∷ [];
-        queue = q;
-      } in s)
+      ∙ ap (λ (q : Queued EnteredNode). next_column_of old
+      (old.journal ++ record { by = by; event = single_event old.colour node; stamp = stamp_for old node } ∷ []) q)
       (queue_is ∙ entered-queue true)
 
   pub propose-state : (by : ℕ) (journal : List Entry) (queue : Queued EnteredNode)
       → journal ≡ old.journal ++ record { by = by; event = events.Propose a.id b.floor wants; stamp = stamp } ∷ []
       → queue ≡ entered_queue (entry_under stamp a.id false thing) old.queue
       → ◌≡◌ {A = ColumnState}
-      (record {
-        region = old.region;
-        colour = old.colour;
-        regions = old.regions;
-        journal = journal;
-        queue =
-            queue;
-      }) (after_propose old by node)
+      (next_column_of old journal queue) (after_propose old by node)
   propose-state by journal queue journal_is queue_is =
-      ap (λ (l : List Entry). let s : ColumnState =
-      record { region = old.region; colour = old.colour; regions = old.regions; journal = l; queue = queue } in s)
+      ap (λ (l : List Entry). next_column_of old l queue)
       (journal_is ∙ ap (λ (e : Entry). old.journal ++ e ∷ []) (propose-entry by))
-      ∙ ap (λ (q : Queued EnteredNode). let s : ColumnState = record {
-        region = old.region;
-        colour = old.colour;
-        regions = old.regions;
-        journal = old.journal
-            ++ record { by = by; event = propose_event old.colour node; stamp = stamp_for old node } ∷ [];
-        queue = q;
-      } in s)
+      ∙ ap (λ (q : Queued EnteredNode). next_column_of old
+      (old.journal ++ record { by = by; event = propose_event old.colour node; stamp = stamp_for old node } ∷ []) q)
       (queue_is ∙ entered-queue false)
 
 -- the room that is left
@@ -157,4 +135,20 @@ propose-room old by opens spare capacity capacity' node r some same =
       few = let m = r.few in omega (arith, longer, m);
       room = let m = r.room in omega (arith, longer, m, same, spares, some);
       spares = omega (arith, spares);
+    }
+
+-- after an event that enters nothing
+pub event-room : (column : ColumnState) (e : Entry) (queue : Queued EnteredNode) (copies : List (List PlacedNode))
+    (opens spare capacity capacity' : ℕ) → IsRoomFor column opens spare capacity
+    → queue.entries ≡ column.queue.entries → queue.spare ≡ column.queue.spare
+    → length column.journal + (opens + spare + spare + 1) ≤ capacity'
+    → IsRoomFor (next_column column e queue copies) opens spare capacity'
+event-room column e queue copies opens spare capacity capacity' r same spares room =
+    let longer = length-append column.journal (e ∷ []) in
+    let count = ap open_count same in
+    record {
+      enough = let m = r.enough in omega (arith, count, m);
+      few = let m = r.few in omega (arith, longer, m);
+      room = omega (arith, longer, room);
+      spares = let m = r.spares in omega (arith, m, spares);
     }

@@ -15,7 +15,7 @@ use Rattle.skeen_core.specs.Queues.{standing_of}
 use Rattle.skeen_core.proofs.Lists.{filter-map}
 use Rattle.column.specs.Entering.{EnteredNode}
 use Rattle.column.specs.Columns.{is_open_below, is_waiting_below, HasRow, IsBegunOf, IsBegunAt}
-use Rattle.column.proofs.Owning.{length_map}
+use Rattle.column.proofs.Histories.{length_map}
 
 -- what was found passes the test, and holds what all do
 found_each : {A : Type 0} (p : A → Bool) (P : A → Type 0) (xs : List A) (x : A) → AllByRecursion P xs → find p xs

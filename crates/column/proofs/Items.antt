@@ -1,5 +1,5 @@
 -- The nodes of a line as one reads them.
-use Rattle.std.proofs.Common.{◌≡◌, ◌≢◌, ℕ, zero, suc, ◌+◌, ◌-◌, ◌<◌, min, zero-add, length-drop, List, [], ◌∷◌, ◌++◌}
+use Rattle.std.proofs.Common.{◌≡◌, ◌≢◌, ℕ, zero, suc, ◌+◌, ◌-◌, ◌<◌, ◌≤◌, length-drop, List, [], ◌∷◌, ◌++◌}
 use Rattle.std.proofs.Common.{length, take, drop, get_or, Some, refl, ap, sym, subst, ◌∙◌, arith}
 use Rattle.std.specs.Prelude.{map, slice_get}
 use Rattle.std.specs.List.{AllByRecursion}
@@ -19,10 +19,13 @@ use Rattle.col_core.specs.History.{line}
 use Rattle.col_core.specs.Cuts.{needs_of, chain}
 use Rattle.col_core.specs.Computed.{dated}
 use Rattle.column.specs.Entering.{EnteredNode}
-use Rattle.column.specs.Columns.{ColumnState, history_of, cut_of, alone, placed, items_under, AreItems, HasStored}
+use Rattle.column.specs.Columns.{ColumnState, history_of, chains_of, held_of, copy_of, base_of, placed, items_under}
+use Rattle.column.specs.Columns.{AreItems, HasStored, HasCarried}
 use Rattle.column.specs.Inside.{IsEntered, IsColumn}
-use Rattle.column.proofs.OwnCuts.{at-own}
-use Rattle.column.proofs.Owning.{length_map, own_cut, own_heads, own_chain, other_chains}
+use Rattle.column.proofs.Histories.{length_map, own_heads, own_chain}
+use Rattle.column.proofs.Lists.{map_drop, map_take, drop_twice, got_dropped, got_taken, got_map, map_got}
+use Rattle.column.proofs.Lists.{dropped_at, each_at}
+use Rattle.column.proofs.Moving.{base_held, own_held}
 
 under-append : (keys : List Key) (nodes : List EnteredNode) (k : Key) (n : EnteredNode) → length keys ≡ length nodes
     → items_under (keys ++ k ∷ []) (nodes ++ n ∷ []) ≡ items_under keys nodes ++ placed k n ∷ []
@@ -68,140 +71,148 @@ stored_at [] n i is = absurd (none-some i is)
 stored_at (w ∷ ws) zero i is = (w, refl, same_Some (placed w.key w.thing) i is)
 stored_at (w ∷ ws) (suc n) i is = stored_at ws n i is
 
-map_drop : {A B : Type 0} (f : A → B) (n : ℕ) (xs : List A) → drop n (map f xs) ≡ map f (drop n xs)
-map_drop f zero xs = refl
-map_drop f (suc n) [] = refl
-map_drop f (suc n) (x ∷ xs) = map_drop f n xs
-
-got_dropped : {A : Type 0} (s : ℕ) (xs : List A) (n : ℕ) (x : A) → slice_get (drop s xs) n ≡ Some x
-    → slice_get xs (s + n) ≡ Some x
-got_dropped zero xs n x is = subst (λ (k : ℕ). slice_get xs k ≡ Some x) (sym (zero-add n)) is
-got_dropped (suc s) [] n x is = absurd (none-some x is)
-got_dropped (suc s) (y ∷ ys) n x is =
-    subst (λ (k : ℕ). slice_get (y ∷ ys) k ≡ Some x) (suc_more s n) (got_dropped s ys n x is) where
-      suc_more : (s n : ℕ) → suc (s + n) ≡ suc s + n
-      suc_more s n = omega arith
-
-got_taken : {A : Type 0} (m : ℕ) (xs : List A) (n : ℕ) (x : A) → slice_get (take m xs) n ≡ Some x → slice_get xs n
-    ≡ Some x
-got_taken zero xs n x is = absurd (none-some x is)
-got_taken (suc m) [] n x is = absurd (none-some x is)
-got_taken (suc m) (y ∷ ys) zero x is = is
-got_taken (suc m) (y ∷ ys) (suc n) x is = got_taken m ys n x is
-
--- from past the end there is nothing
-drop_least : {A : Type 0} (n : ℕ) (xs : List A) → drop (min n (length xs)) xs ≡ drop n xs
-drop_least {A} zero xs = ap (λ (k : ℕ). drop {A = A} k xs) (least_zero (length xs)) where
-  least_zero : (m : ℕ) → min 0 m ≡ 0
-  least_zero m = omega arith
-drop_least {A} (suc n) [] = ap (λ (k : ℕ). drop {A = A} k []) (least_none n) where
-  least_none : (n : ℕ) → min (suc n) 0 ≡ 0
-  least_none n = omega arith
-drop_least (suc n) (x ∷ xs) = ap (λ (k : ℕ). drop k (x ∷ xs)) (least_suc n (length xs)) ∙ drop_least n xs where
-  least_suc : (n m : ℕ) → min (suc n) (suc m) ≡ suc (min n m)
-  least_suc n m = omega arith
-
 each-taken : {A : Type 0} (P : A → Type 0) (n : ℕ) (xs : List A) → AllByRecursion P xs → AllByRecursion P (take n xs)
 each-taken P zero xs h = tt
 each-taken P (suc n) [] h = tt
 each-taken P (suc n) (x ∷ xs) h = (h.0, each-taken P n xs h.1)
 
--- the column's own nodes from a place on
-module _ (column : ColumnState) (h : IsColumn column) (keys : List Key) (things : List EnteredNode)
-    (region from start : ℕ)
-    (is_own : region ≡ column.region) (keys_are : keys ≡ line_of column.queue.entries)
-    (things_are : things ≡ map (λ (w : Waiting EnteredNode). w.thing) (kept_entries column.queue))
+-- the keys of the entries that are kept, and their nodes
+module _ (column : ColumnState) (h : IsColumn column)
     (same : map (λ (w : Waiting EnteredNode). w.key) (kept_entries column.queue)
-    ≡ drop column.queue.base (line_of column.queue.entries))
-    (start_is : start ≡ min from (length keys)) where
-  keys_kept : keys ≡ map (λ (w : Waiting EnteredNode). w.key) (kept_entries column.queue)
-  keys_kept = keys_are ∙ sym (same ∙ ap (λ (n : ℕ). drop n (line_of column.queue.entries)) h.none_dropped)
-
-  abbrev us : List (Waiting EnteredNode)
-  us = drop start (kept_entries column.queue)
-
-  abbrev own_nodes : List PlacedNode
-  own_nodes = items_under (map (λ (w : Waiting EnteredNode). w.key) us) (map (λ (w : Waiting EnteredNode). w.thing) us)
-
-  items_are : items_under (drop start keys) (drop start things) ≡ own_nodes
-  items_are =
-      ap (λ (ks : List Key). items_under (drop start ks) (drop start things)) keys_kept
-      ∙ (ap (λ (ts : List EnteredNode). items_under
-      (drop start (map (λ (w : Waiting EnteredNode). w.key) (kept_entries column.queue))) (drop start ts))
-      things_are
-      ∙ (ap (λ (ks : List Key). items_under ks
-      (drop start (map (λ (w : Waiting EnteredNode). w.thing) (kept_entries column.queue))))
-      (map_drop (λ (w : Waiting EnteredNode). w.key) start (kept_entries column.queue))
-      ∙ ap (items_under (map (λ (w : Waiting EnteredNode). w.key) us))
-      (map_drop (λ (w : Waiting EnteredNode). w.thing) start (kept_entries column.queue))))
-
-  lines : line column.journal ≡ keys
-  lines = sym (keys_are ∙ ap line_of h.entries_are)
-
-  -- the whole line may be played
-  cut_is : at (cut_of column) region ≡ length (line column.journal)
-  cut_is =
-      ap (λ (v : Counts). at v region) (own_cut column.region h.in_range column.journal h.own)
-      ∙ (ap (at (alone column.region (length (line column.journal)))) is_own
-      ∙ at-own column.region (length (line column.journal)) h.in_range)
-
-  all_of : (n m : ℕ) (hs : List Head) → n ≡ length hs → take (n - m) (drop m hs) ≡ drop m hs
-  all_of n m hs e = take_all (n - m) (drop m hs) (let d = length-drop m hs in omega (arith, d, e))
-
+    ≡ drop column.queue.base (line_of column.queue.entries)) where
   abbrev head : Key → Head
   head key = record { key = key; needs = needs_of (history_of column) key.id }
 
-  heads_are : map (λ (i : PlacedNode). i.head) own_nodes
-      ≡ take (at (cut_of column) region - from) (drop from (chain column.region (history_of column) region))
-  heads_are =
-      let all = own_heads column.region column.journal in
-      let known = each-drop (IsEntered column.region column.colour column.journal) start (kept_entries column.queue)
-      (each-taken (IsEntered column.region column.colour column.journal) (kept_count column.queue) column.queue.stored
-      h.things) in
-      stored_heads column.region column.colour column.journal us known
-      ∙ (sym (ap (map head) (map_drop (λ (w : Waiting EnteredNode). w.key) start (kept_entries column.queue)))
-      ∙ (ap (λ (ks : List Key). map head (drop start ks)) (sym keys_kept)
-      ∙ (sym (map_drop head start keys)
-      ∙ (ap (λ (ks : List Key). drop start (map head ks)) (sym lines)
-      ∙ (ap (λ (n : ℕ). drop n all)
-      (start_is ∙ ap (min from) (ap length (sym lines) ∙ sym (length_map head (line column.journal))))
-      ∙ (drop_least from all
-      ∙ (sym (all_of (at (cut_of column) region) from all (cut_is ∙ sym (length_map head (line column.journal))))
-      ∙ ap (λ (hs : List Head). take (at (cut_of column) region - from) (drop from hs))
-      (sym (ap (chain column.region (history_of column)) is_own ∙ own_chain column.region column.journal)))))))))
+  lines : line_of column.queue.entries ≡ line column.journal
+  lines = ap line_of h.entries_are
 
-  nodes_are : (n : ℕ) (i : PlacedNode) → slice_get own_nodes n ≡ Some i → HasStored column i.head.key i.node
-  nodes_are n i is =
-      let w = stored_at us n i is in (
-        start + n,
-        w.0,
-        got_taken (kept_count column.queue) column.queue.stored (start + n) w.0
-            (got_dropped start (kept_entries column.queue) n w.0 w.1),
-        ap (λ (j : PlacedNode). j.head.key) w.2,
-        ap (λ (j : PlacedNode). j.node) w.2,
-      )
+  chain_is : chains_of column column.region ≡ map head (line_of column.queue.entries)
+  chain_is = own_chain column.region column.journal ∙ ap (map head) (sym lines)
 
-  pub own_items : AreItems column region from (at (cut_of column) region)
-      (items_under (drop start keys) (drop start things))
-  own_items = subst (λ (is : List PlacedNode). AreItems column region from (at (cut_of column) region) is)
-      (sym items_are)
-      (record { heads = heads_are; nodes = nodes_are })
+  kept_things : AllByRecursion (IsEntered column.region column.colour column.journal) (kept_entries column.queue)
+  kept_things = each-taken (IsEntered column.region column.colour column.journal) (kept_count column.queue)
+      column.queue.stored h.things
 
-module _ (column : ColumnState) (h : IsColumn column) where
-  -- of another region there are none
-  pub other_items : (region from : ℕ) → region ≢ column.region
-      → AreItems column region from (at (cut_of column) region) []
-  other_items region from ne = record {
-    heads = sym (ap (λ (hs : List Head). take (at (cut_of column) region - from) (drop from hs))
-        (other_chains column.region h.in_range column.journal h.own region ne)
-        ∙ (ap (take (at (cut_of column) region - from)) (none_dropped from)
-        ∙ none_taken (at (cut_of column) region - from)));
-    nodes = λ n i is. absurd (none-some i is);
-  } where
-    none_dropped : (n : ℕ) → ◌≡◌ {A = List Head} (drop n []) []
-    none_dropped zero = refl
-    none_dropped (suc n) = refl
+  pub kept_length : column.queue.base + length (map (λ (w : Waiting EnteredNode). w.thing) (kept_entries column.queue))
+      ≡ length (line_of column.queue.entries)
+  kept_length =
+      let a = length_map (λ (w : Waiting EnteredNode). w.thing) (kept_entries column.queue) in
+      let b = length_map (λ (w : Waiting EnteredNode). w.key) (kept_entries column.queue) in
+      let d = ap length same in
+      let e = length-drop column.queue.base (line_of column.queue.entries) in
+      let f = base_held column h column.region h.in_range in
+      let g = own_held column h in
+      let i = h.dropped in
+      let j = ap length lines in
+      omega (arith, a, b, d, e, f, g, i, j)
 
-    none_taken : (n : ℕ) → ◌≡◌ {A = List Head} (take n []) []
-    none_taken zero = refl
-    none_taken (suc n) = refl
+  -- a kept entry needs what the history tells
+  pub kept_needs : (position k : ℕ) (thing : EnteredNode) (a : Head) → k + column.queue.base ≡ position
+      → slice_get (map (λ (w : Waiting EnteredNode). w.thing) (kept_entries column.queue)) k ≡ Some thing
+      → slice_get (chains_of column column.region) position ≡ Some a → thing.needs ≡ a.needs
+  kept_needs position k thing a place at_k at_position =
+      let w = got_map (λ (v : Waiting EnteredNode). v.thing) (kept_entries column.queue) k thing at_k in
+      let key = got_map head (line_of column.queue.entries) position a
+      (ap (λ (hs : List Head). slice_get hs position) (sym chain_is) ∙ at_position) in
+      let there : slice_get (drop column.queue.base (line_of column.queue.entries)) k ≡ Some w.0.key =
+      ap (λ (ks : List Key). slice_get ks k) (sym same)
+      ∙ map_got (λ (v : Waiting EnteredNode). v.key) (kept_entries column.queue) k w.0 w.1 in
+      let is : w.0.key ≡ key.0 = same_Some w.0.key key.0
+      (sym there ∙ (dropped_at column.queue.base (line_of column.queue.entries) k position place ∙ key.1)) in
+      let entered = each_at (IsEntered column.region column.colour column.journal) (kept_entries column.queue) k w.0
+      kept_things w.1 in
+      ap (λ (e : EnteredNode). e.needs) (sym w.2)
+      ∙ (sym entered.needs
+      ∙ (ap (λ (k : Key). needs_of (history_of column) k.id) is ∙ ap (λ (b : Head). b.needs) key.2))
+
+  -- the own nodes from a number on up to another
+  module _ (from to first : ℕ) (low : first + column.queue.base ≡ from) where
+    abbrev us : List (Waiting EnteredNode)
+    us = take (to - from) (drop first (kept_entries column.queue))
+
+    keys_are : take (to - from) (drop from (line_of column.queue.entries)) ≡ map (λ (w : Waiting EnteredNode). w.key) us
+    keys_are =
+        ap (take (to - from)) (sym (drop_twice first column.queue.base from (line_of column.queue.entries) low)
+        ∙ (ap (drop first) (sym same)
+        ∙ map_drop (λ (w : Waiting EnteredNode). w.key) first (kept_entries column.queue)))
+        ∙ map_take (λ (w : Waiting EnteredNode). w.key) (to - from) (drop first (kept_entries column.queue))
+
+    things_are : take (to - from) (drop first (map (λ (w : Waiting EnteredNode). w.thing) (kept_entries column.queue)))
+        ≡ map (λ (w : Waiting EnteredNode). w.thing) us
+    things_are =
+        ap (take (to - from)) (map_drop (λ (w : Waiting EnteredNode). w.thing) first (kept_entries column.queue))
+        ∙ map_take (λ (w : Waiting EnteredNode). w.thing) (to - from) (drop first (kept_entries column.queue))
+
+    abbrev own_nodes : List PlacedNode
+    own_nodes = items_under (map (λ (w : Waiting EnteredNode). w.key) us) (map (λ (w : Waiting EnteredNode). w.thing) us)
+
+    heads_are : map (λ (i : PlacedNode). i.head) own_nodes ≡ take (to - from) (drop from (chains_of column column.region))
+    heads_are =
+        stored_heads column.region column.colour column.journal us
+        (each-taken (IsEntered column.region column.colour column.journal) (to - from)
+        (drop first (kept_entries column.queue))
+        (each-drop (IsEntered column.region column.colour column.journal) first (kept_entries column.queue) kept_things))
+        ∙ (ap (map head) (sym keys_are)
+        ∙ (sym (map_take head (to - from) (drop from (line_of column.queue.entries)))
+        ∙ (ap (take (to - from)) (sym (map_drop head from (line_of column.queue.entries)))
+        ∙ ap (λ (hs : List Head). take (to - from) (drop from hs)) (sym chain_is))))
+
+    nodes_are : (n : ℕ) (i : PlacedNode) → slice_get own_nodes n ≡ Some i → HasStored column i.head.key i.node
+    nodes_are n i is =
+        let w = stored_at us n i is in
+        let d = got_dropped first (kept_entries column.queue) n w.0
+        (got_taken (to - from) (drop first (kept_entries column.queue)) n w.0 w.1) in (
+          d.0,
+          w.0,
+          got_taken (kept_count column.queue) column.queue.stored d.0 w.0 d.1,
+          ap (λ (j : PlacedNode). j.head.key) w.2,
+          ap (λ (j : PlacedNode). j.node) w.2,
+        )
+
+    pub own_items : AreItems column column.region from to
+        (items_under (take (to - from) (drop from (line_of column.queue.entries)))
+        (take (to - from) (drop first (map (λ (w : Waiting EnteredNode). w.thing) (kept_entries column.queue)))))
+    own_items = subst (λ (ks : List Key). AreItems column column.region from to
+        (items_under ks (take (to - from)
+        (drop first (map (λ (w : Waiting EnteredNode). w.thing) (kept_entries column.queue))))))
+        (sym keys_are)
+        (subst (λ (ts : List EnteredNode). AreItems column column.region from to
+        (items_under (map (λ (w : Waiting EnteredNode). w.key) us) ts)) (sym things_are)
+        (record { heads = heads_are; nodes = λ is. nodes_are; carried = λ other. absurd (other refl) }))
+
+-- carried nodes
+module _ (column : ColumnState) (h : IsColumn column) (region : ℕ) (lt : region < 4) (other : region ≢ column.region) where
+  pub carried_items : (from to first : ℕ) → first + at (base_of column) region ≡ from
+      → AreItems column region from to (take (to - from) (drop first (copy_of column region)))
+  carried_items from to first low = record {
+    heads = sym (map_take (λ (i : PlacedNode). i.head) (to - from) (drop first (copy_of column region)))
+        ∙ ap (take (to - from)) (sym (map_drop (λ (i : PlacedNode). i.head) first (copy_of column region))
+        ∙ (ap (drop first) (h.copies.heads region lt other)
+        ∙ drop_twice first (at (base_of column) region) from (chains_of column region) low));
+    nodes = λ is. absurd (other is);
+    carried = λ _ n i is. got_dropped first (copy_of column region) n i
+        (got_taken (to - from) (drop first (copy_of column region)) n i is);
+  }
+
+  pub carried_need : (position k : ℕ) (item : PlacedNode) (a : Head) → k + at (base_of column) region ≡ position
+      → slice_get (copy_of column region) k ≡ Some item → slice_get (chains_of column region) position ≡ Some a
+      → item.head.needs ≡ a.needs
+  carried_need position k item a place at_k at_position =
+      ap (λ (b : Head). b.needs) (same_Some item.head a
+      (sym (map_got (λ (i : PlacedNode). i.head) (copy_of column region) k item at_k)
+      ∙ (ap (λ (hs : List Head). slice_get hs k) (h.copies.heads region lt other)
+      ∙ (dropped_at (at (base_of column) region) (chains_of column region) k position place ∙ at_position))))
+
+  pub copy_length : length (copy_of column region) ≡ held_of column region - at (base_of column) region
+  copy_length =
+      sym (length_map (λ (i : PlacedNode). i.head) (copy_of column region))
+      ∙ (ap length (h.copies.heads region lt other) ∙ length-drop (at (base_of column) region) (chains_of column region))
+
+-- from a number that is no lower on there is nothing
+pub no_items : (column : ColumnState) (region from to : ℕ) → to ≤ from → AreItems column region from to []
+no_items column region from to le = record {
+  heads = sym (ap (λ (n : ℕ). take n (drop from (chains_of column region)))
+      (let e : to - from ≡ 0 = omega (arith, le) in e));
+  nodes = λ _ n i is. absurd (none-some i is);
+  carried = λ _ n i is. absurd (none-some i is);
+}

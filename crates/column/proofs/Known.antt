@@ -15,7 +15,7 @@ use Rattle.col_core.proofs.Basics.{by_test, apart, same_id-true}
 use Rattle.col_core.proofs.Members.{In, Rises, rises}
 use Rattle.col_core.proofs.Pasts.{IsLawfulPast}
 use Rattle.col_core.proofs.LawfulPasts.{entries-of, shown_entered, lawful_past}
-use Rattle.column.proofs.Owning.{same_entries}
+use Rattle.column.proofs.Histories.{same_entries}
 
 -- the history, read from its newest entry on, is a lawful past
 pub is_past : (own regions : ℕ) (journal : List Entry) → IsColumnHistory own regions (dated own journal)

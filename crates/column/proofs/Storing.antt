@@ -23,8 +23,7 @@ use Rattle.col_core.proofs.ChainGrowth.{slice_longer}
 use Rattle.column.specs.Entering.{EnteredNode}
 use Rattle.column.specs.Inside.{IsEntered, EntersNode}
 use Rattle.column.specs.Columns.{HasRow}
-use Rattle.column.proofs.OwnChains.{needs_stay, needs_first}
-use Rattle.column.proofs.Owning.{same_entries}
+use Rattle.column.proofs.Histories.{same_entries, needs_stay, needs_first}
 
 -- the last item of a list
 pub got_last : {A : Type 0} (xs : List A) (x : A) → slice_get (xs ++ x ∷ []) (length xs) ≡ Some x

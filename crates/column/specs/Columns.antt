@@ -1,35 +1,39 @@
 -- What contracts see of a column, and what its calls make of it.
-use Rattle.std.specs.Prelude.{◌≡◌, ◌⊎◌, ℕ, ◌-◌, ◌<◌, ◌==◌, ◌&&◌, Bool, true, false, IsTrue, not, max, List, [], ◌∷◌}
-use Rattle.std.specs.Prelude.{◌++◌, Option, Some, None, map, take, drop, slice_get, if◌then◌else◌}
+use Rattle.std.specs.Prelude.{◌≡◌, ◌≢◌, ◌⊎◌, ℕ, ◌-◌, ◌<◌, ◌&&◌, nat_lt, Bool, true, false, IsTrue, not, min, max, List}
+use Rattle.std.specs.Prelude.{[], ◌∷◌, ◌++◌, Option, Some, None, length, map, take, drop, slice_get, slice_index_or}
+use Rattle.std.specs.Prelude.{slice_set, if◌then◌else◌}
 use Rattle.log_node.specs.declared.ids.Id.{Id}
 use Rattle.log_node.specs.declared.ids.Key.{Key}
 use Rattle.log_node.specs.declared.ids.Counts.{Counts}
 use Rattle.log_node.specs.declared.node.Node.{Node}
 use Rattle.log_node.specs.Order.{key_below}
-use Rattle.log_node.specs.Vectors.{at, vector, least}
+use Rattle.log_node.specs.Vectors.{at, vector, least, all_regions}
 use Rattle.log_node.specs.Seen.{PlacedNode, BegunAppend}
 use Rattle.skeen_core.specs.declared.marks.Outcome.{Outcome}
 use Rattle.skeen_core.specs.declared.waiting.Waiting.{Waiting}
 use Rattle.skeen_core.specs.Standings.{Standing}
-use Rattle.skeen_core.specs.Queues.{Queued, entry_under, entered_queue, settled_queue}
+use Rattle.skeen_core.specs.Queues.{Queued, entry_under, entered_queue, settled_queue, dropped_queue}
 use Rattle.col_core.specs.declared.Event.{Event}
 use Rattle.col_core.specs.declared.Event.TheVariants as events
 use Rattle.col_core.specs.declared.Entry.{Entry}
-use Rattle.col_core.specs.History.{last_stamp, next_stamp, IsAtEnd}
-use Rattle.col_core.specs.Cuts.{Dated, chain, base}
+use Rattle.col_core.specs.History.{last_stamp, next_stamp, line, IsAtEnd}
+use Rattle.col_core.specs.Cuts.{Chains, Dated, chain, base}
 use Rattle.col_core.specs.Computed.{cut, dated}
 use Rattle.col_core.specs.Rows.{node_wants}
 use Rattle.column.specs.declared.faults.ColumnFault.{ColumnFault}
 use Rattle.column.specs.declared.faults.ColumnFault.TheVariants.{StampEnd, NoMemory}
+use Rattle.column.specs.declared.given.Given.{Given}
 use Rattle.column.specs.Entering.{EnteredNode}
 
--- a column: whose copy of which colour it is, of how many regions, its journal, and its entries with their nodes
+-- a column: whose copy of which colour it is, of how many regions, its journal, its entries with their nodes, and for
+-- each region the carried nodes that are kept
 pub record ColumnState : Type 0 where
   pub region : ℕ
   pub colour : ℕ
   pub regions : ℕ
   pub journal : List Entry
   pub queue : Queued EnteredNode
+  pub copies : List (List PlacedNode)
 
 -- nothing in it
 abbrev pub new_column : ℕ → ℕ → ℕ → ColumnState
@@ -39,11 +43,23 @@ new_column region colour regions = record {
   regions = regions;
   journal = [];
   queue = record { clock = 0; entries = []; base = 0; stored = []; spare = 0 };
+  copies = [] ∷ [] ∷ [] ∷ [] ∷ [];
 }
 
 -- its events, each with the cut before it
 abbrev pub history_of : ColumnState → List Dated
 history_of column = dated column.region column.journal
+
+-- for each region the heads of its chain, and how many of them there are
+abbrev pub chains_of : ColumnState → Chains
+chains_of column = chain column.region (history_of column)
+
+abbrev pub held_of : ColumnState → ℕ → ℕ
+held_of column region = length (chains_of column region)
+
+-- the carried nodes of a region's chain that are kept
+abbrev pub copy_of : ColumnState → ℕ → List PlacedNode
+copy_of column region = slice_index_or column.copies region []
 
 -- what may be played of it, and below which counts nodes are trimmed
 abbrev pub cut_of : ColumnState → Counts
@@ -100,6 +116,48 @@ after_raise column by to = record column {
   queue = record column.queue { clock = max column.queue.clock to };
 }
 
+-- the column after one more event that gives no stamp
+abbrev pub after_event : ColumnState → ℕ → Event → ColumnState
+after_event column by event = record column {
+  journal = column.journal ++ record { by = by; event = event; stamp = 0 } ∷ [];
+}
+
+-- the column after its line was given to a region from a number on, which counts as the line's length where it is above
+abbrev pub after_give : ColumnState → ℕ → ℕ → ℕ → ColumnState
+after_give column by region from = after_event column by (events.Give region (min from (length (line column.journal))))
+
+-- what is new of a part of a region's line: the nodes behind those held, and none where one between is missing
+abbrev pub new_items : ColumnState → ℕ → Given → List PlacedNode
+new_items column region given =
+    if nat_lt (held_of column region) given.start then []
+    else drop (held_of column region - given.start) given.items
+
+-- the column after new nodes of a region's chain were carried; without any it is as before
+abbrev pub with_items : ColumnState → ℕ → ℕ → List PlacedNode → ColumnState
+with_items column by region [] = column
+with_items column by region (item ∷ items) = record
+    (after_event column by (events.Carry region (held_of column region) (map (λ i. i.head) (item ∷ items)))) {
+      copies = slice_set column.copies region (copy_of column region ++ item ∷ items);
+    }
+
+abbrev pub after_carry : ColumnState → ℕ → ℕ → Given → ColumnState
+after_carry column by region given = with_items column by region (new_items column region given)
+
+-- the base after a trim with these counts
+abbrev pub base_after : ColumnState → ℕ → Counts → Counts
+base_after column by counts = base_of (after_event column by (events.Trim counts))
+
+-- the carried nodes from a base on
+abbrev pub kept_copy : ColumnState → Counts → ℕ → List PlacedNode
+kept_copy column base region = drop (at base region - at (base_of column) region) (copy_of column region)
+
+-- the column after a trim: the nodes below the base are dropped
+abbrev pub after_trim : ColumnState → ℕ → Counts → ColumnState
+after_trim column by counts = record (after_event column by (events.Trim counts)) {
+  queue = dropped_queue (at (base_after column by counts) column.region) column.queue;
+  copies = map (kept_copy column (base_after column by counts)) all_regions;
+}
+
 -- Why a node with this floor did not enter: no stamp is left, which is told before want of memory; or memory was
 -- refused, which is never so where there was memory for an entry.
 abbrev pub HasEnterCause : ColumnState → ℕ → ColumnFault → Type 0
@@ -154,15 +212,25 @@ HasStored column key node =
     (n : ℕ) × (w : Waiting EnteredNode)
     × (slice_get column.queue.stored n ≡ Some w) × (w.key ≡ key) × (w.thing.node ≡ node)
 
--- the nodes of a region's chain from a number on up to another: heads by the history, and the nodes that entered
-pub record AreItems (column : ColumnState) (region from to : ℕ) (items : List PlacedNode) : Type 0 where
-  pub heads : map (λ (i : PlacedNode). i.head) items
-      ≡ take (to - from) (drop from (chain column.region (history_of column) region))
-  pub nodes : (n : ℕ) (i : PlacedNode) → slice_get items n ≡ Some i → HasStored column i.head.key i.node
+-- the column keeps this node as it was carried
+abbrev pub HasCarried : ColumnState → ℕ → PlacedNode → Type 0
+HasCarried column region item = (n : ℕ) × (slice_get (copy_of column region) n ≡ Some item)
 
--- so many nodes of one region, and none of another
-abbrev pub alone : ℕ → ℕ → Counts
-alone region n = vector (λ other. if other == region then n else 0)
+-- The nodes of a region's chain from a number on up to another: heads by the history, the own nodes as they entered, and
+-- those of another region as they were carried.
+pub record AreItems (column : ColumnState) (region from to : ℕ) (items : List PlacedNode) : Type 0 where
+  pub heads : map (λ (i : PlacedNode). i.head) items ≡ take (to - from) (drop from (chains_of column region))
+  pub nodes : region ≡ column.region
+      → (n : ℕ) (i : PlacedNode) → slice_get items n ≡ Some i → HasStored column i.head.key i.node
+  pub carried : region ≢ column.region
+      → (n : ℕ) (i : PlacedNode) → slice_get items n ≡ Some i → HasCarried column region i
+
+-- What is given of the own line from a number on, which counts as the line's length where it is above: the nodes from
+-- there on, or from the base on where that is greater.
+pub record IsGiven (column : ColumnState) (from : ℕ) (given : Given) : Type 0 where
+  pub start : given.start
+      ≡ max (min from (length (line column.journal))) (at (base_of column) column.region)
+  pub items : AreItems column column.region given.start (length (line column.journal)) given.items
 
 -- for each region the greater number
 abbrev pub greater : Counts → Counts → Counts

@@ -1,11 +1,12 @@
 -- What a column keeps true of its fields.
-use Rattle.std.specs.Prelude.{◌≡◌, ℕ, ◌+◌, ◌<◌, ◌≤◌, true, IsTrue, List, [], ◌∷◌, Some, length, slice_get}
-use Rattle.std.specs.Prelude.{if◌then◌else◌}
-use Rattle.std.specs.List.{AllByRecursion, flat_map}
+use Rattle.std.specs.Prelude.{◌≡◌, ◌≢◌, ℕ, ◌+◌, ◌<◌, ◌≤◌, ◌==◌, min, max, true, IsTrue, List, [], ◌∷◌, Some, length}
+use Rattle.std.specs.Prelude.{map, drop, slice_get, if◌then◌else◌}
+use Rattle.std.specs.List.{AllByRecursion, fold, range_with_len}
 use Rattle.log_node.specs.declared.ids.Id.{Id}
-use Rattle.log_node.specs.declared.ids.Key.{Key}
+use Rattle.log_node.specs.declared.ids.Counts.{Counts}
 use Rattle.log_node.specs.declared.node.Node.{Node}
-use Rattle.log_node.specs.Vectors.{IsWithin}
+use Rattle.log_node.specs.Seen.{PlacedNode}
+use Rattle.log_node.specs.Vectors.{at, IsWithin}
 use Rattle.log_node.specs.Order.{key_below}
 use Rattle.log_node.specs.Sets.{has}
 use Rattle.skeen_core.specs.declared.waiting.Waiting.{Waiting}
@@ -13,13 +14,13 @@ use Rattle.skeen_core.specs.Standings.{Standing}
 use Rattle.col_core.specs.declared.Event.{Event}
 use Rattle.col_core.specs.declared.Event.TheVariants.{Single, Propose, Settle, Raise, Give, Carry, Trim}
 use Rattle.col_core.specs.declared.Entry.{Entry}
-use Rattle.col_core.specs.History.{clock, entries, line, has_entered}
-use Rattle.col_core.specs.Cuts.{Dated, needs_of, carried, base_from}
+use Rattle.col_core.specs.History.{clock, entries, has_entered}
+use Rattle.col_core.specs.Cuts.{Reachable, needs_of, noted}
 use Rattle.col_core.specs.Computed.{dated}
 use Rattle.col_core.specs.Legal.{IsColumnHistory}
 use Rattle.col_core.specs.Rows.{node_wants}
 use Rattle.column.specs.Entering.{EnteredNode}
-use Rattle.column.specs.Columns.{ColumnState, history_of, alone, HasRow}
+use Rattle.column.specs.Columns.{ColumnState, history_of, chains_of, held_of, copy_of, cut_of, base_of, HasRow}
 
 -- the event is the one by which a node enters
 abbrev pub EntersNode : ℕ → Node → Event → Type 0
@@ -43,15 +44,6 @@ pub record IsEntered (region colour : ℕ) (journal : List Entry) (w : Waiting E
   pub needs : needs_of (dated region journal) w.key.id ≡ w.thing.needs
   pub row : HasRow w.settled w.thing.node
 
--- Nothing is carried and nothing trimmed, and each node of the line needs no more than those before it: so the cut is
--- the whole own line.
-pub record IsOwn (own : ℕ) (journal : List Entry) : Type 0 where
-  pub none_carried : (region : ℕ) → flat_map (λ (d : Dated). carried region d.entry.event) (dated own journal) ≡ []
-  pub no_base : (regions region : ℕ) → base_from own regions region [] (dated own journal) ≡ 0
-  pub needs_all : (id : Id) → IsWithin (needs_of (dated own journal) id) (alone own (length (line journal)))
-  pub needs_before : (n : ℕ) (key : Key) → slice_get (line journal) n ≡ Some key
-      → IsWithin (needs_of (dated own journal) key.id) (alone own n)
-
 -- every key is above those before it
 abbrev pub Rises : List Standing → Type 0
 Rises [] = Unit {0}
@@ -62,16 +54,25 @@ abbrev pub open_count : List Standing → ℕ
 open_count [] = 0
 open_count (e ∷ es) = (if e.settled then 0 else 1) + open_count es
 
--- what ties a column's queue to its journal
+-- for each other region the kept nodes have the heads of its chain from the base on
+pub record AreCopies (column : ColumnState) : Type 0 where
+  pub of_each : length column.copies ≡ 4
+  pub heads : (region : ℕ) → region < 4 → region ≢ column.region
+      → map (λ (i : PlacedNode). i.head) (copy_of column region)
+      ≡ drop (at (base_of column) region) (chains_of column region)
+
+-- what ties a column's queue and copies to its journal
 pub record IsColumn (column : ColumnState) : Type 0 where
   pub in_range : column.region < 4
   pub in_colours : column.colour < 16
+  pub few_regions : column.regions ≤ 4
   pub clock_is : column.queue.clock ≡ clock column.journal
   pub entries_are : column.queue.entries ≡ entries column.journal
-  pub none_dropped : column.queue.base ≡ 0
+  pub dropped : column.queue.base ≡ at (base_of column) column.region
   pub lawful : IsColumnHistory column.region column.regions (history_of column)
-  pub own : IsOwn column.region column.journal
+  pub base_within : IsWithin (base_of column) (cut_of column)
   pub things : AllByRecursion (IsEntered column.region column.colour column.journal) column.queue.stored
+  pub copies : AreCopies column
 
 -- the room in the journal: for the settling of each open entry, and for so many entries more and their settlings
 pub record IsRoomFor (column : ColumnState) (opens spare capacity : ℕ) : Type 0 where
@@ -80,6 +81,29 @@ pub record IsRoomFor (column : ColumnState) (opens spare capacity : ℕ) : Type 
   pub room : length column.journal + opens + (spare + spare) ≤ capacity
   pub spares : spare ≡ column.queue.spare
 
-pub record IsKept (column : ColumnState) (opens spare capacity : ℕ) : Type 0 where
+-- the numbers that are kept: how much of each other chain was carried, what each region has asked past, and the base
+pub record AreNumbers (column : ColumnState) (carried asked base : Counts) : Type 0 where
+  pub carried_are : (region : ℕ) → region < 4 → region ≢ column.region → at carried region ≡ held_of column region
+  pub asked_are : (region : ℕ) → region < 4 → at asked region ≡ noted (history_of column) region
+  pub base_is : base ≡ base_of column
+
+pub record IsKept (column : ColumnState) (carried asked base : Counts) (opens spare capacity : ℕ) : Type 0 where
   pub column_is : IsColumn column
+  pub numbers_are : AreNumbers column carried asked base
   pub room_is : IsRoomFor column opens spare capacity
+
+-- what could be played of the old column can be reached in the new one, and no node above it is trimmed there
+pub record IsStillReached (old new : ColumnState) : Type 0 where
+  pub reached : Reachable (chains_of new) (cut_of old)
+  pub base : IsWithin (base_of new) (cut_of old)
+
+-- the least of the bound and the numbers of every other region
+abbrev pub least_asked : Counts → ℕ → ℕ → ℕ → ℕ
+least_asked asked own regions bound =
+    fold (λ n region. if region == own then n else min n (at asked region)) bound (range_with_len 0 regions)
+
+-- a region's base after a trim with these counts, where these numbers were asked past
+abbrev pub trimmed_base : Counts → Counts → Counts → Counts → ℕ → ℕ → ℕ → ℕ
+trimmed_base base asked cut counts own regions region =
+    let bound = min (at counts region) (at cut region) in
+    max (at base region) (if region == own then least_asked asked own regions bound else bound)

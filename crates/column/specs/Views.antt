@@ -9,7 +9,7 @@ use Rattle.log_node.specs.Seen.{BegunAppend}
 use Rattle.skeen_core.specs.Standings.{Standing}
 use Rattle.skeen_core.specs.Queues.{waiting_entries}
 use Rattle.col_core.specs.History.{entries}
-use Rattle.column.specs.declared.views.View.{View}
+use Rattle.col_core.specs.declared.view.View.{View}
 use Rattle.column.specs.declared.views.Below.{Below}
 use Rattle.column.specs.Columns.{ColumnState, cut_of, base_of, greater, AreItems, is_open_below, is_waiting_below}
 use Rattle.column.specs.Columns.{IsBegunAt}
@@ -34,3 +34,7 @@ pub record IsBelow (column : ColumnState) (key : Key) (below : Below) : Type 0 w
   pub first_id : option_map (λ (b : BegunAppend). b.id) below.first
       ≡ option_map (λ (e : Standing). e.key.id) (find (is_open_below key) (entries column.journal))
   pub first : IsBegunAt below.first (find (is_waiting_below key) (waiting_entries column.queue))
+
+-- a column of a region among two
+abbrev pub IsOfTwo : ℕ → ColumnState → Type 0
+IsOfTwo region column = (column.region ≡ region) × (column.regions ≡ 2)

@@ -42,6 +42,13 @@ impl Entered {
         Entered { needs, node }
     }
 
+    /// What the node needs.
+    pub(crate) fn needs(&self) -> Counts
+        ensures { result ≡ self.now.needs }
+    {
+        self.needs
+    }
+
     /// The node as one reads it that stands in the line under this key.
     pub fn item(&self, key: Key) -> Result<Item, AllocError>
         ensures { IfOk result (λ item. item ≡ placed key self.now) }

@@ -2,18 +2,26 @@
 #![tactic(auto)]
 
 mod column;
+mod contents;
+mod copies;
 mod counts;
 mod entered;
 mod faults;
+mod given;
 mod keys;
+mod moves;
+mod questions;
+mod reading;
 mod views;
 mod waits;
 mod wants;
 
-pub use column::{Column, MAX_REGIONS};
+pub use column::Column;
+pub use contents::MAX_REGIONS;
 pub use entered::Entered;
 pub use faults::ColumnFault;
-pub use views::{Below, Chains, View};
+pub use given::Given;
+pub use views::Below;
 
 #[cfg(test)]
 mod tests;

@@ -1,4 +1,4 @@
--- Begin, Single, Raise, Play and Seen keep what holds.
+-- Begin, Single, Play and Seen keep what holds.
 use Rattle.std.proofs.Common.{◌≡◌, ℕ, zero, suc, ◌+◌, ◌<◌, ◌≤◌, max, List, [], ◌∷◌, ◌++◌, Bool, true, false, refl, subst, ap, sym, ◌∙◌, inl, inr, ◌⊎◌, arith, drop, take}
 use Rattle.std.specs.Prelude.{◌==◌, ◌&&◌, ◌||◌, ◌≢◌, nat_lt, nat_le, map, reverse}
 use Rattle.std.specs.List.{list_any, flat_map, range_with_len}
@@ -18,6 +18,7 @@ use Rattle.col_core.specs.declared.Entry.{Entry}
 use Rattle.col_core.specs.History.{clock, entries, line, last_stamp}
 use Rattle.col_core.specs.Cuts.{Dated, carried, entries_of, needs_of}
 use Rattle.col_core.specs.Computed.{dated}
+use Rattle.col_core.specs.Legal.{IsLawfulEvent}
 use Rattle.col_core.specs.Keeping.{updated, updated_at}
 use Rattle.col_core.proofs.Basics.{choice, by_test, if_true, if_false, both, apart, not_true, same_id-refl}
 use Rattle.col_core.proofs.Growth.{entry_within}
@@ -26,9 +27,10 @@ use Rattle.col_core.proofs.Members.{In, in_line}
 use Rattle.col_core.proofs.Pasts.{Status, Absent, Alone, IsLawfulPast}
 use Rattle.log_node.specs.declared.ids.Key.{Key}
 use Rattle.col_core.specs.PlayOrder.{nodes_between}
-use Rattle.core_laws.specs.Worlds.{World, RowState, ClientState, home_of, home_history, is_client, is_column, with_client, next_id, begun_node, after_begin, single_entry, single_stamp, after_single, after_raise, after_play, after_seen, played_cut, played_stamp, chains_after, may_single, may_raise, may_see}
+use Rattle.core_laws.specs.Worlds.{World, RowState, ClientState, home_of, home_history, is_client, is_column, with_client, next_id, begun_node, after_begin, single_entry, single_stamp, after_single, after_play, after_seen, played_cut, played_stamp, chains_after, may_single, may_see}
 use Rattle.core_laws.proofs.Basics.{at_updated, at_updated_at, updated_at-here, updated_at-not, not_place, in_append}
 use Rattle.core_laws.proofs.Held.{status_in, Kind, OfSingle, OfRow, Agrees, column_mark, Fits, IsSound, heads_of, Held, put_kind, single_status}
+use Rattle.core_laws.proofs.Copies.{plain_copies_last}
 use Rattle.core_laws.proofs.Histories.{entries_dated, lawful_past_in, status-last, clock_within, stamp_within}
 use Rattle.core_laws.proofs.Keeps.{at_last, lawful_last, may_enter, heads_last, status_stays, fits_one, fits_all, kind-other, kind-own, next_unborn, next_absent, sound_kind, fresh_after}
 
@@ -129,6 +131,7 @@ module _ (w : World) (h : Held w) (client : ℕ) (colours : Colours) (text : Lis
     heads = h.heads;
     floors = λ a. at_updated (λ (s : ClientState). s.floor ≤ last_stamp) w.clients client (begun_client w client) a
         (λ _. h.floors client) (λ _. h.floors a);
+    copies = h.copies;
   }
 
 -- Single
@@ -166,6 +169,12 @@ module _ (w : World) (h : Held w) (client colour : ℕ) (text : List ℕ) (ok : 
       stamp_within (w.histories home colour) (w.clients client).floor (lawful_past_in w h home colour) (h.floors client)
       (not_true _ q.1)
 
+  single_lawful : IsLawfulEvent home w.shape.regions (dated home (w.histories home colour))
+      (single_entry w client colour).event (single_entry w client colour).stamp
+  single_lawful =
+      may_enter w h home colour (next_id w client) (w.clients client).floor (next_absent w h client home colour)
+      single_in_range
+
   abbrev single_world : World
   single_world = after_single w client colour text
 
@@ -199,40 +208,17 @@ module _ (w : World) (h : Held w) (client colour : ℕ) (text : List ℕ) (ok : 
     rows = λ a n lt. sound_kind h.kind (next_id w client) (OfSingle home colour (single_stamp w client colour)) a n
         (w.rows a n) (next_unborn w h client)
         (h.rows a n (same_used w client (single_client w client colour) refl a n lt));
-    lawful = lawful_last w h home colour (single_entry w client colour)
-        (may_enter w h home colour (next_id w client) (w.clients client).floor
-        (next_absent w h client home colour) single_in_range);
+    lawful = lawful_last w h home colour (single_entry w client colour) single_lawful;
     heads = heads_last w h home colour (single_entry w client colour) (λ other. refl);
     floors = λ a. at_updated (λ (s : ClientState). s.floor ≤ last_stamp) w.clients client
         (single_client w client colour) a (λ _. single_in_range) (λ _. h.floors a);
+    copies = plain_copies_last w h home colour (single_entry w client colour) single_lawful (λ other. refl)
+        (λ other. refl);
   }
 
--- Raise
-
+-- the entry of a Raise
 abbrev pub raise_entry : ℕ → ℕ → Entry
 raise_entry by to = record { by = by; event = events.Raise to; stamp = 0 }
-
-pub keeps_raise : (w : World) (h : Held w) (by region colour to : ℕ) → may_raise w region colour to ≡ true
-    → Held (after_raise w by region colour to)
-keeps_raise w h by region colour to ok =
-    let p = both (is_column w region colour) _ ok in
-    let q = both (nat_lt (clock (w.histories region colour)) to) (nat_le to last_stamp) p.1 in
-    record {
-      kind = h.kind;
-      fresh = h.fresh;
-      fits = fits_all w (after_raise w by region colour to) h.kind refl
-          (λ id r c. status_stays w region colour (raise_entry by to) id r c (λ st. refl))
-          (λ a n lt. (lt, refl)) h.fits;
-      rows = h.rows;
-      lawful = lawful_last w h region colour (raise_entry by to) (
-        refl,
-        subst (λ (x : List Entry). clock x < to) (sym (entries_dated region (w.histories region colour)))
-            (ltb-true _ _ q.0),
-        leb-true _ _ q.1,
-      );
-      heads = heads_last w h region colour (raise_entry by to) (λ other. refl);
-      floors = h.floors;
-    }
 
 -- a client whose floor and played counts change
 pub keeps_client : (w : World) (h : Held w) (client : ℕ) (cs : ClientState) → cs.count ≡ (w.clients client).count
@@ -252,6 +238,7 @@ keeps_client w h client cs ec eu le =
       heads = h.heads;
       floors = λ a. at_updated (λ (s : ClientState). s.floor ≤ last_stamp) w.clients client cs a (λ _. le)
           (λ _. h.floors a);
+      copies = h.copies;
     }
 
 -- Seen
@@ -291,12 +278,12 @@ heads_within [] bound h = omega arith
 heads_within (d ∷ ds) bound h =
     let a = h d (inl refl) in let b = heads_within ds bound (λ e i. h e (inr i)) in omega (arith, a, b)
 
-in_drop : {A : Type 0} (n : ℕ) (xs : List A) (x : A) → In x (drop n xs) → In x xs
+pub in_drop : {A : Type 0} (n : ℕ) (xs : List A) (x : A) → In x (drop n xs) → In x xs
 in_drop zero xs x i = i
 in_drop (suc n) [] x i = i
 in_drop (suc n) (y ∷ xs) x i = inr (in_drop n xs x i)
 
-in_take : {A : Type 0} (n : ℕ) (xs : List A) (x : A) → In x (take n xs) → In x xs
+pub in_take : {A : Type 0} (n : ℕ) (xs : List A) (x : A) → In x (take n xs) → In x xs
 in_take zero xs x i = absurd i
 in_take (suc n) [] x i = i
 in_take (suc n) (y ∷ xs) x (inl e) = inl e
@@ -336,7 +323,7 @@ line_within history l k i =
     (subst (λ (n : ℕ). x.0.key.stamp ≤ n) (sym (clock-of history)) within)
 
 -- the stamps of all chains are within the last stamp
-chain_within : (w : World) (h : Held w) (r c region : ℕ) (head : Head)
+pub chain_within : (w : World) (h : Held w) (r c region : ℕ) (head : Head)
     → In head (chains_after r (w.histories r c) region) → head.key.stamp ≤ last_stamp
 chain_within w h r c region head =
     let ds = dated r (w.histories r c) in

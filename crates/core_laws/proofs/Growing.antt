@@ -1,5 +1,5 @@
 -- Steps only add: histories and nodes begin as before, and begun rows keep what they have.
-use Rattle.std.proofs.Common.{◌≡◌, ℕ, ◌<◌, ◌≤◌, max, List, [], ◌∷◌, ◌++◌, take, drop, true, refl, subst, ap, sym, ◌∙◌, arith, append_assoc, append-nil}
+use Rattle.std.proofs.Common.{◌≡◌, ℕ, ◌+◌, ◌<◌, ◌≤◌, max, List, [], ◌∷◌, ◌++◌, take, drop, true, refl, subst, ap, sym, ◌∙◌, arith, append_assoc, append-nil}
 use Rattle.std.specs.Prelude.{not, reverse}
 use Rattle.std.proofs.lemmas.List.{reverse-append, take-append-drop}
 use mathlib.Core.List.{IsPrefix}
@@ -21,7 +21,7 @@ use Rattle.col_core.proofs.Pasts as pasts
 use Rattle.col_core.proofs.Pasts.{IsLawfulPast}
 use Rattle.core_laws.specs.declared.steps.Step.{Step}
 use Rattle.core_laws.specs.declared.steps.Step.TheVariants as steps
-use Rattle.core_laws.specs.Worlds.{World, RowState, ClientState, is_begun, row_of, home_of, may_begin, may_mark, may_propose, may_fence, may_decide, may_settle, may_single, may_raise, may_play, may_see, with_client, with_last, with_node, with_mark, begun_node, after_begin, after_propose, proposed_entry, proposed_stamp, after_decide, settled_entry, after_single, single_entry, single_node, played_cut, played_stamp, after, run_steps}
+use Rattle.core_laws.specs.Worlds.{World, RowState, ClientState, is_begun, row_of, home_of, may_begin, may_mark, may_propose, may_fence, may_decide, may_settle, may_single, may_raise, may_give, may_carry, is_column, may_play, may_see, with_client, with_last, with_node, with_mark, begun_node, after_begin, after_propose, proposed_entry, proposed_stamp, after_decide, settled_entry, carried_entry, after_single, single_entry, single_node, played_cut, played_stamp, after, run_steps}
 use Rattle.core_laws.specs.Laws.{RowGrows, EachLineGrows, RowsStay}
 use Rattle.core_laws.proofs.Basics.{at_updated, at_updated_at, updated_at-not}
 use Rattle.core_laws.proofs.Held.{Held}
@@ -29,6 +29,7 @@ use Rattle.core_laws.proofs.Marks.{open_is}
 use Rattle.core_laws.proofs.Histories.{lawful_past_in}
 use Rattle.core_laws.proofs.Keeps.{at_last}
 use Rattle.core_laws.proofs.Clients.{begun_client, single_client, raise_entry, still_used}
+use Rattle.core_laws.proofs.OfColumns.{give_entry, trim_entry}
 use Rattle.core_laws.proofs.OfRows.{may_mark_is, may_fence_marks}
 use Rattle.std.proofs.lemmas.Bool.{ltb-true, lt-ltb}
 
@@ -209,6 +210,15 @@ after_grows w (steps.Single client colour text) =
     choice (Grows w) (may_single w client colour) _ w (λ _. grows_single w client colour text) (λ _. grows-refl w)
 after_grows w (steps.Raise by region colour to) =
     choice (Grows w) (may_raise w region colour to) _ w (λ _. grows_last w region colour (raise_entry by to))
+    (λ _. grows-refl w)
+after_grows w (steps.Give by origin region colour from) =
+    choice (Grows w) (may_give w origin region colour from) _ w
+    (λ _. grows_last w origin colour (give_entry by region from)) (λ _. grows-refl w)
+after_grows w (steps.Carry by origin region colour start count) =
+    choice (Grows w) (may_carry w origin region colour start count) _ w
+    (λ _. grows_last w region colour (carried_entry w by origin region colour (start + count))) (λ _. grows-refl w)
+after_grows w (steps.Trim by region colour counts) =
+    choice (Grows w) (is_column w region colour) _ w (λ _. grows_last w region colour (trim_entry by counts))
     (λ _. grows-refl w)
 after_grows w (steps.Play client colour) =
     choice (Grows w) (may_play w client colour) _ w

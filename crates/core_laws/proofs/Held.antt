@@ -14,6 +14,7 @@ use Rattle.col_core.specs.declared.Entry.{Entry}
 use Rattle.col_core.specs.History.{last_stamp}
 use Rattle.col_core.specs.Cuts.{carried}
 use Rattle.col_core.specs.Computed.{dated}
+use Rattle.col_core.specs.Copies.{AreTrueCopies}
 use Rattle.col_core.specs.Legal.{IsColumnHistory}
 use Rattle.col_core.proofs.Members.{In}
 use Rattle.col_core.proofs.Pasts.{Status, Absent, Alone, Waits, Settled, status}
@@ -74,6 +75,7 @@ pub record Held (w : World) : Type 0 where
   pub lawful : (r c : ℕ) → IsColumnHistory r w.shape.regions (dated r (w.histories r c))
   pub heads : (r c region : ℕ) (head : Head) → In head (heads_of region (w.histories r c)) → head.key.stamp ≤ last_stamp
   pub floors : (a : ℕ) → (w.clients a).floor ≤ last_stamp
+  pub copies : (c : ℕ) → AreTrueCopies w.shape.regions (λ r. dated r (w.histories r c))
 
 -- the kinds after an id is used
 abbrev pub put_kind : (Id → Kind) → Id → Kind → Id → Kind

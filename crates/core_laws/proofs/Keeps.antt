@@ -1,5 +1,5 @@
 -- Each step keeps what holds: what the steps have in common.
-use Rattle.std.proofs.Common.{◌≡◌, ℕ, ◌+◌, ◌<◌, ◌≤◌, List, [], ◌∷◌, ◌++◌, false, refl, subst, ap, sym, ◌∙◌, inl, inr, ◌⊎◌, arith}
+use Rattle.std.proofs.Common.{◌≡◌, ℕ, ◌+◌, ◌<◌, ◌≤◌, List, [], ◌∷◌, ◌++◌, false, refl, subst, ap, sym, ◌∙◌, inl, inr, ◌⊎◌, arith, append-nil}
 use Rattle.std.specs.Prelude.{◌==◌, ◌&&◌, ◌≢◌, slice_index}
 use Rattle.std.proofs.lemmas.Bool.{eq-eqb}
 use Rattle.std.proofs.lemmas.Grind.{flat_map-append}
@@ -50,10 +50,12 @@ may_enter w h region colour id floor absent le =
       fresh_in : (history : List Entry) → status_in history id ≡ Absent → has_entered id history ≡ false
       fresh_in history a = not_entered history id a
 
-pub heads_last : (w : World) → Held w → (region colour : ℕ) (e : Entry) → ((other : ℕ) → carried other e.event ≡ [])
+-- an event brings heads with stamps
+pub heads_brought : (w : World) → Held w → (region colour : ℕ) (e : Entry)
+    → ((other : ℕ) (head : Head) → In head (carried other e.event) → head.key.stamp ≤ last_stamp)
     → (r c other : ℕ) (head : Head) → In head (heads_of other ((with_last w region colour e).histories r c))
     → head.key.stamp ≤ last_stamp
-heads_last w h region colour e none r c other head =
+heads_brought w h region colour e within r c other head =
     at_last (λ (x : List Entry). In head (heads_of other x) → head.key.stamp ≤ last_stamp) w region colour e r c
     (λ er ec i. turn
     (in_append head (heads_of other (w.histories region colour)) (heads_of other (e ∷ []))
@@ -63,7 +65,14 @@ heads_last w h region colour e none r c other head =
       turn : In head (heads_of other (w.histories region colour)) ⊎ In head (carried other e.event ++ [])
           → head.key.stamp ≤ last_stamp
       turn (inl i) = h.heads region colour other head i
-      turn (inr i) = absurd (subst (λ (l : List Head). In head (l ++ [])) (none other) i)
+      turn (inr i) = within other head (subst (λ (l : List Head). In head l) (append-nil (carried other e.event)) i)
+
+pub heads_last : (w : World) → Held w → (region colour : ℕ) (e : Entry) → ((other : ℕ) → carried other e.event ≡ [])
+    → (r c other : ℕ) (head : Head) → In head (heads_of other ((with_last w region colour e).histories r c))
+    → head.key.stamp ≤ last_stamp
+heads_last w h region colour e none =
+    heads_brought w h region colour e
+    (λ other head i. absurd (subst (λ (l : List Head). In head l) (none other) i))
 
 -- an event that leaves an id's status leaves it in every column
 pub status_stays : (w : World) (region colour : ℕ) (e : Entry) (id : Id) (r c : ℕ)

@@ -3,8 +3,10 @@ pub mod Held
 pub mod Marks
 pub mod Histories
 pub mod Keeps
+pub mod Copies
 pub mod Clients
 pub mod OfRows
+pub mod OfColumns
 pub mod Runs
 pub mod Agreement
 pub mod Later
@@ -15,9 +17,11 @@ pub mod Told
 pub mod Telling
 pub mod RegionRows
 pub mod LawfulRows
+pub mod OwnLines
+pub mod Bases
 pub mod Wanted
 pub mod Listed
-pub mod Untrimmed
 pub mod LaterLogs
 pub mod CallerLemmas
+pub mod Changes
 mod SmallRuns

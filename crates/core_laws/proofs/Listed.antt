@@ -18,11 +18,12 @@ use Rattle.col_core.proofs.ChainGrowth.{slice_longer}
 use Rattle.col_core.proofs.Members.{In}
 use Rattle.core_laws.specs.declared.steps.Step.{Step}
 use Rattle.core_laws.specs.declared.steps.Step.TheVariants as steps
-use Rattle.core_laws.specs.Worlds.{World, RowState, ClientState, home_of, next_id, may_begin, may_propose, may_fence, may_decide, may_settle, may_single, may_raise, may_play, may_see, with_client, with_last, with_mark, with_node, begun_node, after_begin, after_propose, proposed_entry, after_decide, settled_entry, single_node, after_single, single_entry, after, run_steps, opened}
+use Rattle.core_laws.specs.Worlds.{World, RowState, ClientState, home_of, next_id, may_begin, may_propose, may_fence, may_decide, may_settle, may_single, may_raise, may_give, may_carry, is_column, may_play, may_see, with_client, with_last, with_mark, with_node, begun_node, after_begin, after_propose, proposed_entry, after_decide, settled_entry, carried_entry, single_node, after_single, single_entry, after, run_steps, opened}
 use Rattle.core_laws.specs.Laws.{HasSingleNode, HasNodes}
 use Rattle.core_laws.proofs.Basics.{slice_last, at_updated, at_updated_at, updated-here, in_contains, in_last}
 use Rattle.core_laws.proofs.Keeps.{at_last}
 use Rattle.core_laws.proofs.Clients.{begun_client, used_before, single_client, same_used, raise_entry}
+use Rattle.core_laws.proofs.OfColumns.{give_entry, trim_entry}
 use Rattle.core_laws.proofs.OfRows.{may_fence_marks}
 use Rattle.core_laws.proofs.Growing.{Grows, played_client, grows_begin, grows_mark, grows_propose, grows_decide, grows_last, grows_client, grows_single}
 
@@ -247,6 +248,14 @@ after_listed w l (steps.Single client colour text) =
     choice Listed (may_single w client colour) _ w (λ _. lists_single w l client colour text) (λ _. l)
 after_listed w l (steps.Raise by region colour to) =
     choice Listed (may_raise w region colour to) _ w (λ _. lists_last w l region colour (raise_entry by to) tt) (λ _. l)
+after_listed w l (steps.Give by origin region colour from) =
+    choice Listed (may_give w origin region colour from) _ w
+    (λ _. lists_last w l origin colour (give_entry by region from) tt) (λ _. l)
+after_listed w l (steps.Carry by origin region colour start count) =
+    choice Listed (may_carry w origin region colour start count) _ w
+    (λ _. lists_last w l region colour (carried_entry w by origin region colour (start + count)) tt) (λ _. l)
+after_listed w l (steps.Trim by region colour counts) =
+    choice Listed (is_column w region colour) _ w (λ _. lists_last w l region colour (trim_entry by counts) tt) (λ _. l)
 after_listed w l (steps.Play client colour) =
     choice Listed (may_play w client colour) _ w
     (λ _. lists_client w l client (played_client w client colour) refl refl) (λ _. l)

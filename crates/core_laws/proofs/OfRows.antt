@@ -17,7 +17,9 @@ use Rattle.skeen_core.specs.Queues.{is_decided, has_open}
 use Rattle.skeen_core.specs.Standings.{open_entry}
 use Rattle.col_core.specs.declared.Entry.{Entry}
 use Rattle.col_core.specs.History.{entries, last_stamp}
+use Rattle.col_core.specs.Computed.{dated}
 use Rattle.col_core.specs.Legal as Legal
+use Rattle.col_core.specs.Legal.{IsLawfulEvent}
 use Rattle.col_core.specs.Keeping.{updated, updated_at}
 use Rattle.col_core.proofs.Basics.{by_test, if_true, if_false, both, apart, not_true, same_id-refl}
 use Rattle.col_core.proofs.Pasts.{Status, Absent, Waits, Settled, IsSettling}
@@ -25,6 +27,7 @@ use Rattle.core_laws.specs.Worlds.{World, RowState, ClientState, home_of, is_beg
 use Rattle.core_laws.proofs.Basics.{at_updated, at_updated_at, updated_at-here}
 use Rattle.core_laws.proofs.Held.{status_in, Agrees, column_mark, Fits, IsSound, Held}
 use Rattle.core_laws.proofs.Marks.{has_colour, missing_none, open_is, decided_not_open, final_is, open_where_missing, any_mark, number_within, greatest_within, agrees-decided, agrees-settled}
+use Rattle.core_laws.proofs.Copies.{plain_copies_last}
 use Rattle.core_laws.proofs.Histories.{entries_dated, lawful_past_in, status-last, stamp_within, open_is_waiting, may_settle_open}
 use Rattle.core_laws.proofs.Keeps.{at_last, lawful_last, may_enter, heads_last, status_stays, fits_one, fits_row, row_agrees, others_stay}
 
@@ -170,6 +173,7 @@ keeps_fence w h row colour why ok =
       lawful = h.lawful;
       heads = h.heads;
       floors = h.floors;
+      copies = h.copies;
     }
 
 -- Propose
@@ -189,6 +193,8 @@ keeps_propose w h by row colour ok =
     (lawful_past_in w h home colour) s.floor (not_true _ p.1) in
     let sound = marked_sound w h row colour m g (λ t eq. same_number t stamp eq in_range) in
     let id0 = (row_of w row).node.id in
+    let lawful : IsLawfulEvent home w.shape.regions (dated home (w.histories home colour)) e.event e.stamp = may_enter w
+    h home colour id0 (row_of w row).node.floor (marked_absent w h row colour g) in_range in
     record {
       kind = h.kind;
       fresh = h.fresh;
@@ -203,10 +209,10 @@ keeps_propose w h by row colour ok =
           (sym (mark-other home colour (row_of w row) m r c f))
           (row_agrees w h row.client row.number g.begun r c)));
       rows = row_sound w h row g.begun new refl sound;
-      lawful = lawful_last w h home colour e
-          (may_enter w h home colour id0 (row_of w row).node.floor (marked_absent w h row colour g) in_range);
+      lawful = lawful_last w h home colour e lawful;
       heads = heads_last w h home colour e (λ other. refl);
       floors = h.floors;
+      copies = plain_copies_last w h home colour e lawful (λ other. refl) (λ other. refl);
     } where
       same_number : (t stamp : ℕ) → marks.Number stamp ≡ marks.Number t → stamp ≤ last_stamp → t ≤ last_stamp
       same_number t stamp e le = let x : stamp ≡ t = cc in omega (arith, x, le)
@@ -241,6 +247,7 @@ keeps_decide w h row ok =
       lawful = h.lawful;
       heads = h.heads;
       floors = h.floors;
+      copies = h.copies;
     }
 
 -- Settle
@@ -299,6 +306,14 @@ keeps_settle w h by row colour ok =
     let old = row_agrees w h row.client row.number g.begun in
     let at = agrees-settled (column_mark home r0 home colour) r0.last (status_in history id0) g.stamp g.waits g.decided
     (old home colour) in
+    let lawful : IsLawfulEvent home w.shape.regions (dated home history) e.event e.stamp = (
+      refl,
+      subst (λ (x : List Entry). IsSomeAnd (open_entry id0 (entries x)) (Legal.IsSettling r0.last))
+          (sym (entries_dated home history))
+          (may_settle_open history id0 r0.last g.stamp (lawful_past_in w h home colour) g.waits
+          (settles_within w h row colour g.stamp r0.last g.begun refl g.decided
+          (sym (mark-at_home home r0 colour) ∙ at.0))),
+    ) in
     record {
       kind = h.kind;
       fresh = h.fresh;
@@ -314,14 +329,8 @@ keeps_settle w h by row colour ok =
           (subst (λ (x : ℕ). Agrees (column_mark home r0 home x) r0.last (Settled r0.last)) (sym ec) at.1)))
           (λ f. old r c)));
       rows = h.rows;
-      lawful = lawful_last w h home colour e (
-        refl,
-        subst (λ (x : List Entry). IsSomeAnd (open_entry id0 (entries x)) (Legal.IsSettling r0.last))
-            (sym (entries_dated home history))
-            (may_settle_open history id0 r0.last g.stamp (lawful_past_in w h home colour) g.waits
-            (settles_within w h row colour g.stamp r0.last g.begun refl g.decided
-            (sym (mark-at_home home r0 colour) ∙ at.0))),
-      );
+      lawful = lawful_last w h home colour e lawful;
       heads = heads_last w h home colour e (λ other. refl);
       floors = h.floors;
+      copies = plain_copies_last w h home colour e lawful (λ other. refl) (λ other. refl);
     }

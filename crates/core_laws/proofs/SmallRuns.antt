@@ -3,14 +3,15 @@ use Rattle.std.proofs.Common.{◌≡◌, ℕ, [], ◌∷◌, refl}
 use Rattle.std.specs.Prelude.{codes, map}
 use Rattle.log_node.specs.declared.ids.Id.{Id}
 use Rattle.log_node.specs.declared.ids.Row.{Row}
+use Rattle.log_node.specs.declared.ids.Counts.{Counts}
 use Rattle.log_node.specs.declared.node.Node.{Node}
 use Rattle.log_node.specs.declared.node.Shape.{Shape}
 use Rattle.skeen_core.specs.declared.marks.Why.TheVariants.{Memory}
 use Rattle.skeen_core.specs.declared.marks.Outcome.TheVariants.{Gone, Final}
 use Rattle.col_core.specs.History.{line, entry_key}
-use Rattle.core_laws.specs.declared.steps.Step.TheVariants.{Begin, Propose, Fence, Decide, Settle, Single, Raise, Play, Seen}
+use Rattle.core_laws.specs.declared.steps.Step.TheVariants.{Begin, Propose, Fence, Decide, Settle, Single, Raise, Give, Carry, Trim, Play, Seen}
 use Rattle.core_laws.specs.declared.steps.Reply.TheVariants as replies
-use Rattle.core_laws.specs.Worlds.{World, reply, opened, run_steps, row_of}
+use Rattle.core_laws.specs.Worlds.{World, reply, opened, run_steps, row_of, held_of, cut_after, base_after}
 
 abbrev id : ℕ → ℕ → Id
 id client count = record { client = client; count = count }
@@ -79,3 +80,53 @@ floor = refl
 
 seen : ((run_steps helped (Raise 1 0 1 9 ∷ Seen 0 9 ∷ Seen 1 10 ∷ [])).clients 0).floor ≡ 9
 seen = refl
+
+-- two regions, one colour, a client in each: the first appends twice, and its line is given to the other, which carries
+-- the first node, plays it, appends, and carries the other node
+abbrev regions : Shape
+regions = record { regions = 2; colours = 1; homes = 0 ∷ 1 ∷ []; rows = 0 }
+
+abbrev counts : ℕ → ℕ → Counts
+counts a b = record { 0 = a ∷ b ∷ 0 ∷ 0 ∷ [] }
+
+abbrev copied : World
+copied = run_steps (opened regions)
+    (Single 0 0 (codes "one") ∷ Single 0 0 (codes "two") ∷ Give 1 0 1 0 0 ∷ Carry 1 0 1 0 0 1 ∷ Play 1 0
+    ∷ Single 1 0 (codes "three") ∷ Carry 1 0 1 0 0 2 ∷ [])
+
+copied_all : held_of copied 0 1 0 ≡ 2
+copied_all = refl
+
+copied_cut : cut_after 1 (copied.histories 1 0) ≡ counts 2 1
+copied_cut = refl
+
+-- a node that needs another region's waits until that is carried
+early : cut_after 0 ((run_steps copied (Carry 0 1 0 0 0 1 ∷ [])).histories 0 0) ≡ counts 2 1
+early = refl
+
+-- no more is given than is held, and no stretch is carried twice or past the line's end
+too_far : reply copied (Give 1 0 1 0 3) ≡ replies.Nothing
+too_far = refl
+
+again : reply copied (Carry 1 0 1 0 0 2) ≡ replies.Nothing
+again = refl
+
+past_end : reply copied (Carry 1 0 1 0 0 3) ≡ replies.Nothing
+past_end = refl
+
+-- an own node is trimmed once the other region asked past it
+abbrev kept_all : World
+kept_all = run_steps copied (Trim 0 0 0 (counts 2 0) ∷ [])
+
+nothing_asked : base_after 2 0 (kept_all.histories 0 0) ≡ counts 0 0
+nothing_asked = refl
+
+abbrev trimmed : World
+trimmed = run_steps copied (Give 1 0 1 0 1 ∷ Trim 0 0 0 (counts 2 0) ∷ [])
+
+one_trimmed : base_after 2 0 (trimmed.histories 0 0) ≡ counts 1 0
+one_trimmed = refl
+
+-- who has not played a trimmed node may play no more
+missed : reply trimmed (Play 0 0) ≡ replies.Nothing
+missed = refl

@@ -19,11 +19,12 @@ use Rattle.col_core.proofs.Basics.{choice, both}
 use Rattle.col_core.proofs.Members.{In}
 use Rattle.core_laws.specs.declared.steps.Step.{Step}
 use Rattle.core_laws.specs.declared.steps.Step.TheVariants as steps
-use Rattle.core_laws.specs.Worlds.{World, RowState, ClientState, home_of, row_history, is_client, is_begun, row_of, is_row_at_end, may_begin, may_mark, may_propose, may_fence, may_decide, may_settle, may_single, may_raise, may_play, may_see, with_client, with_last, with_mark, begun_node, after_begin, after_propose, proposed_entry, proposed_stamp, after_decide, after_settle, settled_entry, after_single, single_entry, after_raise, after, run_steps, opened}
+use Rattle.core_laws.specs.Worlds.{World, RowState, ClientState, home_of, row_history, is_client, is_begun, row_of, is_row_at_end, may_begin, may_mark, may_propose, may_fence, may_decide, may_settle, may_single, may_raise, may_give, may_carry, is_column, may_play, may_see, with_client, with_last, with_mark, begun_node, after_begin, after_propose, proposed_entry, proposed_stamp, after_decide, after_settle, settled_entry, carried_entry, after_single, single_entry, after, run_steps, opened}
 use Rattle.core_laws.proofs.Basics.{slice_last, at_updated, at_updated_at, updated_at-here, in_last}
 use Rattle.core_laws.proofs.Held.{Held}
 use Rattle.core_laws.proofs.Keeps.{at_last}
-use Rattle.core_laws.proofs.Clients.{begun_client, used_before, single_client, same_used, raise_entry, above_floor, keeps_begin, keeps_single, keeps_raise, keeps_play, keeps_seen}
+use Rattle.core_laws.proofs.Clients.{begun_client, used_before, single_client, same_used, raise_entry, above_floor, keeps_begin, keeps_single, keeps_play, keeps_seen}
+use Rattle.core_laws.proofs.OfColumns.{give_entry, trim_entry, keeps_raise, keeps_give, keeps_carry, keeps_trim}
 use Rattle.core_laws.proofs.OfRows.{may_mark_is, may_fence_marks, may_settle_is, keeps_propose, keeps_fence, keeps_decide, keeps_settle}
 use Rattle.core_laws.proofs.Growing.{Grows, played_client, grows_begin, grows_mark, grows_propose, grows_decide, grows_last, grows_client, grows_single}
 use Rattle.core_laws.proofs.Runs.{after_held, opened_held}
@@ -296,12 +297,13 @@ tells_single w h t client colour text ok =
     (λ a n lt. inl (same_used w client (single_client w client colour) refl a n lt, refl))
     (client_changes w t client (single_client w client colour) (omega (arith, c)) (t.used client))
 
-tells_raise : (w : World) → Held w → Told w → (by region colour to : ℕ) → may_raise w region colour to ≡ true
-    → Told (after_raise w by region colour to)
-tells_raise w h t by region colour to ok =
-    let w' = after_raise w by region colour to in
-    told_next w w' (keeps_raise w h by region colour to ok) t (grows_last w region colour (raise_entry by to))
-    (one_more_event w w' region colour (raise_entry by to) tt) (λ a n lt. inl (lt, refl)) (clients_stay w t)
+-- one entry more that says nothing of rows
+tells_last : (w : World) → Told w → (region colour : ℕ) (e : Entry) → Held (with_last w region colour e)
+    → FitsEvent (with_last w region colour e) region colour e.event e.stamp → Told (with_last w region colour e)
+tells_last w t region colour e h' fits =
+    let w' = with_last w region colour e in
+    told_next w w' h' t (grows_last w region colour e) (one_more_event w w' region colour e fits)
+    (λ a n lt. inl (lt, refl)) (clients_stay w t)
 
 tells_client : (w : World) → Told w → (client : ℕ) (cs : ClientState) → Held (with_client w client cs)
     → cs.count ≡ (w.clients client).count → cs.used ≡ (w.clients client).used → (w.clients client).floor ≤ cs.floor
@@ -329,7 +331,19 @@ after_told w h t (steps.Settle by row colour) =
 after_told w h t (steps.Single client colour text) =
     choice Told (may_single w client colour) _ w (λ ok. tells_single w h t client colour text ok) (λ _. t)
 after_told w h t (steps.Raise by region colour to) =
-    choice Told (may_raise w region colour to) _ w (λ ok. tells_raise w h t by region colour to ok) (λ _. t)
+    choice Told (may_raise w region colour to) _ w
+    (λ ok. tells_last w t region colour (raise_entry by to) (keeps_raise w h by region colour to ok) tt) (λ _. t)
+after_told w h t (steps.Give by origin region colour from) =
+    choice Told (may_give w origin region colour from) _ w
+    (λ ok. tells_last w t origin colour (give_entry by region from)
+    (keeps_give w h by origin region colour from ok) tt) (λ _. t)
+after_told w h t (steps.Carry by origin region colour start count) =
+    choice Told (may_carry w origin region colour start count) _ w
+    (λ ok. tells_last w t region colour (carried_entry w by origin region colour (start + count))
+    (keeps_carry w h by origin region colour start count ok) tt) (λ _. t)
+after_told w h t (steps.Trim by region colour counts) =
+    choice Told (is_column w region colour) _ w
+    (λ ok. tells_last w t region colour (trim_entry by counts) (keeps_trim w h by region colour counts) tt) (λ _. t)
 after_told w h t (steps.Play client colour) =
     choice Told (may_play w client colour) _ w
     (λ ok. tells_client w t client (played_client w client colour) (keeps_play w h client colour) refl refl

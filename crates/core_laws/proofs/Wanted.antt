@@ -1,72 +1,45 @@
 -- What clients have played and what nodes want is within the cuts, and so is each own line.
-use Rattle.std.proofs.Common.{◌≡◌, ℕ, zero, suc, ◌+◌, ◌<◌, ◌≤◌, List, [], ◌∷◌, ◌++◌, length, take, drop, map, Some, Bool, true, cond, refl, subst, ap, sym, ◌∙◌, inl, inr, ◌⊎◌, arith}
+use Rattle.std.proofs.Common.{◌≡◌, ℕ, ◌+◌, ◌<◌, List, [], ◌∷◌, ◌++◌, take, map, Some, Bool, true, cond, refl, subst, ap, sym, ◌∙◌, inl, inr, ◌⊎◌, arith}
 use Rattle.std.specs.Prelude.{◌==◌, slice_get, slice_index}
-use Rattle.std.proofs.lemmas.Bool.{eqb-true, eq-eqb, ltb-true, cases_lt}
+use Rattle.std.proofs.lemmas.Bool.{eqb-true, ltb-true}
 use Rattle.std.proofs.lemmas.Grind.{fold-append}
-use Rattle.std.proofs.lemmas.List.{take-append-drop, length-map}
 use mathlib.Core.List.{IsPrefix}
-use Rattle.log_node.specs.declared.ids.Id.{Id}
-use Rattle.log_node.specs.declared.ids.Key.{Key}
 use Rattle.log_node.specs.declared.ids.Counts.{Counts}
-use Rattle.log_node.specs.declared.node.Head.{Head}
 use Rattle.log_node.specs.declared.node.Node.{Node}
 use Rattle.log_node.specs.declared.node.Shape.{Shape}
-use Rattle.log_node.specs.Vectors.{at, zeros, IsWithin, least, one_more}
+use Rattle.log_node.specs.Vectors.{IsWithin}
 use Rattle.log_node.specs.Sets.{members}
 use Rattle.skeen_core.specs.declared.marks.Mark.TheVariants as marks
 use Rattle.skeen_core.specs.declared.marks.Outcome.TheVariants.{Open}
-use Rattle.col_core.specs.declared.Event.TheVariants as events
-use Rattle.col_core.specs.declared.Event.{Event}
 use Rattle.col_core.specs.declared.Entry.{Entry}
-use Rattle.col_core.specs.History.{line, enters}
-use Rattle.col_core.specs.Cuts.{Dated, Reachable, next, chain, entries_of, needs_in, needs_of}
+use Rattle.col_core.specs.Cuts.{Dated}
 use Rattle.col_core.specs.Computed.{cut, dated}
 use Rattle.col_core.specs.Legal.{IsColumnHistory}
 use Rattle.col_core.specs.Keeping.{updated}
 use Rattle.col_core.specs.Rows.{node_wants, wants_of}
 use Rattle.col_core.proofs.Appending.{dated-append}
 use Rattle.col_core.proofs.Basics.{choice, both, if_true}
-use Rattle.col_core.proofs.ChainGrowth.{chains_grow, reachable_grows, cut_grows}
-use Rattle.col_core.proofs.CutLaws.{within, within-at, reached_within, cut-is_greatest}
-use Rattle.col_core.proofs.DatedLaws.{dated-is_dated, later, with_date, fold-later}
-use Rattle.col_core.proofs.Members.{In}
+use Rattle.col_core.proofs.ChainGrowth.{cut_grows}
+use Rattle.col_core.proofs.CutLaws.{within}
+use Rattle.col_core.proofs.DatedLaws.{later, with_date, fold-later}
 use Rattle.core_laws.specs.declared.steps.Step.{Step}
 use Rattle.core_laws.specs.declared.steps.Step.TheVariants as steps
-use Rattle.core_laws.specs.Worlds.{World, RowState, ClientState, home_of, home_history, cut_after, may_begin, may_mark, may_propose, may_fence, may_decide, may_settle, may_single, may_raise, may_play, may_see, with_last, with_mark, begun_node, after_begin, after_propose, proposed_entry, after_decide, after_settle, settled_entry, after_single, single_entry, after_raise, after_play, after_seen, after, run_steps, opened}
+use Rattle.core_laws.specs.Worlds.{World, RowState, ClientState, home_of, home_history, cut_after, may_begin, may_mark, may_propose, may_fence, may_decide, may_settle, may_single, may_raise, may_give, may_carry, is_column, may_play, may_see, with_last, with_mark, begun_node, after_begin, after_propose, proposed_entry, after_decide, after_settle, settled_entry, after_single, single_entry, after_raise, after_give, after_carry, carried_entry, after_trim, after_play, after_seen, after, run_steps, opened}
 use Rattle.core_laws.specs.Laws.{wants_in, StaysWithinCuts}
 use Rattle.core_laws.proofs.Basics.{at_updated, at_updated_at}
 use Rattle.core_laws.proofs.Held.{Held}
-use Rattle.core_laws.proofs.Histories.{push_cases, entries_dated}
+use Rattle.core_laws.proofs.Histories.{push_cases}
 use Rattle.core_laws.proofs.Keeps.{at_last}
-use Rattle.core_laws.proofs.Clients.{head_with, in_heads, begun_client, used_before, single_client, same_used, raise_entry}
+use Rattle.core_laws.proofs.Clients.{begun_client, used_before, single_client, same_used, raise_entry}
+use Rattle.core_laws.proofs.OfColumns.{give_entry, trim_entry}
 use Rattle.core_laws.proofs.OfRows.{may_mark_is, may_fence_marks}
+use Rattle.core_laws.proofs.OwnLines.{within-trans, within-zeros, own_line_within}
+use Rattle.core_laws.proofs.Bases.{base_within_cut}
 use Rattle.core_laws.proofs.Growing.{Grows, played_client, grows_begin, grows_mark, grows_propose, grows_decide, grows_last, grows_client, grows_single}
 use Rattle.core_laws.proofs.Runs.{after_held, opened_held}
 
-within-trans : (u v w : Counts) → IsWithin u v → IsWithin v w → IsWithin u w
-within-trans u v w a b =
-    within u w (λ r lt. let x = within-at u v a r lt in let y = within-at v w b r lt in omega (arith, x, y))
-
-within-zeros : (v : Counts) → IsWithin zeros v
-within-zeros v = within zeros v (λ r lt. zero_at r lt) where
-  zero_at : (r : ℕ) → r < 4 → at zeros r ≤ at v r
-  zero_at zero lt = omega arith
-  zero_at (suc zero) lt = omega arith
-  zero_at (suc (suc zero)) lt = omega arith
-  zero_at (suc (suc (suc zero))) lt = omega arith
-  zero_at (suc (suc (suc (suc r)))) lt = absurd (let f : ⊥ = omega (arith, lt) in f)
-
 within-refl : (v : Counts) → IsWithin v v
 within-refl v = within v v (λ r lt. omega arith)
-
-least-within : (u v : Counts) → IsWithin (least u v) v
-least-within u v = within (least u v) v (λ r lt. least_at r lt) where
-  least_at : (r : ℕ) → r < 4 → at (least u v) r ≤ at v r
-  least_at zero lt = omega arith
-  least_at (suc zero) lt = omega arith
-  least_at (suc (suc zero)) lt = omega arith
-  least_at (suc (suc (suc zero))) lt = omega arith
-  least_at (suc (suc (suc (suc r)))) lt = absurd (let f : ⊥ = omega (arith, lt) in f)
 
 -- Cuts grow
 
@@ -192,6 +165,13 @@ same_plays w client cs e a c =
     inl (at_updated (λ (s : ClientState). s.played c ≡ (w.clients a).played c) w.clients client cs a
     (λ is. ap (λ (p : ℕ → Counts). p c) e ∙ sym (ap (λ (x : ℕ). (w.clients x).played c) is)) (λ _. refl))
 
+-- one entry more, whose wants are within the cut
+wants_last : (w : World) → Wanted w → (region colour : ℕ) (e : Entry) → Held (with_last w region colour e)
+    → IsWithin (wants_in e.event) (cut_after region (w.histories region colour)) → Wanted (with_last w region colour e)
+wants_last w o region colour e h' fits =
+    wanted_next w (with_last w region colour e) h' o (grows_last w region colour e)
+    (one_more_date w region colour e fits) (λ a c. inl refl) (λ a n lt. inl lt)
+
 -- a step's world, where its guard holds
 at_guard : (P : World → Type 0) (b : Bool) (x w : World) → b ≡ true → P (cond b x w) → P x
 at_guard P b x w e p = subst P (if_true b x w e) p
@@ -232,12 +212,9 @@ after_wanted w h o (steps.Decide row) = choice Wanted (may_decide w row) (after_
     (grows_decide w row ok) (λ r c n d e. inl e) (λ a c. inl refl) (λ a n lt. inl lt)) (λ _. o)
 after_wanted w h o (steps.Settle by row colour) =
     choice Wanted (may_settle w row colour) (after_settle w by row colour) w
-    (λ ok. wanted_next w (after_settle w by row colour)
-    (at_guard Held _ _ w ok (after_held w h (steps.Settle by row colour))) o
-    (grows_last w (home_of w row.client) colour (settled_entry w by row))
-    (one_more_date w (home_of w row.client) colour (settled_entry w by row)
-    (within-zeros (cut_after (home_of w row.client) (home_history w row.client colour)))) (λ a c. inl refl)
-    (λ a n lt. inl lt)) (λ _. o)
+    (λ ok. wants_last w o (home_of w row.client) colour (settled_entry w by row)
+    (at_guard Held _ _ w ok (after_held w h (steps.Settle by row colour)))
+    (within-zeros (cut_after (home_of w row.client) (home_history w row.client colour)))) (λ _. o)
 after_wanted w h o (steps.Single client colour text) =
     choice Wanted (may_single w client colour) (after_single w client colour text) w
     (λ ok. wanted_next w (after_single w client colour text)
@@ -248,11 +225,24 @@ after_wanted w h o (steps.Single client colour text) =
     (λ a n lt. inl (same_used w client (single_client w client colour) refl a n lt))) (λ _. o)
 after_wanted w h o (steps.Raise by region colour to) =
     choice Wanted (may_raise w region colour to) (after_raise w by region colour to) w
-    (λ ok. wanted_next w (after_raise w by region colour to)
-    (at_guard Held _ _ w ok (after_held w h (steps.Raise by region colour to))) o
-    (grows_last w region colour (raise_entry by to))
-    (one_more_date w region colour (raise_entry by to) (within-zeros (cut_after region (w.histories region colour))))
-    (λ a c. inl refl) (λ a n lt. inl lt)) (λ _. o)
+    (λ ok. wants_last w o region colour (raise_entry by to)
+    (at_guard Held _ _ w ok (after_held w h (steps.Raise by region colour to)))
+    (within-zeros (cut_after region (w.histories region colour)))) (λ _. o)
+after_wanted w h o (steps.Give by origin region colour from) =
+    choice Wanted (may_give w origin region colour from) (after_give w by origin region colour from) w
+    (λ ok. wants_last w o origin colour (give_entry by region from)
+    (at_guard Held _ _ w ok (after_held w h (steps.Give by origin region colour from)))
+    (within-zeros (cut_after origin (w.histories origin colour)))) (λ _. o)
+after_wanted w h o (steps.Carry by origin region colour start count) =
+    choice Wanted (may_carry w origin region colour start count) (after_carry w by origin region colour start count) w
+    (λ ok. wants_last w o region colour (carried_entry w by origin region colour (start + count))
+    (at_guard Held _ _ w ok (after_held w h (steps.Carry by origin region colour start count)))
+    (within-zeros (cut_after region (w.histories region colour)))) (λ _. o)
+after_wanted w h o (steps.Trim by region colour counts) =
+    choice Wanted (is_column w region colour) (after_trim w by region colour counts) w
+    (λ ok. wants_last w o region colour (trim_entry by counts)
+    (at_guard Held _ _ w ok (after_held w h (steps.Trim by region colour counts)))
+    (within-zeros (cut_after region (w.histories region colour)))) (λ _. o)
 after_wanted w h o (steps.Play client colour) = choice Wanted (may_play w client colour) (after_play w client colour) w
     (λ ok. let cs = played_client w client colour in
     wanted_next w (after_play w client colour) (at_guard Held _ _ w ok (after_held w h (steps.Play client colour))) o
@@ -290,96 +280,13 @@ run_wanted w h o (s ∷ steps) = run_wanted (after w s) (after_held w h s) (afte
 pub wanted : (shape : Shape) (steps : List Step) → Wanted (run_steps (opened shape) steps)
 wanted shape steps = run_wanted (opened shape) (opened_held shape) (opened_wanted shape) steps
 
--- Each own line is within the cut
-
--- the cut before an event is within the cut after all
-cut_before_within : (own regions : ℕ) (history : List Entry) → IsColumnHistory own regions (dated own history)
-    → (n : ℕ) (d : Dated) → slice_get (dated own history) n ≡ Some d → IsWithin d.cut_before (cut_after own history)
-cut_before_within own regions history lawful n d e =
-    let ds = dated own history in
-    let split = take-append-drop n ds in
-    let grow = subst
-    (λ (x : List Dated). (region : ℕ) → IsPrefix (chain own (take n ds) region) (chain own x region)) split
-    (chains_grow own regions (take n ds) (drop n ds) (subst (IsColumnHistory own regions) (sym split) lawful)) in
-    (cut-is_greatest own ds).greatest d.cut_before
-    (reachable_grows (chain own (take n ds)) (chain own ds) grow d.cut_before
-    ((dated-is_dated own history).each n d e).reached)
-
-needs_in_within : (ev : Event) (cut_before v : Counts) → IsWithin cut_before v → IsWithin (needs_in ev cut_before) v
-needs_in_within (events.Single id floor wants) c v h = within-trans (least wants c) c v (least-within wants c) h
-needs_in_within (events.Propose id floor wants) c v h = within-trans (least wants c) c v (least-within wants c) h
-needs_in_within (events.Settle _ _) c v h = within-zeros v
-needs_in_within (events.Raise _) c v h = within-zeros v
-needs_in_within (events.Give _ _) c v h = within-zeros v
-needs_in_within (events.Carry _ _ _) c v h = within-zeros v
-needs_in_within (events.Trim _) c v h = within-zeros v
-
-needs_within : (ds : List Dated) (id : Id) (v : Counts)
-    → ((n : ℕ) (d : Dated) → slice_get ds n ≡ Some d → IsWithin d.cut_before v) → IsWithin (needs_of ds id) v
-needs_within [] id v h = within-zeros v
-needs_within (d ∷ ds) id v h =
-    choice (λ (x : Counts). IsWithin x v) (enters id d.entry.event) (needs_in d.entry.event d.cut_before)
-    (needs_of ds id)
-    (λ _. needs_in_within d.entry.event d.cut_before v (h 0 d refl))
-    (λ _. needs_within ds id v (λ n e at. h (suc n) e at))
-
-slice_at : {A : Type 0} (xs : List A) (i : ℕ) → i < length xs → (x : A) × (slice_get xs i ≡ Some x) × In x xs
-slice_at [] i lt = absurd (let f : ⊥ = omega (arith, lt) in f)
-slice_at (x ∷ xs) zero lt = (x, refl, inl refl)
-slice_at (x ∷ xs) (suc i) lt = let r = slice_at xs i (omega (arith, lt)) in (r.0, r.1, inr r.2)
-
-more_at : (v : Counts) (r : ℕ) → r < 4 → at (one_more v r) r ≡ at v r + 1
-more_at v zero lt = refl
-more_at v (suc zero) lt = refl
-more_at v (suc (suc zero)) lt = refl
-more_at v (suc (suc (suc zero))) lt = refl
-more_at v (suc (suc (suc (suc r)))) lt = absurd (let f : ⊥ = omega (arith, lt) in f)
-
--- where the needs of each own node are within the cut, the whole own chain is
-own_chain_within : (own : ℕ) (ds : List Dated) → own < 4
-    → ((head : Head) → In head (chain own ds own) → IsWithin head.needs (cut own ds))
-    → at (cut own ds) own ≡ length (chain own ds own)
-own_chain_within own ds lt needs =
-    let g = cut-is_greatest own ds in
-    let v = cut own ds in
-    let le = reached_within (chain own ds) g.reached own lt in
-    by_cases (at v own) (length (chain own ds own)) le (λ less.
-    let h = slice_at (chain own ds own) (at v own) less in
-    let r : Reachable (chain own ds) (one_more v own) = next own h.0 g.reached lt h.1 (needs h.0 h.2) in
-    let w = within-at (one_more v own) v (g.greatest (one_more v own) r) own lt in
-    let m = more_at v own lt in
-    omega (arith, w, m)) where
-      by_cases : (a b : ℕ) → a ≤ b → (a < b → ⊥) → a ≡ b
-      by_cases a b le no_less = pick (cases_lt a b) where
-        pick : (a < b) ⊎ (b ≤ a) → a ≡ b
-        pick (inl x) = absurd (no_less x)
-        pick (inr x) = omega (arith, le, x)
-
-own_line_within : (own regions : ℕ) (history : List Entry) → own < 4 → IsColumnHistory own regions (dated own history)
-    → at (cut_after own history) own ≡ length (line history)
-own_line_within own regions history lt lawful =
-    let ds = dated own history in
-    let is : chain own ds own ≡ map (head_with ds) (line (entries_of ds)) = if_true (own == own) _ _
-    (eq-eqb own own refl) in
-    own_chain_within own ds lt
-    (λ head i. needs_of_head head
-    (in_heads ds (line (entries_of ds)) head (subst (λ (l : List Head). In head l) is i)))
-    ∙ (ap length is
-    ∙ (length-map (line (entries_of ds)) (head_with ds) ∙ ap (λ (h : List Entry). length (line h))
-    (entries_dated own history))) where
-      needs_of_head : (head : Head)
-          → (k : Key) × In k (line (entries_of (dated own history))) × (head_with (dated own history) k ≡ head)
-          → IsWithin head.needs (cut_after own history)
-      needs_of_head head x =
-          subst (λ (y : Head). IsWithin y.needs (cut_after own history)) x.2
-          (needs_within (dated own history) x.0.id (cut_after own history)
-          (cut_before_within own regions history lawful))
-
 pub stays_within_cuts : (w : World) → Held w → Wanted w → StaysWithinCuts w
 stays_within_cuts w h o = record {
   entered = o.events;
   played = o.played;
   begun = λ row colour b. o.nodes row.client row.number colour (ltb-true row.number (w.clients row.client).used b);
+  trimmed = λ region colour. base_within_cut region w.shape.regions (w.histories region colour)
+      (h.lawful region colour);
   own_line = λ region colour lt. own_line_within region w.shape.regions (w.histories region colour) lt
       (h.lawful region colour);
 }

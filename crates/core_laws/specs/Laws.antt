@@ -21,12 +21,13 @@ use Rattle.col_core.specs.declared.Event.TheVariants as events
 use Rattle.col_core.specs.declared.Entry.{Entry}
 use Rattle.col_core.specs.History.{clock, entries, line, entry_key, last_stamp}
 use Rattle.col_core.specs.Cuts.{Dated}
+use Rattle.col_core.specs.Copies.{AreTrueCopies}
 use Rattle.col_core.specs.Computed.{dated}
 use Rattle.col_core.specs.Legal.{IsColumnHistory}
 use Rattle.col_core.specs.Rows.{BegunRow, AreLawfulRows, node_wants}
 use Rattle.col_core.specs.Log.{Log, IsLater}
 use Rattle.core_laws.specs.declared.steps.Step.{Step}
-use Rattle.core_laws.specs.Worlds.{World, RowState, opened, run_steps, home_of, home_history, is_begun, is_row_at_end, row_of, row_history, cut_after, base_after}
+use Rattle.core_laws.specs.Worlds.{World, RowState, opened, run_steps, home_of, home_history, is_begun, is_row_at_end, row_of, row_history, held_of, cut_after, base_after}
 use Rattle.core_laws.specs.Completing.{colours_of, complete_steps}
 
 -- the law holds of every world that steps have made
@@ -243,11 +244,22 @@ pub record StaysWithinCuts (w : World) : Type 0 where
   -- so is what the node of a begun row wants
   pub begun : (row : Row) (colour : ℕ) → IsTrue (is_begun w row)
       → IsWithin (node_wants (row_of w row).node colour) (cut_after (home_of w row.client) (row_history w row colour))
+  -- so is what is trimmed
+  pub trimmed : (region colour : ℕ)
+      → IsWithin (base_after w.shape.regions region (w.histories region colour))
+      (cut_after region (w.histories region colour))
   -- each own line lies wholly within the cut
   pub own_line : (region colour : ℕ) → region < 4
       → at (cut_after region (w.histories region colour)) region ≡ length (line (w.histories region colour))
 
--- no step trims, so every base is zero, and no play is refused for it
-abbrev pub NothingIsTrimmed : World → Type 0
-NothingIsTrimmed w =
-    (region colour : ℕ) → base_after w.shape.regions region (w.histories region colour) ≡ zeros
+-- Copies
+
+-- what each region holds of another one's chain is a true copy
+abbrev pub CopiesAreTrue : World → Type 0
+CopiesAreTrue w =
+    (colour : ℕ) → AreTrueCopies w.shape.regions (λ region. dated region (w.histories region colour))
+
+-- every other region holds the own nodes that a column has trimmed
+abbrev pub TrimmedIsHeld : World → Type 0
+TrimmedIsHeld w = (origin region colour : ℕ) → origin < w.shape.regions → region < w.shape.regions → origin ≢ region
+    → at (base_after w.shape.regions origin (w.histories origin colour)) origin ≤ held_of w origin region colour

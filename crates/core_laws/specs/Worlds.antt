@@ -1,15 +1,16 @@
 -- The world of all columns, rows and clients: its steps, and what each of them does. A step is done where its guard
 -- holds; else it changes nothing and its reply is `Nothing`.
-use Rattle.std.specs.Prelude.{Bool, ℕ, ◌+◌, ◌^◌, ◌==◌, ◌&&◌, not, nat_lt, nat_le, max, List, [], ◌∷◌, ◌++◌, Some, None, map, length, slice_index, if◌then◌else◌}
+use Rattle.std.specs.Prelude.{Bool, ℕ, ◌+◌, ◌^◌, ◌==◌, ◌&&◌, not, nat_lt, nat_le, max, List, [], ◌∷◌, ◌++◌, Some, None, map, length, take, drop, slice_index, if◌then◌else◌}
 use Rattle.std.specs.List.{list_any, list_all, range_with_len}
 use Rattle.log_node.specs.declared.ids.Id.{Id}
 use Rattle.log_node.specs.declared.ids.Row.{Row}
 use Rattle.log_node.specs.declared.ids.Colours.{Colours}
 use Rattle.log_node.specs.declared.ids.Counts.{Counts}
+use Rattle.log_node.specs.declared.node.Head.{Head}
 use Rattle.log_node.specs.declared.node.Node.{Node}
 use Rattle.log_node.specs.declared.node.Shape.{Shape}
 use Rattle.log_node.specs.Sets.{members}
-use Rattle.log_node.specs.Vectors.{zeros, is_within}
+use Rattle.log_node.specs.Vectors.{at, zeros, is_within}
 use Rattle.skeen_core.specs.declared.marks.Why.{Why}
 use Rattle.skeen_core.specs.declared.marks.Why.TheVariants.{Memory, StampEnd}
 use Rattle.skeen_core.specs.declared.marks.Mark.{Mark}
@@ -20,7 +21,7 @@ use Rattle.skeen_core.specs.Outcomes.{outcome_of, is_missing}
 use Rattle.skeen_core.specs.Queues.{has_open, is_decided}
 use Rattle.col_core.specs.declared.Event.TheVariants as events
 use Rattle.col_core.specs.declared.Entry.{Entry}
-use Rattle.col_core.specs.History.{clock, next_stamp, last_stamp, entries}
+use Rattle.col_core.specs.History.{clock, next_stamp, last_stamp, entries, line}
 use Rattle.col_core.specs.Cuts.{Chains, chain, base}
 use Rattle.col_core.specs.PlayOrder.{greatest_between}
 use Rattle.col_core.specs.Computed.{cut, dated}
@@ -178,6 +179,30 @@ abbrev pub may_raise : World → ℕ → ℕ → ℕ → Bool
 may_raise w region colour to =
     is_column w region colour && (nat_lt (clock (w.histories region colour)) to && nat_le to last_stamp)
 
+-- how many nodes of the origin's chain the region's column holds
+abbrev pub held_of : World → ℕ → ℕ → ℕ → ℕ
+held_of w origin region colour = length (chains_after region (w.histories region colour) origin)
+
+-- two columns of a colour, of different regions
+abbrev pub are_two_columns : World → ℕ → ℕ → ℕ → Bool
+are_two_columns w origin region colour =
+    is_column w origin colour && (is_column w region colour && not (origin == region))
+
+-- the region's column holds all nodes of the origin's chain below the number
+abbrev pub may_give : World → ℕ → ℕ → ℕ → ℕ → Bool
+may_give w origin region colour from =
+    are_two_columns w origin region colour && nat_le from (held_of w origin region colour)
+
+-- The stretch stands in the origin's line from its base on; it begins no later than what the region's column holds, and
+-- ends later.
+abbrev pub may_carry : World → ℕ → ℕ → ℕ → ℕ → ℕ → Bool
+may_carry w origin region colour start count =
+    let history = w.histories origin colour in
+    let held = held_of w origin region colour in
+    are_two_columns w origin region colour
+    && (nat_le (at (base_after w.shape.regions origin history) origin) start
+    && (nat_le (start + count) (length (line history)) && (nat_le start held && nat_lt held (start + count))))
+
 -- none of the nodes that the client has not played is trimmed
 abbrev pub may_play : World → ℕ → ℕ → Bool
 may_play w client colour =
@@ -309,6 +334,33 @@ after_single w client colour text =
 abbrev pub after_raise : World → ℕ → ℕ → ℕ → ℕ → World
 after_raise w by region colour to = with_last w region colour (record { by = by; event = events.Raise to; stamp = 0 })
 
+-- the origin's column notes that the region holds all below the number
+abbrev pub after_give : World → ℕ → ℕ → ℕ → ℕ → ℕ → World
+after_give w by origin region colour from =
+    with_last w origin colour (record { by = by; event = events.Give region from; stamp = 0 })
+
+-- the heads of the origin's own chain, up to a position, that the region's column does not hold yet
+abbrev pub heads_lacking : World → ℕ → ℕ → ℕ → ℕ → List Head
+heads_lacking w origin region colour end =
+    drop (held_of w origin region colour) (take end (chains_after origin (w.histories origin colour) origin))
+
+abbrev pub carried_entry : World → ℕ → ℕ → ℕ → ℕ → ℕ → Entry
+carried_entry w by origin region colour end = record {
+  by = by;
+  event = events.Carry origin (held_of w origin region colour) (heads_lacking w origin region colour end);
+  stamp = 0;
+}
+
+-- the region's column carries the part of the stretch that it does not hold yet
+abbrev pub after_carry : World → ℕ → ℕ → ℕ → ℕ → ℕ → ℕ → World
+after_carry w by origin region colour start count =
+    with_last w region colour (carried_entry w by origin region colour (start + count))
+
+-- the column's trim up to these counts
+abbrev pub after_trim : World → ℕ → ℕ → ℕ → Counts → World
+after_trim w by region colour counts =
+    with_last w region colour (record { by = by; event = events.Trim counts; stamp = 0 })
+
 -- the cut up to which a client plays, and the greatest stamp of the nodes that it plays
 abbrev pub played_cut : World → ℕ → ℕ → Counts
 played_cut w client colour = cut_after (home_of w client) (home_history w client colour)
@@ -340,6 +392,12 @@ after w (steps.Single client colour text) =
     if may_single w client colour then after_single w client colour text else w
 after w (steps.Raise by region colour to) =
     if may_raise w region colour to then after_raise w by region colour to else w
+after w (steps.Give by origin region colour from) =
+    if may_give w origin region colour from then after_give w by origin region colour from else w
+after w (steps.Carry by origin region colour start count) =
+    if may_carry w origin region colour start count then after_carry w by origin region colour start count else w
+after w (steps.Trim by region colour counts) =
+    if is_column w region colour then after_trim w by region colour counts else w
 after w (steps.Play client colour) = if may_play w client colour then after_play w client colour else w
 after w (steps.Seen client to) = if may_see w client to then after_seen w client to else w
 
@@ -365,6 +423,12 @@ reply w (steps.Single client colour text) =
     else replies.Nothing
 reply w (steps.Raise by region colour to) =
     if may_raise w region colour to then event_reply w region colour 0 else replies.Nothing
+reply w (steps.Give by origin region colour from) =
+    if may_give w origin region colour from then event_reply w origin colour 0 else replies.Nothing
+reply w (steps.Carry by origin region colour start count) =
+    if may_carry w origin region colour start count then event_reply w region colour 0 else replies.Nothing
+reply w (steps.Trim by region colour counts) =
+    if is_column w region colour then event_reply w region colour 0 else replies.Nothing
 reply w (steps.Play client colour) =
     if may_play w client colour then replies.Played (played_cut w client colour) else replies.Nothing
 reply w (steps.Seen client to) = replies.Nothing

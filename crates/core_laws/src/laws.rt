@@ -1,5 +1,5 @@
 //! The laws of every world that steps have made. Each function does nothing, and its contract is the law.
-ghost use Rattle.core_laws.specs.Laws.{Always, SettlesOnce, OneFinalStamp, EachLineRises, OrderedAlike, FencedIsNowhere, NoneGetsBefore, CanComplete, EachLineGrows, LogGrows, RowsStay, HaveLawfulHistories, HaveLawfulRows, IsBounded, HasNodes, StaysWithinCuts, NothingIsTrimmed};
+ghost use Rattle.core_laws.specs.Laws.{Always, SettlesOnce, OneFinalStamp, EachLineRises, OrderedAlike, FencedIsNowhere, NoneGetsBefore, CanComplete, EachLineGrows, LogGrows, RowsStay, HaveLawfulHistories, HaveLawfulRows, IsBounded, HasNodes, StaysWithinCuts, CopiesAreTrue, TrimmedIsHeld};
 
 /// All settlings of an id, in all columns, have one outcome, and an id is final under one stamp.
 pub fn one_outcome()
@@ -43,10 +43,15 @@ pub fn is_lawful()
     ensures bounds { Always IsBounded }
 {}
 
-/// What clients have played and what nodes want is within the cuts, and so is each own line; every base is zero.
+/// What clients have played, what nodes want and what is trimmed is within the cuts, and so is each own line.
 pub fn stays_within_cuts()
-    ensures cuts { Always StaysWithinCuts }
-    ensures bases { Always NothingIsTrimmed }
+    ensures { Always StaysWithinCuts }
+{}
+
+/// What a region holds of another one's chain is a true copy, and no own node is trimmed that another region lacks.
+pub fn copies_are_true()
+    ensures copies { Always CopiesAreTrue }
+    ensures trimmed { Always TrimmedIsHeld }
 {}
 
 /// Each client's nodes are listed in the order of their ids, and rows and singles are of nodes that are listed.

@@ -5,7 +5,7 @@ mod laws;
 mod steps;
 
 pub use laws::{
-    can_complete, fenced_is_nowhere, has_nodes, is_lawful, log_only_grows, none_gets_before,
-    one_outcome, ordered_alike, stays_within_cuts,
+    can_complete, copies_are_true, fenced_is_nowhere, has_nodes, is_lawful, log_only_grows,
+    none_gets_before, one_outcome, ordered_alike, stays_within_cuts,
 };
 pub use steps::{Reply, Step};

@@ -46,6 +46,30 @@ pub enum Step {
         colour: u8,
         to: u64,
     },
+    /// The origin's column gives its own line, from a number on, to the region, which holds all below.
+    Give {
+        by: u8,
+        origin: u8,
+        region: u8,
+        colour: u8,
+        from: u64,
+    },
+    /// The region's column carries what it lacks of so many nodes of the origin's line, from a position on.
+    Carry {
+        by: u8,
+        origin: u8,
+        region: u8,
+        colour: u8,
+        start: u64,
+        count: u64,
+    },
+    /// The column is trimmed up to these counts, as far as that may be.
+    Trim {
+        by: u8,
+        region: u8,
+        colour: u8,
+        counts: Counts,
+    },
     /// The client plays what the column's cut has, from where it has played.
     Play {
         client: u8,

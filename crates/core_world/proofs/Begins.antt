@@ -1,8 +1,9 @@
 -- A row is begun: what that makes of the world.
-use Rattle.std.proofs.Common.{◌≡◌, ◌≢◌, ◌⊎◌, inl, inr, ℕ, zero, suc, ◌+◌, ◌<◌, ◌≤◌, Bool, true, false, List, [], ◌∷◌, ◌++◌, length}
+use Rattle.std.proofs.Common.{◌≡◌, ◌≢◌, ◌⊎◌, inl, inr, ℕ, zero, suc, ◌+◌, ◌<◌, ◌≤◌, Bool, true, false, List, [], ◌∷◌}
+use Rattle.std.proofs.Common.{◌++◌, length}
 use Rattle.std.proofs.Common.{Option, get_or, set, Some, refl, ap, sym, subst, ◌∙◌, arith, length-set, length-append}
 use Rattle.std.proofs.Common.{get_or-set_same, get_or-set_other}
-use Rattle.std.specs.Prelude.{◌&&◌, nat_lt, replicate, slice_get, slice_index}
+use Rattle.std.specs.Prelude.{◌&&◌, nat_lt, slice_get, slice_index}
 use Rattle.std.specs.List.{list_all}
 use mathlib.Core.Path.{fun_ext}
 use Rattle.std.proofs.lemmas.Bool.{and_parts, ltb-true, lt-ltb, cond-true, cases_eq, false_from_ne_true}
@@ -14,18 +15,18 @@ use Rattle.log_node.specs.Sets.{members}
 use Rattle.skeen_core.specs.declared.board_row.BoardRow.{BoardRow}
 use Rattle.skeen_core.specs.declared.marks.Mark.{Mark}
 use Rattle.skeen_core.specs.declared.marks.Mark.TheVariants as marks
-use Rattle.skeen_core.specs.declared.marks.Outcome.{Outcome}
 use Rattle.skeen_core.specs.declared.marks.Outcome.TheVariants.{Open}
 use Rattle.skeen_core.specs.Boards.{Board, rows_of, mark_in, last_in, with_begun, fresh_row_of}
 use Rattle.core_laws.specs.declared.steps.Step.TheVariants as steps
-use Rattle.core_laws.specs.Worlds.{World, ClientState, RowState, no_row, home_of, is_client, is_column, is_member}
-use Rattle.core_laws.specs.Worlds.{may_begin, after_begin, begun_node}
+use Rattle.core_laws.specs.Worlds.{ClientState, RowState, no_row, home_of, is_client, is_column, is_member}
+use Rattle.core_laws.specs.Worlds.{may_begin, after_begin}
 use Rattle.core_laws.proofs.Basics.{at_updated_at, not_place, slice_last}
 use Rattle.col_core.specs.Keeping.{updated, updated_at}
 use Rattle.core_world.specs.Clients.{ClientKept, fresh_client, with_next_row, next_begun}
 use Rattle.core_world.specs.Kept.{WorldKept, client_at, client_of, row_in, world_of, AreRows, IsRowNode, IsWhole}
 use Rattle.core_world.proofs.Worlds.{worlds}
 use Rattle.core_world.proofs.Opening.{get_replicate}
+use Rattle.core_world.proofs.Changing.{clients_appended}
 use Rattle.core_world.proofs.Changing.{clients_changed, nodes_changed, rows_by, AreClients, placed_of, whole_after}
 use Rattle.core_world.proofs.Changing.{reached_step}
 use Rattle.core_world.proofs.Placing.{default_free}
@@ -267,7 +268,8 @@ module _ (kept : WorldKept) (w : IsWhole kept) (client : ℕ) (colours : Colours
       | inl f ↦ subst (λ (k : ℕ). IsRowNode (slice_index kept.shape.homes k) k n kept.shape.colours node) (sym f)
           (own_node n node
           (ap (λ (b : List Node). slice_get b n) (sym begun_is)
-          ∙ (ap (λ (k : ℕ). slice_get (get_or (set kept.clients client new_client) k fresh_client).begun n) (sym f) ∙ e)))
+          ∙ (ap (λ (k : ℕ). slice_get (get_or (set kept.clients client new_client) k fresh_client).begun n) (sym f)
+          ∙ e)))
       | inr f ↦ w.begun a n node (ap (λ (b : List Node). slice_get b n) (sym (begun_other a f)) ∙ e)
     ];
   }
@@ -275,11 +277,13 @@ module _ (kept : WorldKept) (w : IsWhole kept) (client : ℕ) (colours : Colours
   pub begin_whole : may_begin (world_of kept) client colours ≡ true → IsWhole new_kept
   begin_whole t =
       whole_after kept (set kept.clients client new_client) new_board kept.columns w begin_clients (placed_of kept w)
+      (clients_appended kept client new_client (its_node ∷ []) in_clients refl w.appended)
       (reached_step kept (world_of new_kept) (steps.Begin client colours text) w
       (begin_world ∙ sym (cond-true (may_begin (world_of kept) client colours) _ _ t)))
 
   -- as the code changes the clients and the board
-  pub begin_list : (before after : ClientKept) (board : Board) (node : Node) → before ≡ get_or kept.clients client before
+  pub begin_list : (before after : ClientKept) (board : Board) (node : Node) → before ≡ get_or kept.clients client
+      before
       → after ≡ with_next_row before node → board ≡ with_begun kept.board client (fresh_row_of node) → node ≡ its_node
       → ◌≡◌ {A = WorldKept} (record kept { clients = set kept.clients client after; board = board }) new_kept
   begin_list before after board node before_is after_is board_is node_is =
@@ -289,13 +293,17 @@ module _ (kept : WorldKept) (w : IsWhole kept) (client : ℕ) (colours : Colours
       ∙ (ap (λ (x : ClientKept). with_next_row x node)
       (before_is ∙ default_free kept.clients client before fresh_client in_clients)
       ∙ ap (λ (x : Node). with_next_row old x) node_is))
-      ∙ ap (λ (b : Board). let k : WorldKept = record kept { clients = set kept.clients client new_client; board = b } in k)
+      ∙ ap (λ (b : Board). let k : WorldKept = record kept {
+        clients = set kept.clients client new_client;
+        board = b;
+      } in k)
       (board_is ∙ ap (λ (x : Node). with_begun kept.board client (fresh_row_of x)) node_is)
 
 -- The guard, test by test
 
 lt_false : (a b : ℕ) → b ≤ a → nat_lt a b ≡ false
-lt_false a b le = false_from_ne_true (nat_lt a b) (λ t. let lt = ltb-true a b t in let x : ⊥ = omega (arith, lt, le) in x)
+lt_false a b le = false_from_ne_true (nat_lt a b) (λ t. let lt = ltb-true a b t in let x : ⊥ = omega (arith, lt, le) in
+    x)
 
 lead : (a b : Bool) → a ≡ true → (a && b) ≡ b
 lead a b t = rw t refl
@@ -334,7 +342,8 @@ module _ (kept : WorldKept) (w : IsWhole kept) (client : ℕ) (colours : Colours
   pub too_few : client < length kept.shape.homes → length (rows_of kept.board client) < kept.board.rows
       → length (members colours) < 2 → false ≡ may_begin (world_of kept) client colours
   too_few there left few =
-      stop (nat_lt 1 (length (members colours))) all_colours (lt_false 1 (length (members colours)) (omega (arith, few)))
+      stop (nat_lt 1 (length (members colours))) all_colours (lt_false 1 (length (members colours))
+      (omega (arith, few)))
       ∙ (sym (lead used_rows (nat_lt 1 (length (members colours)) && all_colours) (row_left left))
       ∙ sym (lead (is_client (world_of kept) client) _ (is_one there)))
 

@@ -180,5 +180,5 @@ room_list kept client lt old new old_is new_is =
 pub room_whole : (kept : WorldKept) (client : ℕ) → IsWhole kept → client < length kept.clients
     → IsWhole (with_client_room kept client)
 room_whole kept client w lt =
-    whole_same kept client (with_spare (client_at kept client)) w lt (w.colours client fresh_client lt) refl
+    whole_same kept client (with_spare (client_at kept client)) w lt (w.colours client fresh_client lt) refl refl
     (room_world kept client w lt)

@@ -7,6 +7,7 @@ use Rattle.std.specs.List.{All}
 use mathlib.Core.Path.{fun_ext}
 use Rattle.std.proofs.lemmas.Bool.{cases_eq, eq-eqb}
 use Rattle.std.proofs.lemmas.List.Elements.{All-set}
+use Rattle.std.proofs.lemmas.List.{append-nil}
 use Rattle.log_node.specs.declared.node.Node.{Node}
 use Rattle.log_node.specs.declared.node.Shape.{Shape}
 use Rattle.skeen_core.specs.Boards.{Board, rows_of}
@@ -21,8 +22,9 @@ use Rattle.core_laws.proofs.Basics.{at_updated, at_updated_at, not_place}
 use Rattle.core_laws.proofs.CallerLemmas.{after_reached}
 use Rattle.core_world.specs.Clients.{ClientKept, fresh_client}
 use Rattle.core_world.specs.Kept.{WorldKept, no_column, column_at, client_at, client_of, row_in, world_of, IsPlaced}
-use Rattle.core_world.specs.Kept.{AreRows, IsRowNode, IsWhole}
+use Rattle.core_world.specs.Kept.{AreRows, IsRowNode, HasAppended, IsWhole}
 use Rattle.core_world.proofs.Worlds.{worlds}
+use Rattle.core_world.proofs.Appended.{still_appended, appended_longer}
 
 -- the columns with another one at a place
 abbrev pub with_column : List (List ColumnState) → ℕ → ℕ → ColumnState → List (List ColumnState)
@@ -143,6 +145,45 @@ columns_placed kept region colour column w lr lc is_placed = record {
   placed = placed_after kept region colour column w lr lc is_placed;
 }
 
+-- a client that has more nodes leaves what columns have
+pub clients_appended : (kept : WorldKept) (client : ℕ) (c : ClientKept) (more : List Node)
+    → client < length kept.clients
+    → c.nodes ≡ (client_at kept client).nodes ++ more
+    → ((r k : ℕ) → HasAppended kept.clients (column_at kept.columns r k)) → (r k : ℕ)
+    → HasAppended (set kept.clients client c) (column_at kept.columns r k)
+clients_appended kept client c more lt is before r k =
+    appended_longer kept.clients (set kept.clients client c) (column_at kept.columns r k)
+    (still_appended kept.clients client c more lt is) (before r k)
+
+-- and so does a column whose nodes are appended
+pub columns_appended : (kept : WorldKept) (clients : List ClientKept) (region colour : ℕ) (column : ColumnState)
+    → IsWhole kept → region < kept.shape.regions → colour < kept.shape.colours
+    → ((r k : ℕ) → HasAppended clients (column_at kept.columns r k)) → HasAppended clients column → (r k : ℕ)
+    → HasAppended clients (column_at (with_column kept.columns region colour column) r k)
+columns_appended kept clients region colour column w lr lc before new r k =
+    elim (cases_eq r region) [
+      | inl e ↦ elim (cases_eq k colour) [
+        | inl f ↦ subst (λ (n : ℕ). HasAppended clients (column_at changed n k)) (sym e)
+            (subst (λ (n : ℕ). HasAppended clients (column_at changed region n)) (sym f)
+            (subst (HasAppended clients)
+            (sym (column_here kept.columns region colour column there wide)) new))
+        | inr ne ↦ elsewhere (λ _ f. ne f)
+      ]
+      | inr ne ↦ elsewhere (λ e _. ne e)
+    ] where
+      changed : List (List ColumnState)
+      changed = with_column kept.columns region colour column
+
+      there : region < length kept.columns
+      there = in_regions kept region colour column w lr lc
+
+      wide : colour < length (get_or kept.columns region [])
+      wide = in_colours kept region colour column w lr lc
+
+      elsewhere : (r ≡ region → k ≡ colour → ⊥) → HasAppended clients (column_at changed r k)
+      elsewhere ne = subst (HasAppended clients)
+          (sym (column_elsewhere kept.columns region colour column there wide r k ne)) (before r k)
+
 -- all clients and their rows are there
 pub record AreClients (shape : Shape) (clients : List ClientKept) (board : Board) : Type 0 where
   pub all : length clients ≡ length shape.homes
@@ -169,9 +210,10 @@ clients_of kept w = record {
 -- the code keeps the world after a step
 pub whole_after : (kept : WorldKept) (clients : List ClientKept) (board : Board) (columns : List (List ColumnState))
     → IsWhole kept → AreClients kept.shape clients board → ArePlaced kept.shape columns
+    → ((r c : ℕ) → HasAppended clients (column_at columns r c))
     → IsReached (world_of (record { shape = kept.shape; clients = clients; board = board; columns = columns }))
     → IsWhole (record { shape = kept.shape; clients = clients; board = board; columns = columns })
-whole_after kept clients board columns w cs ps reached = record {
+whole_after kept clients board columns w cs ps appended reached = record {
   few_regions = w.few_regions;
   few_colours = w.few_colours;
   homes = w.homes;
@@ -185,6 +227,7 @@ whole_after kept clients board columns w cs ps reached = record {
   board_clients = cs.board_clients;
   rows = cs.rows;
   begun = cs.begun;
+  appended = appended;
   reached = reached;
 }
 
@@ -195,11 +238,13 @@ reached_step kept new step w is = subst IsReached (sym is) (after_reached (world
 -- the code keeps the world after a step that changed one column
 pub whole_column : (kept : WorldKept) (region colour : ℕ) (column : ColumnState) (step : Step) → IsWhole kept
     → region < kept.shape.regions → colour < kept.shape.colours → IsPlaced column region colour kept.shape.regions
+    → HasAppended kept.clients column
     → world_of (record kept { columns = with_column kept.columns region colour column }) ≡ after (world_of kept) step
     → IsWhole (record kept { columns = with_column kept.columns region colour column })
-whole_column kept region colour column step w lr lc is_placed step_is =
+whole_column kept region colour column step w lr lc is_placed new step_is =
     whole_after kept kept.clients kept.board (with_column kept.columns region colour column) w (clients_of kept w)
     (columns_placed kept region colour column w lr lc is_placed)
+    (columns_appended kept kept.clients region colour column w lr lc w.appended new)
     (reached_step kept (world_of (record kept { columns = with_column kept.columns region colour column })) step w
     step_is)
 
@@ -297,17 +342,21 @@ clients_set kept client c w lt all_colours begun = record {
 -- the code keeps the world after a step that changed one client
 pub whole_client : (kept : WorldKept) (client : ℕ) (c : ClientKept) (step : Step) → IsWhole kept
     → client < length kept.clients → length c.played ≡ 16 → c.begun ≡ (client_at kept client).begun
+    → c.nodes ≡ (client_at kept client).nodes
     → world_of (record kept { clients = set kept.clients client c }) ≡ after (world_of kept) step
     → IsWhole (record kept { clients = set kept.clients client c })
-whole_client kept client c step w lt all_colours begun step_is =
+whole_client kept client c step w lt all_colours begun nodes step_is =
     whole_after kept (set kept.clients client c) kept.board kept.columns w
     (clients_set kept client c w lt all_colours begun) (placed_of kept w)
+    (clients_appended kept client c [] lt (nodes ∙ sym (append-nil (client_at kept client).nodes)) w.appended)
     (reached_step kept (world_of (record kept { clients = set kept.clients client c })) step w step_is)
 
 pub whole_same : (kept : WorldKept) (client : ℕ) (c : ClientKept) → IsWhole kept → client < length kept.clients
-    → length c.played ≡ 16 → c.begun ≡ (client_at kept client).begun
+    → length c.played ≡ 16 → c.begun ≡ (client_at kept client).begun → c.nodes ≡ (client_at kept client).nodes
     → world_of (record kept { clients = set kept.clients client c }) ≡ world_of kept
     → IsWhole (record kept { clients = set kept.clients client c })
-whole_same kept client c w lt all_colours begun same =
+whole_same kept client c w lt all_colours begun nodes same =
     whole_after kept (set kept.clients client c) kept.board kept.columns w
-    (clients_set kept client c w lt all_colours begun) (placed_of kept w) (subst IsReached (sym same) w.reached)
+    (clients_set kept client c w lt all_colours begun) (placed_of kept w)
+    (clients_appended kept client c [] lt (nodes ∙ sym (append-nil (client_at kept client).nodes)) w.appended)
+    (subst IsReached (sym same) w.reached)

@@ -1,15 +1,14 @@
 -- A row is decided: what that makes of the world.
-use Rattle.std.proofs.Common.{◌≡◌, ℕ, ◌<◌, ◌≤◌, Bool, true, false, length, Some, refl, ap, sym, subst, ◌∙◌, arith}
+use Rattle.std.proofs.Common.{◌≡◌, ℕ, Bool, true, false, length, refl, ap, sym, ◌∙◌, arith}
 use Rattle.std.specs.Prelude.{◌&&◌, not}
 use mathlib.Core.Path.{fun_ext}
 use Rattle.std.proofs.lemmas.Bool.{cond-true, cond-false, lt-ltb}
 use Rattle.log_node.specs.declared.ids.Row.{Row}
-use Rattle.skeen_core.specs.declared.board_row.BoardRow.{BoardRow}
 use Rattle.skeen_core.specs.declared.marks.Outcome.{Outcome}
 use Rattle.skeen_core.specs.declared.marks.Outcome.TheVariants.{Open, Gone, Final}
 use Rattle.skeen_core.specs.Outcomes.{outcome_of}
 use Rattle.skeen_core.specs.Queues.{is_decided}
-use Rattle.skeen_core.specs.Boards.{Board, begun_at, outcome_in, row_marks, with_changed, decided, IsRow}
+use Rattle.skeen_core.specs.Boards.{begun_at, outcome_in, with_changed, decided, IsRow}
 use Rattle.col_core.specs.Keeping.{updated_at}
 use Rattle.col_core.proofs.Basics.{choice}
 use Rattle.core_laws.specs.declared.steps.Step.TheVariants as steps
@@ -83,6 +82,7 @@ module _ (kept : WorldKept) (w : IsWhole kept) (row : Row) (b : Begun kept row)
   pub decided_whole : IsWhole decided_kept
   decided_whole =
       whole_after kept kept.clients decided_kept.board kept.columns w (decided_clients kept w row b) (placed_of kept w)
+      w.appended
       (reached_step kept (world_of decided_kept) (steps.Decide row) w decided_world)
 
   -- the replies, by the board's answer

@@ -1,4 +1,5 @@
 pub mod Worlds
+pub mod Appended
 pub mod Changing
 pub mod Placing
 pub mod Opening
@@ -15,3 +16,9 @@ pub mod Settling
 pub mod Ranges
 pub mod Deciding
 pub mod MayMark
+pub mod Taking
+pub mod Marked
+pub mod Completion
+pub mod Looking
+pub mod Moving
+pub mod Carrying

@@ -1,15 +1,16 @@
 -- A begun row is changed on the board: what that makes of the world.
-use Rattle.std.proofs.Common.{◌≡◌, ◌≢◌, ℕ, zero, suc, ◌<◌, ◌≤◌, Bool, true, false, List, [], ◌∷◌, length, get_or, set}
-use Rattle.std.proofs.Common.{Option, Some, ◌⊎◌, inl, inr, refl, ap, sym, subst, ◌∙◌, arith, length-set, get_or-set_same}
+use Rattle.std.proofs.Common.{◌≡◌, ◌≢◌, ℕ, zero, suc, ◌<◌, true, List, [], ◌∷◌, length, get_or, set}
+use Rattle.std.proofs.Common.{Option, Some, ◌⊎◌, inl, inr, refl, ap, sym, subst, ◌∙◌, arith, length-set}
+use Rattle.std.proofs.Common.{get_or-set_same}
 use Rattle.std.proofs.Common.{get_or-set_other}
-use Rattle.std.specs.Prelude.{slice_get, nat_lt, map}
+use Rattle.std.specs.Prelude.{slice_get, map}
 use mathlib.Core.Path.{fun_ext}
 use Rattle.std.proofs.lemmas.Bool.{ltb-true, cases_eq}
-use Rattle.std.proofs.lemmas.Option.{slice_get_within, get_or_from_slice_get}
+use Rattle.std.proofs.lemmas.Option.{get_or_from_slice_get}
 use Rattle.log_node.specs.declared.ids.Colours.{Colours}
 use Rattle.log_node.specs.declared.ids.Row.{Row}
 use Rattle.log_node.specs.declared.node.Node.{Node}
-use Rattle.log_node.specs.Sets.{has, members}
+use Rattle.log_node.specs.Sets.{members}
 use Rattle.skeen_core.specs.declared.board_row.BoardRow.{BoardRow}
 use Rattle.skeen_core.specs.declared.marks.Mark.{Mark}
 use Rattle.skeen_core.specs.declared.marks.Mark.TheVariants as marks
@@ -18,9 +19,8 @@ use Rattle.skeen_core.specs.Outcomes.{outcome_of}
 use Rattle.skeen_core.specs.Boards.{Board, rows_of, begun_at, mark_at, mark_in, last_in, row_marks, first_mark}
 use Rattle.skeen_core.specs.Boards.{with_changed, changed_at, changed_by, decided}
 use Rattle.skeen_core.specs.Boards as boards
-use Rattle.col_core.specs.declared.Entry.{Entry}
 use Rattle.col_core.specs.Keeping.{updated, updated_at}
-use Rattle.core_laws.specs.Worlds.{World, RowState, no_row, is_begun, row_of, marks_of, with_row, with_mark}
+use Rattle.core_laws.specs.Worlds.{RowState, no_row, is_begun, row_of, marks_of, with_row}
 use Rattle.core_laws.proofs.Basics.{at_updated, at_updated_at, not_place}
 use Rattle.core_world.specs.Kept.{WorldKept, client_at, row_in, world_of, AreRows, IsWhole}
 use Rattle.core_world.proofs.Worlds.{worlds}

@@ -13,12 +13,14 @@ use Rattle.skeen_core.specs.declared.board_row.BoardRow.{BoardRow}
 use Rattle.skeen_core.specs.Boards.{empty_board, rows_of}
 use Rattle.col_core.specs.declared.Entry.{Entry}
 use Rattle.column.specs.Columns.{ColumnState, new_column}
-use Rattle.core_laws.specs.Worlds.{World, ClientState, new_client, no_row, opened}
+use Rattle.core_laws.specs.Worlds.{ClientState, new_client, no_row, opened}
 use Rattle.core_laws.specs.Laws.{IsReached}
 use Rattle.core_laws.proofs.CallerLemmas.{opened_reached}
 use Rattle.core_world.specs.Clients.{ClientKept, fresh_client}
-use Rattle.core_world.specs.Kept.{WorldKept, no_column, fresh_columns, column_at, client_at, client_of, row_in, world_of}
-use Rattle.core_world.specs.Kept.{IsPlaced, AreRows, IsWhole}
+use Rattle.core_world.specs.Kept.{WorldKept, no_column, fresh_columns, column_at, client_at, client_of, row_in}
+use Rattle.core_world.specs.Kept.{world_of}
+use Rattle.core_world.specs.Kept.{IsPlaced, AreRows, HasAppended, IsWhole}
+use Rattle.core_world.proofs.Appended.{none_carried}
 use Rattle.core_world.proofs.Worlds.{worlds}
 
 pub get_replicate : {A : Type 0} (n i : ℕ) (x : A) → get_or (replicate n x) i x ≡ x
@@ -106,8 +108,19 @@ fresh_whole shape few few_colours homes = record {
   board_clients = length_replicate (length shape.homes) [];
   rows = λ client. none_begun client;
   begun = λ client n node e. absurd (no_node client n node e);
+  appended = λ r c. none_stored r c;
   reached = subst IsReached (sym (fresh_is_opened shape)) (opened_reached shape);
 } where
+  none_stored : (r c : ℕ) → HasAppended (fresh_world shape).clients (column_at (fresh_world shape).columns r c)
+  none_stored r c =
+      get_map (λ (columns : List ColumnState). HasAppended (fresh_world shape).clients (get_or columns c no_column))
+      (λ region. fresh_columns region shape) (range_with_len 0 shape.regions) []
+      (λ region. get_map (HasAppended (fresh_world shape).clients) (λ colour. new_column region colour shape.regions)
+      (range_with_len 0 shape.colours) no_column
+      (λ colour. record { stored = tt; copies = none_carried (fresh_world shape).clients })
+      (record { stored = tt; copies = none_carried (fresh_world shape).clients }) c)
+      (record { stored = tt; copies = none_carried (fresh_world shape).clients }) r
+
   none : AreRows [] []
   none = record {
     used = refl;
@@ -124,7 +137,8 @@ fresh_whole shape few few_colours homes = record {
 
   no_node : (client n : ℕ) (node : Node) → slice_get (client_at (fresh_world shape) client).begun n ≡ Some node → ⊥
   no_node client n node e =
-      let f = ap (λ (c : ClientKept). slice_get c.begun n) (sym (get_replicate (length shape.homes) client fresh_client)) ∙ e in
+      let f = ap (λ (c : ClientKept). slice_get c.begun n)
+      (sym (get_replicate (length shape.homes) client fresh_client)) ∙ e in
       let x : ⊥ = cc in x
 
   there : (r c : ℕ) → r < shape.regions → c < shape.colours → column_at (fresh_world shape).columns r c

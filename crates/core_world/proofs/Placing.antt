@@ -66,6 +66,7 @@ module _ (kept : WorldKept) (w : IsWhole kept) (by region colour to : ℕ)
       whole_column kept region colour (columns.after_raise old by to) (steps.Raise by region colour to) w m.in_regions
       m.in_colours
       (record { in_region = p.in_region; of_colour = p.of_colour; of_regions = p.of_regions })
+      (record { stored = (w.appended region colour).stored; copies = (w.appended region colour).copies })
       (raised_world ∙ sym (cond-true (may_raise (world_of kept) region colour to) _ _ may))
 
 -- a place within a list is one within an equal list

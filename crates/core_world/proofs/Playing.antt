@@ -1,159 +1,190 @@
 -- The greatest stamp of the nodes that a play adds.
-use Rattle.std.proofs.Common.{◌≡◌, ◌≢◌, ℕ, zero, suc, ◌+◌, ◌<◌, ◌≤◌, List, [], ◌∷◌, ◌++◌, length, take, drop, map, Some}
-use Rattle.std.proofs.Common.{Option, inl, inr, refl, ap, sym, subst, ◌∙◌, arith}
-use Rattle.std.specs.Prelude.{slice_get, max}
-use Rattle.std.specs.List.{flat_map}
-use Rattle.std.proofs.lemmas.List.{take_all, append-nil}
-use Rattle.std.proofs.lemmas.Bool.{cases_lt}
-use Rattle.std.proofs.lemmas.Option.{slice_get_within}
+use Rattle.std.proofs.Common.{◌≡◌, ◌≢◌, ℕ, zero, suc, ◌+◌, ◌<◌, ◌≤◌, List, [], ◌∷◌, ◌++◌, length, take, drop, map}
+use Rattle.std.proofs.Common.{get_or, refl, ap, sym, ◌∙◌, arith}
+use Rattle.std.specs.Prelude.{◌-◌, ◌==◌, max, min}
+use Rattle.std.proofs.lemmas.List.{take-map, drop-map, take_more}
+use Rattle.std.proofs.lemmas.Bool.{cond-true, eq-eqb}
 use Rattle.log_node.specs.declared.ids.Key.{Key}
 use Rattle.log_node.specs.declared.ids.Counts.{Counts}
 use Rattle.log_node.specs.declared.node.Head.{Head}
-use Rattle.log_node.specs.Order.{key_below}
-use Rattle.log_node.specs.Vectors.{at, all_regions}
+use Rattle.log_node.specs.Seen.{PlacedNode}
+use Rattle.log_node.specs.Vectors.{at, IsWithin}
 use Rattle.skeen_core.specs.Outcomes.{greatest}
 use Rattle.col_core.specs.declared.Entry.{Entry}
 use Rattle.col_core.specs.History.{line}
-use Rattle.col_core.specs.Cuts.{chain, needs_of}
-use Rattle.col_core.specs.Computed.{dated}
+use Rattle.col_core.specs.Cuts.{Chains, needs_of}
 use Rattle.col_core.specs.PlayOrder.{greatest_between, nodes_between}
-use Rattle.col_core.proofs.ChainGrowth.{line_rises}
-use Rattle.col_core.proofs.KeyOrder.{key-stamps}
-use Rattle.column.specs.Columns.{ColumnState, history_of, cut_of, alone}
+use Rattle.col_core.proofs.CutLaws.{within-at}
+use Rattle.column.specs.Columns.{ColumnState, history_of, chains_of, cut_of, base_of, copy_of}
 use Rattle.column.specs.Inside.{IsColumn}
-use Rattle.column.proofs.OwnCuts.{each_region, at-own}
-use Rattle.column.proofs.Owning.{same_entries, length_map, own_chain, own_heads, other_chains, own_cut}
+use Rattle.core_laws.proofs.Histories.{entries_dated}
 
-abbrev headed : (Key → Counts) → Key → Head
-headed needs key = record { key = key; needs = needs key }
+greatest-append : (xs ys : List ℕ) → greatest (xs ++ ys) ≡ max (greatest xs) (greatest ys)
+greatest-append [] ys = let n = greatest ys in let e : n ≡ max 0 n = omega arith in e
+greatest-append (x ∷ xs) ys =
+    let r = greatest-append xs ys in
+    three x (greatest (xs ++ ys)) (greatest xs) (greatest ys) r where
+      three : (a n b c : ℕ) → n ≡ max b c → max a n ≡ max (max a b) c
+      three a n b c e = omega (arith, e)
 
-abbrev stamps : (Key → Counts) → List Key → ℕ → List ℕ
-stamps needs keys from = map (λ (h : Head). h.key.stamp) (drop from (map (headed needs) keys))
+map-append : {A B : Type 0} (f : A → B) (xs ys : List A) → map f (xs ++ ys) ≡ map f xs ++ map f ys
+map-append f [] ys = refl
+map-append {A} {B} f (x ∷ xs) ys = ap (λ (l : List B). f x ∷ l) (map-append f xs ys)
 
--- no stamp is above m
-abbrev AreWithin : List Key → ℕ → Type 0
-AreWithin keys m = (j : ℕ) (l : Key) → slice_get keys j ≡ Some l → l.stamp ≤ m
+-- a loop over a part of a list
+pub greatest_more : {A : Type 0} (f : A → ℕ) (xs : List A) (i most : ℕ) (d : A) → i < length xs
+    → most ≡ greatest (map f (take i xs)) → max (f (get_or xs i d)) most ≡ greatest (map f (take (i + 1) xs))
+greatest_more {A} f xs i most d lt is =
+    let e = ap (λ (l : List A). greatest (map f l)) (take_more xs i d lt)
+    ∙ (ap greatest (map-append f (take i xs) (get_or xs i d ∷ []))
+    ∙ greatest-append (map f (take i xs)) (f (get_or xs i d) ∷ [])) in
+    last (f (get_or xs i d)) most (greatest (map f (take i xs))) (greatest (map f (take (i + 1) xs))) is e where
+      last : (x m n g : ℕ) → m ≡ n → g ≡ max n (max x 0) → max x m ≡ g
+      last x m n g p q = omega (arith, p, q)
 
-bounded : (needs : Key → Counts) (keys : List Key) (m : ℕ) → AreWithin keys m → greatest (stamps needs keys 0) ≤ m
-bounded needs [] m h = omega arith
-bounded needs (k ∷ ks) m h =
-    let a = h 0 k refl in
-    let b = bounded needs ks m (λ j l e. h (suc j) l e) in
-    omega (arith, a, b)
+-- a part whose bounds are held to the list
+pub clipped : {A : Type 0} (a b s e : ℕ) (xs : List A) → e ≡ min b (length xs) → s ≡ min a e
+    → take (e - s) (drop s xs) ≡ drop a (take b xs)
+clipped {A} a b s e [] is_e is_s =
+    ap (λ (n : ℕ). take (e - s) (drop n [])) (let z : s ≡ 0 = omega (arith, is_e, is_s) in z)
+    ∙ (ap (λ (n : ℕ). take n []) (let z : e - s ≡ 0 = omega (arith, is_e, is_s) in z)
+    ∙ sym (nothing a b)) where
+      none : (n : ℕ) → ◌≡◌ {A = List A} (take n []) []
+      none zero = refl
+      none (suc n) = refl
 
-whole : (needs : Key → Counts) (keys : List Key) (m n : ℕ) (k : Key) → slice_get keys n ≡ Some k → k.stamp ≡ m
-    → AreWithin keys m → greatest (stamps needs keys 0) ≡ m
-whole needs [] m n k e is h = absurd (let x : ⊥ = cc in x)
-whole needs (x ∷ xs) m zero k e is h =
-    let same : x ≡ k = cc in
-    let same_stamp : x.stamp ≡ m = ap (λ (y : Key). y.stamp) same ∙ is in
-    let b = bounded needs xs m (λ j l f. h (suc j) l f) in
-    omega (arith, same_stamp, b)
-whole needs (x ∷ xs) m (suc n) k e is h =
-    let a = h 0 x refl in
-    let b = whole needs xs m n k e is (λ j l f. h (suc j) l f) in
-    omega (arith, a, b)
+      nothing : (n m : ℕ) → ◌≡◌ {A = List A} (drop n (take m [])) []
+      nothing zero m = none m
+      nothing (suc n) m = ap (drop (suc n)) (none m)
+clipped {A} a zero s e (x ∷ xs) is_e is_s =
+    ap (λ (n : ℕ). take n (drop s (x ∷ xs))) (let z : e - s ≡ 0 = omega (arith, is_e) in z) ∙ sym (nothing a) where
+      nothing : (n : ℕ) → ◌≡◌ {A = List A} (drop n []) []
+      nothing zero = refl
+      nothing (suc n) = refl
+clipped {A} zero (suc b) s e (x ∷ xs) is_e is_s =
+    ap (λ (n : ℕ). take (e - n) (drop n (x ∷ xs))) (let z : s ≡ 0 = omega (arith, is_s) in z)
+    ∙ (ap (λ (n : ℕ). take n (x ∷ xs)) (let z : e - 0 ≡ suc (min b (length xs)) = omega (arith, is_e) in z)
+    ∙ ap (λ (l : List A). x ∷ l) (least b xs)) where
+      least : (n : ℕ) (ys : List A) → take (min n (length ys)) ys ≡ take n ys
+      least n [] = none (min n 0) ∙ sym (none n) where
+        none : (k : ℕ) → ◌≡◌ {A = List A} (take k []) []
+        none zero = refl
+        none (suc k) = refl
+      least zero (y ∷ ys) = ap (λ (k : ℕ). take k (y ∷ ys)) (let z : min 0 (suc (length ys)) ≡ 0 = omega arith in z)
+      least (suc n) (y ∷ ys) =
+          ap (λ (k : ℕ). take k (y ∷ ys))
+          (let z : min (suc n) (suc (length ys)) ≡ suc (min n (length ys)) = omega arith in z)
+          ∙ ap (λ (l : List A). y ∷ l) (least n ys)
+clipped {A} (suc a) (suc b) s e (x ∷ xs) is_e is_s =
+    let e1 = min b (length xs) in
+    let s1 = min a e1 in
+    ap (λ (n : ℕ). take (e - n) (drop n (x ∷ xs))) (let z : s ≡ suc s1 = omega (arith, is_e, is_s) in z)
+    ∙ (ap (λ (n : ℕ). take n (drop s1 xs)) (let z : e - suc s1 ≡ e1 - s1 = omega (arith, is_e) in z)
+    ∙ clipped a b s1 e1 xs refl refl)
 
--- the greatest stamp from a place on is that of a later key that has the greatest of all
-from_place : (needs : Key → Counts) (keys : List Key) (from m n : ℕ) (k : Key) → from ≤ n → slice_get keys n ≡ Some k
-    → k.stamp ≡ m → AreWithin keys m → greatest (stamps needs keys from) ≡ m
-from_place needs [] from m n k le e is h = absurd (let x : ⊥ = cc in x)
-from_place needs (x ∷ xs) zero m n k le e is h = whole needs (x ∷ xs) m n k e is h
-from_place needs (x ∷ xs) (suc from) m zero k le e is h = absurd (let f : ⊥ = omega (arith, le) in f)
-from_place needs (x ∷ xs) (suc from) m (suc n) k le e is h =
-    from_place needs xs from m n k (omega (arith, le)) e is (λ j l f. h (suc j) l f)
+-- a part of what is behind a number
+pub behind : {A : Type 0} (b p c : ℕ) (xs : List A) → b ≤ p → drop (p - b) (take (c - b) (drop b xs))
+    ≡ drop p (take c xs)
+behind zero p c xs le =
+    ap (λ (n : ℕ). drop n (take (c - 0) xs)) (let e : p - 0 ≡ p = omega arith in e)
+    ∙ ap (λ (n : ℕ). drop p (take n xs)) (let e : c - 0 ≡ c = omega arith in e)
+behind {A} (suc b) p c [] le = nothing (p - suc b) (c - suc b) ∙ sym (nothing p c) where
+  none : (n : ℕ) → ◌≡◌ {A = List A} (take n []) []
+  none zero = refl
+  none (suc n) = refl
 
-past_end : (needs : Key → Counts) (keys : List Key) (from : ℕ) → length keys ≤ from
-    → greatest (stamps needs keys from) ≡ 0
-past_end needs [] zero le = refl
-past_end needs [] (suc from) le = refl
-past_end needs (x ∷ xs) zero le = absurd (let f : ⊥ = omega (arith, le) in f)
-past_end needs (x ∷ xs) (suc from) le = past_end needs xs from (omega (arith, le))
+  nothing : (n m : ℕ) → ◌≡◌ {A = List A} (drop n (take m [])) []
+  nothing zero m = none m
+  nothing (suc n) m = ap (drop (suc n)) (none m)
+behind (suc b) zero c (x ∷ xs) le = absurd (let f : ⊥ = omega (arith, le) in f)
+behind {A} (suc b) (suc p) zero (x ∷ xs) le =
+    ap (λ (n : ℕ). drop (suc p - suc b) (take n (drop b xs))) (let e : 0 - suc b ≡ 0 = omega arith in e)
+    ∙ nothing (suc p - suc b) where
+      nothing : (n : ℕ) → ◌≡◌ {A = List A} (drop n []) []
+      nothing zero = refl
+      nothing (suc n) = refl
+behind (suc b) (suc p) (suc c) (x ∷ xs) le =
+    ap (λ (n : ℕ). drop n (take (suc c - suc b) (drop b xs))) (let e : suc p - suc b ≡ p - b = omega arith in e)
+    ∙ (ap (λ (n : ℕ). drop (p - b) (take n (drop b xs))) (let e : suc c - suc b ≡ c - b = omega arith in e)
+    ∙ behind b p c xs (omega (arith, le)))
 
-none_of : (n m : ℕ) → ◌≡◌ {A = List Head} (drop n (take m [])) []
-none_of zero zero = refl
-none_of zero (suc m) = refl
-none_of (suc n) zero = refl
-none_of (suc n) (suc m) = refl
+map-map : {A B C : Type 0} (f : B → C) (g : A → B) (xs : List A) → map f (map g xs) ≡ map (λ x. f (g x)) xs
+map-map f g [] = refl
+map-map {A} {B} {C} f g (x ∷ xs) = ap (λ (l : List C). f (g x) ∷ l) (map-map f g xs)
 
-joined : List Head → List Head → List Head → List Head → List Head
-joined a b c d = a ++ (b ++ (c ++ (d ++ [])))
+abbrev stamp_of : Head → ℕ
+stamp_of h = h.key.stamp
 
--- where all but one region give none, all together give what that one gives
-one_gives : (f : ℕ → List Head) (own : ℕ) → own < 4 → (hs : List Head) → f own ≡ hs
-    → ((r : ℕ) → r ≢ own → f r ≡ []) → flat_map f all_regions ≡ hs ++ []
-unfolding joined
-one_gives f =
-    each_region (λ own. (hs : List Head) → f own ≡ hs → ((r : ℕ) → r ≢ own → f r ≡ []) → flat_map f all_regions ≡ hs ++ [])
-    (λ hs is none. made (f 0) (f 1) (f 2) (f 3) hs [] [] [] is (none 1 (λ e. let x : ⊥ = omega (arith, e) in x))
-    (none 2 (λ e. let x : ⊥ = omega (arith, e) in x)) (none 3 (λ e. let x : ⊥ = omega (arith, e) in x)))
-    (λ hs is none. made (f 0) (f 1) (f 2) (f 3) [] hs [] [] (none 0 (λ e. let x : ⊥ = omega (arith, e) in x)) is
-    (none 2 (λ e. let x : ⊥ = omega (arith, e) in x)) (none 3 (λ e. let x : ⊥ = omega (arith, e) in x)))
-    (λ hs is none. made (f 0) (f 1) (f 2) (f 3) [] [] hs [] (none 0 (λ e. let x : ⊥ = omega (arith, e) in x))
-    (none 1 (λ e. let x : ⊥ = omega (arith, e) in x)) is (none 3 (λ e. let x : ⊥ = omega (arith, e) in x)))
-    (λ hs is none. made (f 0) (f 1) (f 2) (f 3) [] [] [] hs (none 0 (λ e. let x : ⊥ = omega (arith, e) in x))
-    (none 1 (λ e. let x : ⊥ = omega (arith, e) in x)) (none 2 (λ e. let x : ⊥ = omega (arith, e) in x)) is) where
-      made : (a b c d a' b' c' d' : List Head) → a ≡ a' → b ≡ b' → c ≡ c' → d ≡ d' → joined a b c d ≡ joined a' b' c' d'
-      made a b c d a' b' c' d' p q r s = rw (p, q, r, s) refl
+-- Columns
 
 module _ (column : ColumnState) (k : IsColumn column) (played : Counts) where
-  abbrev own : ℕ
-  own = column.region
+  abbrev stamps_in : ℕ → ℕ
+  stamps_in region = greatest (map stamp_of (nodes_between (chains_of column) played (cut_of column) region))
 
-  abbrev keys : List Key
-  keys = line column.journal
+  own_heads : chains_of column column.region
+      ≡ map (λ (key : Key). let h : Head = record { key = key; needs = needs_of (history_of column) key.id } in h)
+      (line column.journal)
+  own_heads =
+      cond-true (column.region == column.region) _ _ (eq-eqb column.region column.region refl)
+      ∙ ap (λ (es : List Entry).
+      map (λ (key : Key). let h : Head = record { key = key; needs = needs_of (history_of column) key.id } in h)
+      (line es))
+      (entries_dated column.region column.journal)
 
-  abbrev needs : Key → Counts
-  needs key = needs_of (dated own column.journal) key.id
+  pub own_stamps : (keys : List Key) (region : ℕ) → keys ≡ line column.journal → region ≡ column.region
+      → greatest (map (λ (key : Key). key.stamp) (drop (at played region) (take (at (cut_of column) region) keys)))
+      ≡ stamps_in region
+  own_stamps keys region keys_are is =
+      let a = at played region in
+      let b = at (cut_of column) region in
+      let head = λ (key : Key). let h : Head = record { key = key; needs = needs_of (history_of column) key.id } in h in
+      ap greatest
+      (sym (map-map stamp_of head (drop a (take b keys)))
+      ∙ ap (map stamp_of)
+      (sym (drop-map head a (take b keys))
+      ∙ (ap (drop a) (sym (take-map head b keys))
+      ∙ ap (λ (hs : List Head). drop a (take b hs))
+      (ap (map head) keys_are ∙ (sym own_heads ∙ ap (chains_of column) (sym is))))))
 
-  abbrev between : ℕ → List Head
-  between = nodes_between (chain own (history_of column)) played (cut_of column)
+  pub other_stamps : (items : List PlacedNode) (region base : ℕ) → items ≡ copy_of column region → region < 4
+      → region ≢ column.region → base ≡ at (base_of column) region → IsWithin (base_of column) played
+      → greatest (map (λ (i : PlacedNode). i.head.key.stamp)
+      (drop (at played region - base) (take (at (cut_of column) region - base) items)))
+      ≡ stamps_in region
+  other_stamps items region base items_are lt ne base_is within =
+      let a = at played region - base in
+      let b = at (cut_of column) region - base in
+      let head = λ (i : PlacedNode). i.head in
+      let below = within-at (base_of column) played within region lt in
+      ap greatest
+      (sym (map-map stamp_of head (drop a (take b items)))
+      ∙ ap (map stamp_of)
+      (sym (drop-map head a (take b items))
+      ∙ (ap (drop a) (sym (take-map head b items))
+      ∙ (ap (λ (hs : List Head). drop a (take b hs))
+      (ap (map head) items_are
+      ∙ (k.copies.heads region lt ne ∙ ap (λ (n : ℕ). drop n (chains_of column region)) (sym base_is)))
+      ∙ behind base (at played region) (at (cut_of column) region) (chains_of column region)
+      (omega (arith, below, base_is))))))
 
-  cut_is : at (cut_of column) own ≡ length keys
-  cut_is = ap (λ (v : Counts). at v own) (own_cut own k.in_range column.journal k.own) ∙ at-own own (length keys) k.in_range
+-- all four regions
+pub between_all : (chains : Chains) (from to : Counts) (a b c d : ℕ)
+    → a ≡ greatest (map stamp_of (nodes_between chains from to 0))
+    → b ≡ greatest (map stamp_of (nodes_between chains from to 1))
+    → c ≡ greatest (map stamp_of (nodes_between chains from to 2))
+    → d ≡ greatest (map stamp_of (nodes_between chains from to 3))
+    → max (max (max a b) c) d ≡ greatest_between chains from to
+between_all chains from to a b c d p q r s =
+    let f = nodes_between chains from to in
+    let e3 = joined (f 3) [] in
+    let e2 = joined (f 2) (f 3 ++ []) in
+    let e1 = joined (f 1) (f 2 ++ (f 3 ++ [])) in
+    let e0 = joined (f 0) (f 1 ++ (f 2 ++ (f 3 ++ []))) in
+    four a b c d _ _ _ _ _ _ _ _ p q r s e0 e1 e2 e3 where
+      joined : (xs ys : List Head) → greatest (map stamp_of (xs ++ ys))
+          ≡ max (greatest (map stamp_of xs)) (greatest (map stamp_of ys))
+      joined xs ys = ap greatest (map-append stamp_of xs ys) ∙ greatest-append (map stamp_of xs) (map stamp_of ys)
 
-  own_between : between own ≡ drop (at played own) (map (headed needs) keys)
-  own_between =
-      ap (λ (hs : List Head). drop (at played own) (take (at (cut_of column) own) hs)) (own_chain own column.journal)
-      ∙ (ap (λ (n : ℕ). drop (at played own) (take n (map (headed needs) keys))) cut_is
-      ∙ ap (drop (at played own)) (take_all (length keys) (map (headed needs) keys)
-      (let n = length_map (headed needs) keys in omega (arith, n))))
-
-  other_between : (r : ℕ) → r ≢ own → between r ≡ []
-  other_between r ne =
-      ap (λ (hs : List Head). drop (at played r) (take (at (cut_of column) r) hs))
-      (other_chains own k.in_range column.journal k.own r ne)
-      ∙ none_of (at played r) (at (cut_of column) r)
-
-  greatest_is : greatest_between (chain own (history_of column)) played (cut_of column)
-      ≡ greatest (stamps needs keys (at played own))
-  greatest_is =
-      ap (λ (hs : List Head). greatest (map (λ (h : Head). h.key.stamp) hs))
-      (one_gives between own k.in_range (drop (at played own) (map (headed needs) keys)) own_between other_between
-      ∙ append-nil (drop (at played own) (map (headed needs) keys)))
-
-  -- where the counts leave out none
-  pub none_unplayed : length keys ≤ at played own
-      → greatest_between (chain own (history_of column)) played (cut_of column) ≡ 0
-  none_unplayed le = greatest_is ∙ past_end needs keys (at played own) le
-
-  -- else it is that of the last
-  pub last_unplayed : (n : ℕ) (key : Key) → n + 1 ≡ length keys → at played own < length keys
-      → slice_get keys n ≡ Some key
-      → greatest_between (chain own (history_of column)) played (cut_of column) ≡ key.stamp
-  last_unplayed n key last lt is =
-      greatest_is
-      ∙ from_place needs keys (at played own) key.stamp n key (omega (arith, last, lt)) is refl
-      (λ j l at_j. elim (cases_lt j n) [
-        | inl less ↦ key-stamps l key (line_rises own column.regions (history_of column) k.lawful j n l key less
-            (subst (λ (h : List Entry). slice_get (line h) j ≡ Some l) (sym (same_entries own column.journal)) at_j)
-            (subst (λ (h : List Entry). slice_get (line h) n ≡ Some key) (sym (same_entries own column.journal)) is))
-        | inr more ↦
-            let within = slice_get_within keys j l at_j in
-            let same : j ≡ n = omega (arith, more, within, last) in
-            let two : ◌≡◌ {A = Option Key} (Some l) (Some key) =
-            sym at_j ∙ (ap (slice_get keys) same ∙ is) in
-            let e : l ≡ key = cc in
-            let f = ap (λ (x : Key). x.stamp) e in
-            omega (arith, f)
-      ])
+      four : (a b c d a' b' c' d' g0 g1 g2 g3 : ℕ) → a ≡ a' → b ≡ b' → c ≡ c' → d ≡ d' → g0 ≡ max a' g1
+          → g1 ≡ max b' g2 → g2 ≡ max c' g3 → g3 ≡ max d' 0 → max (max (max a b) c) d ≡ g0
+      four a b c d a' b' c' d' g0 g1 g2 g3 p q r s t u v w = omega (arith, p, q, r, s, t, u, v, w)

@@ -1,50 +1,55 @@
 -- What a play makes of the world.
-use Rattle.std.proofs.Common.{◌≡◌, ℕ, ◌<◌, Bool, true, List, [], length, get_or, set, max, refl, ap, sym, subst, ◌∙◌}
-use Rattle.std.proofs.Common.{arith, length-set, get_or-set_same, get_or-set_other}
-use Rattle.std.specs.Prelude.{◌&&◌, nat_lt, slice_index}
-use Rattle.std.specs.List.{All}
-use mathlib.Core.Path.{fun_ext}
+use Rattle.std.proofs.Common.{◌≡◌, ℕ, ◌<◌, Bool, true, length, get_or, set, max, refl, ap, sym, subst, ◌∙◌}
+use Rattle.std.proofs.Common.{arith, length-set}
+use Rattle.std.specs.Prelude.{◌&&◌, nat_lt}
 use Rattle.std.proofs.lemmas.Bool.{and_parts, and_from, ltb-true, lt-ltb, cond-true}
 use Rattle.log_node.specs.declared.ids.Counts.{Counts}
-use Rattle.log_node.specs.Vectors.{zeros, is_within}
-use Rattle.col_core.specs.Keeping.{updated}
-use Rattle.col_core.specs.Cuts.{chain}
+use Rattle.log_node.specs.Vectors.{zeros, is_within, IsWithin}
+use Rattle.col_core.specs.Cuts.{chain, base}
+use Rattle.col_core.specs.Computed.{dated}
 use Rattle.col_core.specs.PlayOrder.{greatest_between}
-use Rattle.col_core.proofs.CutLaws.{within}
-use Rattle.column.specs.Columns.{ColumnState, cut_of, history_of}
-use Rattle.column.proofs.OwnCuts.{at-vector}
+use Rattle.column.specs.Columns.{ColumnState, cut_of, base_of, history_of}
 use Rattle.core_laws.specs.declared.steps.Step.TheVariants as steps
-use Rattle.core_laws.specs.Worlds.{World, home_of, home_history, is_client, is_column, base_after, may_play, after_play}
+use Rattle.core_laws.specs.Worlds.{home_of, home_history, is_client, is_column, base_after, may_play, after_play}
 use Rattle.core_laws.specs.Worlds.{played_cut, played_stamp, with_client}
-use Rattle.core_laws.specs.Laws.{NothingIsTrimmed}
-use Rattle.core_laws.proofs.Basics.{at_updated}
-use Rattle.core_laws.proofs.Untrimmed.{nothing_is_trimmed}
-use Rattle.core_laws.proofs.CallerLemmas.{of_reached}
 use Rattle.core_world.specs.Clients.{ClientKept, fresh_client}
-use Rattle.core_world.specs.Kept.{WorldKept, column_at, client_at, client_of, world_of, IsWhole}
-use Rattle.core_world.proofs.Changing.{client_world, whole_client, differs}
+use Rattle.core_world.specs.Kept.{WorldKept, column_at, client_at, world_of, IsWhole}
+use Rattle.core_world.proofs.Changing.{client_world, whole_client}
 use Rattle.core_world.proofs.Placing.{default_free}
 use Rattle.core_world.proofs.Marking.{set_updated}
-
-zeros_within : (v : Counts) → is_within zeros v ≡ true
-zeros_within v = within zeros v (λ r h. let e = at-vector (λ _. 0) r h in omega (arith, e))
 
 home_there : (kept : WorldKept) → IsWhole kept → (client : ℕ) → client < length kept.shape.homes
     → home_of (world_of kept) client < kept.shape.regions
 home_there kept w client lt = w.homes client 0 lt
 
--- Nothing is trimmed, so a client may play whatever column there is.
+-- the base of the column that a client plays
+pub base_is : (kept : WorldKept) → IsWhole kept → (client colour : ℕ) → client < length kept.shape.homes
+    → colour < kept.shape.colours
+    → base_of (column_at kept.columns (home_of (world_of kept) client) colour)
+    ≡ base_after kept.shape.regions (home_of (world_of kept) client) (home_history (world_of kept) client colour)
+base_is kept w client colour lt in_colours =
+    let home = home_of (world_of kept) client in
+    let q = column_at kept.columns home colour in
+    let p = w.placed home colour (home_there kept w client lt) in_colours in
+    ap (λ (r : ℕ). base r q.regions (dated r q.journal)) p.in_region
+    ∙ ap (λ (n : ℕ). base home n (dated home q.journal)) p.of_regions
+
+-- a client may play exactly where no number of the base is above what it has played
 pub may_play_there : (kept : WorldKept) → IsWhole kept → (client colour : ℕ) → client < length kept.shape.homes
-    → colour < kept.shape.colours → may_play (world_of kept) client colour ≡ true
+    → colour < kept.shape.colours
+    → may_play (world_of kept) client colour
+    ≡ is_within (base_of (column_at kept.columns (home_of (world_of kept) client) colour))
+    (get_or (client_at kept client).played colour zeros)
 may_play_there kept w client colour lt in_colours =
     let home = home_of (world_of kept) client in
-    let none = of_reached NothingIsTrimmed nothing_is_trimmed (world_of kept) w.reached home colour in
-    and_from (is_client (world_of kept) client) _ (lt-ltb client (length kept.shape.homes) lt)
-    (and_from (is_column (world_of kept) home colour) _
+    lead (is_client (world_of kept) client) _ (lt-ltb client (length kept.shape.homes) lt)
+    ∙ (lead (is_column (world_of kept) home colour) _
     (and_from (nat_lt home kept.shape.regions) _ (lt-ltb home kept.shape.regions (home_there kept w client lt))
     (lt-ltb colour kept.shape.colours in_colours))
-    (ap (λ (v : Counts). is_within v (((world_of kept).clients client).played colour)) none
-    ∙ zeros_within (((world_of kept).clients client).played colour)))
+    ∙ ap (λ (v : Counts). is_within v (get_or (client_at kept client).played colour zeros))
+    (sym (base_is kept w client colour lt in_colours))) where
+      lead : (a b : Bool) → a ≡ true → (a && b) ≡ b
+      lead a b t = rw t refl
 
 pub record MayPlay (kept : WorldKept) (client colour : ℕ) : Type 0 where
   pub is_client : client < length kept.shape.homes
@@ -94,7 +99,8 @@ module _ (kept : WorldKept) (w : IsWhole kept) (client colour : ℕ) (may : MayP
       ≡ played_stamp (world_of kept) client colour
   stamp_is =
       ap (λ (r : ℕ). let q : ColumnState = record its_column { region = r } in
-      greatest_between (chain r (history_of q)) (get_or (client_at kept client).played colour zeros) (cut_of q)) its_region
+      greatest_between (chain r (history_of q)) (get_or (client_at kept client).played colour zeros) (cut_of q))
+      its_region
 
   abbrev pub new_client : ClientKept
   new_client = played_client (client_at kept client) colour (played_cut (world_of kept) client colour)
@@ -114,7 +120,7 @@ module _ (kept : WorldKept) (w : IsWhole kept) (client colour : ℕ) (may : MayP
   play_whole t =
       whole_client kept client new_client (steps.Play client colour) w in_clients
       (length-set (client_at kept client).played colour (played_cut (world_of kept) client colour)
-      ∙ w.colours client fresh_client in_clients) refl
+      ∙ w.colours client fresh_client in_clients) refl refl
       (play_world ∙ sym (cond-true (may_play (world_of kept) client colour) _ _ t))
 
   -- as the code changes the clients
@@ -128,7 +134,8 @@ module _ (kept : WorldKept) (w : IsWhole kept) (client colour : ℕ) (may : MayP
       ∙ (ap (λ (x : ClientKept). played_client x colour cut stamp)
       (old_is ∙ default_free kept.clients client old fresh_client in_clients)
       ∙ (ap (λ (v : Counts). played_client (client_at kept client) colour v stamp) is_cut
-      ∙ ap (λ (s : ℕ). played_client (client_at kept client) colour (played_cut (world_of kept) client colour) s) is_stamp)))
+      ∙ ap (λ (s : ℕ). played_client (client_at kept client) colour (played_cut (world_of kept) client colour) s)
+      is_stamp)))
 
   -- what the code reads of the column
   module _ (at_home : ℕ) (home_is : home ≡ at_home) (now : WorldKept) (view : kept ≡ now) (column : ColumnState)
@@ -138,6 +145,20 @@ module _ (kept : WorldKept) (w : IsWhole kept) (client colour : ℕ) (may : MayP
         column_is
         ∙ (ap (λ (k : WorldKept). column_at k.columns at_home colour) (sym view)
         ∙ ap (λ (h : ℕ). column_at kept.columns h colour) (sym home_is))
+
+    pub code_base : (played : Counts) → (reader : ClientKept) → reader ≡ client_at now client
+        → played ≡ get_or reader.played colour zeros → may_play (world_of kept) client colour ≡ true
+        → IsWithin (base_of column) played
+    code_base played reader reader_is played_is t =
+        let mine = played_is
+        ∙ (ap (λ (x : ClientKept). get_or x.played colour zeros) reader_is
+        ∙ ap (λ (k : WorldKept). get_or (client_at k client).played colour zeros) (sym view)) in
+        subst (λ (q : ColumnState). IsWithin (base_of q) played) (sym column_same)
+        (subst (λ (v : Counts). IsWithin (base_of its_column) v) (sym mine)
+        (sym (may_play_there kept w client colour may.is_client may.in_colours) ∙ t))
+
+    pub code_region : column.region ≡ at_home
+    code_region = ap (λ (q : ColumnState). q.region) column_same ∙ (its_region ∙ home_is)
 
     pub code_cut : (cut : Counts) → cut ≡ cut_of column → cut ≡ played_cut (world_of kept) client colour
     code_cut cut is = is ∙ (ap cut_of column_same ∙ cut_is)

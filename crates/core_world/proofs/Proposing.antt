@@ -1,8 +1,8 @@
 -- A colour's mark is set, by a proposal or by a fence: what the code reads, and what it makes of the world.
-use Rattle.std.proofs.Common.{◌≡◌, ℕ, ◌+◌, ◌<◌, ◌≤◌, Bool, true, false, List, [], ◌∷◌, ◌++◌, length, get_or, set, Some, None}
+use Rattle.std.proofs.Common.{◌≡◌, ℕ, ◌<◌, ◌≤◌, true, false, List, [], ◌∷◌, ◌++◌, length, get_or, set, Some, None}
 use Rattle.std.proofs.Common.{Option, refl, ap, sym, subst, ◌∙◌, arith}
-use Rattle.std.specs.Prelude.{slice_get, max, ◌^◌, ◌==◌}
-use Rattle.std.proofs.lemmas.Bool.{and_parts, not-true, cond-true, eq-eqb}
+use Rattle.std.specs.Prelude.{slice_get}
+use Rattle.std.proofs.lemmas.Bool.{cond-true}
 use Rattle.std.proofs.lemmas.Option.{get_or_from_slice_get}
 use Rattle.log_node.specs.declared.ids.Row.{Row}
 use Rattle.log_node.specs.declared.ids.Colours.{Colours}
@@ -13,7 +13,6 @@ use Rattle.log_node.specs.declared.node.Node.{Node}
 use Rattle.log_node.specs.Sets.{has}
 use Rattle.skeen_core.specs.declared.board_row.BoardRow.{BoardRow}
 use Rattle.skeen_core.specs.declared.marks.Why.{Why}
-use Rattle.skeen_core.specs.declared.marks.Mark.{Mark}
 use Rattle.skeen_core.specs.declared.marks.Mark.TheVariants as marks
 use Rattle.skeen_core.specs.Boards.{Board, begun_at, with_changed, has_in}
 use Rattle.skeen_core.specs.Boards as boards
@@ -25,25 +24,23 @@ use Rattle.col_core.specs.Keeping.{updated_at}
 use Rattle.col_core.specs.Rows.{node_wants}
 use Rattle.column.specs.Columns.{ColumnState, with_room, stamp_for}
 use Rattle.column.specs.Columns as columns
-use Rattle.core_laws.specs.declared.steps.Step.{Step}
 use Rattle.core_laws.specs.declared.steps.Step.TheVariants as steps
 use Rattle.core_laws.specs.declared.steps.Reply.{Reply}
 use Rattle.core_laws.specs.declared.steps.Reply.TheVariants as replies
-use Rattle.core_laws.specs.Worlds.{World, RowState, home_of, row_of, row_history, is_begun, is_member, is_row_at_end}
+use Rattle.core_laws.specs.Worlds.{RowState, home_of, row_of, row_history, is_member, is_row_at_end}
 use Rattle.core_laws.specs.Worlds.{may_mark, may_propose, may_fence, with_mark, proposed_stamp, proposed_entry}
-use Rattle.core_laws.specs.Worlds.{after_propose, after, event_reply}
-use Rattle.core_laws.proofs.Held.{Held}
+use Rattle.core_laws.specs.Worlds.{after_propose, event_reply}
 use Rattle.core_laws.proofs.Histories.{not_entered, lawful_past_in, stamp_within}
 use Rattle.core_laws.proofs.OfRows.{MayMark, may_mark_is, marked_absent}
-use Rattle.core_world.specs.Clients.{ClientKept}
 use Rattle.core_world.specs.Kept.{WorldKept, no_column, column_at, client_at, world_of, IsRowNode, IsWhole}
 use Rattle.core_world.proofs.Worlds.{worlds}
-use Rattle.core_world.proofs.Changing.{with_column, histories_changed, columns_placed, clients_of, placed_of, whole_after}
-use Rattle.core_world.proofs.Changing.{reached_step}
+use Rattle.core_world.proofs.Changing.{with_column, histories_changed, columns_placed, placed_of, whole_after}
+use Rattle.core_world.proofs.Changing.{reached_step, columns_appended}
+use Rattle.core_world.proofs.Appended.{appended_entered, row_appended}
 use Rattle.core_world.proofs.Placing.{default_free}
 use Rattle.core_world.proofs.Calling.{is_held}
 use Rattle.core_world.proofs.Sets.{member_is}
-use Rattle.core_world.proofs.Marking.{Begun, begun_from, new_board, node_here, colours_here, rows_changed, marked_row}
+use Rattle.core_world.proofs.Marking.{Begun, begun_from, node_here, colours_here, rows_changed, marked_row}
 use Rattle.core_world.proofs.Marking.{marked_clients, board_world}
 
 -- where a begun row is
@@ -115,7 +112,7 @@ module _ (kept : WorldKept) (w : IsWhole kept) (row : Row) (colour : ℕ)
   pub fence_whole : (why : Why) → may_fence (world_of kept) row colour why ≡ true → IsWhole (fenced_kept why)
   fence_whole why t =
       whole_after kept kept.clients (fenced_kept why).board kept.columns w
-      (marked_clients kept w row its_row colour (marks.Fenced why)) (placed_of kept w)
+      (marked_clients kept w row its_row colour (marks.Fenced why)) (placed_of kept w) w.appended
       (reached_step kept (world_of (fenced_kept why)) (steps.Fence row colour why) w
       (fence_world why ∙ sym (cond-true (may_fence (world_of kept) row colour why) _ _ t)))
 
@@ -142,7 +139,8 @@ module _ (kept : WorldKept) (w : IsWhole kept) (row : Row) (colour : ℕ)
 
     pub propose_world : world_of proposed_kept ≡ after_propose (world_of kept) by row colour
     propose_world =
-        worlds kept.shape (world_of proposed_kept).histories (after_propose (world_of kept) by row colour).histories refl
+        worlds kept.shape (world_of proposed_kept).histories (after_propose (world_of kept) by row colour).histories
+        refl
         (rows_changed kept w row its_row (boards.with_mark colour (marks.Number stamp))
         ∙ ap with_row_of (marked_row kept w row its_row colour (marks.Number stamp) small g.missing))
         (histories_changed kept.columns home colour new_column (columns_there kept w row its_row) in_columns _ entry_is)
@@ -157,6 +155,10 @@ module _ (kept : WorldKept) (w : IsWhole kept) (row : Row) (colour : ℕ)
         (marked_clients kept w row its_row colour (marks.Number stamp))
         (columns_placed kept home colour new_column w (home_there kept w row its_row) colour_there
         (record { in_region = p.in_region; of_colour = p.of_colour; of_regions = p.of_regions }))
+        (columns_appended kept kept.clients home colour new_column w (home_there kept w row its_row) colour_there
+        w.appended
+        (appended_entered kept.clients old new_column _ its_node.id false _ refl refl (w.appended home colour)
+        (row_appended kept w row g.begun ((is_held kept w).rows row.client row.number g.begun).of_client)))
         (reached_step kept (world_of proposed_kept) (steps.Propose by row colour) w
         (propose_world ∙ sym (cond-true (may_propose (world_of kept) row colour) _ _ t)))
 
@@ -210,8 +212,10 @@ module _ (kept : WorldKept) (w : IsWhole kept) (row : Row) (colour : ℕ)
 
     pub call_row : node.row ≡ None → ⊥
     call_row none =
-        let some = ap (λ (n : Node). n.row) (node_same ∙ node_here kept w row its_row) ∙ (row_node kept w row its_row).row in
-        let two : ◌≡◌ {A = Option Row} None (Some (record { client = row.client; number = row.number })) = sym none ∙ some in
+        let some = ap (λ (n : Node). n.row) (node_same ∙ node_here kept w row its_row)
+        ∙ (row_node kept w row its_row).row in
+        let two : ◌≡◌ {A = Option Row} None (Some (record { client = row.client; number = row.number })) = sym none
+        ∙ some in
         cc
 
     stamp_same : stamp_for (get_or row_columns colour no_column) node ≡ proposed_stamp (world_of kept) row colour

@@ -76,7 +76,7 @@ pub seen_whole : (kept : WorldKept) (client to : ℕ) → IsWhole kept → may_s
 seen_whole kept client to w may =
     let lt = client_there kept client to w may in
     whole_client kept client (seen_client (client_at kept client) to) (steps.Seen client to) w lt
-    (w.colours client _ lt) refl
+    (w.colours client _ lt) refl refl
     (seen_world kept client to lt ∙ sym (cond-true (may_see (world_of kept) client to) _ _ may))
 
 -- the clients with one that has seen a stamp, as the code changes them

@@ -24,7 +24,8 @@ any_filter p c (x ∷ xs) =
     ∙ first (x == c) (p c) (list_any (λ d. d == c) xs) (λ e. ap p (sym (eqb-true x c e)) ∙ passes))
     (λ fails. any_filter p c xs
     ∙ other (x == c) (p c) (list_any (λ d. d == c) xs) (λ e. ap p (sym (eqb-true x c e)) ∙ fails)) where
-      first : (here pass there : Bool) → (here ≡ true → pass ≡ true) → (here || (pass && there)) ≡ (pass && (here || there))
+      first : (here pass there : Bool) → (here ≡ true → pass ≡ true) → (here || (pass && there))
+          ≡ (pass && (here || there))
       first true true there h = refl
       first true false there h = sym (h refl)
       first false true there h = refl

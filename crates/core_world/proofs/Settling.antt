@@ -1,7 +1,7 @@
 -- A decided row's node is settled in a column: what the code asks for, and what it makes of the world.
-use Rattle.std.proofs.Common.{◌≡◌, ◌≢◌, ◌⊎◌, inl, inr, ℕ, ◌<◌, ◌≤◌, Bool, true, false, List, [], ◌∷◌, ◌++◌, length, get_or}
-use Rattle.std.proofs.Common.{set, Option, Some, None, cond, refl, ap, sym, subst, ◌∙◌, arith}
-use Rattle.std.specs.Prelude.{◌&&◌, slice_get, IsSomeAnd, if◌then◌else◌}
+use Rattle.std.proofs.Common.{◌≡◌, ◌≢◌, ◌⊎◌, inl, inr, ℕ, ◌<◌, ◌≤◌, Bool, true, false, List, [], ◌∷◌, length, get_or}
+use Rattle.std.proofs.Common.{set, Option, Some, refl, ap, sym, subst, ◌∙◌, arith}
+use Rattle.std.specs.Prelude.{◌&&◌, IsSomeAnd, if◌then◌else◌}
 use Rattle.std.specs.List.{list_any, find}
 use Rattle.std.proofs.lemmas.Bool.{and_from, cond-true, cond-false, lt-ltb, or_left, or_right}
 use Rattle.std.proofs.lemmas.List.{set-get_or}
@@ -9,16 +9,12 @@ use Rattle.log_node.specs.declared.ids.Id.{Id}
 use Rattle.log_node.specs.declared.ids.Row.{Row}
 use Rattle.log_node.specs.declared.node.At.{At}
 use Rattle.log_node.specs.declared.node.At.TheVariants as ats
-use Rattle.log_node.specs.declared.node.Node.{Node}
 use Rattle.log_node.specs.Sets.{members}
-use Rattle.skeen_core.specs.declared.marks.Mark.{Mark}
 use Rattle.skeen_core.specs.declared.marks.Mark.TheVariants as marks
 use Rattle.skeen_core.specs.declared.marks.Outcome.{Outcome}
 use Rattle.skeen_core.specs.declared.marks.Outcome.TheVariants.{Open, Gone, Final}
 use Rattle.skeen_core.specs.Standings.{Standing, open_entry, is_open_id}
 use Rattle.skeen_core.specs.Queues.{has_open, is_decided, MaySettle}
-use Rattle.col_core.specs.declared.Event.TheVariants as events
-use Rattle.col_core.specs.declared.Entry.{Entry}
 use Rattle.col_core.specs.History.{last_stamp, entries}
 use Rattle.col_core.specs.Legal.{IsSettling}
 use Rattle.col_core.proofs.Basics.{by_test, choice}
@@ -26,9 +22,7 @@ use Rattle.col_core.proofs.Pasts as pasts
 use Rattle.column.specs.Columns.{ColumnState}
 use Rattle.column.specs.Columns as columns
 use Rattle.core_laws.specs.declared.steps.Step.TheVariants as steps
-use Rattle.core_laws.specs.declared.steps.Reply.{Reply}
-use Rattle.core_laws.specs.declared.steps.Reply.TheVariants as replies
-use Rattle.core_laws.specs.Worlds.{World, home_of, row_of, row_history, is_begun, may_settle, after_settle, after}
+use Rattle.core_laws.specs.Worlds.{World, home_of, row_of, is_begun, may_settle, after_settle, after}
 use Rattle.core_laws.specs.Worlds.{marks_of, settled_entry, reply}
 use Rattle.skeen_core.specs.Outcomes.{outcome_of}
 use Rattle.core_laws.proofs.Held.{Held}
@@ -36,7 +30,9 @@ use Rattle.core_laws.proofs.Marks.{has_colour, final_is, number_within, greatest
 use Rattle.core_laws.proofs.Histories.{lawful_past_in, may_settle_open}
 use Rattle.core_laws.proofs.Keeps.{row_agrees}
 use Rattle.core_laws.proofs.OfRows.{may_settle_is, mark-at_home}
-use Rattle.core_world.specs.Kept.{WorldKept, no_column, column_at, client_at, world_of, reply_at, IsPlaced, IsWhole}
+use Rattle.core_world.specs.Kept.{WorldKept, no_column, column_at, client_at, world_of, reply_at, IsPlaced, HasAppended}
+use Rattle.core_world.specs.Kept.{IsWhole}
+use Rattle.core_world.proofs.Appended.{appended_settled}
 use Rattle.core_world.proofs.Changing.{with_column, column_world, whole_column}
 use Rattle.core_world.proofs.Placing.{default_free}
 use Rattle.core_world.proofs.Calling.{is_held}
@@ -165,6 +161,8 @@ module _ (kept : WorldKept) (w : IsWhole kept) (row : Row) (b : Begun kept row) 
       (home_there kept w row b) in_colours
       (choice (λ (q : ColumnState). IsPlaced q home colour kept.shape.regions) settles (settled by) old
       (λ _. record { in_region = p.in_region; of_colour = p.of_colour; of_regions = p.of_regions }) (λ _. p))
+      (choice (HasAppended kept.clients) settles (settled by) old
+      (λ _. appended_settled kept.clients old by id last (w.appended home colour)) (λ _. w.appended home colour))
       (settled_world by)
 
   -- what the code reads
@@ -214,7 +212,8 @@ module _ (kept : WorldKept) (w : IsWhole kept) (row : Row) (b : Begun kept row) 
           then columns.after_settle (get_or l colour no_column) by called outcome else get_or l colour no_column))
           columns_same
           ∙ (ap (λ (i : Id). set (get_or kept.columns home []) colour
-          (if has_open i (entries old.journal) && is_decided outcome then columns.after_settle old by i outcome else old))
+          (if has_open i (entries old.journal) && is_decided outcome then columns.after_settle old by i outcome else
+          old))
           called_is
           ∙ ap (λ (o : Outcome). set (get_or kept.columns home []) colour
           (if has_open id (entries old.journal) && is_decided o then columns.after_settle old by id o else old))

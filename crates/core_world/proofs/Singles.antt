@@ -1,9 +1,8 @@
 -- A client's node enters its region's column: what that makes of the world.
 use Rattle.std.proofs.Common.{◌≡◌, ℕ, zero, suc, ◌<◌, true, false, List, [], ◌∷◌, ◌++◌, length, get_or, set, refl, ap}
-use Rattle.std.proofs.Common.{sym, subst, ◌∙◌, arith, eq-eqb, length-set}
+use Rattle.std.proofs.Common.{sym, ◌∙◌, arith, eq-eqb}
 use Rattle.std.specs.Prelude.{◌^◌, ◌==◌, nat_lt}
 use Rattle.std.proofs.lemmas.Bool.{and_parts, ltb-true, cond-true, not-true}
-use Rattle.std.proofs.lemmas.List.Elements.{All-set}
 use Rattle.log_node.specs.declared.ids.Colours.{Colours}
 use Rattle.log_node.specs.declared.ids.Counts.{Counts}
 use Rattle.log_node.specs.declared.node.Node.{Node}
@@ -15,15 +14,18 @@ use Rattle.col_core.specs.Rows.{wants_of, node_wants}
 use Rattle.column.specs.Columns.{ColumnState, with_room, stamp_for}
 use Rattle.column.specs.Columns as columns
 use Rattle.core_laws.specs.declared.steps.Step.TheVariants as steps
-use Rattle.core_laws.specs.Worlds.{World, ClientState, home_of, home_history, is_client, is_column, is_at_end}
+use Rattle.core_laws.specs.Worlds.{home_of, home_history, is_client, is_column, is_at_end}
 use Rattle.core_laws.specs.Worlds.{may_single, single_entry, after_single}
-use Rattle.core_laws.specs.Laws.{IsReached}
-use Rattle.core_laws.proofs.CallerLemmas.{after_reached}
 use Rattle.core_world.specs.Clients.{ClientKept, fresh_client, with_next_node, next_single}
-use Rattle.core_world.specs.Kept.{WorldKept, column_at, client_at, world_of, IsWhole}
+use Rattle.core_world.specs.Kept.{WorldKept, column_at, client_at, world_of, IsAppended, IsWhole}
 use Rattle.core_world.proofs.Worlds.{worlds}
 use Rattle.core_world.proofs.Changing.{with_column, clients_changed, nodes_changed, histories_changed, rows_same}
-use Rattle.core_world.proofs.Changing.{columns_placed, clients_set, whole_after, reached_step}
+use Rattle.core_world.proofs.Changing.{columns_placed, clients_set, whole_after, reached_step, columns_appended}
+use Rattle.core_world.proofs.Changing.{clients_appended}
+use Rattle.core_world.proofs.Appended.{appended_entered, is_listed}
+use Rattle.core_laws.proofs.Basics.{slice_last}
+use Rattle.std.specs.Prelude.{slice_get}
+use Rattle.std.proofs.Common.{get_or-set_same}
 
 -- a fact of each of sixteen numbers
 up_to_16 : (P : ℕ → Type 0) → P 0 → P 1 → P 2 → P 3 → P 4 → P 5 → P 6 → P 7 → P 8 → P 9 → P 10 → P 11 → P 12 → P 13
@@ -143,12 +145,24 @@ module _ (kept : WorldKept) (w : IsWhole kept) (client colour : ℕ) (text : Lis
       (histories_changed kept.columns home colour new_column home_in colour_in _ entry_is)
       (nodes_changed kept.clients client new_client client_in)
 
+  node_appended : IsAppended (set kept.clients client new_client) node.id node
+  node_appended =
+      ap (λ (c : ClientKept). slice_get c.nodes node.id.count)
+      (get_or-set_same kept.clients client new_client fresh_client client_in)
+      ∙ (ap (slice_get new_client.nodes) (sym ((is_listed kept w).counts client))
+      ∙ slice_last (client_at kept client).nodes node)
+
   pub single_whole : may_single (world_of kept) client colour ≡ true → IsWhole new_kept
   single_whole t =
       let p = w.placed home colour may.in_regions may.in_colours in
-      whole_after kept (set kept.clients client new_client) kept.board (with_column kept.columns home colour new_column) w
+      whole_after kept (set kept.clients client new_client) kept.board (with_column kept.columns home colour new_column)
+      w
       (clients_set kept client new_client w client_in (w.colours client fresh_client client_in) refl)
       (columns_placed kept home colour new_column w may.in_regions may.in_colours
       (record { in_region = p.in_region; of_colour = p.of_colour; of_regions = p.of_regions }))
+      (columns_appended kept (set kept.clients client new_client) home colour new_column w may.in_regions may.in_colours
+      (clients_appended kept client new_client (node ∷ []) client_in refl w.appended)
+      (appended_entered (set kept.clients client new_client) old new_column _ node.id true _ refl refl
+      (clients_appended kept client new_client (node ∷ []) client_in refl w.appended home colour) node_appended))
       (reached_step kept (world_of new_kept) (steps.Single client colour text) w
       (single_world ∙ sym (cond-true (may_single (world_of kept) client colour) _ _ t)))

@@ -1,7 +1,8 @@
 -- What code keeps of a world, and the world that it means.
 use Rattle.std.specs.Prelude.{◌≡◌, ℕ, ◌<◌, ◌≤◌, List, [], length, map, true, Some, slice_get, slice_index}
 use Rattle.std.specs.Prelude.{slice_index_or, slice_set}
-use Rattle.std.specs.List.{All, range_with_len}
+use Rattle.std.specs.List.{All, AllByRecursion, range_with_len}
+use Rattle.log_node.specs.declared.ids.Id.{Id}
 use Rattle.log_node.specs.declared.node.At.{At}
 use Rattle.log_node.specs.declared.node.At.TheVariants as ats
 use Rattle.log_node.specs.declared.node.Node.{Node}
@@ -11,7 +12,7 @@ use Rattle.skeen_core.specs.declared.board_row.BoardRow.{BoardRow}
 use Rattle.skeen_core.specs.declared.marks.Outcome.{Outcome}
 use Rattle.skeen_core.specs.declared.marks.Outcome.TheVariants.{Open, Gone, Final}
 use Rattle.skeen_core.specs.Boards.{Board, rows_of, mark_in, last_in}
-use Rattle.column.specs.Columns.{ColumnState, new_column}
+use Rattle.column.specs.Columns.{ColumnState, new_column, copy_of}
 use Rattle.core_laws.specs.declared.steps.Reply.{Reply}
 use Rattle.core_laws.specs.declared.steps.Reply.TheVariants as replies
 use Rattle.core_laws.specs.Worlds.{World, ClientState, RowState, no_row, is_member}
@@ -100,6 +101,15 @@ pub record IsRowNode (home client number colours : ℕ) (node : Node) : Type 0 w
   pub row : node.row ≡ Some (record { client = client; number = number })
   pub within : (colour : ℕ) → is_member node.colours colour ≡ true → colour < colours
 
+-- the client of the id appended the node under it
+abbrev pub IsAppended : List ClientKept → Id → Node → Type 0
+IsAppended clients id node = slice_get (slice_index_or clients id.client fresh_client).nodes id.count ≡ Some node
+
+-- each node that a column has is the one that its client appended
+pub record HasAppended (clients : List ClientKept) (column : ColumnState) : Type 0 where
+  pub stored : AllByRecursion (λ w. IsAppended clients w.key.id w.thing.node) column.queue.stored
+  pub copies : (region : ℕ) → AllByRecursion (λ i. IsAppended clients i.head.key.id i.node) (copy_of column region)
+
 -- all clients, rows and columns of the shape are there, and steps have made the world
 pub record IsWhole (kept : WorldKept) : Type 0 where
   pub few_regions : kept.shape.regions ≤ 4
@@ -117,4 +127,5 @@ pub record IsWhole (kept : WorldKept) : Type 0 where
   pub rows : (client : ℕ) → AreRows (client_at kept client).begun (rows_of kept.board client)
   pub begun : (client number : ℕ) (node : Node) → slice_get (client_at kept client).begun number ≡ Some node
       → IsRowNode (slice_index kept.shape.homes client) client number kept.shape.colours node
+  pub appended : (region colour : ℕ) → HasAppended kept.clients (column_at kept.columns region colour)
   pub reached : IsReached (world_of kept)

@@ -1,2 +1,4 @@
 pub mod Clients
 pub mod Kept
+pub mod Completed
+pub mod Looks

@@ -1,12 +1,20 @@
 //! The world of all columns and clients as code of one thread, whose steps are those of the world's definitions.
 #![tactic(auto)]
 
+mod appends;
+mod clearing;
 mod client;
+mod completing;
+mod moves;
+mod reading;
 mod region;
+mod rows;
 mod unplayed;
+mod whole;
 mod world;
 
 pub use client::Client;
+pub use completing::Completed;
 pub use region::RegionColumns;
 pub use world::World;
 

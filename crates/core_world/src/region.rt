@@ -1,16 +1,16 @@
 // The columns of one region.
-ghost use Rattle.std.specs.Prelude.{◌≡◌, ◌<◌, ◌≤◌, nat_le, length, slice_index_or, slice_set};
+ghost use Rattle.std.specs.Prelude.{◌≡◌, ◌≢◌, ◌<◌, ◌≤◌, nat_le, nat_lt, length, slice_index_or, slice_set};
 ghost use Rattle.std.specs.Prelude.{true, false, None, ◌&&◌, if◌then◌else◌, IfOk, IfErr, OnOk, OnErr};
 ghost use Rattle.std.specs.List.{list_any};
 ghost use Rattle.col_core.specs.History.{clock, has_entered, entries};
 ghost use Rattle.log_node.specs.Sets.{has};
 ghost use Rattle.skeen_core.specs.Queues.{MaySettle, has_open, is_decided};
 ghost use Rattle.column.specs.Columns.{after_raise, after_single, after_propose, after_settle, with_room, stamp_for};
-ghost use Rattle.column.specs.Columns.{HasEnterCause};
+ghost use Rattle.column.specs.Columns.{after_give, after_carry, after_trim, new_items, HasEnterCause};
 ghost use Rattle.core_world.specs.Kept.{no_column, fresh_columns};
 
-use column::{Column, ColumnFault};
-use log_node::{At, Id, Node, Shape};
+use column::{Column, ColumnFault, Given};
+use log_node::{At, Counts, Id, Node, Shape};
 use skeen_core::{MAX_STAMP, Outcome};
 use std::alloc::{AllocError, Global};
 use std::marker::Model;
@@ -36,6 +36,7 @@ impl RegionColumns {
     pub fn open(alloc: Global, region: u8, shape: &Shape) -> Result<RegionColumns, AllocError>
         requires region { region < 4 }
         requires colours { shape.now.colours ≤ 16 }
+        requires regions { shape.now.regions ≤ 4 }
         ensures { IfOk result (λ columns. columns ≡ fresh_columns region shape.now) }
     {
         let mut items = Vec::new(alloc);
@@ -53,6 +54,13 @@ impl RegionColumns {
         &self.items[colour as usize]
     }
 
+    /// All of them, by colour; takes no memory.
+    pub fn into_columns(self) -> Vec<Column>
+        ensures { result.items ≡ self }
+    {
+        self.items
+    }
+
     /// Raises the clock of a colour's column.
     pub fn raise(&mut self, by: u8, colour: u8, to: u64) -> Result<At, AllocError>
         requires colour { colour < length self.old }
@@ -65,6 +73,57 @@ impl RegionColumns {
         ensures err { OnErr result (self.new ≡ self.old) }
     {
         self.items[colour as usize].raise(by, to)
+    }
+
+    /// A colour's column notes that another region has asked for its line from a number on.
+    pub fn note(&mut self, by: u8, colour: u8, region: u8, from: u64) -> Result<At, AllocError>
+        requires colour { colour < length self.old }
+        requires other { region ≢ (slice_index_or self.old colour no_column).region }
+        requires region { region < (slice_index_or self.old colour no_column).regions }
+        ensures answer { IfOk result (λ at.
+            at ≡ At.Event (length (slice_index_or self.old colour no_column).journal)) }
+        ensures ok { OnOk result (self.new ≡ slice_set self.old colour
+            (after_give (slice_index_or self.old colour no_column) by region from)) }
+        ensures err { OnErr result (self.new ≡ self.old) }
+    {
+        self.items[colour as usize].note(by, region, from)
+    }
+
+    /// A colour's column takes over what is new of a part of another region's line.
+    pub fn carry(
+        &mut self,
+        alloc: Global,
+        by: u8,
+        colour: u8,
+        region: u8,
+        given: &Given,
+    ) -> Result<At, AllocError>
+        requires colour { colour < length self.old }
+        requires other { region ≢ (slice_index_or self.old colour no_column).region }
+        requires region { region < (slice_index_or self.old colour no_column).regions }
+        ensures answer { let column = slice_index_or self.old colour no_column in
+            let place = length column.journal in
+            IfOk result (λ at. at ≡ (if nat_lt 0 (length (new_items column region given.now))
+            then At.Event place else At.Look place)) }
+        ensures ok { OnOk result (self.new ≡ slice_set self.old colour
+            (after_carry (slice_index_or self.old colour no_column) by region given.now)) }
+        ensures err { OnErr result (self.new ≡ self.old) }
+    {
+        let (at, _count) = self.items[colour as usize].carry(alloc, by, region, given)?;
+        Ok(at)
+    }
+
+    /// A colour's column is trimmed up to these counts.
+    pub fn trim(&mut self, by: u8, colour: u8, counts: Counts) -> Result<At, AllocError>
+        requires { colour < length self.old }
+        ensures answer { IfOk result (λ at.
+            at ≡ At.Event (length (slice_index_or self.old colour no_column).journal)) }
+        ensures ok { OnOk result (self.new ≡ slice_set self.old colour
+            (after_trim (slice_index_or self.old colour no_column) by counts)) }
+        ensures err { OnErr result (self.new ≡ self.old) }
+    {
+        let (at, _count) = self.items[colour as usize].trim(by, counts)?;
+        Ok(at)
     }
 
     /// Whether the clock of one of the columns is no less.

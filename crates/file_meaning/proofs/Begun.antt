@@ -31,9 +31,11 @@ use Rattle.script_text.specs.declared.script.Object.{Object}
 use Rattle.lawful_run.specs.Callers.{Caller, node_of, row_of as named_row}
 use Rattle.lawful_run.specs.Appends.{IsStepOf, BeginsRow}
 use Rattle.lawful_run.proofs.Prefixes.{prefix_length, prefix_get}
-use Rattle.file_meaning.proofs.Rows.{IsDone, IsStill, done_still, still_trans, step_still, run_still, IsOn, on_touches}
+use Rattle.file_meaning.proofs.Rows.{IsDone, IsStill, done_still, still_trans, step_still, run_still}
+use Rattle.file_meaning.proofs.RowSteps.{IsOn, on_touches}
 use Rattle.file_meaning.proofs.Moves.{StepIn, OnRow, on_steps, places_more, no_places, all_from}
-use Rattle.file_meaning.proofs.Clearing.{held_of, told_of, listed_of, Finished}
+use Rattle.file_meaning.proofs.Reached.{held_of, told_of, listed_of}
+use Rattle.file_meaning.proofs.Clearing.{Finished}
 use Rattle.file_meaning.proofs.Kept.{caller_in, IsKeptBy, later_log}
 use Rattle.file_meaning.proofs.One.{updated-not}
 

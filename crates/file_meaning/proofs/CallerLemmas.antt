@@ -7,8 +7,9 @@ use Rattle.core_laws.proofs.CallerLemmas.{opened_reached, run_reached}
 use Rattle.core_laws.proofs.Growing.{run_grows}
 use Rattle.script_text.specs.declared.script.Command.{Command}
 use Rattle.script_text.specs.declared.script.Script.{Script}
-use Rattle.file_meaning.specs.Meaning.{State, LeadTo, nothing, next}
-use Rattle.file_meaning.proofs.Exactness.{done_extends}
+use Rattle.file_meaning.specs.States.{State}
+use Rattle.file_meaning.specs.Meaning.{LeadTo, nothing, next}
+use Rattle.file_meaning.proofs.OneExactly.{done_extends}
 
 pub lead_reached : (script : Script) {commands : List Command} {state : State} → LeadTo script commands state
     → IsReached state.world

@@ -23,26 +23,15 @@ use Rattle.core_laws.specs.Laws.{IsReached}
 use Rattle.core_laws.proofs.Held.{status_in, Held}
 use Rattle.core_laws.proofs.Marks.{is_waiting}
 use Rattle.core_laws.proofs.Histories.{lawful_past_in}
-use Rattle.core_laws.proofs.Told.{Told}
-use Rattle.core_laws.proofs.Telling.{told}
-use Rattle.core_laws.proofs.Listed.{Listed, listed}
 use Rattle.core_laws.proofs.RegionRows.{same_number}
-use Rattle.core_laws.proofs.Runs.{held, run_held, run_steps-append}
+use Rattle.core_laws.proofs.Runs.{run_held, run_steps-append}
 use Rattle.core_laws.proofs.CallerLemmas.{run_reached}
-use Rattle.file_meaning.specs.Meaning.{Found, Helping, open_below, node_with, helped_row, helped_node, helped_first, helped_times, cleared, all_cleared}
-use Rattle.file_meaning.proofs.Rows.{node_id, IsDone, IsStill, done_still, still_trans, completed_done, completed_still, complete_steps_on, open_row, open_before}
+use Rattle.file_meaning.specs.States.{Found}
+use Rattle.file_meaning.specs.Helping.{Helping, open_below, node_with, helped_row, helped_node, helped_first, helped_times, cleared, all_cleared}
+use Rattle.file_meaning.proofs.Reached.{held_of, told_of, listed_of}
+use Rattle.file_meaning.proofs.Rows.{node_id, IsDone, IsStill, done_still, still_trans}
+use Rattle.file_meaning.proofs.RowSteps.{completed_done, completed_still, complete_steps_on, open_row, open_before}
 use Rattle.file_meaning.proofs.Moves.{Adds, adds_none, adds_trans, adds_map, StepIn, OnRow, on_steps, HelpIn, help_of}
-
--- What holds of a world that is reached
-
-pub held_of : (w : World) → IsReached w → Held w
-held_of w r = subst Held r.is (held r.shape r.steps)
-
-pub told_of : (w : World) → IsReached w → Told w
-told_of w r = subst Told r.is (told r.shape r.steps)
-
-pub listed_of : (w : World) → IsReached w → Listed w
-listed_of w r = subst Listed r.is (listed r.shape r.steps)
 
 -- the rows that are not done are of clients for which the fact holds
 abbrev pub Finished : (ℕ → Type 0) → World → Type 0

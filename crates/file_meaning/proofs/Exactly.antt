@@ -23,8 +23,10 @@ use Rattle.core_laws.proofs.Marks.{has_colour}
 use Rattle.core_laws.proofs.Completing.{mark_step_marks}
 use Rattle.core_laws.proofs.Growing.{run_grows}
 use Rattle.core_laws.proofs.Runs.{run_steps-append}
-use Rattle.file_meaning.specs.Meaning.{Found, all_found, Helping, open_below, node_with, helped_row, helped_node, helped_first, helped_times, cleared, all_cleared}
-use Rattle.file_meaning.proofs.Rows.{IsOn, complete_steps_on, still_begun}
+use Rattle.file_meaning.specs.States.{Found, all_found}
+use Rattle.file_meaning.specs.Helping.{Helping, open_below, node_with, helped_row, helped_node, helped_first, helped_times, cleared, all_cleared}
+use Rattle.file_meaning.proofs.Rows.{still_begun}
+use Rattle.file_meaning.proofs.RowSteps.{IsOn, complete_steps_on}
 
 -- no begun row has a fence for want of memory
 abbrev pub IsClean : World → Type 0
@@ -162,6 +164,9 @@ not_begun w by row (steps.Settle x other c) f o =
     if_false (may_settle w other c) _ w (and_left (is_begun w other) _ (ap (is_begun w) o.1 ∙ f))
 not_begun w by row (steps.Single client c text) f o = absurd o
 not_begun w by row (steps.Raise x region c to) f o = absurd o
+not_begun w by row (steps.Give x origin region c from) f o = absurd o
+not_begun w by row (steps.Carry x origin region c start count) f o = absurd o
+not_begun w by row (steps.Trim x region c counts) f o = absurd o
 not_begun w by row (steps.Play client c) f o = absurd o
 not_begun w by row (steps.Seen client to) f o = absurd o
 

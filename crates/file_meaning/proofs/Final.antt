@@ -1,5 +1,5 @@
 -- An append to several colours that is final.
-use Rattle.std.proofs.Common.{◌≡◌, ◌⊎◌, inl, inr, ℕ, ◌+◌, ◌<◌, ◌≤◌, max, List, [], ◌∷◌, ◌++◌, length, map, Some, Bool, true, false, refl, ap, sym, subst, ◌∙◌, arith}
+use Rattle.std.proofs.Common.{◌≡◌, ◌⊎◌, inl, inr, ℕ, ◌+◌, ◌<◌, ◌≤◌, max, List, [], ◌∷◌, ◌++◌, length, map, Some, true, false, refl, ap, sym, subst, ◌∙◌, arith}
 use Rattle.std.specs.Prelude.{nat_lt, nat_le, slice_get, slice_index, reverse}
 use Rattle.std.specs.List.{list_any, list_all, range_with_len}
 use Rattle.std.proofs.lemmas.Bool.{ltb-true, lt-ltb, le-leb, and_from}
@@ -48,34 +48,25 @@ use Rattle.lawful_run.specs.Callers.{Caller, node_of}
 use Rattle.lawful_run.specs.Appends.{StandsAt, AppendsSeveral, kept_after_points}
 use Rattle.lawful_run.specs.Explains.{Explains}
 use Rattle.lawful_run.proofs.Prefixes.{prefix_length, prefix_get, get_within}
-use Rattle.file_meaning.specs.Meaning.{Found, all_cleared, position_of, point_in}
-use Rattle.file_meaning.proofs.Rows.{node_id, IsDone, standing_as, IsOn}
+use Rattle.file_meaning.specs.States.{Found, position_of}
+use Rattle.file_meaning.specs.Helping.{all_cleared}
+use Rattle.file_meaning.specs.Appends.{point_in}
+use Rattle.file_meaning.proofs.Rows.{node_id, IsDone, standing_as}
+use Rattle.file_meaning.proofs.RowSteps.{IsOn}
 use Rattle.file_meaning.proofs.Moves.{adds_trans, adds_map, HelpIn}
-use Rattle.file_meaning.proofs.Clearing.{held_of, told_of, Finished, helped_reached, helped_finished, ClearsAll, clear_all}
+use Rattle.file_meaning.proofs.Reached.{held_of, told_of}
+use Rattle.file_meaning.proofs.Clearing.{Finished, helped_reached, helped_finished, ClearsAll, clear_all}
 use Rattle.file_meaning.proofs.Lines.{stands_there, final_stays, absent_line, position_behind}
 use Rattle.file_meaning.proofs.Kept.{caller_in, IsKeptBy, MadeBy, Does, later_log}
 use Rattle.file_meaning.proofs.One.{caller_same, updated-not, helped_places}
 use Rattle.file_meaning.proofs.Begun as begun
-use Rattle.file_meaning.proofs.Begun.{begins_later}
 use Rattle.file_meaning.proofs.First.{ProposesFirst, proposes_first, in_any}
 use Rattle.core_laws.proofs.RegionRows.{all_in, in_map}
-use Rattle.file_meaning.proofs.Lists.{range_in}
+use Rattle.file_meaning.proofs.Lists.{range_in, some_in, each_of, map_same}
 use Rattle.file_meaning.proofs.Several as several
 use Rattle.file_meaning.proofs.Several.{mark_number, not_any}
+use Rattle.file_meaning.proofs.OwnEvents.{finished_client}
 use Rattle.file_meaning.proofs.Points.{PointsKept, IsBoundedPoint, points_kept}
-
-some_in : (xs : List ℕ) → 1 < length xs → (x : ℕ) × In x xs
-some_in [] lt = absurd (let f : ⊥ = omega (arith, lt) in f)
-some_in (x ∷ xs) lt = (x, inl refl)
-
-each_of : (test : ℕ → Bool) (xs : List ℕ) → list_all test xs ≡ true → (x : ℕ) → In x xs → test x ≡ true
-each_of test [] e x i = absurd i
-each_of test (y ∷ xs) e x (inl is) = ap test (sym is) ∙ (both (test y) _ e).0
-each_of test (y ∷ xs) e x (inr i) = each_of test xs (both (test y) _ e).1 x i
-
-map_same : (f : ℕ → ℕ) (xs : List ℕ) → ((x : ℕ) → f x ≡ x) → map f xs ≡ xs
-map_same f [] h = refl
-map_same f (x ∷ xs) h = ap (λ (y : ℕ). y ∷ map f xs) (h x) ∙ ap (λ (l : List ℕ). x ∷ l) (map_same f xs h)
 
 module _ (objects : List Object) (S : ℕ → Type 0) (found : Found) (w : World) (reached : IsReached w)
     (fin : Finished S w)
@@ -208,16 +199,8 @@ module _ (objects : List Object) (S : ℕ → Type 0) (found : Found) (w : World
     reached5 = subst IsReached seen_is (after_reached w3 (Seen u f) reached3)
 
     finished5 : Finished S w5
-    finished5 other b = turn (several.finished3 objects S found w reached fin u colours text free ok other begun) where
-      begun : is_begun w3 other ≡ true
-      begun = at_updated (λ (s : ClientState). nat_lt other.number s.used ≡ true → is_begun w3 other
-          ≡ true) w3.clients u
-          (record (w3.clients u) { floor = f }) other.client
-          (λ same x. ap (λ (n : ℕ). nat_lt other.number (w3.clients n).used) same ∙ x) (λ _ x. x) b
-
-      turn : S other.client ⊎ IsDone w3 other → S other.client ⊎ IsDone w5 other
-      turn (inl s) = inl s
-      turn (inr d) = inr (record { decided = d.decided; waits = d.waits })
+    finished5 = finished_client S w3 u (record (w3.clients u) { floor = f }) refl
+        (several.finished3 objects S found w reached fin u colours text free ok)
 
     abbrev key : Key
     key = entry_key f id
@@ -350,7 +333,7 @@ module _ (objects : List Object) (S : ℕ → Type 0) (found : Found) (w : World
 
       appends : AppendsSeveral (log_of w6) caller kept node f points places
       appends = record {
-        begins = begins_later (log_of w3) (log_of w6) later36 caller kept node places
+        begins = begun.begins_later (log_of w3) (log_of w6) later36 caller kept node places
             (begun.begins objects w reached u colours text ok L on kept k);
         outcome = outcome_stays (log_of w3) (log_of w6) later36 node (Final f) (λ x. absurd (let y : ⊥ = cc in y))
             (subst (HasOutcome (log_of w3) node) e

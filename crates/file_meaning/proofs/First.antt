@@ -30,9 +30,9 @@ use Rattle.core_laws.proofs.RegionRows.{same_number}
 use Rattle.core_laws.proofs.Told.{FitsEvent}
 use Rattle.script_text.specs.declared.script.Object.{Object}
 use Rattle.lawful_run.specs.Appends.{IsStepOf}
-use Rattle.file_meaning.proofs.Rows.{IsOn}
+use Rattle.file_meaning.proofs.RowSteps.{IsOn}
 use Rattle.file_meaning.proofs.Moves.{StepIn, OnRow}
-use Rattle.file_meaning.proofs.Clearing.{held_of, told_of}
+use Rattle.file_meaning.proofs.Reached.{held_of, told_of}
 use Rattle.file_meaning.proofs.Begun as begun
 
 pub in_any : {A : Type 0} (test : A → Bool) (xs : List A) (x : A) → In x xs → test x ≡ true → list_any test xs ≡ true

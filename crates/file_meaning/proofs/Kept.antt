@@ -22,7 +22,7 @@ use Rattle.lawful_run.specs.Lawful.{IsHelp}
 use Rattle.lawful_run.specs.Refusals.{nothing}
 use Rattle.lawful_run.proofs.Prefixes.{prefix_length}
 use Rattle.file_meaning.proofs.Moves.{Adds, adds_none, adds_map, others_places}
-use Rattle.file_meaning.proofs.Clearing.{held_of, told_of}
+use Rattle.file_meaning.proofs.Reached.{held_of, told_of}
 
 -- a client of a world, and where it calls from
 abbrev pub caller_in : World → List Object → ℕ → Caller

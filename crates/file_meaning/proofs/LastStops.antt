@@ -15,7 +15,7 @@ use Rattle.script_text.specs.declared.item.Item.TheVariants as items
 use Rattle.script_text.specs.Items.{is_stop, client_names, commands, commands_in, has_stopped, has_begun}
 use Rattle.script_text.specs.Pieces.{lines_of}
 use Rattle.script_text.specs.Grammar.{may_follow, is_lawful_what, Say, kept_lines}
-use Rattle.file_meaning.specs.Meaning.{StopsAreLast}
+use Rattle.file_meaning.specs.States.{StopsAreLast}
 use Rattle.file_meaning.specs.Laws.{ScriptsStopLast}
 use Rattle.file_meaning.proofs.First.{in_any}
 

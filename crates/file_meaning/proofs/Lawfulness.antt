@@ -8,14 +8,13 @@ use Rattle.std.proofs.lemmas.List.{map-append, length-map}
 use Rattle.std.proofs.lemmas.List.Elements.{All-nil, All-append, All-map}
 use Rattle.std.proofs.lemmas.Option.{slice_get-map}
 use Rattle.std.proofs.lemmas.Simd.{map-map}
-use Rattle.log_node.specs.declared.node.Head.{Head}
 use Rattle.log_node.specs.declared.node.Shape.{Shape}
 use Rattle.skeen_core.specs.declared.marks.Outcome.TheVariants.{Open}
 use Rattle.skeen_core.specs.Standings.{Standing, queue_of}
 use Rattle.col_core.specs.declared.Entry.{Entry}
 use Rattle.col_core.specs.History.{entries}
-use Rattle.col_core.specs.Cuts.{chain}
 use Rattle.col_core.specs.Computed.{dated}
+use Rattle.col_core.specs.Copies.{AreTrueCopies}
 use Rattle.col_core.specs.Legal.{IsColumnHistory}
 use Rattle.col_core.specs.Rows.{BegunRow, AreLawfulRows, is_of}
 use Rattle.col_core.specs.Log.{Log}
@@ -35,13 +34,15 @@ use Rattle.report_text.specs.declared.report.ClientReport.{ClientReport}
 use Rattle.report_text.specs.declared.report.ColumnReport.{ColumnReport}
 use Rattle.lawful_run.specs.Columns.{IsColumnReport, AreColumns, AreRows, AreCopies}
 use Rattle.lawful_run.specs.Lawful.{IsClientRun, IsHelp, HasHelping, HasStopped, LeavesOpen, LawfulRun}
-use Rattle.file_meaning.specs.Meaning.{State, column_report, report_of}
+use Rattle.file_meaning.specs.States.{State}
+use Rattle.file_meaning.specs.Meaning.{column_report, report_of}
 use Rattle.file_meaning.specs.Laws.{RunsAreLawful}
 use Rattle.lawful_run.proofs.Prefixes.{get_within}
 use Rattle.file_meaning.proofs.Lists.{in_range}
-use Rattle.file_meaning.proofs.Rows.{IsDone, HasRow, open_row}
-use Rattle.file_meaning.proofs.Clearing.{held_of, told_of, listed_of, waits_not_done}
-use Rattle.file_meaning.proofs.Plain.{other_chain, none_noted}
+use Rattle.file_meaning.proofs.Rows.{IsDone}
+use Rattle.file_meaning.proofs.RowSteps.{HasRow, open_row}
+use Rattle.file_meaning.proofs.Reached.{held_of, told_of, listed_of}
+use Rattle.file_meaning.proofs.Clearing.{waits_not_done}
 use Rattle.file_meaning.proofs.Rowing.{by_client, rows_begun}
 use Rattle.file_meaning.proofs.Leading.{IsStopped, Runs}
 use Rattle.file_meaning.proofs.Whole.{all_at, runs_all}
@@ -159,13 +160,9 @@ module _ (script : Script) (fits : IsFitting script) (state : State) (is : Runs 
 
   copies : AreCopies log script
   unfolding log
-  copies colour lc origin copier lo lp apart =
-      let held = other_chain w is.reached copier colour origin apart in
-      record {
-        rest = chain origin (dated origin (w.histories origin colour)) origin;
-        beginning = ap (λ (l : List Head). l ++ chain origin (dated origin (w.histories origin colour)) origin) held;
-        noted_held = let n = none_noted w is.reached origin colour copier in omega (arith, n);
-      }
+  copies colour lt =
+      subst (λ (s : Shape). AreTrueCopies s.regions (λ region. dated region (w.histories region colour))) is.shape
+      ((held_of w is.reached).copies colour)
 
   names : map (λ (c : ClientReport). c.name) (report_of script state).clients ≡ script.clients
   names =

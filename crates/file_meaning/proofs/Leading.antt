@@ -30,7 +30,7 @@ use Rattle.lawful_run.specs.Refusals.{IsAway, kept_before, kept_behind}
 use Rattle.lawful_run.specs.Explains.{Explains, Answers, Explained, start, next}
 use Rattle.lawful_run.specs.Lawful.{IsHelp}
 use Rattle.lawful_run.proofs.Later.{explained_later}
-use Rattle.file_meaning.specs.Meaning.{State, opening, is_built, answered}
+use Rattle.file_meaning.specs.States.{State, opening, is_built, answered}
 use Rattle.file_meaning.proofs.Rows.{IsDone}
 use Rattle.file_meaning.proofs.Clearing.{Finished}
 use Rattle.file_meaning.proofs.Kept.{caller_in, IsKeptBy, MadeBy, Does, later_log, kept_other}
@@ -50,8 +50,8 @@ plain (whats.Append colours text) b = record { before = λ k. refl; behind = λ 
 plain (whats.Stop steps colours text) b = record { before = λ k. refl; behind = λ k. refl; home = λ k. refl }
 plain (whats.Sync colour) b = record { before = λ k. refl; behind = λ k. refl; home = λ k. refl }
 plain (whats.Scan colours) b = absurd (let f : ⊥ = cc in f)
-plain (whats.Pull region colour) b = absurd (let f : ⊥ = cc in f)
-plain (whats.Trim colour) b = absurd (let f : ⊥ = cc in f)
+plain (whats.Pull region colour) b = record { before = λ k. refl; behind = λ k. refl; home = λ k. refl }
+plain (whats.Trim colour) b = record { before = λ k. refl; behind = λ k. refl; home = λ k. refl }
 plain (whats.Put object key value) b = absurd (let f : ⊥ = cc in f)
 plain (whats.Get object key) b = absurd (let f : ⊥ = cc in f)
 plain (whats.Del object key) b = absurd (let f : ⊥ = cc in f)

@@ -1,14 +1,23 @@
 mod WorkedRuns
+mod WorkedMoves
+mod Reached
 pub mod Rows
-mod Moves
+pub mod RowSteps
+pub mod Moves
 pub mod Clearing
-mod Lines
+pub mod Lines
 mod Kept
 mod One
-mod Plain
 pub mod Lists
-mod Plays
+mod Playing
+mod ChainNodes
 mod Sync
+mod OwnEvents
+mod Trimming
+mod Carried
+mod Pulling
+mod MoveCases
+mod Moving
 mod Begun
 mod First
 mod Settled
@@ -23,6 +32,7 @@ pub mod Whole
 mod Rowing
 mod Lawfulness
 mod Exactly
+mod OneExactly
 mod Exactness
 mod LastStops
 pub mod CallerLemmas

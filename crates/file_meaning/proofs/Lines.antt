@@ -20,7 +20,7 @@ use Rattle.core_laws.specs.Worlds.{World}
 use Rattle.core_laws.proofs.Held.{status_in, Held}
 use Rattle.core_laws.proofs.Histories.{lawful_past_in}
 use Rattle.core_laws.proofs.Agreement.{entry_shown}
-use Rattle.file_meaning.specs.Meaning.{position_of}
+use Rattle.file_meaning.specs.States.{position_of}
 use Rattle.file_meaning.proofs.Rows.{in_past, standing_as}
 use Rattle.file_meaning.proofs.Moves.{Adds}
 use Rattle.file_meaning.proofs.Clearing.{of_open, IsClear}

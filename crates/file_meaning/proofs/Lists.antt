@@ -1,9 +1,10 @@
--- Ranges, and one item more at the end of a list.
-use Rattle.std.proofs.Common.{◌≡◌, ◌≢◌, ℕ, zero, suc, ◌+◌, ◌<◌, ◌≤◌, List, [], ◌∷◌, ◌++◌, cond, ap, ◌∙◌, inl, inr, ◌⊎◌, arith, eq-eqb, ne_eqb, append-nil}
+-- Ranges, items that pass a test, and one item more at the end of a list.
+use Rattle.std.proofs.Common.{◌≡◌, ◌≢◌, ℕ, zero, suc, ◌+◌, ◌<◌, ◌≤◌, List, [], ◌∷◌, ◌++◌, length, Bool, true, cond, refl, ap, sym, ◌∙◌, inl, inr, ◌⊎◌, arith, eq-eqb, ne_eqb, append-nil}
 use Rattle.std.specs.Prelude.{◌==◌, map}
-use Rattle.std.specs.List.{filter, range_with_len}
+use Rattle.std.specs.List.{filter, list_all, range_with_len}
 use Rattle.std.proofs.lemmas.Bool.{cases_lt}
 use Rattle.std.proofs.lemmas.List.Elements.{filter-append}
+use Rattle.col_core.proofs.Basics.{both}
 use Rattle.col_core.proofs.Members.{In}
 use Rattle.script_text.specs.declared.script.Command.{Command}
 
@@ -25,6 +26,19 @@ pub in_map_back : {A B : Type 0} (f : A → B) (xs : List A) (x : A) → In x xs
 in_map_back f [] x i = absurd i
 in_map_back f (y ∷ xs) x (inl e) = inl (ap f e)
 in_map_back f (y ∷ xs) x (inr i) = inr (in_map_back f xs x i)
+
+pub some_in : (xs : List ℕ) → 1 < length xs → (x : ℕ) × In x xs
+some_in [] lt = absurd (let f : ⊥ = omega (arith, lt) in f)
+some_in (x ∷ xs) lt = (x, inl refl)
+
+pub each_of : (test : ℕ → Bool) (xs : List ℕ) → list_all test xs ≡ true → (x : ℕ) → In x xs → test x ≡ true
+each_of test [] e x i = absurd i
+each_of test (y ∷ xs) e x (inl is) = ap test (sym is) ∙ (both (test y) _ e).0
+each_of test (y ∷ xs) e x (inr i) = each_of test xs (both (test y) _ e).1 x i
+
+pub map_same : (f : ℕ → ℕ) (xs : List ℕ) → ((x : ℕ) → f x ≡ x) → map f xs ≡ xs
+map_same f [] h = refl
+map_same f (x ∷ xs) h = ap (λ (y : ℕ). y ∷ map f xs) (h x) ∙ ap (λ (l : List ℕ). x ∷ l) (map_same f xs h)
 
 -- the commands of a client
 abbrev pub asked_by : ℕ → List Command → List Command

@@ -33,6 +33,9 @@ MarksColour c (steps.Decide row) = ⊥
 MarksColour c (steps.Settle by row d) = ⊥
 MarksColour c (steps.Single client d text) = ⊥
 MarksColour c (steps.Raise by region d to) = ⊥
+MarksColour c (steps.Give by origin region d from) = ⊥
+MarksColour c (steps.Carry by origin region d start count) = ⊥
+MarksColour c (steps.Trim by region d counts) = ⊥
 MarksColour c (steps.Play client d) = ⊥
 MarksColour c (steps.Seen client to) = ⊥
 

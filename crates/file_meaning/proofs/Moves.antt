@@ -23,7 +23,8 @@ use Rattle.core_laws.proofs.Keeps.{at_last}
 use Rattle.core_laws.proofs.Growing.{after_grows}
 use Rattle.lawful_run.specs.Appends.{IsStepOf}
 use Rattle.lawful_run.specs.Lawful.{IsHelp}
-use Rattle.file_meaning.proofs.Rows.{node_id, IsOn, still_begun}
+use Rattle.file_meaning.proofs.Rows.{node_id, still_begun}
+use Rattle.file_meaning.proofs.RowSteps.{IsOn}
 
 -- what comes to a history
 pub record Adds (P : Entry → Type 0) (old new : List Entry) : Type 0 where
@@ -158,6 +159,9 @@ on_step w home by id row (steps.Settle b x c) is at o =
     (on_settle w home by id row c is at))
 on_step w home by id row (steps.Single client c text) is at o = absurd o
 on_step w home by id row (steps.Raise b region c to) is at o = absurd o
+on_step w home by id row (steps.Give b origin region c from) is at o = absurd o
+on_step w home by id row (steps.Carry b origin region c start count) is at o = absurd o
+on_step w home by id row (steps.Trim b region c counts) is at o = absurd o
 on_step w home by id row (steps.Play client c) is at o = absurd o
 on_step w home by id row (steps.Seen client to) is at o = absurd o
 

@@ -36,10 +36,13 @@ use Rattle.lawful_run.specs.Callers.{Caller, node_of, row_of}
 use Rattle.lawful_run.specs.Appends.{AppendsOne}
 use Rattle.lawful_run.specs.Explains.{Explains}
 use Rattle.lawful_run.proofs.Prefixes.{prefix_length, get-append, get_within}
-use Rattle.file_meaning.specs.Meaning.{Found, all_cleared, position_of, point_in, with_single}
+use Rattle.file_meaning.specs.States.{Found, position_of}
+use Rattle.file_meaning.specs.Helping.{all_cleared}
+use Rattle.file_meaning.specs.Appends.{point_in, with_single}
 use Rattle.file_meaning.proofs.Rows.{IsDone, single_still, done_still, in_past, standing_as}
 use Rattle.file_meaning.proofs.Moves.{adds_trans, adds_map, adds_last, HelpIn, help_not_own, places_more, no_places}
-use Rattle.file_meaning.proofs.Clearing.{held_of, listed_of, Finished, Helped, helped_reached, helped_finished, ClearsAll, clear_all}
+use Rattle.file_meaning.proofs.Reached.{held_of, listed_of}
+use Rattle.file_meaning.proofs.Clearing.{Finished, Helped, helped_reached, helped_finished, ClearsAll, clear_all}
 use Rattle.file_meaning.proofs.Lines.{stands_there, final_stays, absent_line, position_behind}
 use Rattle.file_meaning.proofs.Kept.{caller_in, IsKeptBy, MadeBy, Does, later_log}
 

@@ -20,9 +20,9 @@ use Rattle.lawful_run.specs.Callers.{Caller}
 use Rattle.lawful_run.specs.Asks.{AsksToAppend}
 use Rattle.lawful_run.specs.Appends.{none_for_one, stopped_at_once}
 use Rattle.lawful_run.specs.Explains.{Explains, IsNoStopAtOnce}
-use Rattle.file_meaning.specs.Meaning.{is_full}
+use Rattle.file_meaning.specs.Appends.{is_full}
 use Rattle.file_meaning.proofs.Moves.{adds_none}
-use Rattle.file_meaning.proofs.Clearing.{told_of}
+use Rattle.file_meaning.proofs.Reached.{told_of}
 use Rattle.file_meaning.proofs.Kept.{caller_in, IsKeptBy, MadeBy, Does}
 
 -- the command asks for an append, whatever its client keeps
@@ -110,3 +110,10 @@ pub did_stop_at_once : (objects : List Object) (u : ℕ) (colours : Colours) (te
 did_stop_at_once objects u colours text w =
     same_world objects u (whats.Stop 0 colours text) w (answers.Stopped 0) (λ kept k.
     (refl, colours, text, refl, stopped_at_once))
+
+-- a pull from the client's own region
+pub did_same : (objects : List Object) (u region c : ℕ) (w : World) → region ≡ home_of w u
+    → Does objects u (whats.Pull region c) w w answers.SameRegion []
+did_same objects u region c w is =
+    same_world objects u (whats.Pull region c) w answers.SameRegion (λ kept k.
+    (refl, refl, c, ap (λ (r : ℕ). whats.Pull r c) is))

@@ -1,38 +1,36 @@
 -- What becomes of begun rows: a step changes one row at most, and a completed row waits nowhere.
-use Rattle.std.proofs.Common.{◌≡◌, ℕ, ◌<◌, List, [], ◌∷◌, Some, Bool, true, false, cond, refl, subst, ap, sym, ◌∙◌, inl, inr, ◌⊎◌, arith}
-use Rattle.std.specs.Prelude.{◌==◌, ◌&&◌, ◌≢◌}
+use Rattle.std.proofs.Common.{◌≡◌, ℕ, ◌+◌, ◌<◌, List, [], ◌∷◌, Some, Bool, true, false, refl, subst, ap, sym, ◌∙◌, inl, inr, arith}
+use Rattle.std.specs.Prelude.{◌==◌, ◌≢◌}
 use Rattle.std.proofs.lemmas.Bool.{true≢false, ltb-true, lt-ltb, eqb-true}
 use Rattle.log_node.specs.declared.ids.Id.{Id}
 use Rattle.log_node.specs.declared.ids.Row.{Row}
 use Rattle.log_node.specs.Order.{same_id}
-use Rattle.skeen_core.specs.declared.marks.Why.TheVariants.{Memory, StampEnd}
 use Rattle.skeen_core.specs.declared.marks.Mark.{Mark}
 use Rattle.skeen_core.specs.declared.marks.Mark.TheVariants as marks
 use Rattle.skeen_core.specs.declared.marks.Outcome.{Outcome}
 use Rattle.skeen_core.specs.declared.marks.Outcome.TheVariants.{Open, Gone, Final}
-use Rattle.skeen_core.specs.Outcomes.{is_missing}
 use Rattle.skeen_core.specs.Standings.{Standing}
+use Rattle.col_core.specs.declared.Event.TheVariants as events
+use Rattle.col_core.specs.declared.Entry.{Entry}
 use Rattle.col_core.specs.History.{entries, entry_key}
 use Rattle.col_core.proofs.Basics.{choice, by_test, both, if_false}
-use Rattle.col_core.proofs.LawfulPasts.{entries-of, open_waits}
+use Rattle.col_core.proofs.LawfulPasts.{entries-of}
 use Rattle.col_core.proofs.Members.{In, stands}
-use Rattle.col_core.proofs.Pasts.{Status, Absent, Alone, Waits, Settled, standing_of}
+use Rattle.col_core.proofs.Pasts.{Status, Alone, Waits, Settled, after_event, standing_of}
 use Rattle.core_laws.specs.declared.steps.Step.{Step}
 use Rattle.core_laws.specs.declared.steps.Step.TheVariants as steps
-use Rattle.core_laws.specs.Worlds.{World, RowState, home_of, after, run_steps, is_begun, row_of, is_row_at_end, next_id, next_row, may_begin, may_mark, may_propose, may_fence, may_decide, may_settle, may_single, may_raise, may_play, may_see, with_mark, with_row, after_begin, after_propose, proposed_entry, proposed_stamp, after_decide, after_settle, settled_entry, after_single, single_entry, after_raise, after_play, after_seen}
-use Rattle.core_laws.specs.Completing.{mark_step, mark_steps, colours_of, settle_steps, complete_steps}
+use Rattle.core_laws.specs.Worlds.{World, RowState, home_of, after, run_steps, is_begun, row_of, next_id, next_row, may_begin, may_mark, may_propose, may_fence, may_decide, may_settle, may_single, may_raise, may_give, may_carry, is_column, may_play, may_see, with_last, with_mark, with_row, after_begin, after_propose, proposed_entry, proposed_stamp, after_decide, after_settle, settled_entry, after_single, single_entry, after_raise, after_give, after_carry, carried_entry, after_trim, after_play, after_seen}
+use Rattle.core_laws.specs.Completing.{colours_of}
 use Rattle.core_laws.specs.Laws.{StandsAsDecided}
-use Rattle.core_laws.proofs.Basics.{updated_at-not, in_contains, contains_in, in_append, not_same}
-use Rattle.core_laws.proofs.Held.{status_in, Agrees, column_mark, Kind, Unborn, OfSingle, OfRow, Fits, Held}
+use Rattle.core_laws.proofs.Basics.{updated_at-not, in_contains, contains_in, not_same}
+use Rattle.core_laws.proofs.Held.{status_in, Agrees, column_mark, Unborn, OfRow, Held}
 use Rattle.core_laws.proofs.Marks.{is_waiting, waiting_is, colour_in}
 use Rattle.core_laws.proofs.Histories.{lawful_past_in}
 use Rattle.core_laws.proofs.Keeps.{status_stays, row_agrees, next_unborn}
-use Rattle.core_laws.proofs.Clients.{raise_entry}
 use Rattle.core_laws.proofs.Agreement.{entry_shown, colour_of_mark}
 use Rattle.core_laws.proofs.RegionRows.{same_number}
 use Rattle.core_laws.proofs.Growing.{after_grows}
-use Rattle.core_laws.proofs.Runs.{after_held, run_held}
-use Rattle.core_laws.proofs.Completion.{can_complete}
+use Rattle.core_laws.proofs.Runs.{after_held}
 
 abbrev pub node_id : World → Row → Id
 node_id w row = (row_of w row).node.id
@@ -56,6 +54,9 @@ Touches row (steps.Decide other) = row ≡ other
 Touches row (steps.Settle by other colour) = row ≡ other
 Touches row (steps.Single client colour text) = ⊥
 Touches row (steps.Raise by region colour to) = ⊥
+Touches row (steps.Give by origin region colour from) = ⊥
+Touches row (steps.Carry by origin region colour start count) = ⊥
+Touches row (steps.Trim by region colour counts) = ⊥
 Touches row (steps.Play client colour) = ⊥
 Touches row (steps.Seen client to) = ⊥
 
@@ -117,6 +118,14 @@ single_still w h client c text row b =
       distinct : (m : ℕ) → OfRow m ≡ Unborn → ⊥
       distinct m e = cc
 
+-- an event that concerns no id leaves each row
+pub event_still : (w : World) (region c : ℕ) (e : Entry) (row : Row)
+    → ((id : Id) (st : Status) → after_event id e.event e.stamp st ≡ st) → IsStill w (with_last w region c e) row
+event_still w region c e row none = record {
+  same = refl;
+  status = λ r d. status_stays w region c e (node_id w row) r d (none (node_id w row));
+}
+
 pub step_still : (w : World) → Held w → (s : Step) (row : Row) → is_begun w row ≡ true → (Touches row s → ⊥)
     → IsStill w (after w s) row
 step_still w h (steps.Begin client colours text) row b ne =
@@ -147,11 +156,21 @@ step_still w h (steps.Single client c text) row b ne =
     (λ ok. single_still w h client c text row b) (λ _. still w row)
 step_still w h (steps.Raise by region c to) row b ne =
     choice (λ (x : World). IsStill w x row) (may_raise w region c to) (after_raise w by region c to) w
-    (λ ok. record {
-      same = refl;
-      status = λ r d. status_stays w region c (raise_entry by to) (node_id w row) r d
-          (λ st. refl);
-    }) (λ _. still w row)
+    (λ _. event_still w region c (record { by = by; event = events.Raise to; stamp = 0 }) row (λ id st. refl))
+    (λ _. still w row)
+step_still w h (steps.Give by origin region c from) row b ne =
+    choice (λ (x : World). IsStill w x row) (may_give w origin region c from) (after_give w by origin region c from) w
+    (λ _. event_still w origin c (record { by = by; event = events.Give region from; stamp = 0 }) row (λ id st. refl))
+    (λ _. still w row)
+step_still w h (steps.Carry by origin region c start count) row b ne =
+    choice (λ (x : World). IsStill w x row) (may_carry w origin region c start count)
+    (after_carry w by origin region c start count) w
+    (λ _. event_still w region c (carried_entry w by origin region c (start + count)) row (λ id st. refl))
+    (λ _. still w row)
+step_still w h (steps.Trim by region c counts) row b ne =
+    choice (λ (x : World). IsStill w x row) (is_column w region c) (after_trim w by region c counts) w
+    (λ _. event_still w region c (record { by = by; event = events.Trim counts; stamp = 0 }) row (λ id st. refl))
+    (λ _. still w row)
 step_still w h (steps.Play client c) row b ne =
     choice (λ (x : World). IsStill w x row) (may_play w client c) (after_play w client c) w
     (λ ok. record { same = refl; status = λ r d. refl }) (λ _. still w row)
@@ -251,131 +270,3 @@ stands_done w h row b (Final f) e st = record {
       absurd (final_waits w h row b f st r c z.0 z.1))
       (λ g. g);
 }
-
--- The steps of a completion
-
--- the step is on the row, and its event is made by the client
-abbrev pub IsOn : ℕ → Row → Step → Type 0
-IsOn client row (steps.Begin _ colours text) = ⊥
-IsOn client row (steps.Propose by other colour) = (by ≡ client) × (other ≡ row)
-IsOn client row (steps.Fence other colour why) = other ≡ row
-IsOn client row (steps.Decide other) = other ≡ row
-IsOn client row (steps.Settle by other colour) = (by ≡ client) × (other ≡ row)
-IsOn client row (steps.Single _ colour text) = ⊥
-IsOn client row (steps.Raise by region colour to) = ⊥
-IsOn client row (steps.Play _ colour) = ⊥
-IsOn client row (steps.Seen _ to) = ⊥
-
-pub mark_step_on : (w : World) (by : ℕ) (row : Row) (found : ℕ → Bool) (c : ℕ) → IsOn by row
-    (mark_step w by row found c)
-mark_step_on w by row found c =
-    choice (IsOn by row) (is_row_at_end w row c) (steps.Fence row c StampEnd)
-    (cond (found c) (steps.Propose by row c) (steps.Fence row c Memory)) (λ _. refl)
-    (λ _. choice (IsOn by row) (found c) (steps.Propose by row c) (steps.Fence row c Memory) (λ _. (refl, refl))
-    (λ _. refl))
-
-pub mark_steps_on : (w : World) (by : ℕ) (row : Row) (found : ℕ → Bool) (cs : List ℕ) (s : Step)
-    → In s (mark_steps w by row found cs) → IsOn by row s
-mark_steps_on w by row found [] s i = absurd i
-mark_steps_on w by row found (c ∷ cs) s i =
-    choice (λ (l : List Step). In s l → IsOn by row s) (is_missing ((row_of w row).marks c))
-    (mark_step w by row found c ∷ mark_steps (after w (mark_step w by row found c)) by row found cs)
-    (mark_steps w by row found cs)
-    (λ _ j. turn j (mark_steps_on (after w (mark_step w by row found c)) by row found cs s))
-    (λ _. mark_steps_on w by row found cs s) i where
-      turn : (mark_step w by row found c ≡ s) ⊎ In s (mark_steps (after w (mark_step w by row found c)) by row found cs)
-          → (In s (mark_steps (after w (mark_step w by row found c)) by row found cs) → IsOn by row s) → IsOn by row s
-      turn (inl e) rest = subst (IsOn by row) e (mark_step_on w by row found c)
-      turn (inr i) rest = rest i
-
-pub settle_steps_on : (by : ℕ) (row : Row) (cs : List ℕ) (s : Step) → In s (settle_steps by row cs) → IsOn by row s
-settle_steps_on by row [] s i = absurd i
-settle_steps_on by row (c ∷ cs) s (inl e) = subst (IsOn by row) e (refl, refl)
-settle_steps_on by row (c ∷ cs) s (inr i) = settle_steps_on by row cs s i
-
-pub complete_steps_on : (w : World) (by : ℕ) (row : Row) (found : ℕ → Bool) (s : Step)
-    → In s (complete_steps w by row found) → IsOn by row s
-complete_steps_on w by row found s i =
-    turn (in_append s (mark_steps w by row found (colours_of w row))
-    (steps.Decide row ∷ settle_steps by row (colours_of w row)) i)
-  where
-    turn : In s (mark_steps w by row found (colours_of w row))
-        ⊎ In s (steps.Decide row ∷ settle_steps by row (colours_of w row)) → IsOn by row s
-    turn (inl j) = mark_steps_on w by row found (colours_of w row) s j
-    turn (inr (inl e)) = subst (IsOn by row) e refl
-    turn (inr (inr j)) = settle_steps_on by row (colours_of w row) s j
-
--- a step on a row touches no other
-pub on_touches : (by : ℕ) (row other : Row) (s : Step) → IsOn by row s → Touches other s → other ≡ row
-on_touches by row other (steps.Begin _ colours text) o t = absurd o
-on_touches by row other (steps.Propose _ x colour) o t = t ∙ o.1
-on_touches by row other (steps.Fence x colour why) o t = t ∙ o
-on_touches by row other (steps.Decide x) o t = t ∙ o
-on_touches by row other (steps.Settle _ x colour) o t = t ∙ o.1
-on_touches by row other (steps.Single _ colour text) o t = absurd o
-on_touches by row other (steps.Raise _ region colour to) o t = absurd o
-on_touches by row other (steps.Play _ colour) o t = absurd o
-on_touches by row other (steps.Seen _ to) o t = absurd o
-
--- the row is done after its completion, and every other one is as before
-pub completed_done : (w : World) → Held w → (by : ℕ) (row : Row) (found : ℕ → Bool) → is_begun w row ≡ true
-    → is_begun (run_steps w (complete_steps w by row found)) row ≡ true
-    → IsDone (run_steps w (complete_steps w by row found)) row
-completed_done w h by row found b b' =
-    let w' = run_steps w (complete_steps w by row found) in
-    stands_done w' (run_held w h (complete_steps w by row found)) row b' (row_of w' row).last refl
-    (can_complete w h by row found b).stands
-
-pub completed_still : (w : World) → Held w → (by : ℕ) (row other : Row) (found : ℕ → Bool) → is_begun w other ≡ true
-    → (other ≡ row → ⊥) → IsStill w (run_steps w (complete_steps w by row found)) other
-completed_still w h by row other found b ne =
-    run_still w h (complete_steps w by row found) other b
-    (λ s i t. ne (on_touches by row other s (complete_steps_on w by row found s i) t))
-
--- Open entries
-
--- the row of an open entry
-pub record HasRow (w : World) (r c : ℕ) (x : Standing) : Type 0 where
-  pub row : Row
-  pub client : row.client ≡ x.key.id.client
-  pub begun : is_begun w row ≡ true
-  pub is : node_id w row ≡ x.key.id
-  pub home : r ≡ home_of w row.client
-  pub waits : status_in (w.histories r c) (node_id w row) ≡ Waits x.key.stamp
-
-pub open_row : (w : World) → Held w → (r c : ℕ) (x : Standing) → In x (entries (w.histories r c)) → x.settled ≡ false
-    → HasRow w r c x
-open_row w h r c x i o =
-    let id = x.key.id in
-    let st = status_in (w.histories r c) id in
-    let e = open_waits id st x (entry_shown w h r c x i) o in
-    of_kind (h.kind id) (h.fits id r c) e where
-      of_kind : (k : Kind) → Fits w x.key.id k r c (status_in (w.histories r c) x.key.id)
-          → status_in (w.histories r c) x.key.id ≡ Waits x.key.stamp → HasRow w r c x
-      of_kind Unborn f e = absurd (let y : ⊥ = cc in y)
-      of_kind (OfSingle region colour stamp) f e =
-          choice (λ (st : Status). status_in (w.histories r c) x.key.id ≡ st → HasRow w r c x)
-          ((r == region) && (c == colour)) (Alone stamp) Absent
-          (λ _ g. absurd (let y : ⊥ = cc in y)) (λ _ g. absurd (let y : ⊥ = cc in y)) f
-      of_kind (OfRow number) f e =
-          let home = home_of w x.key.id.client in
-          let row : Row = record { client = x.key.id.client; number = number } in
-          let n = waits_number (column_mark home (w.rows x.key.id.client number) r c)
-          (w.rows x.key.id.client number).last _ x.key.stamp f.agrees e in
-          record {
-            row = row;
-            client = refl;
-            begun = lt-ltb _ _ f.begun;
-            is = f.is;
-            home = (home_mark home (w.rows x.key.id.client number) r c n.0 n.1).0;
-            waits = subst (λ (i : Id). status_in (w.histories r c) i ≡ Waits x.key.stamp) (sym f.is) e;
-          }
-
--- an entry that is open after some steps was open before, where its row is as before
-pub open_before : (w w' : World) → Held w → Held w' → (r c : ℕ) (x : Standing) → In x (entries (w'.histories r c))
-    → (row : Row) → node_id w row ≡ x.key.id → IsStill w w' row → In x (entries (w.histories r c))
-open_before w w' h h' r c x i row is s =
-    in_past w h r c x.key.id x
-    (ap (standing_of x.key.id) (sym (subst (λ (k : Id). status_in (w'.histories r c) k ≡ status_in
-    (w.histories r c) k) is
-    (s.status r c))) ∙ entry_shown w' h' r c x i)

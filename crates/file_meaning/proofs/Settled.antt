@@ -27,7 +27,7 @@ use Rattle.core_laws.proofs.Agreement.{entry_shown}
 use Rattle.core_laws.proofs.Marks.{is_waiting}
 use Rattle.lawful_run.specs.Callers.{Caller}
 use Rattle.lawful_run.specs.Appends.{IsSettledIn}
-use Rattle.file_meaning.proofs.Clearing.{held_of, told_of}
+use Rattle.file_meaning.proofs.Reached.{held_of, told_of}
 use Rattle.file_meaning.proofs.First.{in_any}
 
 find_none : {A : Type 0} (test : A → Bool) (xs : List A) → ((x : A) → In x xs → test x ≡ false) → find test xs ≡ None

@@ -35,10 +35,13 @@ use Rattle.lawful_run.specs.Callers.{Caller, node_of}
 use Rattle.lawful_run.specs.Appends.{BeginsRow, IsSettledIn, IsSettled, IsGoneAtEnd, none_for_several, IsGoneForMemory}
 use Rattle.lawful_run.specs.Refusals.{gone}
 use Rattle.lawful_run.specs.Explains.{Explains}
-use Rattle.file_meaning.specs.Meaning.{Found, ended_colour}
-use Rattle.file_meaning.proofs.Rows.{IsDone, completed_done, complete_steps_on, IsOn}
+use Rattle.file_meaning.specs.States.{Found}
+use Rattle.file_meaning.specs.Appends.{ended_colour}
+use Rattle.file_meaning.proofs.Rows.{IsDone}
+use Rattle.file_meaning.proofs.RowSteps.{completed_done, complete_steps_on, IsOn}
 use Rattle.file_meaning.proofs.Moves.{Adds, adds_map, StepIn}
-use Rattle.file_meaning.proofs.Clearing.{held_of, Finished}
+use Rattle.file_meaning.proofs.Reached.{held_of}
+use Rattle.file_meaning.proofs.Clearing.{Finished}
 use Rattle.file_meaning.proofs.Settled.{settled_in}
 use Rattle.file_meaning.proofs.Kept.{caller_in, IsKeptBy, MadeBy, Does}
 use Rattle.file_meaning.proofs.One.{caller_same}

@@ -36,17 +36,19 @@ use Rattle.lawful_run.specs.Callers.{Caller, node_of}
 use Rattle.lawful_run.specs.Appends.{IsMarked, IsDecided, IsSettledIn, IsStepWithin, StopsAfter, Stops, stopped_after}
 use Rattle.lawful_run.specs.Explains.{Explains}
 use Rattle.lawful_run.proofs.Prefixes.{get_within}
-use Rattle.file_meaning.specs.Meaning.{Found}
-use Rattle.file_meaning.proofs.Rows.{node_id, IsOn, complete_steps_on}
+use Rattle.file_meaning.specs.States.{Found}
+use Rattle.file_meaning.proofs.Rows.{node_id}
+use Rattle.file_meaning.proofs.RowSteps.{IsOn, complete_steps_on, settle_at}
 use Rattle.file_meaning.proofs.Moves.{adds_map, StepIn, From}
-use Rattle.file_meaning.proofs.Clearing.{held_of, Finished}
+use Rattle.file_meaning.proofs.Reached.{held_of}
+use Rattle.file_meaning.proofs.Clearing.{Finished}
 use Rattle.file_meaning.proofs.Kept.{caller_in, IsKeptBy, MadeBy, Does}
 use Rattle.file_meaning.proofs.One.{caller_same}
 use Rattle.file_meaning.proofs.Begun as begun
 use Rattle.file_meaning.proofs.Settled.{settled_in}
 use Rattle.file_meaning.proofs.Several.{Rising, colours_rise}
 use Rattle.file_meaning.proofs.Lists.{in_map_back}
-use Rattle.file_meaning.proofs.Plays.{got_at}
+use Rattle.file_meaning.proofs.Playing.{got_at}
 use Rattle.file_meaning.proofs.Marking.{MarksColour, AllMissing, IsMarkList, mark_list, marked_first, taken_at, take_past, one_place}
 
 -- Which step stands where
@@ -62,12 +64,6 @@ place_cases {A} (z ∷ xs) ys (suc i) x e = turn (place_cases xs ys i x e) where
       ⊎ ((j : ℕ) × (suc i ≡ suc (length xs) + j) × (slice_get ys j ≡ Some x))
   turn (inl p) = let lt = p.0 in inl (omega (arith, lt), p.1)
   turn (inr p) = let e = p.1 in inr (p.0, omega (arith, e), p.2)
-
-settle_at : (by : ℕ) (row : Row) (cs : List ℕ) (j : ℕ) (s : Step) → slice_get (settle_steps by row cs) j ≡ Some s
-    → (c : ℕ) × (slice_get cs j ≡ Some c) × (s ≡ steps.Settle by row c)
-settle_at by row [] j s e = absurd (let f : ⊥ = cc in f)
-settle_at by row (c ∷ cs) zero s e = let is : steps.Settle by row c ≡ s = cc in (c, refl, sym is)
-settle_at by row (c ∷ cs) (suc j) s e = settle_at by row cs j s e
 
 -- a proposal among the first so many steps of a completion is that of one of the first colours
 proposed_at : (by : ℕ) (row : Row) (cs : List ℕ) (ms : List Step) → IsMarkList cs ms → Rising cs → (n i m c : ℕ)

@@ -5,17 +5,16 @@ use Rattle.std.specs.List.{All, list_all}
 use Rattle.std.proofs.lemmas.Bool.{and_from, ltb-true, lt-ltb, cases_lt}
 use Rattle.log_node.specs.declared.ids.Row.{Row}
 use Rattle.log_node.specs.declared.ids.Colours.{Colours}
-use Rattle.log_node.specs.declared.node.Shape.{Shape}
 use Rattle.log_node.specs.Sets.{members}
 use Rattle.skeen_core.specs.declared.marks.Why.TheVariants.{Memory, StampEnd}
 use Rattle.skeen_core.specs.declared.marks.Outcome.{Outcome}
 use Rattle.skeen_core.specs.declared.marks.Outcome.TheVariants.{Open, Gone, Final}
 use Rattle.col_core.proofs.Basics.{choice, both, apart, not_true, if_true}
 use Rattle.col_core.proofs.Members.{In}
-use Rattle.core_laws.specs.declared.steps.Step.TheVariants.{Play, Seen}
-use Rattle.core_laws.specs.Worlds.{World, ClientState, home_of, home_history, is_begun, may_play, after_play, played_cut, after, run_steps, row_of, next_row, is_client, is_column, may_begin, may_single, after_begin, single_stamp, next_id}
+use Rattle.core_laws.specs.declared.steps.Step.TheVariants.{Seen}
+use Rattle.core_laws.specs.Worlds.{World, home_of, after, run_steps, row_of, next_row, is_client, is_column, may_begin, may_single, after_begin, single_stamp, next_id}
 use Rattle.core_laws.specs.Completing.{complete_steps}
-use Rattle.core_laws.proofs.Basics.{contains_in, in_slice, in_right, at_updated}
+use Rattle.core_laws.proofs.Basics.{contains_in, in_slice, in_right}
 use Rattle.script_text.specs.declared.script.What.{What}
 use Rattle.script_text.specs.declared.script.What.TheVariants as whats
 use Rattle.script_text.specs.declared.script.Command.{Command}
@@ -25,14 +24,15 @@ use Rattle.script_text.specs.Fitting.{IsFitting, IsWithin}
 use Rattle.report_text.specs.declared.report.Answer.TheVariants as answers
 use Rattle.col_core.specs.History.{entry_key}
 use Rattle.lawful_run.proofs.Prefixes.{get_within, get-append}
-use Rattle.file_meaning.specs.Meaning.{State, Found, has_colours, is_built, StopsAreLast, answered, appended_one, appended_by, appended_several, appended, stopped, done_one, done, is_full, append_steps, with_single, point_in, ended_colour, all_cleared, nodes_played, LeadTo, nothing, next}
-use Rattle.core_laws.proofs.Growing.{played_client}
-use Rattle.file_meaning.proofs.Rows.{IsDone}
+use Rattle.file_meaning.specs.States.{State, Found, has_colours, is_built, StopsAreLast, answered}
+use Rattle.file_meaning.specs.Helping.{all_cleared}
+use Rattle.file_meaning.specs.Appends.{appended_one, appended_by, appended_several, appended, stopped, is_full, append_steps, with_single, point_in, ended_colour}
+use Rattle.file_meaning.specs.Meaning.{done_one, done, LeadTo, nothing, next}
 use Rattle.file_meaning.proofs.Clearing.{Finished}
 use Rattle.file_meaning.proofs.Kept.{Does, did_nothing}
 use Rattle.file_meaning.proofs.Sets.{one_is_power}
 use Rattle.file_meaning.proofs.One as one
-use Rattle.file_meaning.proofs.Sync.{does_sync}
+use Rattle.file_meaning.proofs.Moving as moving
 use Rattle.file_meaning.proofs.Begun as begun
 use Rattle.file_meaning.proofs.Several as several
 use Rattle.file_meaning.proofs.Final as final
@@ -69,21 +69,11 @@ module _ (script : Script) (commands : List Command) (state : State) (command : 
   going : S u → ⊥
   going = free script commands state command runs fit
 
-  own_region : home_of w u < w.shape.regions
-  own_region = subst (λ (s : Shape). slice_index s.homes u < s.regions) (sym runs.shape) fit.home
-
-  own_few : home_of w u < 4
-  own_few =
-      let a : slice_index script.shape.homes u < 4 = let b = fit.home in let c = fit.few in omega (arith, b, c) in
-      subst (λ (s : Shape). slice_index s.homes u < 4) (sym runs.shape) a
-
   client_ok : is_client w u ≡ true
-  client_ok = lt-ltb u (length w.shape.homes)
-      (subst (λ (s : Shape). u < length s.homes) (sym runs.shape) fit.caller)
+  client_ok = moving.client_ok script commands state command runs fit
 
   column_ok : (c : ℕ) → c < script.shape.colours → is_column w (home_of w u) c ≡ true
-  column_ok c lt = and_from _ _ (lt-ltb _ _ own_region)
-      (lt-ltb c w.shape.colours (subst (λ (s : Shape). c < s.colours) (sym runs.shape) lt))
+  column_ok = moving.column_ok script commands state command runs fit
 
   -- an append to one colour
   runs_one_colour : (colours : Colours) (text : List ℕ) (c : ℕ) → command.what ≡ whats.Append colours text
@@ -239,19 +229,6 @@ module _ (script : Script) (commands : List Command) (state : State) (command : 
       (let z : length (members colours) ≡ suc (suc (length ms)) = ap length is in omega (arith, z))
       (λ x i. all_at (λ y. y < script.shape.colours) (members colours) all x i)
 
-  sync_finished : (c : ℕ) → Finished S (after w (Play u c))
-  sync_finished c =
-      choice (Finished S) (may_play w u c) (after_play w u c) w
-      (λ _ other b. turn other (runs.finished other (same_begun other b))) (λ _. runs.finished) where
-        same_begun : (other : Row) → is_begun (after_play w u c) other ≡ true → is_begun w other ≡ true
-        same_begun other = at_updated (λ (s : ClientState). nat_lt other.number s.used ≡ true → is_begun w other ≡ true)
-            w.clients u (played_client w u c) other.client
-            (λ same x. ap (λ (n : ℕ). nat_lt other.number (w.clients n).used) same ∙ x) (λ _ x. x)
-
-        turn : (other : Row) → S other.client ⊎ IsDone w other → S other.client ⊎ IsDone (after_play w u c) other
-        turn other (inl s) = inl s
-        turn other (inr d) = inr (record { decided = d.decided; waits = d.waits })
-
   runs_what : (what : What) → command.what ≡ what → is_built what ≡ true
       → IsWithin script.shape.regions script.shape.colours what
       → Runs script commands' (done_one found state command what)
@@ -261,19 +238,12 @@ module _ (script : Script) (commands : List Command) (state : State) (command : 
       runs_stop colours text (let n = (has_low 2 colours b).0 in omega (arith, n))
       (λ x i. all_at (λ y. y < script.shape.colours) (members colours) within x i) steps asked
   runs_what (whats.Sync colour) asked b within =
-      let nodes = nodes_played w u colour in
-      let answer = answers.Synced (record {
-        colour = colour;
-        events = length (home_history w u colour);
-        counts = played_cut w u colour;
-      }) (length nodes) in
-      runs_done script commands state command runs fit (after w (Play u colour)) answer nodes
-      (subst (λ (what : What). Does script.objects u what w (after w (Play u colour)) answer nodes) (sym asked)
-      (does_sync script.objects w runs.reached u colour own_few client_ok (column_ok colour within)))
-      (sync_finished colour)
+      moving.runs_sync script commands state command runs fit colour asked within
   runs_what (whats.Scan colours) asked b within = absurd (let f : ⊥ = cc in f)
-  runs_what (whats.Pull region colour) asked b within = absurd (let f : ⊥ = cc in f)
-  runs_what (whats.Trim colour) asked b within = absurd (let f : ⊥ = cc in f)
+  runs_what (whats.Pull region colour) asked b within =
+      moving.runs_pull script commands state command runs fit found region colour asked within.0 within.1
+  runs_what (whats.Trim colour) asked b within =
+      moving.runs_trim script commands state command runs fit colour asked within
   runs_what (whats.Put object key value) asked b within = absurd (let f : ⊥ = cc in f)
   runs_what (whats.Get object key) asked b within = absurd (let f : ⊥ = cc in f)
   runs_what (whats.Del object key) asked b within = absurd (let f : ⊥ = cc in f)

@@ -6,7 +6,8 @@ use Rattle.script_text.specs.declared.script.Script.{Script}
 use Rattle.script_text.specs.Grammar.{IsScript}
 use Rattle.script_text.specs.Fitting.{IsFitting}
 use Rattle.lawful_run.specs.Lawful.{LawfulRun}
-use Rattle.file_meaning.specs.Meaning.{State, is_built, StopsAreLast, LeadTo, report_of, step_report, FindsMemory}
+use Rattle.file_meaning.specs.States.{State, is_built, StopsAreLast}
+use Rattle.file_meaning.specs.Meaning.{LeadTo, report_of, step_report, FindsMemory}
 
 -- For every fitting script whose commands are built and whose stops are the last commands of their clients: the report
 -- of each state to which they lead is that of a lawful run.

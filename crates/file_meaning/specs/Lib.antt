@@ -1,2 +1,6 @@
+pub mod States
+pub mod Helping
+pub mod Appends
+pub mod Moves
 pub mod Meaning
 pub mod Laws

@@ -1,20 +1,15 @@
-pub mod OwnEntries
-pub mod OwnChains
-pub mod OwnCuts
-pub mod OwnPlays
-pub mod OwnLines
-pub mod Updates
-pub mod Lists
-pub mod Runs
-pub mod Entering
-pub mod Answering
-pub mod Clients
-pub mod Syncing
-pub mod Leading
-pub mod Closing
-pub mod Lawfulness
-pub mod Exactness
-pub mod Numbers
-pub mod Places
-pub mod Tying
-pub mod Ends
+mod Sets
+mod Helping
+mod Standing
+mod Beginning
+mod Finals
+mod Appending
+mod Lists
+mod Playing
+mod Moving
+mod Doing
+mod Running
+mod Nexts
+mod Shown
+mod RowsShown
+mod ColumnsShown

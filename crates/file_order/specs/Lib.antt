@@ -1,3 +1,5 @@
-pub mod Inside
-pub mod Meaning
-pub mod Run
+pub mod Helps
+pub mod Runs
+pub mod Doing
+pub mod Points
+pub mod Reports

@@ -1,24 +1,38 @@
 // Which commands are done.
-ghost use Rattle.std.specs.Prelude.{◌≡◌};
-ghost use Rattle.file_order.specs.Meaning.{is_built, is_one};
+ghost use Rattle.std.specs.Prelude.{◌≡◌, ◌≤◌};
+ghost use Rattle.file_meaning.specs.States.{is_built, has_colours};
 
 use log_node::Colours;
 use script_text::What;
 
-// Whether a set has one colour.
-fn is_one(colours: Colours) -> bool
-    ensures { result ≡ is_one colours }
+// Whether a set has so many colours.
+fn has_colours(count: usize, colours: Colours) -> bool
+    ensures { result ≡ has_colours count colours }
 {
-    colours.count() == 1
+    let _bits = colours.0;
+    count <= colours.count()
 }
 
-/// Whether a command is one of those that are done so far: an append to one colour, or a sync.
+/// Whether a command is one of those that are done: an append to any number of colours, a stop of an append to several,
+/// a sync, a pull and a trim.
 pub fn is_built(what: &What) -> bool
     ensures { result ≡ is_built what.now }
 {
     match what {
-        What::Append { colours, .. } => is_one(*colours),
+        What::Append { colours, .. } => has_colours(1, *colours),
+        What::Stop { colours, .. } => has_colours(2, *colours),
         What::Sync { .. } => true,
-        _ => false,
+        What::Scan { .. } => false,
+        What::Pull { .. } => true,
+        What::Trim { .. } => true,
+        What::Put { .. } => false,
+        What::Get { .. } => false,
+        What::Del { .. } => false,
+        What::PutAll { .. } => false,
+        What::GetAll { .. } => false,
+        What::Read { .. } => false,
+        What::Commit { .. } => false,
+        What::Enq { .. } => false,
+        What::Deq { .. } => false,
     }
 }

@@ -1,21 +1,20 @@
-//! Does the commands of a script in the order of the file, over plain columns.
+//! Does the commands of a script in the order of the file, over the world of core steps.
 #![tactic(auto)]
 
 mod answers;
 mod appends;
 mod built;
-mod caller;
-mod client;
-mod column;
-mod counts;
+mod clears;
 mod in_order;
+mod moves;
+mod points;
+mod replies;
 mod reports;
-mod request;
+mod rows;
+mod run;
+mod stops;
 mod syncs;
 mod words;
 
 pub use built::is_built;
 pub use in_order::step;
-
-#[cfg(test)]
-mod tests;

@@ -1,53 +1,68 @@
-// A sync of one colour.
-ghost use Rattle.std.specs.Prelude.{◌≡◌, ◌<◌, ◌≤◌, length, slice_index, IfOk, OnErr};
-ghost use Rattle.lawful_run.specs.Reads.{greatest_stamp};
-ghost use Rattle.file_order.specs.Inside.{HasSynced};
+// Syncs.
+ghost use Rattle.std.specs.Prelude.{◌≡◌, ◌<◌, [], IfOk, OnErr, length};
+ghost use Rattle.playback.specs.declared.player.Player.{Player};
+ghost use Rattle.core_world.specs.Kept.{world_of};
+ghost use Rattle.file_meaning.specs.Moves.{synced};
+ghost use Rattle.file_order.specs.Doing.{DoneBy};
 
-use crate::client::Client;
-use crate::column::Column;
-use crate::counts::alone;
-use crate::request::Request;
-use log_node::{Item, Items};
+use core_laws::stays_within_cuts;
+use core_world::World;
+use log_node::{Items, ListOf};
+use playback::{PlayFault, Player, play};
 use report_text::{Answer, SyncPiece};
+use script_text::Command;
 use std::alloc::{AllocError, Global};
 
-/// The greatest stamp of some nodes, 0 where there are none.
-fn greatest_stamp(nodes: &[Item]) -> u64
-    ensures { result ≡ greatest_stamp nodes.now }
+// What the client has played of a colour of its region.
+fn player_of(world: &World, client: u8, region: u8, colour: u8) -> Player
+    requires client { client < length world.now.shape.homes }
+    requires colour { colour < world.now.shape.colours }
+    ensures { result ≡ record {
+      region = region;
+      colour = colour;
+      played = ((world_of world.now).clients client).played colour;
+    } }
 {
-    let mut greatest = 0;
-    for item in nodes {
-        let stamp = item.head.key.stamp;
-        if stamp > greatest {
-            greatest = stamp;
-        }
+    world.is_whole();
+    Player {
+        region,
+        colour,
+        played: world.client(client).played(colour),
     }
-    greatest
 }
 
-/// Plays all nodes of the column's line from the client's last snapshot on.
+/// Plays all nodes of a colour that the client has not played, up to the cut, in the order of play; refused where one
+/// of them is trimmed.
 pub fn sync(
     alloc: Global,
-    request: Request,
-    client: &mut Client,
-    column: &Column,
+    command: &Command,
+    colour: u8,
+    world: &mut World,
 ) -> Result<(Answer, Items), AllocError>
-    requires region { request.region < 4 }
-    requires colour { request.colour < 16 }
-    requires start { slice_index client.old.starts request.colour ≤ length column.now.nodes }
-    ensures ok { IfOk result (λ given. HasSynced request.region request.colour column.now client.old client.new given.0 given.1) }
-    ensures err { OnErr result (client.new ≡ client.old) }
+    requires caller { command.now.client < length world.old.shape.homes }
+    requires within { colour < world.old.shape.colours }
+    ensures ok { IfOk result (λ g. DoneBy (λ _ state. synced state command.now colour) command.now
+        (world_of world.old) (world_of world.new) g.0 g.1) }
+    ensures err { OnErr result (world_of world.new ≡ world_of world.old) }
 {
-    let nodes = column.nodes_from(alloc, client.start(request.colour))?;
-    let position = column.positions();
-    client.set_start(request.colour, position, greatest_stamp(nodes.as_slice()));
-    let answer = Answer::Synced {
-        sync: SyncPiece {
-            colour: request.colour,
-            events: column.events(),
-            counts: alone(request.region, position),
-        },
-        plays: nodes.len() as u64,
-    };
-    Ok((answer, nodes))
+    stays_within_cuts();
+    world.is_whole();
+    let view = world.look(alloc, command.client, colour)?;
+    let mut player = player_of(world, command.client, view.region, colour);
+    match play(alloc, &view, &mut player) {
+        Err(PlayFault::NoMemory) => Err(AllocError),
+        Err(PlayFault::Trimmed { base }) => {
+            Ok((Answer::Trimmed { colour, base }, ListOf::new(alloc)))
+        }
+        Ok(played) => {
+            let sync = SyncPiece {
+                colour,
+                events: view.events,
+                counts: played.snapshot.counts,
+            };
+            let plays = played.items.len() as u64;
+            let _played = world.play(command.client, colour);
+            Ok((Answer::Synced { sync, plays }, played.items))
+        }
+    }
 }

@@ -7,7 +7,7 @@ use Rattle.script_text.specs.declared.script.Script.{Script}
 use Rattle.script_text.specs.Words.{reason_text}
 use Rattle.script_text.specs.Grammar.{IsScript}
 use Rattle.script_text.specs.Faults.{IsRefused}
-use Rattle.file_order.specs.Meaning.{is_built}
+use Rattle.file_meaning.specs.States.{is_built}
 use Rattle.fuzzy_run.specs.declared.refusal.Cause.{Cause}
 use Rattle.fuzzy_run.specs.declared.refusal.Cause.TheVariants.{Faulty, NotBuilt}
 
@@ -19,7 +19,9 @@ cause_text NotBuilt = codes "not built"
 abbrev pub first_unbuilt : List Command → Option ℕ
 first_unbuilt commands = option_map (λ (c : Command). c.line) (find (λ (c : Command). not (is_built c.what)) commands)
 
--- The bytes are no script, by this line and for this reason; or they are one with a command that is not done yet, first on this line.
+-- The bytes are no script, by this line and for this reason; or they are one with a command that is not done yet, first
+-- on this line.
 abbrev pub IsRefusedFor : List ℕ → ℕ → Cause → Type 0
 IsRefusedFor bytes line (Faulty why) = IsRefused bytes line why
-IsRefusedFor bytes line NotBuilt = (script : Script) × IsScript bytes script × (first_unbuilt script.commands ≡ Some line)
+IsRefusedFor bytes line NotBuilt =
+    (script : Script) × IsScript bytes script × (first_unbuilt script.commands ≡ Some line)

@@ -7,17 +7,17 @@ use Rattle.script_text.specs.Grammar.{IsScript}
 use Rattle.report_text.specs.declared.report.Report.{Report}
 use Rattle.report_text.specs.ReportText.{report_bytes, refusal_bytes}
 use Rattle.lawful_run.specs.Lawful.{LawfulRun}
-use Rattle.file_order.specs.Meaning.{IsStepReport, FoundMemory, step_report}
+use Rattle.file_meaning.specs.Meaning.{IsStepReport, FindsMemory, step_report}
 use Rattle.fuzzy_run.specs.declared.refusal.Cause.{Cause}
 use Rattle.fuzzy_run.specs.declared.refusal.Cause.TheVariants.{NotBuilt}
 use Rattle.fuzzy_run.specs.Refusals.{IsRefusedFor, cause_text, first_unbuilt}
 
--- The report is that of a lawful run of the script, done in the order of the file; where no reply tells of want of memory,
--- it is the one report that this means.
+-- The report is that of a lawful run of the script, done in the order of the file; where no reply and no mark tells
+-- of want of memory, it is the one report that this means.
 pub record IsRunOf (script : Script) (report : Report) : Type 0 where
   pub lawful : LawfulRun script report
   pub in_order : IsStepReport script report
-  pub exact : FoundMemory report → report ≡ step_report script
+  pub exact : FindsMemory report → report ≡ step_report script
 
 -- The bytes are a script, and the text is that of a report of its run.
 pub record IsRunText (bytes text : List ℕ) : Type 0 where
@@ -40,7 +40,9 @@ Writes IsText left old new = IfSome left (λ bytes. (text : List ℕ) × IsText 
 
 -- the beginning of such a text was written
 abbrev pub WritesFront : Option (List ℕ) → Option (List ℕ) → Option (List ℕ) → Type 0
-WritesFront left old new = IfSome left (λ bytes. (front rest : List ℕ) × (IsRunText bytes (front ++ rest) ⊎ IsRefusalText bytes (front ++ rest)) × Appends old new front)
+WritesFront left old new =
+    IfSome left (λ bytes. (front rest : List ℕ)
+    × (IsRunText bytes (front ++ rest) ⊎ IsRefusalText bytes (front ++ rest)) × Appends old new front)
 
 -- the text of a report of the script's run was written whole
 abbrev pub Shows : Script → Option (List ℕ) → Option (List ℕ) → Type 0
@@ -50,4 +52,5 @@ Shows script old new = (report : Report) × IsRunOf script report × Appends old
 abbrev pub ShowsFront : Script → Option (List ℕ) → Option (List ℕ) → Type 0
 ShowsFront script old new =
     ((report : Report) × IsRunOf script report × AppendsFront old new (report_bytes report))
-    ⊎ ((line : ℕ) × (first_unbuilt script.commands ≡ Some line) × AppendsFront old new (refusal_bytes line (cause_text NotBuilt)))
+    ⊎ ((line : ℕ) × (first_unbuilt script.commands ≡ Some line)
+    × AppendsFront old new (refusal_bytes line (cause_text NotBuilt)))

@@ -1,11 +1,12 @@
 // The top call: from the words of a command line and the bytes of a script to the bytes of a report.
-ghost use Rattle.std.specs.Prelude.{◌≡◌, ◌≢◌, ◌↔◌, ◌⊎◌, ◌++◌, ℕ, List, map, None, Some, string_bytes, OnOk, OnErr};
+ghost use Rattle.std.specs.Prelude.{◌≡◌, ◌≢◌, ◌≤◌, ◌↔◌, ◌⊎◌, ℕ, map, None, Some, string_bytes};
 ghost use Rattle.std.specs.Io.KnownBytes.{Appends, IsAtEnd};
 ghost use Rattle.fuzzy_io.specs.Causes.{Rose, ConsumesUpTo, AppendsFront};
 ghost use Rattle.script_text.specs.declared.script.Script.{Script};
 ghost use Rattle.script_text.specs.Fitting.{IsFitting};
 ghost use Rattle.report_text.specs.declared.report.Report.{Report};
 ghost use Rattle.report_text.specs.ReportText.{report_bytes, refusal_bytes};
+ghost use Rattle.file_meaning.specs.States.{StopsAreLast};
 ghost use Rattle.fuzzy_run.specs.Words.{asked_by};
 ghost use Rattle.fuzzy_run.specs.Refusals.{first_unbuilt, cause_text};
 ghost use Rattle.fuzzy_run.specs.TopCall.{IsRunOf, IsRunText, IsRefusalText, Writes, WritesFront, Shows, ShowsFront};
@@ -13,10 +14,12 @@ ghost use Rattle.fuzzy_run.specs.TopCall.{IsRunOf, IsRunText, IsRefusalText, Wri
 use crate::asked::{Asked, read_words};
 use crate::refusal::{Cause, first_unbuilt};
 use crate::status::Status;
+use file_meaning::scripts_stop_last;
 use file_order::step;
 use fuzzy_io::{Failed, Gate, ReadStop, Sink, Source, read_all};
 use report_text::{print, print_refusal};
-use script_text::{Reason, Script, ScriptFault, parse};
+use script_text::{Reason, Script, ScriptFault, parse, rows_are_within_limits};
+use skeen_core::MAX_ROWS;
 use std::alloc::Global;
 use std::sync::Wait;
 use std::thread::Threads;
@@ -26,9 +29,11 @@ const MAX_BYTES: usize = 1 << 20;
 
 // Writes the line that says why bytes are not done.
 fn refuse<K: Sink>(sink: &mut K, line: u32, cause: Cause) -> Status
-    ensures refused { result ≡ Status.Refused → Appends (K.holds sink.old) (K.holds sink.new) (refusal_bytes line (cause_text cause)) }
+    ensures refused { result ≡ Status.Refused
+        → Appends (K.holds sink.old) (K.holds sink.new) (refusal_bytes line (cause_text cause)) }
     ensures write_fault { result ≡ Status.WriteFault → Rose (K.faults sink.old) (K.faults sink.new) }
-    ensures front { result ≡ Status.WriteFault → AppendsFront (K.holds sink.old) (K.holds sink.new) (refusal_bytes line (cause_text cause)) }
+    ensures front { result ≡ Status.WriteFault
+        → AppendsFront (K.holds sink.old) (K.holds sink.new) (refusal_bytes line (cause_text cause)) }
     ensures one { (result ≡ Status.Refused) ⊎ (result ≡ Status.WriteFault) }
 {
     match print_refusal(line, cause.as_bytes(), sink) {
@@ -39,7 +44,9 @@ fn refuse<K: Sink>(sink: &mut K, line: u32, cause: Cause) -> Status
 
 // Does the commands of a script, and writes the report; or the line of the first command that is not done yet.
 fn do_script<K: Sink>(alloc: Global, script: &Script, sink: &mut K) -> Status
-    requires { IsFitting script.now }
+    requires fits { IsFitting script.now }
+    requires rows { script.now.shape.rows ≤ MAX_ROWS }
+    requires stops { StopsAreLast script.now }
     ensures done { result ≡ Status.Done → Shows script.now (K.holds sink.old) (K.holds sink.new) }
     ensures refused { result ≡ Status.Refused → (line : ℕ) × (first_unbuilt script.now.commands ≡ Some line)
         × Appends (K.holds sink.old) (K.holds sink.new) (refusal_bytes line (cause_text Cause.NotBuilt)) }
@@ -64,12 +71,15 @@ fn do_script<K: Sink>(alloc: Global, script: &Script, sink: &mut K) -> Status
 // Does what the bytes are.
 fn answer<K: Sink>(alloc: Global, bytes: &[u8], sink: &mut K) -> Status
     ensures done { result ≡ Status.Done → Writes IsRunText (Some bytes.now) (K.holds sink.old) (K.holds sink.new) }
-    ensures refused { result ≡ Status.Refused → Writes IsRefusalText (Some bytes.now) (K.holds sink.old) (K.holds sink.new) }
+    ensures refused { result ≡ Status.Refused
+        → Writes IsRefusalText (Some bytes.now) (K.holds sink.old) (K.holds sink.new) }
     ensures write_fault { result ≡ Status.WriteFault → Rose (K.faults sink.old) (K.faults sink.new) }
     ensures front { result ≡ Status.WriteFault → WritesFront (Some bytes.now) (K.holds sink.old) (K.holds sink.new) }
     ensures no_memory { result ≡ Status.NoMemory → sink.new ≡ sink.old }
     ensures no_other { (result ≢ Status.BadWords) × (result ≢ Status.ReadFault) }
 {
+    rows_are_within_limits();
+    scripts_stop_last();
     match parse(alloc, bytes) {
         Ok(script) => do_script(alloc, &script, sink),
         Err(ScriptFault::Refused { line, why }) => refuse(sink, line, Cause::Faulty(why)),
@@ -81,7 +91,8 @@ fn answer<K: Sink>(alloc: Global, bytes: &[u8], sink: &mut K) -> Status
 fn perform<S: Source, K: Sink>(alloc: Global, source: &mut S, sink: &mut K) -> Status
     ensures done { result ≡ Status.Done → Writes IsRunText (S.left source.old) (K.holds sink.old) (K.holds sink.new) }
     ensures to_the_end { result ≡ Status.Done → IsAtEnd (S.left source.new) }
-    ensures refused { result ≡ Status.Refused → Writes IsRefusalText (S.left source.old) (K.holds sink.old) (K.holds sink.new) }
+    ensures refused { result ≡ Status.Refused
+        → Writes IsRefusalText (S.left source.old) (K.holds sink.old) (K.holds sink.new) }
     ensures read_fault { result ≡ Status.ReadFault → Rose (S.faults source.old) (S.faults source.new) }
     ensures write_fault { result ≡ Status.WriteFault → Rose (K.faults sink.old) (K.faults sink.new) }
     ensures front { result ≡ Status.WriteFault → WritesFront (S.left source.old) (K.holds sink.old) (K.holds sink.new) }
@@ -111,14 +122,16 @@ pub fn run<S: Source, K: Sink, G: Gate, R: Threads + Wait>(
     // What was done: the whole text of a lawful run, or the line that says why the bytes are not done.
     ensures done { result ≡ Status.Done → Writes IsRunText (S.left source.old) (K.holds sink.old) (K.holds sink.new) }
     ensures to_the_end { result ≡ Status.Done → IsAtEnd (S.left source.new) }
-    ensures refused { result ≡ Status.Refused → Writes IsRefusalText (S.left source.old) (K.holds sink.old) (K.holds sink.new) }
+    ensures refused { result ≡ Status.Refused
+        → Writes IsRefusalText (S.left source.old) (K.holds sink.old) (K.holds sink.new) }
     // When each other answer comes. Memory alone may be refused at any time.
     ensures bad_words { (result ≡ Status.BadWords) ↔ (asked_by (map string_bytes words.now) ≡ None) }
     ensures read_fault { result ≡ Status.ReadFault → Rose (S.faults source.old) (S.faults source.new) }
     ensures write_fault { result ≡ Status.WriteFault → Rose (K.faults sink.old) (K.faults sink.new) }
     // What it leaves then.
     ensures unread { result ≡ Status.BadWords → source.new ≡ source.old }
-    ensures unwritten { result ≢ Status.Done → result ≢ Status.Refused → result ≢ Status.WriteFault → sink.new ≡ sink.old }
+    ensures unwritten { result ≢ Status.Done → result ≢ Status.Refused → result ≢ Status.WriteFault
+        → sink.new ≡ sink.old }
     ensures front { result ≡ Status.WriteFault → WritesFront (S.left source.old) (K.holds sink.old) (K.holds sink.new) }
     ensures taken { ConsumesUpTo MAX_BYTES (S.left source.old) (S.left source.new) }
 {

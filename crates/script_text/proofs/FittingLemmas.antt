@@ -30,7 +30,7 @@ and-left : (a b : Bool) → (a && b) ≡ true → a ≡ true
 and-left true b e = refl
 and-left false b e = e
 
-and-right : (a b : Bool) → (a && b) ≡ true → b ≡ true
+pub and-right : (a b : Bool) → (a && b) ≡ true → b ≡ true
 and-right true b e = e
 and-right false b e = absurd (let f : ⊥ = cc in f)
 
@@ -82,7 +82,7 @@ filter_map-said {A} {B} h (z ∷ zs) x y e = ap (cons_option (h z)) (filter_map-
   out None = refl
   out (Some w) = refl
 
-said-last : {X : Type 0} (d : X) (xs : List X) (x : X) → last_said d (xs ++ x ∷ []) ≡ x
+pub said-last : {X : Type 0} (d : X) (xs : List X) (x : X) → last_said d (xs ++ x ∷ []) ≡ x
 said-last d [] x = refl
 said-last d (y ∷ ys) x = said-last y ys x
 

@@ -1,8 +1,9 @@
--- What a line tells after others.
-use Rattle.std.specs.Prelude.{◌≡◌, Bool, true, false, IsTrue, IsFalse, ℕ, List, Option, Some, None}
+-- What a line tells after others, and how many rows a script may ask for.
+use Rattle.std.specs.Prelude.{◌≡◌, ◌≤◌, Bool, true, false, IsTrue, IsFalse, ℕ, List, Option, Some, None}
 use Rattle.script_text.specs.declared.item.Item.{Item}
+use Rattle.script_text.specs.declared.script.Script.{Script}
 use Rattle.script_text.specs.Pieces.{fields_of, is_ascii_line}
-use Rattle.script_text.specs.Grammar.{is_passed_over, Says, may_follow}
+use Rattle.script_text.specs.Grammar.{is_passed_over, Says, may_follow, IsScript}
 
 -- the line says the item, which may follow
 pub record Follows (before : List Item) (number : ℕ) (fields : List (List ℕ)) (item : Item) : Type 0 where
@@ -19,3 +20,7 @@ pub record IsSound (before : List Item) (number : ℕ) (line : List ℕ) : Type 
   pub ascii : IsTrue (is_ascii_line line)
   pub said : Option Item
   pub tells : Tells before number line said
+
+-- What is read as a script has at most 4,096 rows for each client.
+abbrev pub RowsAreWithinLimits : Type 0
+RowsAreWithinLimits = (bytes : List ℕ) (script : Script) → IsScript bytes script → script.shape.rows ≤ 4096

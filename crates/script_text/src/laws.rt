@@ -3,7 +3,7 @@ ghost use Rattle.std.specs.Prelude.{◌≡◌, ◌↔◌, ◌<◌, ◌+◌, ℕ,
 ghost use Rattle.script_text.specs.declared.item.Item.{Item};
 ghost use Rattle.script_text.specs.Grammar.{AreLines};
 ghost use Rattle.script_text.specs.Faults.{fault_of};
-ghost use Rattle.script_text.specs.Laws.{IsSound};
+ghost use Rattle.script_text.specs.Laws.{IsSound, RowsAreWithinLimits};
 
 /// The next line after some that say items has no fault exactly where it is passed over or says
 /// an item that may follow those.
@@ -11,4 +11,9 @@ pub fn a_line_is_faulty_or_sound()
     ensures { (lines : List (List ℕ)) (said : List Item) (line : List ℕ)
         → AreLines lines said → length lines < 20000
         → (fault_of said (length lines + 1) line ≡ None) ↔ IsSound said (length lines + 1) line }
+{}
+
+/// What is read as a script lets each client begin at most 4,096 appends to several colours.
+pub fn rows_are_within_limits()
+    ensures { RowsAreWithinLimits }
 {}

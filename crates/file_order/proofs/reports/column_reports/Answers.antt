@@ -1,24 +1,36 @@
-use Rattle.std.proofs.Common.{◌≡◌, ◌∙◌, ap, sym, ℕ, ◌≤◌, ◌<◌, ◌++◌, List, arith, length}
-use Rattle.std.specs.List.{flat_map, range_with_len}
-use Rattle.report_text.specs.declared.report.ColumnReport.{ColumnReport}
-use Rattle.file_order.specs.Meaning.{ColumnState}
-use Rattle.file_order.specs.Inside.{column_at, column_shown, region_shown}
-use Rattle.file_order.proofs.Places.{flat_map_range_more, map_range_same}
+use Rattle.std.proofs.Common.{◌∙◌, refl, [], arith}
+use Rattle.std.proofs.lemmas.List.{length_push}
+use Rattle.std.proofs.lemmas.Iterator.Adapters.{YieldsList-from_vec}
+use Rattle.std.proofs.lemmas.Iterator.Consumers.{YieldsList-turn}
+use Rattle.file_order.proofs.ColumnsShown.{regions_more, region_placed, next_read}
 use Rattle.file_order.proofs.reports.column_reports.Goals as goal
 
-pub loop-region-preserved : goal.loop-region-preserved
-loop-region-preserved c =
-    let script = c.args.script.now in
-    let region = c.loop-region.region in
-    let was = c.loop-region.invariant in
-    let same = map_range_same (λ (k : ℕ). column_shown script region k (column_at c.loop-region.columns.items region k))
-    (λ (k : ℕ). column_shown script region k (column_at c.args.columns.items region k)) 0 script.shape.colours
-    (λ k low high. ap (λ (x : ColumnState). column_shown script region k x) (was.others region k (let few = c.requires.few in omega (arith, few, high)) (omega arith))) in
+pub push_region-requires-clause-placed : goal.push_region-requires-clause-placed
+push_region-requires-clause-placed c =
+    let items = c.args.regions in
+    let shape = c.args.script.now.shape in
+    let gives = c.into_iter-columns-iterator.ensures.into_iter_gives in
+    let t = YieldsList-turn (YieldsList-from_vec {s = c.into_iter-columns-iterator.result} items.items gives.0
+    (gives.1 ∙ items.ok.0)) c.loop-columns.yielded _
+    c.loop-columns.yielded_by _ c.next.new.self c.in-Some.columns c.in-Some.is c.next.ensures.steps in
+    let here = next_read items.items items.items _ c.loop-columns.region c.in-Some.columns [] refl
+    c.loop-columns.invariant.place t in
+    region_placed items.items c.loop-columns.region shape.regions shape.colours c.in-Some.columns here.1 here.0
+    c.requires.regions c.requires.wide c.requires.placed
+
+pub loop-columns-preserved : goal.loop-columns-preserved
+loop-columns-preserved c =
+    let items = c.args.regions in
+    let gives = c.into_iter-columns-iterator.ensures.into_iter_gives in
+    let t = YieldsList-turn (YieldsList-from_vec {s = c.into_iter-columns-iterator.result} items.items gives.0
+    (gives.1 ∙ items.ok.0)) c.loop-columns.yielded _
+    c.loop-columns.yielded_by _ c.next.new.self c.in-Some.columns c.in-Some.is c.next.ensures.steps in
+    let here = next_read items.items items.items _ c.loop-columns.region c.in-Some.columns [] refl
+    c.loop-columns.invariant.place t in
+    let long = length_push c.loop-columns.yielded c.in-Some.columns in
     record {
-      reports_are = c.in_ok-push_region.ensures.ok
-          ∙ (ap (λ (l : List ColumnReport). l ++ region_shown script c.loop-region.columns.items region) was.reports_are
-          ∙ (ap (λ (l : List ColumnReport). flat_map (region_shown script c.args.columns.items) (range_with_len 0 region) ++ l) same
-          ∙ sym (flat_map_range_more (region_shown script c.args.columns.items) region)));
-      count = c.in_ok-push_region.ensures.length ∙ was.count;
-      others = λ r k small later. c.in_ok-push_region.ensures.others r k (λ e. omega (arith, e, later)) small ∙ was.others r k small (omega (arith, later));
+      place = omega (arith, c.loop-columns.invariant.place, long);
+      reports_are = regions_more c.args.script.now items.items c.loop-columns.region c.in-Some.columns
+          c.loop-columns.reports c.push_region.new.reports c.loop-columns.invariant.reports_are
+          c.in_ok-push_region.ensures here.1;
     }

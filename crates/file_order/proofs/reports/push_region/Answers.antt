@@ -1,27 +1,43 @@
-use Rattle.std.proofs.Common.{◌≡◌, ◌∙◌, ap, sym, inr, ℕ, ◌+◌, ◌*◌, ◌≤◌, ◌<◌, arith, length, length-set}
-use Rattle.file_order.specs.Meaning.{ColumnState}
-use Rattle.file_order.specs.Inside.{column_at, column_shown, place_of}
-use Rattle.file_order.proofs.Places.{region_more, others_more, read_at}
+use Rattle.std.proofs.Common.{◌∙◌, ap, sym, subst, arith}
+use Rattle.std.proofs.lemmas.List.{length_push}
+use Rattle.std.proofs.lemmas.Iterator.Adapters.{YieldsList-from_vec}
+use Rattle.std.proofs.lemmas.Iterator.Consumers.{YieldsList-turn}
+use Rattle.column.specs.Columns.{ColumnState}
+use Rattle.core_world.specs.Kept.{no_column, IsPlaced}
+use Rattle.file_order.specs.Reports.{column_shown}
+use Rattle.file_order.proofs.ColumnsShown.{columns_more, next_read}
 use Rattle.file_order.proofs.reports.push_region.Goals as goal
 
-below : (region colour place colours n m : ℕ) → place ≡ place_of region colour → colour < colours → colours ≤ 16 → region * 16 + 16 ≤ m → n ≡ m → (colour < 16) × (place < n)
-below region colour place colours n m is small few many same = (omega (arith, small, few), omega (arith, is, small, few, many, same))
+pub column_report-requires-clause-placed : goal.column_report-requires-clause-placed
+column_report-requires-clause-placed c =
+    let items = c.into_columns-column-items.result in
+    let gives = c.into_iter-column-iterator.ensures.into_iter_gives in
+    let t = YieldsList-turn (YieldsList-from_vec {s = c.into_iter-column-iterator.result} items.items gives.0
+    (gives.1 ∙ items.ok.0)) c.loop-column.yielded _
+    c.loop-column.yielded_by _ c.next.new.self c.in-Some.column c.in-Some.is c.next.ensures.steps in
+    let here = next_read items.items c.args.columns _ c.loop-column.colour c.in-Some.column no_column
+    c.into_columns-column-items.ensures c.loop-column.invariant.place t in
+    subst (λ (q : ColumnState). IsPlaced q c.args.region c.loop-column.colour c.args.script.now.shape.regions)
+    (sym here.1)
+    (c.requires.placed c.loop-column.colour here.0)
 
-pub loop-colour-preserved : goal.loop-colour-preserved
-loop-colour-preserved c =
+pub loop-column-preserved : goal.loop-column-preserved
+loop-column-preserved c =
     let script = c.args.script.now in
     let region = c.args.region in
-    let colour = c.loop-colour.colour in
-    let was = c.loop-colour.invariant in
-    let range = below region colour c.place.result script.shape.colours (length c.loop-colour.columns.items) (length c.args.columns.now.items)
-    c.place.ensures c.loop-colour-test.true c.requires.few c.requires.columns was.count in
-    let column = c.replace-column.ensures.value
-    ∙ (read_at c.loop-colour.columns.items region colour c.place.result c.index_mut.result.now c.place.ensures range.1 c.index_mut.ensures.value
-    ∙ was.others region colour range.0 (inr (omega arith))) in
+    let colour = c.loop-column.colour in
+    let items = c.into_columns-column-items.result in
+    let gives = c.into_iter-column-iterator.ensures.into_iter_gives in
+    let t = YieldsList-turn (YieldsList-from_vec {s = c.into_iter-column-iterator.result} items.items gives.0
+    (gives.1 ∙ items.ok.0)) c.loop-column.yielded _
+    c.loop-column.yielded_by _ c.next.new.self c.in-Some.column c.in-Some.is c.next.ensures.steps in
+    let here = next_read items.items c.args.columns _ colour c.in-Some.column no_column
+    c.into_columns-column-items.ensures c.loop-column.invariant.place t in
+    let long = length_push c.loop-column.yielded c.in-Some.column in
     record {
-      reports_are = region_more (λ (k : ℕ). column_shown script region k (column_at c.args.columns.now.items region k))
-          c.args.reports.now c.loop-colour.reports c.push.new.self colour c.in_ok-column_report.field-0 was.reports_are c.in_ok-push.ensures.ok
-          (c.in_ok-column_report.ensures ∙ ap (λ (x : ColumnState). column_shown script region colour x) column);
-      count = length-set c.loop-colour.columns.items c.place.result _ ∙ was.count;
-      others = others_more c.args.columns.now.items c.loop-colour.columns.items region colour c.place.result _ c.place.ensures range.0 was.others;
+      place = omega (arith, c.loop-column.invariant.place, long);
+      reports_are = columns_more script region colour c.args.columns c.args.reports.now c.loop-column.reports
+          c.push.new.self c.in_ok-column_report.field-0 c.loop-column.invariant.reports_are c.in_ok-push.ensures.ok
+          (c.in_ok-column_report.ensures
+          ∙ ap (λ (q : ColumnState). column_shown script region colour q.journal) here.1);
     }

@@ -1,10 +1,9 @@
-use Rattle.std.proofs.Common.{◌≡◌, ℕ, ◌+◌, ◌<◌, List, ◌++◌, ◌∷◌, [], map, ap, sym, subst, ◌∙◌, arith, rules}
+use Rattle.std.proofs.Common.{◌≡◌, ℕ, ◌+◌, ◌<◌, ap, sym, ◌∙◌, arith, rules}
 use Rattle.std.specs.Prelude.{◌^◌}
 use Rattle.std.specs.List.{filter, range_with_len}
-use Rattle.log_node.specs.declared.ids.Counts.{Counts}
-use Rattle.log_node.specs.Sets.{has, members}
+use Rattle.log_node.specs.Sets.{has}
 use Rattle.log_node.proofs.SetLemmas.{members-low}
-use Rattle.core_world.specs.Clients.{ClientKept, played_of}
+use Rattle.core_world.specs.Clients.{played_of}
 use Rattle.core_world.proofs.Ranges.{range_with, range_without, played_more}
 use Rattle.core_world.proofs.client.Client.played_of.Goals as goal
 use Rattle.core_world.proofs.client.Client.played_of.Goals.{then-has+in_ok-push, else-has}

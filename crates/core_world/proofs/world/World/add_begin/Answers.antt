@@ -1,4 +1,4 @@
-use Rattle.std.proofs.Common.{◌≡◌, ◌<◌, true, List, Some, ap, sym, subst, ◌∙◌, arith}
+use Rattle.std.proofs.Common.{◌≡◌, true, ap, sym, subst, ◌∙◌}
 use Rattle.log_node.specs.declared.node.Node.{Node}
 use Rattle.core_laws.specs.Worlds.{may_begin, after_begin, home_of}
 use Rattle.core_world.specs.Clients.{next_begun}
@@ -19,7 +19,8 @@ invariant_of-self c =
     let may = may_begin_is old client c.args.colours t in
     let node_is = c.requires.node ∙ ap (λ (k : WorldKept).
     next_begun (client_at k client) client (home_of (world_of k) client) c.args.colours node.text) back in
-    subst IsWhole (sym (begin_list old w client c.args.colours node.text may c.index_mut.result.now c.begin-2.new.self c.begin.new.self node
+    subst IsWhole (sym (begin_list old w client c.args.colours node.text may c.index_mut.result.now c.begin-2.new.self
+    c.begin.new.self node
     c.index_mut.ensures.value c.begin-2.ensures c.in-Ok.ensures.rows node_is))
     (begin_whole old w client c.args.colours node.text may t)
 
@@ -36,7 +37,8 @@ returns-clause-world c =
     let may = may_begin_is old client c.args.colours t in
     let node_is = c.requires.node ∙ ap (λ (k : WorldKept).
     next_begun (client_at k client) client (home_of (world_of k) client) c.args.colours node.text) back in
-    ap world_of (begin_list old w client c.args.colours node.text may c.index_mut.result.now c.begin-2.new.self c.begin.new.self node
+    ap world_of (begin_list old w client c.args.colours node.text may c.index_mut.result.now c.begin-2.new.self
+    c.begin.new.self node
     c.index_mut.ensures.value c.begin-2.ensures c.in-Ok.ensures.rows node_is)
     ∙ (begin_world old w client c.args.colours node.text may
     ∙ ap (λ (k : WorldKept). after_begin (world_of k) client c.args.colours node.text) c.self.view_is)

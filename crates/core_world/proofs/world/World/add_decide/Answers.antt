@@ -1,11 +1,9 @@
-use Rattle.std.proofs.Common.{◌≡◌, true, List, refl, ap, sym, subst, ◌∙◌}
-use Rattle.skeen_core.specs.declared.marks.Outcome.TheVariants.{Open, Gone, Final}
-use Rattle.skeen_core.specs.declared.marks.Outcome.{Outcome}
-use Rattle.skeen_core.specs.Queues.{is_decided}
-use Rattle.skeen_core.specs.Boards.{Board, IsRow}
+use Rattle.std.proofs.Common.{◌≡◌, true, ap, sym, subst, ◌∙◌}
+use Rattle.skeen_core.specs.declared.marks.Outcome.TheVariants.{Open}
+use Rattle.skeen_core.specs.Boards.{Board}
 use Rattle.core_laws.specs.declared.steps.Step.TheVariants as steps
 use Rattle.core_laws.specs.Laws.{IsBounded}
-use Rattle.core_laws.specs.Worlds.{World, is_begun, row_of, after, reply}
+use Rattle.core_laws.specs.Worlds.{is_begun, row_of, after, reply}
 use Rattle.core_laws.proofs.CallerLemmas.{of_reached}
 use Rattle.core_world.specs.Kept.{WorldKept, world_of, IsWhole}
 use Rattle.core_world.proofs.Marking.{begun_is}
@@ -48,7 +46,8 @@ returns-clause-world c =
     (subst (λ (k : WorldKept). is_begun (world_of k) row ≡ true) (sym c.self.view_is) c.requires.begun) in
     let opens = subst (λ (k : WorldKept). (row_of (world_of k) row).last ≡ Open) (sym c.self.view_is) c.requires.last in
     ap (λ (b : Board). world_of (record old { board = b })) c.decide-outcome.ensures.rows
-    ∙ (decided_world old w row begun opens ∙ ap (λ (k : WorldKept). after (world_of k) (steps.Decide row)) c.self.view_is)
+    ∙ (decided_world old w row begun opens ∙ ap (λ (k : WorldKept). after (world_of k) (steps.Decide row))
+    c.self.view_is)
 
 pub returns-clause-reply : goal.returns-clause-reply
 returns-clause-reply c =

@@ -1,10 +1,8 @@
-use Rattle.std.proofs.Common.{◌≡◌, true, List, set, ap, sym, subst, ◌∙◌}
-use Rattle.core_laws.specs.declared.steps.Reply.TheVariants as replies
-use Rattle.log_node.specs.declared.ids.Counts.{Counts}
-use Rattle.core_laws.specs.Worlds.{may_play, after_play, home_of, played_cut}
+use Rattle.std.proofs.Common.{◌≡◌, true, List, ap, sym, subst, ◌∙◌}
+use Rattle.core_laws.specs.Worlds.{may_play, after_play, home_of}
 use Rattle.core_world.specs.Clients.{ClientKept}
 use Rattle.core_world.specs.Kept.{WorldKept, world_of, IsWhole}
-use Rattle.core_world.proofs.Plays.{may_play_is, play_world, play_whole, code_cut, code_list}
+use Rattle.core_world.proofs.Plays.{may_play_is, play_world, play_whole, code_list, code_region, code_base}
 use Rattle.core_world.proofs.world.World.add_play.Goals as goal
 
 pub invariant_of-self : goal.invariant_of-self
@@ -47,3 +45,32 @@ returns-clause-world c =
     ap (λ (cs : List ClientKept). world_of (record old { clients = cs })) changed
     ∙ (play_world old w client colour may
     ∙ ap (λ (k : WorldKept). after_play (world_of k) client colour) c.self.view_is)
+
+pub unplayed_stamp-stamp-requires-clause-region : goal.unplayed_stamp-stamp-requires-clause-region
+unplayed_stamp-stamp-requires-clause-region c =
+    let i = c.self.inside in
+    let old : WorldKept =
+    record { shape = i.shape; clients = i.clients.items; board = i.board; columns = i.regions.items } in
+    let client = c.args.client in
+    let colour = c.args.colour in
+    let is_true = subst (λ (k : WorldKept). may_play (world_of k) client colour ≡ true) (sym c.self.view_is)
+    c.requires.may in
+    let home_is = subst (λ (k : WorldKept). home_of (world_of k) client ≡ c.args.home) (sym c.self.view_is)
+    c.requires.home in
+    code_region old c.self.invariant client colour (may_play_is old client colour is_true) c.args.home home_is
+    c.args.self.now c.self.view_is c.column-column.result.now c.column-column.ensures
+
+pub unplayed_stamp-stamp-requires-clause-base : goal.unplayed_stamp-stamp-requires-clause-base
+unplayed_stamp-stamp-requires-clause-base c =
+    let i = c.self.inside in
+    let old : WorldKept =
+    record { shape = i.shape; clients = i.clients.items; board = i.board; columns = i.regions.items } in
+    let client = c.args.client in
+    let colour = c.args.colour in
+    let is_true = subst (λ (k : WorldKept). may_play (world_of k) client colour ≡ true) (sym c.self.view_is)
+    c.requires.may in
+    let home_is = subst (λ (k : WorldKept). home_of (world_of k) client ≡ c.args.home) (sym c.self.view_is)
+    c.requires.home in
+    code_base old c.self.invariant client colour (may_play_is old client colour is_true) c.args.home home_is
+    c.args.self.now c.self.view_is c.column-column.result.now c.column-column.ensures c.played-played.result
+    c.client.result.now c.client.ensures c.played-played.ensures is_true

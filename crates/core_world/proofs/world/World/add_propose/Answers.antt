@@ -38,7 +38,8 @@ propose-requires-clause-colour c =
     let home_is = ap (λ (k : WorldKept). home_of (world_of k) row.client) c.self.view_is ∙ sym c.home-home.ensures in
     let node_is = subst (λ (k : WorldKept). slice_get (client_at k row.client).begun row.number ≡ Some node)
     (sym c.self.view_is) c.requires.node in
-    call_colour old w row colour may c.home-home.result home_is c.index_mut.result.now c.index_mut.ensures.value node node_is
+    call_colour old w row colour may c.home-home.result home_is c.index_mut.result.now c.index_mut.ensures.value node
+    node_is
 
 pub propose-requires-clause-fresh : goal.propose-requires-clause-fresh
 propose-requires-clause-fresh c =
@@ -53,7 +54,8 @@ propose-requires-clause-fresh c =
     let home_is = ap (λ (k : WorldKept). home_of (world_of k) row.client) c.self.view_is ∙ sym c.home-home.ensures in
     let node_is = subst (λ (k : WorldKept). slice_get (client_at k row.client).begun row.number ≡ Some node)
     (sym c.self.view_is) c.requires.node in
-    call_fresh old w row colour may c.home-home.result home_is c.index_mut.result.now c.index_mut.ensures.value node node_is
+    call_fresh old w row colour may c.home-home.result home_is c.index_mut.result.now c.index_mut.ensures.value node
+    node_is
 
 pub propose-requires-clause-region : goal.propose-requires-clause-region
 propose-requires-clause-region c =
@@ -68,7 +70,8 @@ propose-requires-clause-region c =
     let home_is = ap (λ (k : WorldKept). home_of (world_of k) row.client) c.self.view_is ∙ sym c.home-home.ensures in
     let node_is = subst (λ (k : WorldKept). slice_get (client_at k row.client).begun row.number ≡ Some node)
     (sym c.self.view_is) c.requires.node in
-    call_region old w row colour may c.home-home.result home_is c.index_mut.result.now c.index_mut.ensures.value node node_is
+    call_region old w row colour may c.home-home.result home_is c.index_mut.result.now c.index_mut.ensures.value node
+    node_is
 
 pub propose-requires-clause-of_colour : goal.propose-requires-clause-of_colour
 propose-requires-clause-of_colour c =
@@ -83,7 +86,8 @@ propose-requires-clause-of_colour c =
     let home_is = ap (λ (k : WorldKept). home_of (world_of k) row.client) c.self.view_is ∙ sym c.home-home.ensures in
     let node_is = subst (λ (k : WorldKept). slice_get (client_at k row.client).begun row.number ≡ Some node)
     (sym c.self.view_is) c.requires.node in
-    call_of_colour old w row colour may c.home-home.result home_is c.index_mut.result.now c.index_mut.ensures.value node node_is
+    call_of_colour old w row colour may c.home-home.result home_is c.index_mut.result.now c.index_mut.ensures.value node
+    node_is
 
 pub propose-requires-clause-floor : goal.propose-requires-clause-floor
 propose-requires-clause-floor c =
@@ -98,7 +102,8 @@ propose-requires-clause-floor c =
     let home_is = ap (λ (k : WorldKept). home_of (world_of k) row.client) c.self.view_is ∙ sym c.home-home.ensures in
     let node_is = subst (λ (k : WorldKept). slice_get (client_at k row.client).begun row.number ≡ Some node)
     (sym c.self.view_is) c.requires.node in
-    call_floor old w row colour may c.home-home.result home_is c.index_mut.result.now c.index_mut.ensures.value node node_is
+    call_floor old w row colour may c.home-home.result home_is c.index_mut.result.now c.index_mut.ensures.value node
+    node_is
 
 pub propose-requires-clause-row : goal.propose-requires-clause-row
 propose-requires-clause-row c =
@@ -113,7 +118,8 @@ propose-requires-clause-row c =
     let home_is = ap (λ (k : WorldKept). home_of (world_of k) row.client) c.self.view_is ∙ sym c.home-home.ensures in
     let node_is = subst (λ (k : WorldKept). slice_get (client_at k row.client).begun row.number ≡ Some node)
     (sym c.self.view_is) c.requires.node in
-    call_row old w row colour may c.home-home.result home_is c.index_mut.result.now c.index_mut.ensures.value node node_is
+    call_row old w row colour may c.home-home.result home_is c.index_mut.result.now c.index_mut.ensures.value node
+    node_is
 
 pub mark-requires-clause-colour : goal.mark-requires-clause-colour
 mark-requires-clause-colour c =
@@ -160,7 +166,8 @@ mark-requires-clause-number c =
     (sym c.self.view_is) c.requires.node in
     let not_end = subst (λ (k : WorldKept). is_row_at_end (world_of k) row colour ≡ false) (sym c.self.view_is)
     c.requires.stamp in
-    call_stamp old w row colour may c.home-home.result home_is c.index_mut.result.now c.index_mut.ensures.value node node_is not_end
+    call_stamp old w row colour may c.home-home.result home_is c.index_mut.result.now c.index_mut.ensures.value node
+    node_is not_end
     c.in_ok-at.stamp c.in_ok-at.ensures.answer.1
 
 pub invariant_of-self-2 : goal.invariant_of-self-2
@@ -179,7 +186,8 @@ invariant_of-self-2 c =
     let not_end = subst (λ (k : WorldKept). is_row_at_end (world_of k) row colour ≡ false) (sym c.self.view_is)
     c.requires.stamp in
     let all = and_from (may_mark (world_of old) row colour) _ may (ap not not_end) in
-    subst IsWhole (sym (code_kept old w row colour may c.home-home.result home_is c.index_mut.result.now c.index_mut.ensures.value node node_is c.args.by c.in_ok-at.stamp c.propose.new.self
+    subst IsWhole (sym (code_kept old w row colour may c.home-home.result home_is c.index_mut.result.now
+    c.index_mut.ensures.value node node_is c.args.by c.in_ok-at.stamp c.propose.new.self
     c.mark.new.self c.in_ok-at.ensures.ok c.in_ok-at.ensures.answer.1 c.mark.ensures.rows))
     (propose_whole old w row colour may c.args.by all)
 
@@ -196,7 +204,8 @@ returns-clause-ok c =
     let home_is = ap (λ (k : WorldKept). home_of (world_of k) row.client) c.self.view_is ∙ sym c.home-home.ensures in
     let node_is = subst (λ (k : WorldKept). slice_get (client_at k row.client).begun row.number ≡ Some node)
     (sym c.self.view_is) c.requires.node in
-    ap world_of (code_kept old w row colour may c.home-home.result home_is c.index_mut.result.now c.index_mut.ensures.value node node_is c.args.by c.in_ok-at.stamp c.propose.new.self
+    ap world_of (code_kept old w row colour may c.home-home.result home_is c.index_mut.result.now
+    c.index_mut.ensures.value node node_is c.args.by c.in_ok-at.stamp c.propose.new.self
     c.mark.new.self c.in_ok-at.ensures.ok c.in_ok-at.ensures.answer.1 c.mark.ensures.rows)
     ∙ (propose_world old w row colour may c.args.by
     ∙ ap (λ (k : WorldKept). after_propose (world_of k) c.args.by row colour) c.self.view_is)
@@ -214,7 +223,8 @@ returns-clause-reply c =
     let home_is = ap (λ (k : WorldKept). home_of (world_of k) row.client) c.self.view_is ∙ sym c.home-home.ensures in
     let node_is = subst (λ (k : WorldKept). slice_get (client_at k row.client).begun row.number ≡ Some node)
     (sym c.self.view_is) c.requires.node in
-    code_reply old w row colour may c.home-home.result home_is c.index_mut.result.now c.index_mut.ensures.value node node_is
+    code_reply old w row colour may c.home-home.result home_is c.index_mut.result.now c.index_mut.ensures.value node
+    node_is
     c.in_ok-at.at c.in-Event.place c.in_ok-at.stamp c.in-Event.is c.in_ok-at.ensures.answer.0
     c.in_ok-at.ensures.answer.1
     ∙ ap (λ (k : WorldKept). event_reply (world_of k) (home_of (world_of k) row.client) colour

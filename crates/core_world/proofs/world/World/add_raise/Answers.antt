@@ -8,7 +8,12 @@ use Rattle.core_world.proofs.Placing.{raised_world, raised_whole, row_there, def
 use Rattle.core_world.proofs.world.World.add_raise.Goals as goal
 
 abbrev old_of : goal.In-Event → WorldKept
-old_of c = let i = c.self.inside in record { shape = i.shape; clients = i.clients.items; board = i.board; columns = i.regions.items }
+old_of c = let i = c.self.inside in record {
+  shape = i.shape;
+  clients = i.clients.items;
+  board = i.board;
+  columns = i.regions.items;
+}
 
 may : (c : goal.In-Event) → may_raise (world_of (old_of c)) c.args.region c.args.colour c.args.to ≡ true
 may c = subst (λ (k : WorldKept). may_raise (world_of k) c.args.region c.args.colour c.args.to ≡ true)

@@ -10,7 +10,12 @@ invariant_of-self c =
     let i = c.self.inside in
     let client = c.args.client in
     let to = c.args.to in
-    let old : WorldKept = record { shape = i.shape; clients = i.clients.items; board = i.board; columns = i.regions.items } in
+    let old : WorldKept = record {
+      shape = i.shape;
+      clients = i.clients.items;
+      board = i.board;
+      columns = i.regions.items;
+    } in
     let may = subst (λ (k : WorldKept). may_see (world_of k) client to ≡ true) (sym c.self.view_is) c.requires in
     let there = client_there old client to c.self.invariant may in
     let changed = seen_list old.clients client to c.index_mut.result.now c.see.new.self there
@@ -23,7 +28,12 @@ returns c =
     let i = c.self.inside in
     let client = c.args.client in
     let to = c.args.to in
-    let old : WorldKept = record { shape = i.shape; clients = i.clients.items; board = i.board; columns = i.regions.items } in
+    let old : WorldKept = record {
+      shape = i.shape;
+      clients = i.clients.items;
+      board = i.board;
+      columns = i.regions.items;
+    } in
     let may = subst (λ (k : WorldKept). may_see (world_of k) client to ≡ true) (sym c.self.view_is) c.requires in
     let there = client_there old client to c.self.invariant may in
     let changed = seen_list old.clients client to c.index_mut.result.now c.see.new.self there

@@ -1,11 +1,12 @@
 use Rattle.std.proofs.Common.{◌≡◌, ◌<◌, true, List, ap, sym, subst, ◌∙◌, arith}
 use Rattle.column.specs.Columns.{ColumnState}
 use Rattle.core_laws.specs.declared.steps.Step.TheVariants as steps
-use Rattle.core_laws.specs.Worlds.{World, is_begun, row_of, home_of, after, reply}
+use Rattle.core_laws.specs.Worlds.{is_begun, row_of, home_of, after, reply}
 use Rattle.core_world.specs.Kept.{WorldKept, world_of, IsWhole}
 use Rattle.core_world.proofs.Marking.{begun_is}
 use Rattle.core_world.proofs.Proposing.{columns_there}
-use Rattle.core_world.proofs.Settling.{settled_world, settled_whole, call_colour, call_settles, code_columns, code_reply}
+use Rattle.core_world.proofs.Settling.{settled_world, settled_whole, call_colour, call_settles, code_columns}
+use Rattle.core_world.proofs.Settling.{code_reply}
 use Rattle.core_world.proofs.world.World.add_settle.Goals as goal
 
 pub index_mut-requires : goal.index_mut-requires
@@ -35,7 +36,8 @@ settle-at-requires-clause-colour c =
     let b = begun_is old w row (subst (λ (k : WorldKept). is_begun (world_of k) row ≡ true) back c.requires.begun) in
     let in_colours = subst (λ (k : WorldKept). colour < k.shape.colours) back c.requires.colour in
     let home_is = ap (λ (k : WorldKept). home_of (world_of k) row.client) c.self.view_is ∙ sym c.home-home.ensures in
-    call_colour old w row b colour in_colours c.home-home.result home_is c.index_mut.result.now c.index_mut.ensures.value
+    call_colour old w row b colour in_colours c.home-home.result home_is c.index_mut.result.now
+    c.index_mut.ensures.value
 
 pub settle-at-requires-clause-settles : goal.settle-at-requires-clause-settles
 settle-at-requires-clause-settles c =
@@ -51,7 +53,8 @@ settle-at-requires-clause-settles c =
     let home_is = ap (λ (k : WorldKept). home_of (world_of k) row.client) c.self.view_is ∙ sym c.home-home.ensures in
     let id_is = c.requires.id ∙ ap (λ (k : WorldKept). (row_of (world_of k) row).node.id) back in
     let last_is = c.last-outcome.ensures ∙ ap (λ (k : WorldKept). (row_of (world_of k) row).last) back in
-    call_settles old w row b colour in_colours c.home-home.result home_is c.index_mut.result.now c.index_mut.ensures.value
+    call_settles old w row b colour in_colours c.home-home.result home_is c.index_mut.result.now
+    c.index_mut.ensures.value
     c.args.id id_is c.last-outcome.result last_is
 
 pub invariant_of-self : goal.invariant_of-self
@@ -68,7 +71,9 @@ invariant_of-self c =
     let home_is = ap (λ (k : WorldKept). home_of (world_of k) row.client) c.self.view_is ∙ sym c.home-home.ensures in
     let id_is = c.requires.id ∙ ap (λ (k : WorldKept). (row_of (world_of k) row).node.id) back in
     let last_is = c.last-outcome.ensures ∙ ap (λ (k : WorldKept). (row_of (world_of k) row).last) back in
-    subst (λ (cs : List (List ColumnState)). IsWhole (record old { columns = cs })) (sym (code_columns old w row b colour in_colours c.home-home.result home_is c.index_mut.result.now c.index_mut.ensures.value
+    subst (λ (cs : List (List ColumnState)). IsWhole (record old { columns = cs }))
+    (sym (code_columns old w row b colour in_colours c.home-home.result home_is c.index_mut.result.now
+    c.index_mut.ensures.value
     c.args.id id_is c.last-outcome.result last_is c.args.by c.settle-at.new.self c.settle-at.ensures.columns))
     (settled_whole old w row b colour in_colours c.args.by)
 
@@ -86,7 +91,9 @@ returns-clause-world c =
     let home_is = ap (λ (k : WorldKept). home_of (world_of k) row.client) c.self.view_is ∙ sym c.home-home.ensures in
     let id_is = c.requires.id ∙ ap (λ (k : WorldKept). (row_of (world_of k) row).node.id) back in
     let last_is = c.last-outcome.ensures ∙ ap (λ (k : WorldKept). (row_of (world_of k) row).last) back in
-    ap (λ (cs : List (List ColumnState)). world_of (record old { columns = cs })) (code_columns old w row b colour in_colours c.home-home.result home_is c.index_mut.result.now c.index_mut.ensures.value
+    ap (λ (cs : List (List ColumnState)). world_of (record old { columns = cs }))
+    (code_columns old w row b colour in_colours c.home-home.result home_is c.index_mut.result.now
+    c.index_mut.ensures.value
     c.args.id id_is c.last-outcome.result last_is c.args.by c.settle-at.new.self c.settle-at.ensures.columns)
     ∙ (settled_world old w row b colour in_colours c.args.by
     ∙ ap (λ (k : WorldKept). after (world_of k) (steps.Settle c.args.by row colour)) c.self.view_is)
@@ -106,6 +113,7 @@ returns-clause-reply c =
     let id_is = c.requires.id ∙ ap (λ (k : WorldKept). (row_of (world_of k) row).node.id) back in
     let last_is = c.last-outcome.ensures ∙ ap (λ (k : WorldKept). (row_of (world_of k) row).last) back in
     c.reply_at.ensures
-    ∙ (code_reply old w row b colour in_colours c.home-home.result home_is c.index_mut.result.now c.index_mut.ensures.value
+    ∙ (code_reply old w row b colour in_colours c.home-home.result home_is c.index_mut.result.now
+    c.index_mut.ensures.value
     c.args.id id_is c.last-outcome.result last_is c.args.by c.settle-at.result c.settle-at.ensures.answer
     ∙ ap (λ (k : WorldKept). reply (world_of k) (steps.Settle c.args.by row colour)) c.self.view_is)

@@ -11,7 +11,12 @@ use Rattle.core_world.proofs.world.World.add_single.Goals as goal
 pub single-requires-clause-fresh : goal.single-requires-clause-fresh
 single-requires-clause-fresh c =
     let i = c.self.inside in
-    let old : WorldKept = record { shape = i.shape; clients = i.clients.items; board = i.board; columns = i.regions.items } in
+    let old : WorldKept = record {
+      shape = i.shape;
+      clients = i.clients.items;
+      board = i.board;
+      columns = i.regions.items;
+    } in
     let back = sym c.self.view_is in
     let client = c.args.client in
     let colour = c.args.colour in
@@ -28,7 +33,12 @@ single-requires-clause-fresh c =
 pub single-requires-clause-of_colour : goal.single-requires-clause-of_colour
 single-requires-clause-of_colour c =
     let i = c.self.inside in
-    let old : WorldKept = record { shape = i.shape; clients = i.clients.items; board = i.board; columns = i.regions.items } in
+    let old : WorldKept = record {
+      shape = i.shape;
+      clients = i.clients.items;
+      board = i.board;
+      columns = i.regions.items;
+    } in
     let back = sym c.self.view_is in
     let client = c.args.client in
     let colour = c.args.colour in
@@ -45,7 +55,12 @@ single-requires-clause-of_colour c =
 pub single-requires-clause-floor : goal.single-requires-clause-floor
 single-requires-clause-floor c =
     let i = c.self.inside in
-    let old : WorldKept = record { shape = i.shape; clients = i.clients.items; board = i.board; columns = i.regions.items } in
+    let old : WorldKept = record {
+      shape = i.shape;
+      clients = i.clients.items;
+      board = i.board;
+      columns = i.regions.items;
+    } in
     let back = sym c.self.view_is in
     let client = c.args.client in
     let colour = c.args.colour in
@@ -62,7 +77,12 @@ single-requires-clause-floor c =
 pub invariant_of-self-2 : goal.invariant_of-self-2
 invariant_of-self-2 c =
     let i = c.self.inside in
-    let old : WorldKept = record { shape = i.shape; clients = i.clients.items; board = i.board; columns = i.regions.items } in
+    let old : WorldKept = record {
+      shape = i.shape;
+      clients = i.clients.items;
+      board = i.board;
+      columns = i.regions.items;
+    } in
     let back = sym c.self.view_is in
     let client = c.args.client in
     let colour = c.args.colour in
@@ -83,7 +103,12 @@ invariant_of-self-2 c =
 pub returns-clause-ok : goal.returns-clause-ok
 returns-clause-ok c =
     let i = c.self.inside in
-    let old : WorldKept = record { shape = i.shape; clients = i.clients.items; board = i.board; columns = i.regions.items } in
+    let old : WorldKept = record {
+      shape = i.shape;
+      clients = i.clients.items;
+      board = i.board;
+      columns = i.regions.items;
+    } in
     let back = sym c.self.view_is in
     let client = c.args.client in
     let colour = c.args.colour in
@@ -105,7 +130,12 @@ returns-clause-ok c =
 pub returns-clause-reply : goal.returns-clause-reply
 returns-clause-reply c =
     let i = c.self.inside in
-    let old : WorldKept = record { shape = i.shape; clients = i.clients.items; board = i.board; columns = i.regions.items } in
+    let old : WorldKept = record {
+      shape = i.shape;
+      clients = i.clients.items;
+      board = i.board;
+      columns = i.regions.items;
+    } in
     let back = sym c.self.view_is in
     let client = c.args.client in
     let colour = c.args.colour in
@@ -125,7 +155,12 @@ returns-clause-reply c =
 pub invariant_of-self : goal.invariant_of-self
 invariant_of-self c =
     let i = c.self.inside in
-    let old : WorldKept = record { shape = i.shape; clients = i.clients.items; board = i.board; columns = i.regions.items } in
+    let old : WorldKept = record {
+      shape = i.shape;
+      clients = i.clients.items;
+      board = i.board;
+      columns = i.regions.items;
+    } in
     subst (λ (cs : List (List ColumnState)). IsWhole (record old { columns = cs }))
     (sym (refused i.regions.items c.args.home c.index_mut.result.now c.single.new.self c.index_mut.ensures.value
     c.in_err-at.ensures.err))
@@ -134,7 +169,12 @@ invariant_of-self c =
 pub returns-in_err-at-clause-err : goal.returns-in_err-at-clause-err
 returns-in_err-at-clause-err c =
     let i = c.self.inside in
-    let old : WorldKept = record { shape = i.shape; clients = i.clients.items; board = i.board; columns = i.regions.items } in
+    let old : WorldKept = record {
+      shape = i.shape;
+      clients = i.clients.items;
+      board = i.board;
+      columns = i.regions.items;
+    } in
     on_err c.from_residual.result _
     (ap (λ (cs : List (List ColumnState)). record old { columns = cs })
     (refused i.regions.items c.args.home c.index_mut.result.now c.single.new.self c.index_mut.ensures.value

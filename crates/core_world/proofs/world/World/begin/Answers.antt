@@ -1,4 +1,4 @@
-use Rattle.std.proofs.Common.{◌≡◌, ◌<◌, List, [], true, ap, sym, subst, ◌∙◌}
+use Rattle.std.proofs.Common.{◌≡◌, ◌<◌, [], true, ap, sym, subst, ◌∙◌}
 use Rattle.std.proofs.lemmas.Bool.{cond-true}
 use Rattle.core_laws.specs.declared.steps.Reply.TheVariants as replies
 use Rattle.core_laws.specs.Worlds.{World, may_begin, after_begin, next_row, next_id}

@@ -1,7 +1,7 @@
-use Rattle.std.proofs.Common.{◌≡◌, ◌<◌, ◌≤◌, ℕ, List, [], true, length, ap, sym, subst, ◌∙◌, arith}
+use Rattle.std.proofs.Common.{◌≡◌, ◌<◌, ℕ, [], true, length, ap, sym, subst, ◌∙◌}
 use Rattle.log_node.specs.declared.ids.Row.{Row}
 use Rattle.log_node.specs.declared.node.Node.{Node}
-use Rattle.core_laws.specs.Worlds.{World, may_begin, after_begin, home_of, next_row}
+use Rattle.core_laws.specs.Worlds.{may_begin, home_of, next_row}
 use Rattle.core_world.specs.Clients.{ClientKept, fresh_client, next_begun}
 use Rattle.core_world.specs.Kept.{WorldKept, client_at, world_of, IsWhole}
 use Rattle.core_world.proofs.Begins.{may_begin_is, in_clients}
@@ -96,7 +96,8 @@ add_begin-requires-clause-node c =
     ∙ (c.in_ok-node.ensures
     ∙ (ap (λ (k : ClientKept). next_begun k c.row_to_begin-row.result.client c.home-home.result colours c.args.text)
     c.client.ensures
-    ∙ (ap (λ (a : ℕ). next_begun (client_at now a) c.row_to_begin-row.result.client c.home-home.result colours c.args.text)
+    ∙ (ap (λ (a : ℕ). next_begun (client_at now a) c.row_to_begin-row.result.client c.home-home.result colours
+    c.args.text)
     (sym mine)
     ∙ (ap (λ (x : ℕ). next_begun (client_at now c.row_to_begin-row.result.client) c.row_to_begin-row.result.client x
     colours c.args.text) (c.home-home.ensures ∙ ap (home_of (world_of now)) (sym mine))

@@ -1,4 +1,4 @@
-use Rattle.std.proofs.Common.{List, length, ap, sym, subst, ◌∙◌, arith, ◌<◌}
+use Rattle.std.proofs.Common.{List, length, ap, sym, subst, arith, ◌<◌}
 use Rattle.core_world.specs.Clients.{ClientKept}
 use Rattle.core_world.specs.Kept.{WorldKept, IsWhole}
 use Rattle.core_world.proofs.Calling.{room_list, room_whole}

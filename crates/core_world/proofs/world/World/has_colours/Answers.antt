@@ -1,4 +1,4 @@
-use Rattle.std.proofs.Common.{ℕ, ◌<◌, refl, ap, sym, ◌∙◌, rules, tests}
+use Rattle.std.proofs.Common.{ℕ, ◌<◌, refl, ap, ◌∙◌, rules, tests}
 use Rattle.std.specs.Prelude.{◌^◌, ◌||◌, not, nat_lt}
 use Rattle.std.specs.List.{list_all}
 use Rattle.std.proofs.lemmas.Iterator.{YieldsList-from_range}

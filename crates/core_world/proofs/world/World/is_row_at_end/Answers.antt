@@ -1,9 +1,9 @@
-use Rattle.std.proofs.Common.{◌≡◌, ◌<◌, ℕ, true, ap, sym, subst, ◌∙◌, max}
+use Rattle.std.proofs.Common.{◌<◌, ℕ, ap, sym, subst, ◌∙◌, max}
 use Rattle.std.specs.Prelude.{◌==◌}
 use Rattle.log_node.specs.declared.node.Node.{Node}
 use Rattle.col_core.specs.History.{clock, last_stamp}
 use Rattle.column.specs.Columns.{ColumnState}
-use Rattle.core_laws.specs.Worlds.{home_of, row_history}
+use Rattle.core_laws.specs.Worlds.{row_history}
 use Rattle.core_world.specs.Kept.{WorldKept, column_at, world_of, IsWhole}
 use Rattle.core_world.proofs.MayMark.{its_node}
 use Rattle.core_world.proofs.Proposing.{client_there, home_there, colour_there, its_row}

@@ -1,12 +1,12 @@
-use Rattle.std.proofs.Common.{◌≡◌, ◌<◌, ◌≤◌, ℕ, true, false, ap, sym, subst, ◌∙◌, arith}
+use Rattle.std.proofs.Common.{ap, sym, subst, ◌∙◌, arith}
 use Rattle.log_node.specs.declared.node.Node.{Node}
 use Rattle.log_node.specs.Sets.{has}
-use Rattle.skeen_core.specs.declared.marks.Mark.{Mark}
 use Rattle.skeen_core.specs.Outcomes.{is_missing}
-use Rattle.core_world.specs.Kept.{WorldKept, world_of, IsWhole}
+use Rattle.core_world.specs.Kept.{WorldKept, IsWhole}
 use Rattle.core_world.proofs.MayMark.{no_colour, not_has, by_mark}
 use Rattle.core_world.proofs.world.World.may_mark.Goals as goal
-use Rattle.core_world.proofs.world.World.may_mark.Goals.{then-colour-self-via-then-colour-self, then-colour-self-via-else-colour-self+then-not-has}
+use Rattle.core_world.proofs.world.World.may_mark.Goals.{then-colour-self-via-then-colour-self}
+use Rattle.core_world.proofs.world.World.may_mark.Goals.{then-colour-self-via-else-colour-self+then-not-has}
 
 pub returns-then-colour-self : goal.returns-then-colour-self
 returns-then-colour-self c =

@@ -16,7 +16,12 @@ returns-then-floor-to c =
     let i = c.self.inside in
     let client = c.args.client in
     let to = c.args.to in
-    let old : WorldKept = record { shape = i.shape; clients = i.clients.items; board = i.board; columns = i.regions.items } in
+    let old : WorldKept = record {
+      shape = i.shape;
+      clients = i.clients.items;
+      board = i.board;
+      columns = i.regions.items;
+    } in
     let w = c.self.invariant in
     let home = c.in-Some.home.now in
     let is = sym c.in-Some.ensures in

@@ -17,7 +17,12 @@ made c = record {
 is_fresh : (c : goal.In_ok-board) → made c ≡ fresh_world c.args.shape
 is_fresh c =
     ap (λ (l : List ClientKept). let k : WorldKept =
-    record { shape = c.args.shape; clients = l; board = c.in_ok-board.board; columns = c.in_ok-regions.regions.items } in k)
+    record {
+      shape = c.args.shape;
+      clients = l;
+      board = c.in_ok-board.board;
+      columns = c.in_ok-regions.regions.items;
+    } in k)
     (c.in_ok-clients.ensures ∙ ap (λ (n : ℕ). replicate n fresh_client) c.len-count.ensures)
     ∙ (ap (λ (b : Board). record (fresh_world c.args.shape) { board = b; columns = c.in_ok-regions.regions.items })
     (c.in_ok-board.ensures

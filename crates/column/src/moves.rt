@@ -1,0 +1,176 @@
+// What passes between the columns of a colour: what is noted as asked for, what is carried, and what is trimmed.
+ghost use Rattle.std.specs.Prelude.{◌≡◌, ◌≢◌, ◌<◌, nat_lt, ◌-◌, [], length, vec_len, map, drop, IfOk, OnOk, OnErr};
+ghost use Rattle.std.specs.Prelude.{if◌then◌else◌};
+ghost use Rattle.column.specs.Columns.{after_give, after_carry, after_trim, with_items, new_items};
+ghost use Rattle.column.specs.Columns.{cut_of, base_of};
+ghost use Rattle.column.specs.Inside.{IsStillReached};
+
+use crate::contents::Contents;
+use crate::counts::{Trimming, of_region, with_number};
+use crate::given::Given;
+use col_core::{Entry, Event, Heads};
+use log_node::{At, Counts, Item};
+use std::alloc::{AllocError, Global};
+
+// The same nodes once more.
+fn shared(alloc: Global, items: &[Item]) -> Result<Vec<Item>, AllocError>
+    ensures { IfOk result (λ copies. copies.items ≡ items.now) }
+{
+    let mut copies = Vec::new(alloc);
+    for item in items {
+        copies.push(item.share()?)?;
+    }
+    Ok(copies)
+}
+
+// The nodes of a part of a line from a number on; none where one between is missing.
+fn shared_from(alloc: Global, held: u64, given: &Given) -> Result<Vec<Item>, AllocError>
+    ensures { IfOk result (λ items. items.items
+        ≡ (if nat_lt held given.now.start then [] else drop (held - given.now.start) given.now.items)) }
+{
+    if held < given.start {
+        return Ok(Vec::new(alloc));
+    }
+    let items = given.items.as_slice();
+    let from = ((held - given.start) as usize).min(items.len());
+    shared(alloc, &items[from..])
+}
+
+// The heads of nodes.
+fn heads_of(alloc: Global, items: &[Item]) -> Result<Heads, AllocError>
+    ensures { IfOk result (λ heads. heads ≡ map (λ i. i.head) items.now) }
+{
+    let mut heads = Heads::new(alloc);
+    for item in items {
+        heads.push(item.head)?;
+    }
+    Ok(heads)
+}
+
+impl Contents {
+    /// Notes that another region has asked for the line from a number on, which counts as the line's length where it is
+    /// above.
+    pub(crate) fn note(&mut self, by: u8, region: u8, from: u64) -> Result<At, AllocError>
+        requires other { region ≢ self.old.region }
+        requires region { region < self.old.regions }
+        ensures answer { IfOk result (λ at. at ≡ At.Event (length self.old.journal)) }
+        ensures column { OnOk result (self.new ≡ after_give self.old by region from) }
+        ensures cut { OnOk result (cut_of self.new ≡ cut_of self.old) }
+        ensures err { OnErr result (self.new ≡ self.old) }
+    {
+        let place = self.journal.len() as u64;
+        let from = from.min(self.queue.line().len() as u64);
+        self.journal
+            .reserve(self.opens + self.spare + self.spare + 1)?;
+        self.asked = with_number(self.asked, region, of_region(self.asked, region).max(from));
+        self.journal.push_reserved(Entry {
+            by,
+            event: Event::Give { region, from },
+            stamp: 0,
+        });
+        Ok(At::Event(place))
+    }
+
+    /// Takes over what is new of a part of another region's line; an event exactly where something is. Answers how much
+    /// that is.
+    pub(crate) fn carry(
+        &mut self,
+        alloc: Global,
+        by: u8,
+        region: u8,
+        given: &Given,
+    ) -> Result<(At, u64), AllocError>
+        requires other { region ≢ self.old.region }
+        requires region { region < self.old.regions }
+        ensures at { let place = length self.old.journal in
+            let count = length (new_items self.old region given.now) in
+            IfOk result (λ r. r.0 ≡ (if nat_lt 0 count then At.Event place else At.Look place)) }
+        ensures count { IfOk result (λ r. r.1 ≡ length (new_items self.old region given.now)) }
+        ensures column { OnOk result (self.new ≡ after_carry self.old by region given.now) }
+        ensures cut { OnOk result (IsStillReached self.old self.new) }
+        ensures err { OnErr result (self.new ≡ self.old) }
+    {
+        let place = self.journal.len() as u64;
+        let held = of_region(self.carried, region);
+        let items = shared_from(alloc, held, given)?;
+        let count = items.len() as u64;
+        if count == 0 {
+            return Ok((At::Look(place), 0));
+        }
+        self.add_items(alloc, by, region, items)?;
+        Ok((At::Event(place), count))
+    }
+
+    // The nodes come to the end of a region's chain.
+    fn add_items(
+        &mut self,
+        alloc: Global,
+        by: u8,
+        region: u8,
+        items: Vec<Item>,
+    ) -> Result<(), AllocError>
+        requires other { region ≢ self.old.region }
+        requires region { region < self.old.regions }
+        requires items { 0 < vec_len items }
+        ensures column { OnOk result (self.new ≡ with_items self.old by region items.items) }
+        ensures cut { OnOk result (IsStillReached self.old self.new) }
+        ensures err { OnErr result (self.new ≡ self.old) }
+    {
+        let start = of_region(self.carried, region);
+        let Some(end) = start.checked_add(items.len() as u64) else {
+            return Err(AllocError);
+        };
+        let heads = heads_of(alloc, &items)?;
+        self.journal
+            .reserve(self.opens + self.spare + self.spare + 1)?;
+        self.copies.append(region, items)?;
+        self.carried = with_number(self.carried, region, end);
+        self.journal.push_reserved(Entry {
+            by,
+            event: Event::Carry {
+                region,
+                start,
+                heads,
+            },
+            stamp: 0,
+        });
+        Ok(())
+    }
+
+    /// Drops the nodes that these counts allow to drop. Answers the base afterwards.
+    pub(crate) fn trim(
+        &mut self,
+        by: u8,
+        counts: Counts,
+        cut: Counts,
+    ) -> Result<(At, Counts), AllocError>
+        requires { cut ≡ cut_of self.old }
+        ensures at { IfOk result (λ r. r.0 ≡ At.Event (length self.old.journal)) }
+        ensures base { IfOk result (λ r. r.1 ≡ base_of self.new) }
+        ensures column { OnOk result (self.new ≡ after_trim self.old by counts) }
+        ensures cut { OnOk result (cut_of self.new ≡ cut_of self.old) }
+        ensures err { OnErr result (self.new ≡ self.old) }
+    {
+        let place = self.journal.len() as u64;
+        self.journal
+            .reserve(self.opens + self.spare + self.spare + 1)?;
+        let trimming = Trimming {
+            base: self.base,
+            asked: self.asked,
+            cut,
+            counts,
+            own: self.region,
+            regions: self.regions,
+        };
+        let base = trimming.base_after();
+        self.queue.drop_to(of_region(base, self.region));
+        self.copies.drop_to(self.base, base);
+        self.base = base;
+        self.journal.push_reserved(Entry {
+            by,
+            event: Event::Trim { counts },
+            stamp: 0,
+        });
+        Ok((At::Event(place), base))
+    }
+}

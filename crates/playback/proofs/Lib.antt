@@ -1,0 +1,10 @@
+pub mod GoingFirst
+pub mod NextRegions
+pub mod Counting
+pub mod PlayedTo
+pub mod Whole
+pub mod Playing
+pub mod Shown
+pub mod ShownNext
+pub mod Steps
+pub mod CallerLemmas

@@ -1,0 +1,4 @@
+pub mod Orders
+pub mod Playing
+pub mod Inside
+pub mod Laws

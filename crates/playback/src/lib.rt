@@ -1,0 +1,15 @@
+//! The nodes of a view in the order in which they are played.
+#![tactic(auto)]
+
+mod faults;
+mod free;
+mod laws;
+mod player;
+mod vectors;
+
+pub use faults::PlayFault;
+pub use laws::play_order_is_lawful;
+pub use player::{Played, Player, Snapshot, play};
+
+#[cfg(test)]
+mod tests;

@@ -1,0 +1,85 @@
+// What a client plays of a colour of its region.
+ghost use Rattle.std.specs.Prelude.{◌≡◌, IfOk, IfErr, OnOk, OnErr};
+ghost use Rattle.log_node.specs.Vectors.{IsWithin};
+ghost use Rattle.col_core.specs.Cuts.{Chains, Reachable};
+ghost use Rattle.playback.specs.Playing.{IsLookedFrom, ShowsChains, ArePlayed, HasPlayCause};
+ghost use Rattle.playback.specs.Inside.{AreInOrder};
+
+use crate::faults::PlayFault;
+use crate::free::{next_item, next_region};
+use crate::vectors::{more, within};
+use col_core::View;
+use log_node::{Counts, Items, ListOf};
+use std::alloc::{AllocError, Global};
+
+/// How many nodes of each region's chain of a colour a client has played.
+#[derive(Debug, Drop)]
+pub struct Player {
+    pub region: u8,
+    pub colour: u8,
+    pub played: Counts,
+}
+
+/// How many nodes of each region's chain of a colour can be played in a region.
+#[derive(Clone, Copy, Debug, PartialEq, Eq)]
+pub struct Snapshot {
+    pub region: u8,
+    pub colour: u8,
+    pub counts: Counts,
+}
+
+/// The nodes up to a snapshot that were not played before, in the order of play.
+#[derive(Drop)]
+pub struct Played {
+    pub snapshot: Snapshot,
+    pub items: Items,
+}
+
+// The nodes from these counts up to the view's cut, in the order of play.
+fn items_in_order(alloc: Global, view: &View, from: Counts) -> Result<Items, AllocError>
+    requires from { IsWithin view.now.from from }
+    requires cut { IsWithin from view.now.cut }
+    ensures { IfOk result (AreInOrder view.now from) }
+{
+    let mut items = Vec::new(alloc);
+    let mut played = from;
+    while let Some(region) = next_region(view, played) {
+        items.push(next_item(view, played, region).share()?)?;
+        played = more(played, region as usize, view.cut);
+    }
+    Ok(ListOf::from(items))
+}
+
+/// Plays the nodes of the view that the player has not played. `Trimmed` exactly where a played count is below the
+/// view's base, which is tested first.
+pub fn play(alloc: Global, view: &View, player: &mut Player) -> Result<Played, PlayFault>
+    // The view was looked at from the player's counts, and these are within the cut.
+    requires from { IsLookedFrom view.now player.old.played }
+    requires cut { IsWithin player.old.played view.now.cut }
+    ensures items { IfOk result (λ played. (chains : Chains) → ShowsChains view.now chains
+        → Reachable chains view.now.cut → ArePlayed view.now chains player.old.played played.items) }
+    ensures snapshot { IfOk result (λ played. played.snapshot ≡ record {
+      region = view.now.region;
+      colour = view.now.colour;
+      counts = view.now.cut;
+    }) }
+    ensures player { OnOk result (player.new ≡ record player.old { played = view.now.cut }) }
+    // A refusal changes nothing.
+    ensures trimmed { OnOk result (IsWithin view.now.base player.old.played) }
+    ensures cause { IfErr result (HasPlayCause view.now player.old.played) }
+    ensures err { OnErr result (player.new ≡ player.old) }
+{
+    if !within(view.base, player.played) {
+        return Err(PlayFault::Trimmed { base: view.base });
+    }
+    let items = items_in_order(alloc, view, player.played)?;
+    player.played = view.cut;
+    Ok(Played {
+        snapshot: Snapshot {
+            region: view.region,
+            colour: view.colour,
+            counts: view.cut,
+        },
+        items,
+    })
+}
