@@ -31,16 +31,16 @@ module _ (column : ColumnState) (by region : ℕ) (h : IsColumn column) (other :
   carried_is [] some = absurd (let f : ⊥ = omega (arith, some) in f)
   carried_is (item ∷ items) some = refl
 
-  pub carried_kept : (items : List PlacedNode) → 0 < length items → (counted asked base : Counts) (end : ℕ)
-      → AreNumbers column counted asked base → end ≡ at counted region + length items
+  pub carried_kept : (items : List PlacedNode) → 0 < length items → (counted notes base : Counts) (end : ℕ)
+      → AreNumbers column counted notes base → end ≡ at counted region + length items
       → (opens spare capacity capacity' : ℕ) → IsRoomFor column opens spare capacity
       → length column.journal + (opens + spare + spare + 1) ≤ capacity'
       → IsKept (with_carried column by region items) (vector (λ here. if here == region then end else at counted here))
-      asked base opens spare capacity'
+      notes base opens spare capacity'
   carried_kept [] some = absurd (let f : ⊥ = omega (arith, some) in f)
-  carried_kept (item ∷ items) some = λ counted asked base end n is_end opens spare capacity capacity' r room. record {
+  carried_kept (item ∷ items) some = λ counted notes base end n is_end opens spare capacity capacity' r room. record {
     column_is = carry_is column by region item items h other in_range;
-    numbers_are = carry_numbers column by region item items h other in_range counted asked base end n is_end;
+    numbers_are = carry_numbers column by region item items h other in_range counted notes base end n is_end;
     room_is = event-room column (carry_entry column by region (item ∷ items)) column.queue
         (slice_set column.copies region (copy_of column region ++ item ∷ items)) opens spare capacity capacity' r refl refl
         room;

@@ -13,7 +13,7 @@ use Rattle.log_node.specs.Vectors.{at, zeros}
 use Rattle.col_core.specs.declared.Entry.{Entry}
 use Rattle.col_core.specs.History.{line, enters, has_entered}
 use Rattle.col_core.specs.Cuts.{Dated, entries_of, needs_in, needs_of, carried, chain, trimmed_to, base_from}
-use Rattle.col_core.specs.Cuts.{asked_from, noted}
+use Rattle.col_core.specs.Cuts.{noted_from, noted}
 use Rattle.col_core.specs.Computed.{dated}
 use Rattle.col_core.proofs.DatedLaws.{dated-is_dated}
 use Rattle.column.proofs.Vectors.{if_own, if_other}
@@ -110,12 +110,12 @@ base_from-append own regions region before (x ∷ ds) d =
 
 -- and so is a noted number
 pub noted-append : (ds : List Dated) (d : Dated) (region : ℕ)
-    → noted (ds ++ d ∷ []) region ≡ max (noted ds region) (asked_from region d.entry.event)
-noted-append [] d region = swapped (asked_from region d.entry.event) where
+    → noted (ds ++ d ∷ []) region ≡ max (noted ds region) (noted_from region d.entry.event)
+noted-append [] d region = swapped (noted_from region d.entry.event) where
   swapped : (n : ℕ) → max n 0 ≡ max 0 n
   swapped n = omega arith
 noted-append (x ∷ ds) d region =
-    ap (λ (n : ℕ). max (asked_from region x.entry.event) n) (noted-append ds d region)
-    ∙ grouped (asked_from region x.entry.event) (noted ds region) (asked_from region d.entry.event) where
+    ap (λ (n : ℕ). max (noted_from region x.entry.event) n) (noted-append ds d region)
+    ∙ grouped (noted_from region x.entry.event) (noted ds region) (noted_from region d.entry.event) where
       grouped : (a b c : ℕ) → max a (max b c) ≡ max (max a b) c
       grouped a b c = omega arith

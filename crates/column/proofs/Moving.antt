@@ -14,7 +14,7 @@ use Rattle.skeen_core.proofs.Lists.{each-drop}
 use Rattle.col_core.specs.declared.Event.TheVariants as events
 use Rattle.col_core.specs.declared.Entry.{Entry}
 use Rattle.col_core.specs.History.{line, entries}
-use Rattle.col_core.specs.Cuts.{Dated, entries_of, carried, asked_from, noted, trimmed_to, base, held}
+use Rattle.col_core.specs.Cuts.{Dated, entries_of, carried, noted_from, noted, trimmed_to, base, held}
 use Rattle.col_core.specs.Computed.{cut, dated}
 use Rattle.col_core.specs.Legal.{IsLawfulEvent}
 use Rattle.col_core.proofs.Appending.{entries-append, clock-append, dated-append}
@@ -22,7 +22,7 @@ use Rattle.col_core.proofs.CutLaws.{cut-is_greatest, within-at, reached_within}
 use Rattle.column.specs.Entering.{EnteredNode}
 use Rattle.column.specs.Columns.{ColumnState, history_of, chains_of, held_of, copy_of, cut_of, base_of, kept_copy}
 use Rattle.column.specs.Columns.{base_after, after_give, after_trim, with_items}
-use Rattle.column.specs.Inside.{IsColumn, IsEntered, AreCopies, AreNumbers, least_asked, trimmed_base}
+use Rattle.column.specs.Inside.{IsColumn, IsEntered, AreCopies, AreNumbers, least_noted, trimmed_base}
 use Rattle.column.proofs.Vectors.{each_region, at-vector, same_vectors, own_or_other, if_own, if_other}
 use Rattle.column.proofs.Histories.{same_entries, own_chain-length, noted-append}
 use Rattle.column.proofs.Growing.{base_now, base_below, other_chain, other_stays}
@@ -72,15 +72,15 @@ module _ (column : ColumnState) (by region from : ℕ) (h : IsColumn column) (ot
       (h.entries_are ∙ sym (entries-append column.journal giving)) refl
       (all-more column.region column.colour column.journal giving column.queue.stored h.things)
 
-  pub give_numbers : (carried asked base : Counts) (n : AreNumbers column carried asked base)
+  pub give_numbers : (carried notes base : Counts) (n : AreNumbers column carried notes base)
       → AreNumbers (after_give column by region from) carried
-      (vector (λ here. if here == region then max (at asked region) (min from (length (line column.journal)))
-      else at asked here)) base
-  give_numbers carried asked base n = record {
+      (vector (λ here. if here == region then max (at notes region) (min from (length (line column.journal)))
+      else at notes here)) base
+  give_numbers carried notes base n = record {
     carried_are = λ r lt ne. n.carried_are r lt ne
         ∙ ap length (sym (other_stays column.region column.regions column.journal giving
         (lawful_later column giving h give_next) r ne refl));
-    asked_are = λ r lt. at-vector (λ here. if here == region then max (at asked region) length_or_from else at asked here) r lt
+    notes_are = λ r lt. at-vector (λ here. if here == region then max (at notes region) length_or_from else at notes here) r lt
         ∙ each r lt (own_or_other r region);
     base_is = n.base_is
         ∙ sym (base_stays column giving h give_next (λ r. refl));
@@ -89,26 +89,26 @@ module _ (column : ColumnState) (by region from : ℕ) (h : IsColumn column) (ot
     length_or_from = min from (length (line column.journal))
 
     now : (r : ℕ) → noted (history_of (after_give column by region from)) r
-        ≡ max (noted (history_of column) r) (asked_from r giving.event)
+        ≡ max (noted (history_of column) r) (noted_from r giving.event)
     now r = ap (λ (ds : List Dated). noted ds r) (dated-append column.region column.journal giving)
         ∙ noted-append (history_of column)
         (record { entry = giving; cut_before = cut column.region (dated column.region column.journal) }) r
 
     each : (r : ℕ) → r < 4 → (r ≡ region) ⊎ (r ≢ region)
-        → cond (r == region) (max (at asked region) (min from (length (line column.journal)))) (at asked r)
+        → cond (r == region) (max (at notes region) (min from (length (line column.journal)))) (at notes r)
         ≡ noted (history_of (after_give column by region from)) r
     each r lt (inl is) =
-        let a = if_own r region (max (at asked region) (min from (length (line column.journal)))) (at asked r) is in
+        let a = if_own r region (max (at notes region) (min from (length (line column.journal)))) (at notes r) is in
         let b = now r in
         let c = if_own region r (min from (length (line column.journal))) 0 (sym is) in
-        let d = n.asked_are r lt in
-        let e : at asked region ≡ at asked r = ap (at asked) (sym is) in
+        let d = n.notes_are r lt in
+        let e : at notes region ≡ at notes r = ap (at notes) (sym is) in
         omega (arith, a, b, c, d, e)
     each r lt (inr ne) =
-        let a = if_other r region (max (at asked region) (min from (length (line column.journal)))) (at asked r) ne in
+        let a = if_other r region (max (at notes region) (min from (length (line column.journal)))) (at notes r) ne in
         let b = now r in
         let c = if_other region r (min from (length (line column.journal))) 0 (λ e. ne (sym e)) in
-        let d = n.asked_are r lt in
+        let d = n.notes_are r lt in
         omega (arith, a, b, c, d)
 
 -- nodes are carried
@@ -196,18 +196,18 @@ module _ (column : ColumnState) (by region : ℕ) (item : PlacedNode) (items : L
         mapped [] = refl
         mapped (i ∷ is) = ap (λ (n : ℕ). suc n) (mapped is)
 
-  pub carry_numbers : (counted asked base : Counts) (end : ℕ) (n : AreNumbers column counted asked base)
+  pub carry_numbers : (counted notes base : Counts) (end : ℕ) (n : AreNumbers column counted notes base)
       → end ≡ at counted region + suc (length items)
       → AreNumbers (with_items column by region (item ∷ items))
-      (vector (λ here. if here == region then end else at counted here)) asked base
-  carry_numbers counted asked base end n is_end = record {
+      (vector (λ here. if here == region then end else at counted here)) notes base
+  carry_numbers counted notes base end n is_end = record {
     carried_are = λ r lt ne. at-vector (λ here. if here == region then end else at counted here) r lt
         ∙ each r lt ne (own_or_other r region);
-    asked_are = λ r lt.
+    notes_are = λ r lt.
         let a = ap (λ (ds : List Dated). noted ds r) (dated-append column.region column.journal carrying) in
         let b = noted-append (history_of column)
         (record { entry = carrying; cut_before = cut column.region (dated column.region column.journal) }) r in
-        let c = n.asked_are r lt in
+        let c = n.notes_are r lt in
         omega (arith, a, b, c);
     base_is = n.base_is ∙ sym none_trimmed;
   } where
@@ -259,14 +259,14 @@ module _ (column : ColumnState) (by : ℕ) (counts : Counts) (h : IsColumn colum
   trim_next = refl
 
   -- the base then
-  pub trimmed_is : (counted asked base cut : Counts) (n : AreNumbers column counted asked base) → cut ≡ cut_of column
-      → vector (trimmed_base base asked cut counts column.region column.regions) ≡ base_after column by counts
-  trimmed_is counted asked base cut n cut_is =
-      ap (λ (v : Counts). vector (trimmed_base v asked cut counts column.region column.regions)) n.base_is
-      ∙ (ap (λ (v : Counts). vector (trimmed_base (base_of column) asked v counts column.region column.regions)) cut_is
-      ∙ (same_vectors (trimmed_base (base_of column) asked (cut_of column) counts column.region column.regions) _ (λ r lt.
+  pub trimmed_is : (counted notes base cut : Counts) (n : AreNumbers column counted notes base) → cut ≡ cut_of column
+      → vector (trimmed_base base notes cut counts column.region column.regions) ≡ base_after column by counts
+  trimmed_is counted notes base cut n cut_is =
+      ap (λ (v : Counts). vector (trimmed_base v notes cut counts column.region column.regions)) n.base_is
+      ∙ (ap (λ (v : Counts). vector (trimmed_base (base_of column) notes v counts column.region column.regions)) cut_is
+      ∙ (same_vectors (trimmed_base (base_of column) notes (cut_of column) counts column.region column.regions) _ (λ r lt.
       ap (λ (b : ℕ). max (at (base_of column) r) (cond (r == column.region) b (min (at counts r) (at (cut_of column) r))))
-      (same_least column.region (at asked) (noted (history_of column)) n.asked_are (range_with_len 0 column.regions)
+      (same_least column.region (at notes) (noted (history_of column)) n.notes_are (range_with_len 0 column.regions)
       (all_below column.regions h.few_regions) (min (at counts r) (at (cut_of column) r))))
       ∙ sym (base_now column.region column.regions column.journal trimming
       (lawful_later column trimming h refl))))
@@ -321,26 +321,26 @@ module _ (column : ColumnState) (by : ℕ) (counts : Counts) (h : IsColumn colum
       (at (base_after column by counts) column.region - column.queue.base) column.queue.stored
       (all-more column.region column.colour column.journal trimming column.queue.stored h.things)) trimmed_copies
 
-  pub trim_numbers : (counted asked base : Counts) (n : AreNumbers column counted asked base)
-      → AreNumbers (after_trim column by counts) counted asked (base_after column by counts)
-  trim_numbers counted asked base n = record {
+  pub trim_numbers : (counted notes base : Counts) (n : AreNumbers column counted notes base)
+      → AreNumbers (after_trim column by counts) counted notes (base_after column by counts)
+  trim_numbers counted notes base n = record {
     carried_are = λ r lt ne. n.carried_are r lt ne
         ∙ ap length (sym (other_stays column.region column.regions column.journal trimming
         (lawful_later column trimming h refl) r ne refl));
-    asked_are = λ r lt.
+    notes_are = λ r lt.
         let a = ap (λ (ds : List Dated). noted ds r) (dated-append column.region column.journal trimming) in
         let b = noted-append (history_of column)
         (record { entry = trimming; cut_before = cut column.region (dated column.region column.journal) }) r in
-        let c = n.asked_are r lt in
+        let c = n.notes_are r lt in
         omega (arith, a, b, c);
     base_is = refl;
   }
 
 -- what is held, where so many nodes are in the line
-pub counted_is : (column : ColumnState) (h : IsColumn column) (counted asked base : Counts) (count : ℕ)
-    → AreNumbers column counted asked base → count ≡ length (line column.journal)
+pub counted_is : (column : ColumnState) (h : IsColumn column) (counted notes base : Counts) (count : ℕ)
+    → AreNumbers column counted notes base → count ≡ length (line column.journal)
     → vector (λ r. if r == column.region then count else at counted r) ≡ held column.region (history_of column)
-counted_is column h counted asked base count n is =
+counted_is column h counted notes base count n is =
     same_vectors (λ r. if r == column.region then count else at counted r) (held_of column)
     (λ r lt. each r lt (own_or_other r column.region)) where
       each : (r : ℕ) → r < 4 → (r ≡ column.region) ⊎ (r ≢ column.region)

@@ -24,7 +24,7 @@ use Rattle.col_core.specs.declared.Event.{Event}
 use Rattle.col_core.specs.declared.Event.TheVariants as events
 use Rattle.col_core.specs.declared.Entry.{Entry}
 use Rattle.col_core.specs.History.{clock, final_number, last_stamp, next_stamp, entries, line, has_entered}
-use Rattle.col_core.specs.Cuts.{Dated, entries_of, carried, chain, asked_from, noted, trimmed_to, base, base_from}
+use Rattle.col_core.specs.Cuts.{Dated, entries_of, carried, chain, noted_from, noted, trimmed_to, base, base_from}
 use Rattle.col_core.specs.Computed.{cut, dated}
 use Rattle.col_core.specs.Legal.{IsColumnHistory, IsLawfulEvent, IsSettling, MayEnter}
 use Rattle.col_core.proofs.Appending.{entries-append, clock-append, dated-append}
@@ -185,17 +185,17 @@ module _ (column : ColumnState) (e : Entry) (h : IsColumn column)
         later_is queue column.copies clock_is entries_are
         (base_is ∙ (h.dropped ∙ ap (λ (v : Counts). at v column.region) (sym none_trimmed))) things (copies_stay queue)
 
-    pub quiet_numbers : ((region : ℕ) → asked_from region e.event ≡ 0) → (queue : Queued EnteredNode) (carried asked base : Counts) → AreNumbers column carried asked base
-        → AreNumbers (next_column column e queue column.copies) carried asked base
-    quiet_numbers asks_none queue carried asked base n = record {
+    pub quiet_numbers : ((region : ℕ) → noted_from region e.event ≡ 0) → (queue : Queued EnteredNode) (carried notes base : Counts) → AreNumbers column carried notes base
+        → AreNumbers (next_column column e queue column.copies) carried notes base
+    quiet_numbers asks_none queue carried notes base n = record {
       carried_are = λ region lt ne. n.carried_are region lt ne
           ∙ ap length (sym (other_stays column.region column.regions column.journal e lawful_later region ne
           (quiet.carries_none region)));
-      asked_are = λ region lt.
+      notes_are = λ region lt.
           let a = ap (λ (ds : List Dated). noted ds region) (dated-append column.region column.journal e) in
           let b = noted-append (history_of column)
           (record { entry = e; cut_before = cut column.region (dated column.region column.journal) }) region in
-          let c = n.asked_are region lt in
+          let c = n.notes_are region lt in
           let d = asks_none region in
           omega (arith, a, b, c, d);
       base_is = n.base_is ∙ sym none_trimmed;
@@ -351,7 +351,7 @@ pub new_numbers : (region colour regions : ℕ) → AreNumbers (new_column regio
 new_numbers region colour regions = record {
   carried_are = λ r lt ne. at-vector (λ _. 0) r lt
       ∙ sym (cond_both (r == region) [] [] (λ (l : List Head). length l ≡ 0) (λ _. refl) (λ _. refl));
-  asked_are = λ r lt. at-vector (λ _. 0) r lt;
+  notes_are = λ r lt. at-vector (λ _. 0) r lt;
   base_is = refl;
 }
 

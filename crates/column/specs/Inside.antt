@@ -82,14 +82,14 @@ pub record IsRoomFor (column : ColumnState) (opens spare capacity : ℕ) : Type 
   pub spares : spare ≡ column.queue.spare
 
 -- the numbers that are kept: how much of each other chain was carried, what each region has asked past, and the base
-pub record AreNumbers (column : ColumnState) (carried asked base : Counts) : Type 0 where
+pub record AreNumbers (column : ColumnState) (carried notes base : Counts) : Type 0 where
   pub carried_are : (region : ℕ) → region < 4 → region ≢ column.region → at carried region ≡ held_of column region
-  pub asked_are : (region : ℕ) → region < 4 → at asked region ≡ noted (history_of column) region
+  pub notes_are : (region : ℕ) → region < 4 → at notes region ≡ noted (history_of column) region
   pub base_is : base ≡ base_of column
 
-pub record IsKept (column : ColumnState) (carried asked base : Counts) (opens spare capacity : ℕ) : Type 0 where
+pub record IsKept (column : ColumnState) (carried notes base : Counts) (opens spare capacity : ℕ) : Type 0 where
   pub column_is : IsColumn column
-  pub numbers_are : AreNumbers column carried asked base
+  pub numbers_are : AreNumbers column carried notes base
   pub room_is : IsRoomFor column opens spare capacity
 
 -- what could be played of the old column can be reached in the new one, and no node above it is trimmed there
@@ -98,12 +98,12 @@ pub record IsStillReached (old new : ColumnState) : Type 0 where
   pub base : IsWithin (base_of new) (cut_of old)
 
 -- the least of the bound and the numbers of every other region
-abbrev pub least_asked : Counts → ℕ → ℕ → ℕ → ℕ
-least_asked asked own regions bound =
-    fold (λ n region. if region == own then n else min n (at asked region)) bound (range_with_len 0 regions)
+abbrev pub least_noted : Counts → ℕ → ℕ → ℕ → ℕ
+least_noted notes own regions bound =
+    fold (λ n region. if region == own then n else min n (at notes region)) bound (range_with_len 0 regions)
 
 -- a region's base after a trim with these counts, where these numbers were asked past
 abbrev pub trimmed_base : Counts → Counts → Counts → Counts → ℕ → ℕ → ℕ → ℕ
-trimmed_base base asked cut counts own regions region =
+trimmed_base base notes cut counts own regions region =
     let bound = min (at counts region) (at cut region) in
-    max (at base region) (if region == own then least_asked asked own regions bound else bound)
+    max (at base region) (if region == own then least_noted notes own regions bound else bound)

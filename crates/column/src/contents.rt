@@ -12,7 +12,7 @@ use crate::copies::Copies;
 use crate::counts::least;
 use crate::entered::Entered;
 use crate::faults::ColumnFault;
-use crate::wants::wants_of;
+use crate::wants::wants_for;
 use col_core::{Entry, Event};
 use log_node::{At, Counts, Id, MAX_COLOURS, Node, Shape};
 use skeen_core::{MAX_STAMP, Outcome, Queue};
@@ -35,7 +35,7 @@ pub(crate) struct Contents {
     // How many nodes of each other region's chain were carried.
     pub(crate) carried: Counts,
     // The greatest number from which each region has asked for the own line.
-    pub(crate) asked: Counts,
+    pub(crate) notes: Counts,
     // Below these counts nodes are dropped.
     pub(crate) base: Counts,
     // No fewer than the open entries. The journal has room for the settling of each.
@@ -68,7 +68,7 @@ impl Model for Contents {
       journal = a.journal.items;
       queue = a.queue;
       copies = a.copies;
-    }) a.carried a.asked a.base a.opens a.spare (vec_capacity a.journal) };
+    }) a.carried a.notes a.base a.opens a.spare (vec_capacity a.journal) };
 }
 
 impl Contents {
@@ -92,7 +92,7 @@ impl Contents {
             queue: Queue::open(alloc),
             copies: Copies::open(alloc)?,
             carried: Counts([0; 4]),
-            asked: Counts([0; 4]),
+            notes: Counts([0; 4]),
             base: Counts([0; 4]),
             opens: 0,
             spare: 0,
@@ -141,7 +141,7 @@ impl Contents {
     {
         let place = self.journal.len() as u64;
         let (id, floor) = (node.id, node.floor);
-        let wants = wants_of(&node, self.colour);
+        let wants = wants_for(&node, self.colour);
         let needs = least(wants, cut);
         let stamp = self.queue.enter(id, floor, Entered::of(needs, node));
         self.spare -= 1;
@@ -171,7 +171,7 @@ impl Contents {
     {
         let place = self.journal.len() as u64;
         let (id, floor) = (node.id, node.floor);
-        let wants = wants_of(&node, self.colour);
+        let wants = wants_for(&node, self.colour);
         let needs = least(wants, cut);
         let stamp = self.queue.propose(id, floor, Entered::of(needs, node));
         self.spare -= 1;

@@ -10,11 +10,11 @@ use std::marker::Model;
 
 /// The carried nodes of one chain, in its order.
 #[derive(Drop)]
-pub(crate) struct Copy {
+pub(crate) struct Carried {
     items: Vec<Item>,
 }
 
-impl Model for Copy {
+impl Model for Carried {
     ghost use Rattle.std.specs.Prelude.{List};
     ghost use Rattle.log_node.specs.Seen.{PlacedNode};
 
@@ -23,12 +23,12 @@ impl Model for Copy {
     ghost view = { λ a. a.items.items };
 }
 
-impl Copy {
+impl Carried {
     // Without nodes.
-    fn open(alloc: Global) -> Copy
+    fn open(alloc: Global) -> Carried
         ensures { result ≡ [] }
     {
-        Copy {
+        Carried {
             items: Vec::new(alloc),
         }
     }
@@ -60,7 +60,7 @@ impl Copy {
 /// For each region the carried nodes of its chain that are kept.
 #[derive(Drop)]
 pub(crate) struct Copies {
-    chains: Vec<Copy>,
+    chains: Vec<Carried>,
 }
 
 impl Model for Copies {
@@ -78,10 +78,10 @@ impl Copies {
         ensures { IfOk result (λ copies. copies ≡ [] ∷ [] ∷ [] ∷ [] ∷ []) }
     {
         let mut chains = Vec::new(alloc);
-        chains.push(Copy::open(alloc))?;
-        chains.push(Copy::open(alloc))?;
-        chains.push(Copy::open(alloc))?;
-        chains.push(Copy::open(alloc))?;
+        chains.push(Carried::open(alloc))?;
+        chains.push(Carried::open(alloc))?;
+        chains.push(Carried::open(alloc))?;
+        chains.push(Carried::open(alloc))?;
         Ok(Copies { chains })
     }
 

@@ -2,7 +2,7 @@
 ghost use Rattle.std.specs.Prelude.{◌≡◌, ◌<◌, ◌≤◌, ◌==◌, min, if◌then◌else◌};
 ghost use Rattle.log_node.specs.Vectors.{at, vector, least};
 ghost use Rattle.column.specs.Columns.{greater};
-ghost use Rattle.column.specs.Inside.{least_asked, trimmed_base};
+ghost use Rattle.column.specs.Inside.{least_noted, trimmed_base};
 
 use log_node::Counts;
 
@@ -63,25 +63,25 @@ pub(crate) fn with_number(v: Counts, region: u8, count: u64) -> Counts
 }
 
 // The lesser of a bound and the number of a region, where that is another one.
-fn least_with(bound: u64, asked: Counts, own: u8, region: u8) -> u64
+fn least_with(bound: u64, notes: Counts, own: u8, region: u8) -> u64
     requires { region < 4 }
-    ensures { result ≡ (if region == own then bound else min bound (at asked region)) }
+    ensures { result ≡ (if region == own then bound else min bound (at notes region)) }
 {
     if region == own {
         bound
     } else {
-        bound.min(of_region(asked, region))
+        bound.min(of_region(notes, region))
     }
 }
 
 // The least of a bound and the numbers of every other region.
-fn least_of(asked: Counts, own: u8, regions: u8, bound: u64) -> u64
+fn least_of(notes: Counts, own: u8, regions: u8, bound: u64) -> u64
     requires { regions ≤ 4 }
-    ensures { result ≡ least_asked asked own regions bound }
+    ensures { result ≡ least_noted notes own regions bound }
 {
     let mut least = bound;
     for region in 0..regions {
-        least = least_with(least, asked, own, region);
+        least = least_with(least, notes, own, region);
     }
     least
 }
@@ -91,7 +91,7 @@ fn least_of(asked: Counts, own: u8, regions: u8, bound: u64) -> u64
 #[derive(Clone, Copy)]
 pub(crate) struct Trimming {
     pub base: Counts,
-    pub asked: Counts,
+    pub notes: Counts,
     pub cut: Counts,
     pub counts: Counts,
     pub own: u8,
@@ -103,11 +103,11 @@ impl Trimming {
     fn number(self, region: u8) -> u64
         requires region { region < 4 }
         requires regions { self.regions ≤ 4 }
-        ensures { result ≡ trimmed_base self.base self.asked self.cut self.counts self.own self.regions region }
+        ensures { result ≡ trimmed_base self.base self.notes self.cut self.counts self.own self.regions region }
     {
         let bound = of_region(self.counts, region).min(of_region(self.cut, region));
         let last = if region == self.own {
-            least_of(self.asked, self.own, self.regions, bound)
+            least_of(self.notes, self.own, self.regions, bound)
         } else {
             bound
         };
@@ -117,7 +117,7 @@ impl Trimming {
     /// The base after the trim.
     pub(crate) fn base_after(self) -> Counts
         requires { self.regions ≤ 4 }
-        ensures { result ≡ vector (trimmed_base self.base self.asked self.cut self.counts self.own self.regions) }
+        ensures { result ≡ vector (trimmed_base self.base self.notes self.cut self.counts self.own self.regions) }
     {
         Counts([
             self.number(0),

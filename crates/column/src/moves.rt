@@ -62,7 +62,7 @@ impl Contents {
         let from = from.min(self.queue.line().len() as u64);
         self.journal
             .reserve(self.opens + self.spare + self.spare + 1)?;
-        self.asked = with_number(self.asked, region, of_region(self.asked, region).max(from));
+        self.notes = with_number(self.notes, region, of_region(self.notes, region).max(from));
         self.journal.push_reserved(Entry {
             by,
             event: Event::Give { region, from },
@@ -156,7 +156,7 @@ impl Contents {
             .reserve(self.opens + self.spare + self.spare + 1)?;
         let trimming = Trimming {
             base: self.base,
-            asked: self.asked,
+            notes: self.notes,
             cut,
             counts,
             own: self.region,

@@ -15,7 +15,7 @@ fn rank(set: Colours, colour: u8) -> usize
 }
 
 /// What a node wants of one of its colours.
-pub(crate) fn wants_of(node: &Node, colour: u8) -> Counts
+pub(crate) fn wants_for(node: &Node, colour: u8) -> Counts
     requires in_range { colour < MAX_COLOURS }
     requires in_set { has node.now.colours colour ≡ true }
     ensures { result ≡ node_wants node.now colour }

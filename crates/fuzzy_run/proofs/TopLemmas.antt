@@ -16,7 +16,7 @@ use Rattle.script_text.specs.Grammar.{IsScript}
 use Rattle.script_text.specs.Faults.{IsRefused}
 use Rattle.script_text.specs.Words.{reason_text}
 use Rattle.report_text.specs.ReportText.{report_bytes, refusal_bytes}
-use Rattle.file_meaning.specs.States.{is_built}
+use Rattle.script_meaning.specs.States.{is_built}
 use Rattle.fuzzy_run.specs.declared.refusal.Cause.{Cause}
 use Rattle.fuzzy_run.specs.declared.refusal.Cause.TheVariants.{Faulty, NotBuilt}
 use Rattle.fuzzy_run.specs.Refusals.{cause_text, first_unbuilt, IsRefusedFor}

@@ -7,7 +7,7 @@ use Rattle.script_text.specs.declared.script.Script.{Script}
 use Rattle.script_text.specs.Words.{reason_text}
 use Rattle.script_text.specs.Grammar.{IsScript}
 use Rattle.script_text.specs.Faults.{IsRefused}
-use Rattle.file_meaning.specs.States.{is_built}
+use Rattle.script_meaning.specs.States.{is_built}
 use Rattle.fuzzy_run.specs.declared.refusal.Cause.{Cause}
 use Rattle.fuzzy_run.specs.declared.refusal.Cause.TheVariants.{Faulty, NotBuilt}
 

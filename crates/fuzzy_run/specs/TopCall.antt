@@ -7,7 +7,7 @@ use Rattle.script_text.specs.Grammar.{IsScript}
 use Rattle.report_text.specs.declared.report.Report.{Report}
 use Rattle.report_text.specs.ReportText.{report_bytes, refusal_bytes}
 use Rattle.lawful_run.specs.Lawful.{LawfulRun}
-use Rattle.file_meaning.specs.Meaning.{IsStepReport, FindsMemory, step_report}
+use Rattle.script_meaning.specs.Meaning.{IsStepReport, FindsMemory, step_report}
 use Rattle.fuzzy_run.specs.declared.refusal.Cause.{Cause}
 use Rattle.fuzzy_run.specs.declared.refusal.Cause.TheVariants.{NotBuilt}
 use Rattle.fuzzy_run.specs.Refusals.{IsRefusedFor, cause_text, first_unbuilt}

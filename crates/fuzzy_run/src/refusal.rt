@@ -2,7 +2,7 @@
 ghost use Rattle.std.specs.Prelude.{◌≡◌};
 ghost use Rattle.fuzzy_run.specs.Refusals.{cause_text, first_unbuilt};
 
-use file_order::is_built;
+use script_in_order::is_built;
 use script_text::{Command, Reason};
 
 /// Why bytes were not done.

@@ -6,7 +6,7 @@ ghost use Rattle.script_text.specs.declared.script.Script.{Script};
 ghost use Rattle.script_text.specs.Fitting.{IsFitting};
 ghost use Rattle.report_text.specs.declared.report.Report.{Report};
 ghost use Rattle.report_text.specs.ReportText.{report_bytes, refusal_bytes};
-ghost use Rattle.file_meaning.specs.States.{StopsAreLast};
+ghost use Rattle.script_meaning.specs.States.{StopsAreLast};
 ghost use Rattle.fuzzy_run.specs.Words.{asked_by};
 ghost use Rattle.fuzzy_run.specs.Refusals.{first_unbuilt, cause_text};
 ghost use Rattle.fuzzy_run.specs.TopCall.{IsRunOf, IsRunText, IsRefusalText, Writes, WritesFront, Shows, ShowsFront};
@@ -14,10 +14,10 @@ ghost use Rattle.fuzzy_run.specs.TopCall.{IsRunOf, IsRunText, IsRefusalText, Wri
 use crate::asked::{Asked, read_words};
 use crate::refusal::{Cause, first_unbuilt};
 use crate::status::Status;
-use file_meaning::scripts_stop_last;
-use file_order::step;
 use fuzzy_io::{Failed, Gate, ReadStop, Sink, Source, read_all};
 use report_text::{print, print_refusal};
+use script_in_order::run_in_order;
+use script_meaning::scripts_stop_last;
 use script_text::{Reason, Script, ScriptFault, parse, rows_are_within_limits};
 use skeen_core::MAX_ROWS;
 use std::alloc::Global;
@@ -58,7 +58,7 @@ fn do_script<K: Sink>(alloc: Global, script: &Script, sink: &mut K) -> Status
     if let Some(line) = first_unbuilt(script.commands.as_slice()) {
         return refuse(sink, line, Cause::NotBuilt);
     }
-    let report = match step(alloc, script) {
+    let report = match run_in_order(alloc, script) {
         Ok(report) => report,
         Err(_) => return Status::NoMemory,
     };

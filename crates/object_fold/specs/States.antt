@@ -9,7 +9,7 @@ use Rattle.log_node.specs.declared.forms.Version.{Version}
 use Rattle.log_node.specs.declared.forms.Form.{Form}
 use Rattle.object_fold.specs.declared.tx_state.Written.{Written}
 use Rattle.object_fold.specs.declared.tx_state.TxState.{TxState}
-use Rattle.object_fold.specs.declared.queue.Queue.{Queue}
+use Rattle.object_fold.specs.declared.queue.ValueQueue.{ValueQueue}
 use Rattle.object_fold.specs.Queues.{queue_after}
 use Rattle.object_fold.specs.Transactions.{Write, last_write, is_same_writer, writes_after}
 use Rattle.object_fold.specs.declared.shard_map.ShardMap.{ShardMap}
@@ -70,5 +70,5 @@ abbrev pub version_in : List (List ℕ × Written) → List ℕ → Version
 version_in entries key = record { key = key; writer = writer_in entries key }
 
 -- the queue holds what these nodes leave waiting
-abbrev pub IsQueue : Queue → List ObjectNode → Type 0
+abbrev pub IsQueue : ValueQueue → List ObjectNode → Type 0
 IsQueue queue nodes = queue.waiting.items ≡ queue_after nodes

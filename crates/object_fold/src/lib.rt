@@ -12,7 +12,7 @@ mod tx_state;
 mod verdict;
 
 pub use causal_map::{CausalMap, LatestWrite};
-pub use queue::Queue;
+pub use queue::ValueQueue;
 pub use several_keys::{Values, values_among};
 pub use shard_map::ShardMap;
 pub use shards::shard_of;

@@ -13,16 +13,16 @@ use std::collections::VecDeque;
 
 /// The queue: what waits after the nodes that were fed.
 #[derive(Drop)]
-pub struct Queue {
+pub struct ValueQueue {
     waiting: VecDeque<Text>,
 }
 
-impl Queue {
+impl ValueQueue {
     /// The queue before any node.
     pub fn new(alloc: Global) -> Self
         ensures { IsQueue result [] }
     {
-        Queue {
+        ValueQueue {
             waiting: VecDeque::new(alloc),
         }
     }

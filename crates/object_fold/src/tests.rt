@@ -167,7 +167,7 @@ fn a_transaction_commits_on_the_writers_that_it_read(rt: HostRuntime) -> Result<
 #[test]
 fn a_queue_gives_its_front(rt: HostRuntime) -> Result<(), Fail> {
     let alloc = rt.alloc();
-    let mut queue = Queue::new(alloc);
+    let mut queue = ValueQueue::new(alloc);
     let dequeue = Text::copied(alloc, b"q:")?;
     assert!(rt; queue.feed(alloc, &dequeue)?.is_none());
     assert!(rt; queue.feed(alloc, &Text::copied(alloc, b"e:v")?)?.is_none());

@@ -2,16 +2,16 @@
 ghost use Rattle.report_text.specs.Output.{Adds};
 ghost use Rattle.report_text.specs.Replies.{row_text, value_text, values_text, key_answer_text, verdict_text, read_text, answer_text};
 
-use crate::names::Names;
+use crate::names::NameIndex;
 use crate::output::{Output, put_number};
 use crate::printed::{Printed, print_listed, print_spaced};
 use crate::report::{Answer, KeyAnswer, PointPiece, RaisePiece, SyncPiece};
-use log_node::{ListOf, Names as Values, Text};
+use log_node::{ListOf, Names, Text};
 
 impl Printed for KeyAnswer {
     ghost text = { λ _ answer. key_answer_text answer };
 
-    fn print<O: Output>(&self, names: &Names<'_>, out: &mut O) {
+    fn print<O: Output>(&self, names: &NameIndex<'_>, out: &mut O) {
         self.key.print(names, out);
         out.put(b"=");
         match &self.value {
@@ -32,7 +32,7 @@ fn print_row<O: Output>(row: Option<u32>, out: &mut O)
 }
 
 /// `ok` and the value, or `none`.
-fn print_value<O: Output>(value: &Option<Text>, names: &Names<'_>, out: &mut O)
+fn print_value<O: Output>(value: &Option<Text>, names: &NameIndex<'_>, out: &mut O)
     ensures { Adds (O.state out.old) (O.state out.new) (value_text value.now) }
 {
     match value {
@@ -45,7 +45,7 @@ fn print_value<O: Output>(value: &Option<Text>, names: &Names<'_>, out: &mut O)
 }
 
 /// `ok` and the values with commas, or `none`.
-fn print_values<O: Output>(values: &Values, names: &Names<'_>, out: &mut O)
+fn print_values<O: Output>(values: &Names, names: &NameIndex<'_>, out: &mut O)
     ensures { Adds (O.state out.old) (O.state out.new) (values_text values.now) }
 {
     if values.is_empty() {
@@ -57,7 +57,7 @@ fn print_values<O: Output>(values: &Values, names: &Names<'_>, out: &mut O)
 }
 
 /// `committed`, or `conflict` and the key that differs, and the stamp.
-fn print_verdict<O: Output>(conflict: &Option<Text>, stamp: u64, names: &Names<'_>, out: &mut O)
+fn print_verdict<O: Output>(conflict: &Option<Text>, stamp: u64, names: &NameIndex<'_>, out: &mut O)
     ensures { Adds (O.state out.old) (O.state out.new) (verdict_text conflict.now stamp) }
 {
     match conflict {
@@ -75,7 +75,7 @@ fn print_verdict<O: Output>(conflict: &Option<Text>, stamp: u64, names: &Names<'
 fn print_read<O: Output>(
     raises: &ListOf<RaisePiece>,
     syncs: &ListOf<SyncPiece>,
-    names: &Names<'_>,
+    names: &NameIndex<'_>,
     out: &mut O,
 )
     ensures { Adds (O.state out.old) (O.state out.new) (read_text names.now raises.now syncs.now) }
@@ -87,7 +87,7 @@ fn print_read<O: Output>(
 impl Printed for Answer {
     ghost text = { answer_text };
 
-    fn print<O: Output>(&self, names: &Names<'_>, out: &mut O) {
+    fn print<O: Output>(&self, names: &NameIndex<'_>, out: &mut O) {
         match self {
             Answer::Stood { stamp, row, points } => {
                 out.put(b"ok ");

@@ -4,7 +4,7 @@ ghost use Rattle.std.specs.List.{flat_map, enumerate_from};
 ghost use Rattle.report_text.specs.Output.{Adds};
 ghost use Rattle.report_text.specs.Columns.{entering_text, head_text, event_text, journal_line, queue_key_text, closing_line, column_lines};
 
-use crate::names::Names;
+use crate::names::NameIndex;
 use crate::output::{Output, put_number};
 use crate::printed::{Printed, print_listed, print_spaced};
 use crate::report::{ColumnReport, QueueKey};
@@ -14,7 +14,7 @@ use log_node::{Counts, Head, Id};
 impl Printed for Head {
     ghost text = { head_text };
 
-    fn print<O: Output>(&self, names: &Names<'_>, out: &mut O) {
+    fn print<O: Output>(&self, names: &NameIndex<'_>, out: &mut O) {
         self.key.print(names, out);
         out.put(b"/");
         self.needs.print(names, out);
@@ -24,7 +24,7 @@ impl Printed for Head {
 impl Printed for QueueKey {
     ghost text = { queue_key_text };
 
-    fn print<O: Output>(&self, names: &Names<'_>, out: &mut O) {
+    fn print<O: Output>(&self, names: &NameIndex<'_>, out: &mut O) {
         self.key.print(names, out);
         if !self.settled {
             out.put(b"?");
@@ -33,7 +33,13 @@ impl Printed for QueueKey {
 }
 
 /// An id that enters the column, with the floor and the wants of its append.
-fn print_entering<O: Output>(id: &Id, floor: u64, wants: &Counts, names: &Names<'_>, out: &mut O)
+fn print_entering<O: Output>(
+    id: &Id,
+    floor: u64,
+    wants: &Counts,
+    names: &NameIndex<'_>,
+    out: &mut O,
+)
     ensures { Adds (O.state out.old) (O.state out.new) (entering_text names.now id.now floor wants.now) }
 {
     id.print(names, out);
@@ -47,7 +53,7 @@ fn print_entering<O: Output>(id: &Id, floor: u64, wants: &Counts, names: &Names<
 impl Printed for Entry {
     ghost text = { λ report entry. event_text report entry.event entry.stamp };
 
-    fn print<O: Output>(&self, names: &Names<'_>, out: &mut O) {
+    fn print<O: Output>(&self, names: &NameIndex<'_>, out: &mut O) {
         match &self.event {
             Event::Single { id, floor, wants } => {
                 out.put(b"single ");
@@ -97,7 +103,7 @@ impl Printed for Entry {
 }
 
 /// The line of an entry at a place.
-fn print_entry<O: Output>(place: u64, entry: &Entry, names: &Names<'_>, out: &mut O)
+fn print_entry<O: Output>(place: u64, entry: &Entry, names: &NameIndex<'_>, out: &mut O)
     ensures { Adds (O.state out.old) (O.state out.new) (journal_line names.now (place, entry.now)) }
 {
     put_number(out, place);
@@ -109,7 +115,7 @@ fn print_entry<O: Output>(place: u64, entry: &Entry, names: &Names<'_>, out: &mu
 }
 
 /// A journal, its places counted from 0.
-fn print_journal<O: Output>(journal: &[Entry], names: &Names<'_>, out: &mut O)
+fn print_journal<O: Output>(journal: &[Entry], names: &NameIndex<'_>, out: &mut O)
     ensures { Adds (O.state out.old) (O.state out.new) (flat_map (journal_line names.now) (enumerate_from 0 journal.now)) }
 {
     for (place, entry) in journal.iter().enumerate() {
@@ -118,7 +124,7 @@ fn print_journal<O: Output>(journal: &[Entry], names: &Names<'_>, out: &mut O)
 }
 
 /// What a column is in the end.
-fn print_closing<O: Output>(column: &ColumnReport, names: &Names<'_>, out: &mut O)
+fn print_closing<O: Output>(column: &ColumnReport, names: &NameIndex<'_>, out: &mut O)
     ensures { Adds (O.state out.old) (O.state out.new) (closing_line names.now column.now) }
 {
     out.put(b"= clock ");
@@ -137,7 +143,7 @@ fn print_closing<O: Output>(column: &ColumnReport, names: &Names<'_>, out: &mut 
 impl Printed for ColumnReport {
     ghost text = { column_lines };
 
-    fn print<O: Output>(&self, names: &Names<'_>, out: &mut O) {
+    fn print<O: Output>(&self, names: &NameIndex<'_>, out: &mut O) {
         out.put(b"column ");
         self.region_name.print(names, out);
         out.put(b" ");

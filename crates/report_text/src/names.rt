@@ -12,14 +12,14 @@ const NUMBERS: usize = 256;
 
 /// A report, with the place of the first column of each region and of each colour, and how many regions there are.
 #[derive(Drop)]
-pub struct Names<'r> {
+pub struct NameIndex<'r> {
     report: &'r Report,
     region_at: [usize; NUMBERS],
     colour_at: [usize; NUMBERS],
     regions: usize,
 }
 
-impl<'r> Model for Names<'r> {
+impl<'r> Model for NameIndex<'r> {
     ghost use Rattle.report_text.specs.declared.report.Report.{Report};
     ghost use Rattle.report_text.specs.Index.{AreIndexed};
 
@@ -30,9 +30,9 @@ impl<'r> Model for Names<'r> {
     ghost invariant = { λ n. AreIndexed n.report.now n.region_at n.colour_at n.regions };
 }
 
-impl<'r> Names<'r> {
+impl<'r> NameIndex<'r> {
     /// Reads the columns once, from the last to the first.
-    pub fn of(report: &'r Report) -> Names<'r>
+    pub fn of(report: &'r Report) -> NameIndex<'r>
         ensures { result ≡ report.now }
     {
         let columns = report.columns.as_slice();
@@ -49,7 +49,7 @@ impl<'r> Names<'r> {
                 regions += 1;
             }
         }
-        Names {
+        NameIndex {
             report,
             region_at,
             colour_at,

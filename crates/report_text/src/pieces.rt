@@ -3,7 +3,7 @@ ghost use Rattle.std.specs.Prelude.{◌≡◌};
 ghost use Rattle.log_node.specs.Vectors.{at};
 ghost use Rattle.report_text.specs.Pieces.{id_text, key_text, counts_text, at_text, point_text, raise_text, sync_text};
 
-use crate::names::Names;
+use crate::names::NameIndex;
 use crate::output::{Output, put_number};
 use crate::printed::Printed;
 use crate::report::{PointPiece, RaisePiece, SyncPiece};
@@ -12,7 +12,7 @@ use log_node::{At, Counts, Id, Key, Text};
 impl Printed for Text {
     ghost text = { λ _ bytes. bytes };
 
-    fn print<O: Output>(&self, _names: &Names<'_>, out: &mut O) {
+    fn print<O: Output>(&self, _names: &NameIndex<'_>, out: &mut O) {
         out.put(self.as_bytes());
     }
 }
@@ -20,7 +20,7 @@ impl Printed for Text {
 impl Printed for Id {
     ghost text = { id_text };
 
-    fn print<O: Output>(&self, names: &Names<'_>, out: &mut O) {
+    fn print<O: Output>(&self, names: &NameIndex<'_>, out: &mut O) {
         names.put_client(self.client, out);
         out.put(b".");
         put_number(out, self.count);
@@ -30,7 +30,7 @@ impl Printed for Id {
 impl Printed for Key {
     ghost text = { key_text };
 
-    fn print<O: Output>(&self, names: &Names<'_>, out: &mut O) {
+    fn print<O: Output>(&self, names: &NameIndex<'_>, out: &mut O) {
         self.id.print(names, out);
         out.put(b":");
         put_number(out, self.stamp);
@@ -51,7 +51,7 @@ impl Printed for Counts {
     ghost text = { counts_text };
 
     #[tactic(auto, using(crate::proofs::Joins::join_more))]
-    fn print<O: Output>(&self, names: &Names<'_>, out: &mut O) {
+    fn print<O: Output>(&self, names: &NameIndex<'_>, out: &mut O) {
         let regions = names.regions();
         if regions == 0 {
             return;
@@ -67,7 +67,7 @@ impl Printed for Counts {
 impl Printed for At {
     ghost text = { λ _ place. at_text place };
 
-    fn print<O: Output>(&self, _names: &Names<'_>, out: &mut O) {
+    fn print<O: Output>(&self, _names: &NameIndex<'_>, out: &mut O) {
         match self {
             At::Event(place) => {
                 out.put(b"!");
@@ -84,7 +84,7 @@ impl Printed for At {
 impl Printed for PointPiece {
     ghost text = { point_text };
 
-    fn print<O: Output>(&self, names: &Names<'_>, out: &mut O) {
+    fn print<O: Output>(&self, names: &NameIndex<'_>, out: &mut O) {
         names.put_colour(self.colour, out);
         self.at.print(names, out);
         out.put(b"@");
@@ -95,7 +95,7 @@ impl Printed for PointPiece {
 impl Printed for RaisePiece {
     ghost text = { raise_text };
 
-    fn print<O: Output>(&self, names: &Names<'_>, out: &mut O) {
+    fn print<O: Output>(&self, names: &NameIndex<'_>, out: &mut O) {
         names.put_colour(self.colour, out);
         self.at.print(names, out);
     }
@@ -104,7 +104,7 @@ impl Printed for RaisePiece {
 impl Printed for SyncPiece {
     ghost text = { sync_text };
 
-    fn print<O: Output>(&self, names: &Names<'_>, out: &mut O) {
+    fn print<O: Output>(&self, names: &NameIndex<'_>, out: &mut O) {
         names.put_colour(self.colour, out);
         out.put(b"?");
         put_number(out, self.events);

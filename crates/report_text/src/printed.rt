@@ -5,7 +5,7 @@ ghost use Rattle.report_text.specs.declared.report.Report.{Report};
 ghost use Rattle.report_text.specs.Output.{Adds};
 ghost use Rattle.report_text.specs.Pieces.{spaced, listed};
 
-use crate::names::Names;
+use crate::names::NameIndex;
 use crate::output::Output;
 use log_node::ListOf;
 
@@ -13,12 +13,12 @@ use log_node::ListOf;
 pub trait Printed {
     ghost text: { Report → Self → List ℕ };
 
-    fn print<O: Output>(&self, names: &Names<'_>, out: &mut O)
+    fn print<O: Output>(&self, names: &NameIndex<'_>, out: &mut O)
         ensures { Adds (O.state out.old) (O.state out.new) (text names.now self.now) };
 }
 
 /// One after another.
-pub fn print_each<T: Printed, O: Output>(items: &ListOf<T>, names: &Names<'_>, out: &mut O)
+pub fn print_each<T: Printed, O: Output>(items: &ListOf<T>, names: &NameIndex<'_>, out: &mut O)
     ensures { Adds (O.state out.old) (O.state out.new) (flat_map (T.text names.now) items.now) }
 {
     for item in items.as_slice() {
@@ -27,7 +27,7 @@ pub fn print_each<T: Printed, O: Output>(items: &ListOf<T>, names: &Names<'_>, o
 }
 
 /// Each with a space before it.
-pub fn print_spaced<T: Printed, O: Output>(items: &ListOf<T>, names: &Names<'_>, out: &mut O)
+pub fn print_spaced<T: Printed, O: Output>(items: &ListOf<T>, names: &NameIndex<'_>, out: &mut O)
     ensures { Adds (O.state out.old) (O.state out.new) (spaced (T.text names.now) items.now) }
 {
     for item in items.as_slice() {
@@ -37,7 +37,7 @@ pub fn print_spaced<T: Printed, O: Output>(items: &ListOf<T>, names: &Names<'_>,
 }
 
 // Each with a comma before it.
-fn print_further<T: Printed, O: Output>(items: &[T], names: &Names<'_>, out: &mut O)
+fn print_further<T: Printed, O: Output>(items: &[T], names: &NameIndex<'_>, out: &mut O)
     ensures { Adds (O.state out.old) (O.state out.new) (flat_map (λ x. 44 ∷ T.text names.now x) items.now) }
 {
     for item in items {
@@ -47,7 +47,7 @@ fn print_further<T: Printed, O: Output>(items: &[T], names: &Names<'_>, out: &mu
 }
 
 /// With a comma between two; a dash where there is none.
-pub fn print_listed<T: Printed, O: Output>(items: &ListOf<T>, names: &Names<'_>, out: &mut O)
+pub fn print_listed<T: Printed, O: Output>(items: &ListOf<T>, names: &NameIndex<'_>, out: &mut O)
     ensures { Adds (O.state out.old) (O.state out.new) (listed (T.text names.now) items.now) }
 {
     let Some((first, others)) = items.as_slice().split_first() else {

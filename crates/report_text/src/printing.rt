@@ -5,7 +5,7 @@ ghost use Rattle.fuzzy_io.specs.Causes.{CountsFaults, AppendsFront};
 ghost use Rattle.report_text.specs.Output.{Adds};
 ghost use Rattle.report_text.specs.ReportText.{report_bytes, refusal_bytes};
 
-use crate::names::Names;
+use crate::names::NameIndex;
 use crate::output::{Output, put_number};
 use crate::page::Page;
 use crate::printed::print_each;
@@ -16,7 +16,7 @@ use fuzzy_io::{Failed, Sink};
 fn put_report<O: Output>(report: &Report, out: &mut O)
     ensures { Adds (O.state out.old) (O.state out.new) (report_bytes report.now) }
 {
-    let names = Names::of(report);
+    let names = NameIndex::of(report);
     out.put(b"report 1\n");
     print_each(&report.clients, &names, out);
     print_each(&report.rows, &names, out);

@@ -2,7 +2,7 @@
 ghost use Rattle.std.specs.Prelude.{◌≡◌};
 ghost use Rattle.report_text.specs.Replies.{node_line, reply_lines, client_lines};
 
-use crate::names::Names;
+use crate::names::NameIndex;
 use crate::output::{Output, put_number};
 use crate::printed::{Printed, print_each};
 use crate::report::{ClientReport, ReplyLine};
@@ -18,7 +18,7 @@ fn key_of(item: &Item) -> Key
 impl Printed for Item {
     ghost text = { node_line };
 
-    fn print<O: Output>(&self, names: &Names<'_>, out: &mut O) {
+    fn print<O: Output>(&self, names: &NameIndex<'_>, out: &mut O) {
         out.put(b"+ ");
         let key = key_of(self);
         key.id.print(names, out);
@@ -33,7 +33,7 @@ impl Printed for Item {
 impl Printed for ReplyLine {
     ghost text = { reply_lines };
 
-    fn print<O: Output>(&self, names: &Names<'_>, out: &mut O) {
+    fn print<O: Output>(&self, names: &NameIndex<'_>, out: &mut O) {
         put_number(out, self.line as u64);
         out.put(b" ");
         put_word(self.word, out);
@@ -47,7 +47,7 @@ impl Printed for ReplyLine {
 impl Printed for ClientReport {
     ghost text = { client_lines };
 
-    fn print<O: Output>(&self, names: &Names<'_>, out: &mut O) {
+    fn print<O: Output>(&self, names: &NameIndex<'_>, out: &mut O) {
         out.put(b"client ");
         self.name.print(names, out);
         out.put(b"\n");

@@ -2,7 +2,7 @@
 ghost use Rattle.report_text.specs.Output.{Adds};
 ghost use Rattle.report_text.specs.Rows.{why_text, mark_text, colour_mark_text, outcome_text, row_line};
 
-use crate::names::Names;
+use crate::names::NameIndex;
 use crate::output::{Output, put_number};
 use crate::printed::{Printed, print_spaced};
 use crate::report::RowReport;
@@ -30,7 +30,7 @@ fn print_mark<O: Output>(mark: Mark, out: &mut O)
 impl Printed for ColourMark {
     ghost text = { colour_mark_text };
 
-    fn print<O: Output>(&self, names: &Names<'_>, out: &mut O) {
+    fn print<O: Output>(&self, names: &NameIndex<'_>, out: &mut O) {
         names.put_colour(self.colour, out);
         out.put(b"=");
         print_mark(self.mark, out);
@@ -40,7 +40,7 @@ impl Printed for ColourMark {
 impl Printed for Outcome {
     ghost text = { λ _ outcome. outcome_text outcome };
 
-    fn print<O: Output>(&self, _names: &Names<'_>, out: &mut O) {
+    fn print<O: Output>(&self, _names: &NameIndex<'_>, out: &mut O) {
         match self {
             Outcome::Open => out.put(b"open"),
             Outcome::Final(stamp) => {
@@ -58,7 +58,7 @@ impl Printed for Outcome {
 impl Printed for RowReport {
     ghost text = { row_line };
 
-    fn print<O: Output>(&self, names: &Names<'_>, out: &mut O) {
+    fn print<O: Output>(&self, names: &NameIndex<'_>, out: &mut O) {
         out.put(b"row ");
         names.put_region(self.region, out);
         out.put(b" ");

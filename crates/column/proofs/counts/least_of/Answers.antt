@@ -8,5 +8,5 @@ pub loop-region-preserved : goal.loop-region-preserved
 loop-region-preserved c =
     let region = c.loop-region.region in
     c.least_with-least.ensures
-    ∙ (ap (λ (n : ℕ). if region == c.args.own then n else min n (at c.args.asked region)) c.loop-region.invariant
-    ∙ sym (least_more c.args.asked c.args.own region c.args.bound))
+    ∙ (ap (λ (n : ℕ). if region == c.args.own then n else min n (at c.args.notes region)) c.loop-region.invariant
+    ∙ sym (least_more c.args.notes c.args.own region c.args.bound))

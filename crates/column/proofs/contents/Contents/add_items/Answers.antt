@@ -82,13 +82,13 @@ some c = let a = c.requires.items in let b = c.args.items.ok.0 in omega (arith, 
 pub invariant_of-self-2 : goal.invariant_of-self-2
 invariant_of-self-2 c =
     let i = c.self.inside in
-    subst (λ (v : Counts). IsKept (with_parts (old_of c) c.push_reserved.new.self.items c.append.new.self) v i.asked i.base
+    subst (λ (v : Counts). IsKept (with_parts (old_of c) c.push_reserved.new.self.items c.append.new.self) v i.notes i.base
     i.opens i.spare (vec_capacity c.push_reserved.new.self)) (sym c.with_number-self-inside.ensures)
     (subst (λ (q : ColumnState). IsKept q
-    (vector (λ here. if here == c.args.region then c.in-Some.end else at i.carried here)) i.asked i.base
+    (vector (λ here. if here == c.args.region then c.in-Some.end else at i.carried here)) i.notes i.base
     i.opens i.spare (vec_capacity c.push_reserved.new.self)) (sym (state c))
     (carried_kept (old_of c) c.args.by c.args.region c.self.invariant.column_is (other c) (in_range c) c.args.items.items (some c)
-    i.carried i.asked i.base c.in-Some.end c.self.invariant.numbers_are
+    i.carried i.notes i.base c.in-Some.end c.self.invariant.numbers_are
     (let a = c.of_region-start.ensures in let b = c.in-Some.ensures in let d = c.len.ensures in
     let e = c.args.items.ok.0 in omega (arith, a, b, d, e))
     i.opens i.spare _ (vec_capacity c.push_reserved.new.self) c.self.invariant.room_is

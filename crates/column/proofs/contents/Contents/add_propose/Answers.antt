@@ -80,7 +80,7 @@ invariant_of-self c =
     let i = c.self.inside in
     let node = c.args.node.value in
     let h = c.self.invariant.column_is in
-    subst (λ (q : ColumnState). IsKept q i.carried i.asked i.base (i.opens + 1) (i.spare - 1)
+    subst (λ (q : ColumnState). IsKept q i.carried i.notes i.base (i.opens + 1) (i.spare - 1)
     (vec_capacity c.push_reserved.new.self))
     (sym (state c)) (record {
       column_is = propose_is (old_of c) c.args.by node h (fresh c) (in_region c) (in_colour c) (stamp c) c.requires.row;
@@ -88,7 +88,7 @@ invariant_of-self c =
           (stamp c)) h
           (proposal_next (old_of c) c.args.by node h (fresh c) (in_region c) (in_colour c) (stamp c))
           (proposal_quiet (old_of c) c.args.by node h (fresh c) (in_region c) (in_colour c) (stamp c))
-          (λ region. refl) (after_propose (old_of c) c.args.by node).queue i.carried i.asked i.base c.self.invariant.numbers_are;
+          (λ region. refl) (after_propose (old_of c) c.args.by node).queue i.carried i.notes i.base c.self.invariant.numbers_are;
       room_is = propose-room (old_of c) c.args.by i.opens i.spare _ _ node c.self.invariant.room_is
           (subst (λ (q : ColumnState). 0 < q.queue.spare) (sym c.self.view_is) c.requires.room)
           c.push_reserved.ensures.capacity;

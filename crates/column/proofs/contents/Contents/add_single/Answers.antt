@@ -79,7 +79,7 @@ invariant_of-self c =
     let i = c.self.inside in
     let node = c.args.node.value in
     let h = c.self.invariant.column_is in
-    subst (λ (q : ColumnState). IsKept q i.carried i.asked i.base i.opens (i.spare - 1)
+    subst (λ (q : ColumnState). IsKept q i.carried i.notes i.base i.opens (i.spare - 1)
     (vec_capacity c.push_reserved.new.self))
     (sym (state c)) (record {
       column_is = single_is (old_of c) c.args.by node h (fresh c) (in_region c) (in_colour c) (stamp c);
@@ -87,7 +87,7 @@ invariant_of-self c =
           (stamp c)) h
           (single_next (old_of c) c.args.by node h (fresh c) (in_region c) (in_colour c) (stamp c))
           (single_quiet (old_of c) c.args.by node h (fresh c) (in_region c) (in_colour c) (stamp c))
-          (λ region. refl) (after_single (old_of c) c.args.by node).queue i.carried i.asked i.base c.self.invariant.numbers_are;
+          (λ region. refl) (after_single (old_of c) c.args.by node).queue i.carried i.notes i.base c.self.invariant.numbers_are;
       room_is = single-room (old_of c) c.args.by i.opens i.spare _ _ node c.self.invariant.room_is
           (subst (λ (q : ColumnState). 0 < q.queue.spare) (sym c.self.view_is) c.requires.room)
           c.push_reserved.ensures.capacity;

@@ -16,6 +16,6 @@ returns c =
       copies = i.copies;
     } in
     c.with_number.ensures
-    ∙ (counted_is old c.self.invariant.column_is i.carried i.asked i.base (length c.line.result.now)
+    ∙ (counted_is old c.self.invariant.column_is i.carried i.notes i.base (length c.line.result.now)
     c.self.invariant.numbers_are (ap length (c.line.ensures ∙ sym (line_is old c.self.invariant.column_is)))
     ∙ ap (λ (q : ColumnState). held q.region (history_of q)) c.self.view_is)

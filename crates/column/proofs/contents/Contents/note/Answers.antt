@@ -51,23 +51,23 @@ journal_is c =
     ∙ ap (λ (n : ℕ). (old_of c).journal ++ record { by = c.args.by; event = events.Give c.args.region n; stamp = 0 } ∷ [])
     (from_is c))
 
-asked_is : (c : goal.After-push_reserved) → c.with_number-self-inside.result
+notes_is : (c : goal.After-push_reserved) → c.with_number-self-inside.result
     ≡ vector (λ here. if here == c.args.region
-    then max (at c.self.inside.asked c.args.region) (min c.args.from (length (line (old_of c).journal)))
-    else at c.self.inside.asked here)
-asked_is c =
+    then max (at c.self.inside.notes c.args.region) (min c.args.from (length (line (old_of c).journal)))
+    else at c.self.inside.notes here)
+notes_is c =
     c.with_number-self-inside.ensures
-    ∙ ap (λ (n : ℕ). vector (λ here. if here == c.args.region then n else at c.self.inside.asked here))
+    ∙ ap (λ (n : ℕ). vector (λ here. if here == c.args.region then n else at c.self.inside.notes here))
     (c.max.ensures ∙ (ap (λ (n : ℕ). max n c.min-from.result) c.of_region.ensures
-    ∙ ap (max (at c.self.inside.asked c.args.region)) (from_is c)))
+    ∙ ap (max (at c.self.inside.notes c.args.region)) (from_is c)))
 
 pub invariant_of-self-2 : goal.invariant_of-self-2
 invariant_of-self-2 c =
     let i = c.self.inside in
     let h = c.self.invariant.column_is in
-    rw (journal_is c, asked_is c) (record {
+    rw (journal_is c, notes_is c) (record {
       column_is = give_is (old_of c) c.args.by c.args.region c.args.from h (other c) (in_range c);
-      numbers_are = give_numbers (old_of c) c.args.by c.args.region c.args.from h (other c) (in_range c) i.carried i.asked
+      numbers_are = give_numbers (old_of c) c.args.by c.args.region c.args.from h (other c) (in_range c) i.carried i.notes
           i.base c.self.invariant.numbers_are;
       room_is = event-room (old_of c) (entry_of c) i.queue i.copies i.opens i.spare _ _ c.self.invariant.room_is refl refl
           (omega (

@@ -32,7 +32,7 @@ invariant_of-self-2 c =
       column_is = raise_is old c.args.by c.args.to k above c.requires;
       numbers_are = quiet_numbers old (raising old c.args.by c.args.to k above c.requires) k
           (raise_next old c.args.by c.args.to k above c.requires) (raise_quiet old c.args.by c.args.to k above c.requires)
-          (λ region. refl) (after_raise old c.args.by c.args.to).queue i.carried i.asked i.base c.self.invariant.numbers_are;
+          (λ region. refl) (after_raise old c.args.by c.args.to).queue i.carried i.notes i.base c.self.invariant.numbers_are;
       room_is = record {
         enough = r.enough;
         few = omega (arith, longer, r.few);

@@ -55,7 +55,7 @@ invariant_of-self-2 c =
       column_is = settle_is old c.args.by id outcome k some p.1 may;
       numbers_are = quiet_numbers old (settlement old c.args.by id outcome k some p.1 may) k
           (settle_next old c.args.by id outcome k some p.1 may) (settle_quiet old c.args.by id outcome k some p.1 may)
-          (λ region. refl) (after_settle old c.args.by id outcome).queue i.carried i.asked i.base c.self.invariant.numbers_are;
+          (λ region. refl) (after_settle old c.args.by id outcome).queue i.carried i.notes i.base c.self.invariant.numbers_are;
       room_is = record {
         enough = omega (arith, less, r.enough);
         few = omega (arith, longer, r.few);

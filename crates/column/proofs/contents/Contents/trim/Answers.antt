@@ -45,7 +45,7 @@ drop_to-requires c =
       copies = i.copies;
     } in
     let base = c.base_after-base.ensures
-    ∙ trimmed_is old c.args.by c.args.counts c.self.invariant.column_is i.carried i.asked i.base c.args.cut
+    ∙ trimmed_is old c.args.by c.args.counts c.self.invariant.column_is i.carried i.notes i.base c.args.cut
     c.self.invariant.numbers_are (c.requires ∙ sym (ap cut_of c.self.view_is)) in
     let is = c.of_region.ensures ∙ ap (λ (v : Counts). at v i.region) base in
     let low = base_in_line old c.args.by c.args.counts c.self.invariant.column_is in
@@ -57,7 +57,7 @@ entry_of c = trimming (old_of c) c.args.by c.args.counts c.self.invariant.column
 base_is : (c : goal.After-push_reserved) → c.base_after-base.result ≡ base_after (old_of c) c.args.by c.args.counts
 base_is c =
     c.base_after-base.ensures
-    ∙ trimmed_is (old_of c) c.args.by c.args.counts c.self.invariant.column_is c.self.inside.carried c.self.inside.asked
+    ∙ trimmed_is (old_of c) c.args.by c.args.counts c.self.invariant.column_is c.self.inside.carried c.self.inside.notes
     c.self.inside.base c.args.cut c.self.invariant.numbers_are (c.requires ∙ sym (ap cut_of c.self.view_is))
 
 journal_is : (c : goal.After-push_reserved) → c.push_reserved.new.self.items ≡ (old_of c).journal ++ entry_of c ∷ []
@@ -95,12 +95,12 @@ invariant_of-self-2 c =
     let i = c.self.inside in
     let h = c.self.invariant.column_is in
     let new = after_trim (old_of c) c.args.by c.args.counts in
-    subst (λ (q : ColumnState). IsKept q i.carried i.asked c.base_after-base.result i.opens i.spare
+    subst (λ (q : ColumnState). IsKept q i.carried i.notes c.base_after-base.result i.opens i.spare
     (vec_capacity c.push_reserved.new.self)) (sym (state c))
-    (subst (λ (v : Counts). IsKept (after_trim (old_of c) c.args.by c.args.counts) i.carried i.asked v i.opens i.spare
+    (subst (λ (v : Counts). IsKept (after_trim (old_of c) c.args.by c.args.counts) i.carried i.notes v i.opens i.spare
     (vec_capacity c.push_reserved.new.self)) (sym (base_is c)) (record {
       column_is = trim_is (old_of c) c.args.by c.args.counts h;
-      numbers_are = trim_numbers (old_of c) c.args.by c.args.counts h i.carried i.asked i.base
+      numbers_are = trim_numbers (old_of c) c.args.by c.args.counts h i.carried i.notes i.base
           c.self.invariant.numbers_are;
       room_is = event-room (old_of c) (entry_of c) new.queue new.copies i.opens i.spare _ _ c.self.invariant.room_is refl
           refl

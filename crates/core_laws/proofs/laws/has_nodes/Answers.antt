@@ -1,5 +1,0 @@
-use Rattle.core_laws.proofs.Listed.{listed, has_nodes}
-use Rattle.core_laws.proofs.laws.has_nodes.Goals as goal
-
-pub returns : goal.returns
-returns c = λ shape steps. has_nodes _ (listed shape steps)

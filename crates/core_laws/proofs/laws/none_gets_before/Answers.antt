@@ -1,6 +1,0 @@
-use Rattle.core_laws.proofs.Runs.{held}
-use Rattle.core_laws.proofs.Later.{none_gets_before}
-use Rattle.core_laws.proofs.laws.none_gets_before.Goals as goal
-
-pub returns : goal.returns
-returns c = λ shape steps. none_gets_before _ (held shape steps)

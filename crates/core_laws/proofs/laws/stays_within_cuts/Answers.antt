@@ -1,6 +1,0 @@
-use Rattle.core_laws.proofs.Runs.{held}
-use Rattle.core_laws.proofs.Wanted.{wanted, stays_within_cuts}
-use Rattle.core_laws.proofs.laws.stays_within_cuts.Goals as goal
-
-pub returns : goal.returns
-returns c = λ shape steps. stays_within_cuts _ (held shape steps) (wanted shape steps)

@@ -1,7 +1,0 @@
-use Rattle.std.proofs.Common.{◌≡◌, replicate}
-use Rattle.core_world.specs.Clients.{fresh_client}
-use Rattle.core_world.proofs.world.fresh_clients.Given as goal
-
--- the clients so far
-abbrev pub invariant-loop : goal.invariant-loop
-invariant-loop l = l.clients.items ≡ replicate l.counter fresh_client

@@ -1,4 +1,0 @@
-pub mod Clients
-pub mod Kept
-pub mod Completed
-pub mod Looks

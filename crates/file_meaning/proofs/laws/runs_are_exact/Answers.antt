@@ -1,5 +1,0 @@
-use Rattle.file_meaning.proofs.Exactness.{runs_are_exact}
-use Rattle.file_meaning.proofs.laws.runs_are_exact.Goals as goal
-
-pub returns : goal.returns
-returns c = runs_are_exact

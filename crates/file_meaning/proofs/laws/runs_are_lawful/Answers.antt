@@ -1,5 +1,0 @@
-use Rattle.file_meaning.proofs.Lawfulness.{runs_are_lawful}
-use Rattle.file_meaning.proofs.laws.runs_are_lawful.Goals as goal
-
-pub returns : goal.returns
-returns c = runs_are_lawful

@@ -1,5 +1,0 @@
-use Rattle.file_meaning.proofs.LastStops.{scripts_stop_last}
-use Rattle.file_meaning.proofs.laws.scripts_stop_last.Goals as goal
-
-pub returns : goal.returns
-returns c = scripts_stop_last

@@ -1,6 +1,0 @@
-use Rattle.file_order.specs.Runs.{IsRunAt}
-use Rattle.file_order.proofs.in_order.step.Given as goal
-
--- the commands so far
-abbrev pub invariant-loop-place : goal.invariant-loop-place
-invariant-loop-place l = IsRunAt l.script l.place (record { world = l.world; replies = l.replies.items })

@@ -1,5 +1,0 @@
-pub mod Placing
-pub mod FourChains
-pub mod Dates
-pub mod Playing
-pub mod PlayedTo

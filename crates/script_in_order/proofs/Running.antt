@@ -1,0 +1,90 @@
+-- The replies of a run, and the commands one after another.
+use Rattle.std.proofs.Common.{◌≡◌, ℕ, zero, suc, ◌<◌, true, false, List, [], ◌∷◌, ◌++◌, length, get_or, set, Result, Ok}
+use Rattle.std.proofs.Common.{Err, refl, ap, sym, ◌∙◌, arith, get_or-set_same, get_or-set_other, eq-eqb}
+use Rattle.std.specs.Prelude.{MatchResult, IfOk, OnErr}
+use Rattle.std.specs.declared.alloc.AllocError.{AllocError}
+use mathlib.Core.Path.{fun_ext}
+use Rattle.std.proofs.lemmas.Bool.{true≢false}
+use Rattle.log_node.specs.Seen.{PlacedNode}
+use Rattle.col_core.specs.Keeping.{updated}
+use Rattle.world_laws.proofs.Basics.{at_updated}
+use Rattle.world_laws.specs.Worlds.{World}
+use Rattle.world_code.specs.WorldView.{WorldView, world_of}
+use Rattle.script_text.specs.declared.script.Command.{Command}
+use Rattle.report_text.specs.declared.report.Answer.{Answer}
+use Rattle.report_text.specs.declared.report.Answer.TheVariants.{NoMemory}
+use Rattle.report_text.specs.declared.report.ReplyLine.{ReplyLine}
+use Rattle.script_meaning.specs.States.{Grants, answered}
+use Rattle.script_in_order.specs.Doing.{Does, with_replies}
+use Rattle.script_in_order.specs.Runs.{RepliesKept, RunKept, no_replies, with_reply, replies_at, state_of, reply_of, IsDone}
+
+-- one client's replies are changed
+replied : (replies : List RepliesKept) (client : ℕ) (reply : ReplyLine) → client < length replies
+    → ◌≡◌ {A = ℕ → List ReplyLine}
+    (λ n. (replies_at (set replies client (with_reply (replies_at replies client) reply)) n).lines)
+    (updated (λ n. (replies_at replies n).lines) client ((replies_at replies client).lines ++ reply ∷ []))
+replied replies client reply low =
+    fun_ext (λ n. at_updated
+    (λ (l : List ReplyLine). (replies_at (set replies client (with_reply (replies_at replies client) reply)) n).lines
+    ≡ l)
+    (λ k. (replies_at replies k).lines) client ((replies_at replies client).lines ++ reply ∷ []) n
+    (λ e. ap (λ (k : ℕ). (replies_at (set replies client (with_reply (replies_at replies client) reply)) k).lines) e
+    ∙ ap (λ (r : RepliesKept). r.lines)
+    (get_or-set_same replies client (with_reply (replies_at replies client) reply) (no_replies 0) low))
+    (λ other. ap (λ (r : RepliesKept). r.lines)
+    (get_or-set_other replies client n (with_reply (replies_at replies client) reply) (no_replies 0)
+    (λ e. true≢false (sym (eq-eqb n client e) ∙ other)))))
+
+-- a command, with its reply
+pub command_done : (command : Command) (old : RunKept) (world : WorldView) (given : Result (Answer × List PlacedNode)
+    AllocError)
+    (reply : ReplyLine) → command.client < length old.replies
+    → IfOk given (λ g. Does command (world_of old.world) (world_of world) g.0 g.1)
+    → OnErr given (world_of world ≡ world_of old.world)
+    → MatchResult given (λ g. reply ≡ reply_of command g.0 g.1) (λ _. reply ≡ reply_of command NoMemory [])
+    → IsDone command old
+    (record {
+      world = world;
+      replies = set old.replies command.client
+          (with_reply (replies_at old.replies command.client) reply);
+    })
+command_done command old world given reply low ok err is = turn given ok err is where
+  next : List RepliesKept
+  next = set old.replies command.client (with_reply (replies_at old.replies command.client) reply)
+
+  lines : ℕ → List ReplyLine
+  lines = λ n. (replies_at old.replies n).lines
+
+  shown : (answer : Answer) (nodes : List PlacedNode) → reply ≡ reply_of command answer nodes
+      → state_of (record { world = world; replies = next })
+      ≡ answered (with_replies (world_of old.world) lines) command (world_of world) answer nodes
+  shown answer nodes e =
+      ap (λ (r : ℕ → List ReplyLine). with_replies (world_of world) r)
+      (replied old.replies command.client reply low
+      ∙ ap (λ (x : ReplyLine). updated lines command.client (lines command.client ++ x ∷ [])) e)
+
+  turn : (given : Result (Answer × List PlacedNode) AllocError)
+      → IfOk given (λ g. Does command (world_of old.world) (world_of world) g.0 g.1)
+      → OnErr given (world_of world ≡ world_of old.world)
+      → MatchResult given (λ g. reply ≡ reply_of command g.0 g.1) (λ _. reply ≡ reply_of command NoMemory [])
+      → IsDone command old (record { world = world; replies = next })
+  turn (Ok g) ok err e = record {
+    grants = ok.grants;
+    reply = reply;
+    state = shown g.0 g.1 e ∙ sym (ok.is lines);
+    replies = refl;
+  }
+  turn (Err x) ok err e = record {
+    grants = none;
+    reply = reply;
+    state = shown NoMemory [] e
+        ∙ ap (λ (w : World). answered (with_replies (world_of old.world) lines) command w NoMemory []) err;
+    replies = refl;
+  } where
+    none : Grants
+    none = record { start = false; marks = λ _. true; helps = λ _ _. true; carry = true }
+
+pub any_default : {A : Type 0} (xs : List A) (i : ℕ) (d e : A) → i < length xs → get_or xs i d ≡ get_or xs i e
+any_default [] i d e lt = absurd (let f : ⊥ = omega (arith, lt) in f)
+any_default (x ∷ xs) zero d e lt = refl
+any_default (x ∷ xs) (suc i) d e lt = any_default xs i d e (omega (arith, lt))

@@ -1,0 +1,75 @@
+-- Lists made item by item.
+use Rattle.std.proofs.Common.{◌≡◌, ℕ, zero, suc, ◌+◌, ◌<◌, List, [], ◌∷◌, ◌++◌, length, map, take, get_or, refl, ap}
+use Rattle.std.proofs.Common.{sym, ◌∙◌, arith, zero-add}
+use Rattle.std.proofs.Common.{Bool, Some, None}
+use Rattle.std.specs.Prelude.{slice_get}
+use Rattle.std.specs.Option.{option_map}
+use Rattle.log_node.specs.declared.ids.Key.{Key}
+use Rattle.skeen_core.specs.Standings.{Standing}
+use Rattle.report_text.specs.declared.report.QueueKey.{QueueKey}
+use Rattle.script_in_order.specs.Reports.{waiting_shown}
+use Rattle.std.proofs.lemmas.List.{take_more, map-append}
+use Rattle.std.proofs.lemmas.List.{length-take-le}
+use Rattle.std.proofs.lemmas.Grind.{flat_map-append}
+use Rattle.std.specs.List.{flat_map, range_with_len, enumerate_from}
+
+pub range_more : (a n : ℕ) → range_with_len a (n + 1) ≡ range_with_len a n ++ (a + n) ∷ []
+range_more a zero = let e : a ≡ a + 0 = omega arith in ap (λ (k : ℕ). k ∷ []) e
+range_more a (suc n) =
+    let s : suc n + 1 ≡ suc (n + 1) = omega arith in
+    let e : a + 1 + n ≡ a + suc n = omega arith in
+    ap (range_with_len a) s
+    ∙ ap (λ (l : List ℕ). a ∷ l) (range_more (a + 1) n ∙ ap (λ (k : ℕ). range_with_len (a + 1) n ++ k ∷ []) e)
+
+pub flat_map_range_more : {A : Type 0} (f : ℕ → List A) (n : ℕ)
+    → flat_map f (range_with_len 0 (n + 1)) ≡ flat_map f (range_with_len 0 n) ++ f n
+flat_map_range_more f n =
+    ap (flat_map f) (range_more 0 n ∙ ap (λ (k : ℕ). range_with_len 0 n ++ k ∷ []) (zero-add n))
+    ∙ (flat_map-append f (range_with_len 0 n) (n ∷ []) ∙ ap (λ l. flat_map f (range_with_len 0 n) ++ l)
+    (append-none (f n))) where
+      append-none : {A : Type 0} (xs : List A) → xs ++ [] ≡ xs
+      append-none [] = refl
+      append-none (x ∷ xs) = ap (λ l. x ∷ l) (append-none xs)
+
+enumerate_append : {A : Type 0} (n : ℕ) (xs : List A) (x : A)
+    → enumerate_from n (xs ++ x ∷ []) ≡ enumerate_from n xs ++ (n + length xs, x) ∷ []
+enumerate_append {A} n [] x = let e : n ≡ n + 0 = omega arith in ap (λ (k : ℕ). let p : ℕ × A = (k, x) in p ∷ []) e
+enumerate_append {A} n (y ∷ ys) x =
+    let e : n + 1 + length ys ≡ n + length (y ∷ ys) = omega arith in
+    ap (λ (l : List (ℕ × A)). let p : ℕ × A = (n, y) in p ∷ l) (enumerate_append (n + 1) ys x
+    ∙ ap (λ (k : ℕ). let p : ℕ × A = (k, x) in enumerate_from (n + 1) ys ++ p ∷ []) e)
+
+pub numbered_more : {A B : Type 0} (f : ℕ × A → B) (xs : List A) (n : ℕ) (x : A) → n < length xs → x ≡ get_or xs n x
+    → map f (enumerate_from 0 (take (n + 1) xs)) ≡ map f (enumerate_from 0 (take n xs)) ++ f (n, x) ∷ []
+numbered_more {A} {B} f xs n x h is =
+    let e : 0 + length (take n xs) ≡ n = zero-add (length (take n xs)) ∙ length_front xs n h in
+    ap (λ (l : List A). map f (enumerate_from 0 l)) (take_more xs n x h ∙ ap (λ (y : A). take n xs ++ y ∷ []) (sym is))
+    ∙ (ap (map f) (enumerate_append 0 (take n xs) x)
+    ∙ (map-append f (enumerate_from 0 (take n xs)) ((0 + length (take n xs), x) ∷ [])
+    ∙ ap (λ (k : ℕ). map f (enumerate_from 0 (take n xs)) ++ f (k, x) ∷ []) e)) where
+      length_front : (ys : List A) (k : ℕ) → k < length ys → length (take k ys) ≡ k
+      length_front ys k lt = length-take-le k ys (omega arith)
+
+-- Entries that wait, one after another
+
+abbrev waiting_pair : Standing → Key × Bool
+waiting_pair e = (e.key, e.settled)
+
+pub waiting_more : (q : List Standing) (n : ℕ) (key : Key) (settled : Bool)
+    → option_map waiting_pair (slice_get q n) ≡ Some (key, settled)
+    → map waiting_shown (take (n + 1) q)
+    ≡ map waiting_shown (take n q) ++ (let k : QueueKey = record { key = key; settled = settled } in k) ∷ []
+waiting_more [] n key settled is = absurd (let f : ⊥ = cc in f)
+waiting_more (e ∷ q) zero key settled is =
+    let p : (e.key, e.settled) ≡ (key, settled) = cc in
+    ap (λ (x : Key × Bool). (let k : QueueKey = record { key = x.0; settled = x.1 } in k) ∷ []) p
+waiting_more (e ∷ q) (suc n) key settled is =
+    let s : suc n + 1 ≡ suc (n + 1) = omega arith in
+    ap (λ (k : ℕ). map waiting_shown (take k (e ∷ q))) s
+    ∙ ap (λ (l : List QueueKey). waiting_shown e ∷ l) (waiting_more q n key settled is)
+
+pub waiting_all : (q : List Standing) (n : ℕ) → option_map waiting_pair (slice_get q n) ≡ None → take n q ≡ q
+waiting_all [] zero is = refl
+waiting_all [] (suc n) is = refl
+waiting_all (e ∷ q) zero is = absurd (let f : ⊥ = cc in f)
+waiting_all (e ∷ q) (suc n) is = ap (λ (l : List Standing). e ∷ l) (waiting_all q n is)

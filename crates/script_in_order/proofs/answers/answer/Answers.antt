@@ -1,0 +1,109 @@
+use Rattle.std.proofs.Common.{◌≡◌, List, subst, true}
+use Rattle.std.proofs.lemmas.Result.{IfOk-weaker}
+use Rattle.log_node.specs.Seen.{PlacedNode}
+use Rattle.log_node.specs.Sets.{members}
+use Rattle.report_text.specs.declared.report.Answer.{Answer}
+use Rattle.script_text.specs.declared.script.What.{What}
+use Rattle.script_text.specs.declared.script.What.TheVariants as whats
+use Rattle.script_text.specs.Fitting.{IsWithin}
+use Rattle.world_code.specs.WorldView.{world_of}
+use Rattle.script_meaning.specs.States.{is_built}
+use Rattle.script_meaning.specs.Appends.{appended, stopped}
+use Rattle.script_meaning.specs.Moves.{synced, pulled, trimmed}
+use Rattle.script_in_order.specs.Doing.{DoneBy, Does}
+use Rattle.script_in_order.proofs.Doing.{does_what, with_nodes, built_kinds}
+use Rattle.script_in_order.proofs.answers.answer.Goals as goal
+
+pub append-requires : goal.append-requires
+append-requires c = record {
+  many = subst (λ (w : What). is_built w ≡ true) c.in-Append.is c.requires.built;
+  caller = c.requires.fits.caller;
+  within = subst (IsWithin c.args.world.now.shape.regions c.args.world.now.shape.colours) c.in-Append.is
+      c.requires.fits.within;
+}
+
+pub stop-requires : goal.stop-requires
+stop-requires c = record {
+  many = subst (λ (w : What). is_built w ≡ true) c.in-Stop.is c.requires.built;
+  caller = c.requires.fits.caller;
+  within = subst (IsWithin c.args.world.now.shape.regions c.args.world.now.shape.colours) c.in-Stop.is
+      c.requires.fits.within;
+}
+
+pub sync-requires : goal.sync-requires
+sync-requires c = record {
+  caller = c.requires.fits.caller;
+  within = subst (IsWithin c.args.world.now.shape.regions c.args.world.now.shape.colours) c.in-Sync.is
+      c.requires.fits.within;
+}
+
+pub pull-requires : goal.pull-requires
+pull-requires c =
+    let within = subst (IsWithin c.args.world.now.shape.regions c.args.world.now.shape.colours) c.in-Pull.is
+    c.requires.fits.within in record {
+      caller = c.requires.fits.caller;
+      region = within.0;
+      within = within.1;
+    }
+
+pub trim-requires : goal.trim-requires
+trim-requires c = record {
+  caller = c.requires.fits.caller;
+  within = subst (IsWithin c.args.world.now.shape.regions c.args.world.now.shape.colours) c.in-Trim.is
+      c.requires.fits.within;
+}
+
+pub unreachable-requires : goal.unreachable-requires
+unreachable-requires c =
+    built_kinds c.args.command.now.what c.requires.built c.in_default.not-Append c.in_default.not-Stop
+    c.in_default.not-Sync c.in_default.not-Pull c.in_default.not-Trim
+
+pub returns-in_ok-answer-in-Append-clause-ok : goal.returns-in_ok-answer-in-Append-clause-ok
+returns-in_ok-answer-in-Append-clause-ok c =
+    does_what c.args.command.now (whats.Append c.in-Append.colours c.in-Append.text) (world_of c.args.world.now)
+    (world_of c.append.new.world) c.in_ok-answer-in-Append.answer c.new.result c.in-Append.is
+    (with_nodes c.args.command.now
+    (λ grants state. appended grants state c.args.command.now c.in-Append.colours c.in-Append.text
+    (members c.in-Append.colours))
+    (world_of c.args.world.now) (world_of c.append.new.world) c.in_ok-answer-in-Append.answer c.new.result c.new.ensures
+    c.in_ok-answer-in-Append.ensures.ok)
+
+pub returns-in_ok-answer-in-Stop-clause-ok : goal.returns-in_ok-answer-in-Stop-clause-ok
+returns-in_ok-answer-in-Stop-clause-ok c =
+    does_what c.args.command.now (whats.Stop c.in-Stop.steps c.in-Stop.colours c.in-Stop.text)
+    (world_of c.args.world.now)
+    (world_of c.stop.new.world) c.in_ok-answer-in-Stop.answer c.new-in-Stop.result c.in-Stop.is
+    (with_nodes c.args.command.now
+    (λ grants state. stopped grants state c.args.command.now c.in-Stop.colours c.in-Stop.text c.in-Stop.steps)
+    (world_of c.args.world.now) (world_of c.stop.new.world) c.in_ok-answer-in-Stop.answer c.new-in-Stop.result
+    c.new-in-Stop.ensures
+    c.in_ok-answer-in-Stop.ensures.ok)
+
+pub returns-in-Sync-clause-ok : goal.returns-in-Sync-clause-ok
+returns-in-Sync-clause-ok c =
+    let w = world_of c.args.world.now in
+    let new = world_of c.sync.new.world in
+    IfOk-weaker c.sync.result
+    (λ (g : Answer × List PlacedNode). DoneBy (λ _ state. synced state c.args.command.now c.in-Sync.colour)
+    c.args.command.now w new g.0 g.1)
+    (λ (g : Answer × List PlacedNode). Does c.args.command.now w new g.0 g.1)
+    (λ g d. does_what c.args.command.now (whats.Sync c.in-Sync.colour) w new g.0 g.1 c.in-Sync.is d)
+    c.sync.ensures.ok
+
+pub returns-in_ok-answer-in-Pull-clause-ok : goal.returns-in_ok-answer-in-Pull-clause-ok
+returns-in_ok-answer-in-Pull-clause-ok c =
+    does_what c.args.command.now (whats.Pull c.in-Pull.region c.in-Pull.colour) (world_of c.args.world.now)
+    (world_of c.pull.new.world) c.in_ok-answer-in-Pull.answer c.new-in-Pull.result c.in-Pull.is
+    (with_nodes c.args.command.now
+    (λ grants state. pulled grants state c.args.command.now c.in-Pull.region c.in-Pull.colour)
+    (world_of c.args.world.now) (world_of c.pull.new.world) c.in_ok-answer-in-Pull.answer c.new-in-Pull.result
+    c.new-in-Pull.ensures c.in_ok-answer-in-Pull.ensures.ok)
+
+pub returns-in_ok-answer-in-Trim-clause-ok : goal.returns-in_ok-answer-in-Trim-clause-ok
+returns-in_ok-answer-in-Trim-clause-ok c =
+    does_what c.args.command.now (whats.Trim c.in-Trim.colour) (world_of c.args.world.now)
+    (world_of c.trim.new.world) c.in_ok-answer-in-Trim.answer c.new-in-Trim.result c.in-Trim.is
+    (with_nodes c.args.command.now
+    (λ _ state. trimmed state c.args.command.now c.in-Trim.colour)
+    (world_of c.args.world.now) (world_of c.trim.new.world) c.in_ok-answer-in-Trim.answer c.new-in-Trim.result
+    c.new-in-Trim.ensures c.in_ok-answer-in-Trim.ensures.ok)

@@ -1,0 +1,13 @@
+use Rattle.std.proofs.Common.{◌≡◌, ◌-◌, length, map, take}
+use Rattle.skeen_core.specs.Standings.{queue_of}
+use Rattle.col_core.specs.History.{entries}
+use Rattle.script_in_order.specs.Reports.{waiting_shown}
+use Rattle.script_in_order.proofs.reports.queue_keys.Given as goal
+
+-- the keys so far
+abbrev pub invariant-loop-key : goal.invariant-loop-key
+invariant-loop-key l =
+    l.keys ≡ map waiting_shown (take (length l.keys) (queue_of (entries l.column.journal)))
+
+abbrev pub decreases-loop-key : goal.decreases-loop-key
+decreases-loop-key l = length (queue_of (entries l.column.journal)) - length l.keys

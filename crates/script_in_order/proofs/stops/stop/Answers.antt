@@ -1,0 +1,64 @@
+use Rattle.std.proofs.Common.{◌≡◌, ◌∙◌, ◌-◌, [], List, ap, sym, subst, ℕ, suc, refl, arith}
+use Rattle.log_node.specs.declared.node.Shape.{Shape}
+use Rattle.world_laws.specs.Laws.{IsBounded}
+use Rattle.world_laws.specs.Worlds.{World, may_begin, next_row, next_id}
+use Rattle.world_laws.proofs.CallerLemmas.{of_reached}
+use Rattle.world_code.specs.WorldView.{world_of}
+use Rattle.report_text.specs.declared.report.Answer.TheVariants as answers
+use Rattle.script_meaning.specs.Appends.{stopped}
+use Rattle.script_in_order.specs.Doing.{DoneBy}
+use Rattle.script_in_order.proofs.Beginning.{begins, fills, nothing_begun, no_other, at_least}
+use Rattle.script_in_order.proofs.Appending.{stops_at_once, stops_full, stops_within}
+use Rattle.script_in_order.proofs.stops.stop.Goals as goal
+
+pub returns-then-steps-eq0-clause-ok : goal.returns-then-steps-eq0-clause-ok
+returns-then-steps-eq0-clause-ok c =
+    stops_at_once c.args.command.now c.args.colours c.args.text.now c.args.steps (world_of c.args.world.now)
+    c.if-steps-eq0.true
+
+pub complete_first-requires : goal.complete_first-requires
+complete_first-requires c =
+    (begins (world_of c.args.world.now) c.args.command.now.client c.args.colours c.in_ok-text.text c.in-Begun.row
+    c.in-Begun.id
+    (world_of c.begin.new.self) (sym c.in-Begun.is ∙ c.in_ok-row.ensures.reply) c.in_ok-row.ensures.ok).begun
+
+pub unreachable-requires : goal.unreachable-requires
+unreachable-requires c =
+    let w = world_of c.args.world.now in
+    no_other (may_begin w c.args.command.now.client c.args.colours) c.in_ok-row.field-0
+    (next_row w c.args.command.now.client)
+    (next_id w c.args.command.now.client) c.in_ok-row.ensures.reply c.in_default.not-Nothing c.in_default.not-Begun
+
+pub returns-in-Begun-clause-ok : goal.returns-in-Begun-clause-ok
+returns-in-Begun-clause-ok c =
+    let w = world_of c.args.world.now in
+    let steps : c.args.steps ≡ suc (c.args.steps - 1) = omega (arith, c.if-steps-eq0.false) in
+    let b = begins w c.args.command.now.client c.args.colours c.in_ok-text.text c.in-Begun.row c.in-Begun.id
+    (world_of c.begin.new.self) (sym c.in-Begun.is ∙ c.in_ok-row.ensures.reply) c.in_ok-row.ensures.ok in
+    subst (λ (t : List ℕ). DoneBy (λ grants state. stopped grants state c.args.command.now c.args.colours t c.args.steps)
+    c.args.command.now w (world_of c.complete_first.new.self) (answers.Stopped c.args.steps) [])
+    (c.in_ok-text.ensures ∙ c.as_bytes.ensures)
+    (stops_within c.args.command.now c.args.colours c.in_ok-text.text c.args.steps (c.args.steps - 1) (c.args.steps - 1)
+    c.complete_first.result c.in-Begun.row c.in-Begun.id w (world_of c.begin.new.self)
+    (world_of c.complete_first.new.self) steps refl b c.complete_first.ensures)
+
+pub returns-in-Nothing-clause-ok : goal.returns-in-Nothing-clause-ok
+returns-in-Nothing-clause-ok c =
+    let w = world_of c.args.world.now in
+    let client = c.args.command.now.client in
+    let whole = c.is_whole.ensures in
+    let steps : c.args.steps ≡ suc (c.args.steps - 1) = omega (arith, c.if-steps-eq0.false) in
+    let answer = sym c.in-Nothing.is ∙ c.in_ok-row.ensures.reply in
+    let same = nothing_begun w (world_of c.begin.new.self) client c.args.colours c.in_ok-text.text answer
+    c.in_ok-row.ensures.ok in
+    let full = fills w client c.args.colours c.in_ok-text.text c.requires.caller
+    (whole.homes client 0 c.requires.caller)
+    (at_least 2 c.args.colours c.requires.many) c.requires.within
+    (of_reached IsBounded c.is_lawful.ensures.bounds w whole.reached) answer in
+    subst (λ (x : World). DoneBy
+    (λ grants state. stopped grants state c.args.command.now c.args.colours c.args.text.now c.args.steps)
+    c.args.command.now w x
+    (answers.Full c.shape.result.now.rows) []) (sym same)
+    (stops_full c.args.command.now c.args.colours c.args.text.now c.args.steps (c.args.steps - 1)
+    c.shape.result.now.rows w
+    steps full (ap (λ (s : Shape). s.rows) c.shape.ensures ∙ ap (λ (x : World). x.shape.rows) same))

@@ -1,0 +1,34 @@
+-- What a command does to a world, and what it is answered.
+use Rattle.std.specs.Prelude.{◌≡◌, ℕ, ◌<◌, true, List, length}
+use Rattle.log_node.specs.Seen.{PlacedNode}
+use Rattle.world_laws.specs.Worlds.{World}
+use Rattle.script_text.specs.declared.script.Command.{Command}
+use Rattle.script_text.specs.declared.script.What.{What}
+use Rattle.script_text.specs.Fitting.{IsWithin}
+use Rattle.report_text.specs.declared.report.Answer.{Answer}
+use Rattle.report_text.specs.declared.report.ReplyLine.{ReplyLine}
+use Rattle.script_meaning.specs.States.{State, Grants, answered}
+use Rattle.script_meaning.specs.Meaning.{done}
+
+-- the world with these replies so far
+abbrev pub with_replies : World → (ℕ → List ReplyLine) → State
+with_replies w replies = record { world = w; replies = replies }
+
+-- By this meaning the command, which is granted memory before it did anything, leads from one world to the other, with this
+-- answer and these nodes.
+pub record DoneBy (meaning : Grants → State → State) (command : Command) (old new : World) (answer : Answer)
+    (nodes : List PlacedNode) : Type 0 where
+  pub grants : Grants
+  pub begun : grants.start ≡ true
+  pub is : (replies : ℕ → List ReplyLine)
+      → meaning grants (with_replies old replies) ≡ answered (with_replies old replies) command new answer nodes
+
+-- it does so as a command
+abbrev pub Does : Command → World → World → Answer → List PlacedNode → Type 0
+Does command old new answer nodes =
+    DoneBy (λ grants state. done grants state command) command old new answer nodes
+
+-- the command's client is one of the world's, and it names colours and regions of the world
+pub record IsFit (w : World) (client : ℕ) (what : What) : Type 0 where
+  pub caller : client < length w.shape.homes
+  pub within : IsWithin w.shape.regions w.shape.colours what

@@ -1,0 +1,78 @@
+// The answer to one command, and the reply line that shows it.
+ghost use Rattle.std.specs.Prelude.{◌≡◌, [], IsTrue, IfOk, OnErr, MatchResult};
+ghost use Rattle.report_text.specs.declared.report.Answer.TheVariants.{NoMemory};
+ghost use Rattle.world_code.specs.WorldView.{world_of};
+ghost use Rattle.script_meaning.specs.States.{is_built};
+ghost use Rattle.script_meaning.specs.Appends.{appended, stopped};
+ghost use Rattle.script_meaning.specs.Moves.{synced};
+ghost use Rattle.script_in_order.specs.Doing.{IsFit, Does, DoneBy};
+ghost use Rattle.script_in_order.specs.Runs.{reply_of};
+
+use crate::appends::append;
+use crate::moves::{pull, trim};
+use crate::stops::stop;
+use crate::syncs::sync;
+use crate::words::word_of;
+use log_node::{Items, ListOf};
+use report_text::{Answer, ReplyLine};
+use script_text::{Command, What};
+use std::alloc::{AllocError, Global};
+use world_code::World;
+
+/// What a command is answered, and the nodes that it shows; `Err` means that it found no memory before it did anything.
+pub fn answer(
+    alloc: Global,
+    command: &Command,
+    world: &mut World,
+) -> Result<(Answer, Items), AllocError>
+    requires built { IsTrue (is_built command.now.what) }
+    requires fits { IsFit (world_of world.old) command.now.client command.now.what }
+    ensures ok { IfOk result (λ g. Does command.now (world_of world.old) (world_of world.new) g.0 g.1) }
+    ensures err { OnErr result (world_of world.new ≡ world_of world.old) }
+{
+    match &command.what {
+        What::Append { colours, text } => {
+            let answer = append(alloc, command, *colours, text, world)?;
+            Ok((answer, ListOf::new(alloc)))
+        }
+        What::Stop {
+            steps,
+            colours,
+            text,
+        } => {
+            let answer = stop(alloc, command, *steps, *colours, text, world)?;
+            Ok((answer, ListOf::new(alloc)))
+        }
+        What::Sync { colour } => sync(alloc, command, *colour, world),
+        What::Pull { region, colour } => {
+            let answer = pull(alloc, command, *region, *colour, world)?;
+            Ok((answer, ListOf::new(alloc)))
+        }
+        What::Trim { colour } => {
+            let answer = trim(command, *colour, world)?;
+            Ok((answer, ListOf::new(alloc)))
+        }
+        _ => unreachable!(),
+    }
+}
+
+/// The reply line of a command, which found no memory if there is no answer.
+pub fn reply_of(
+    alloc: Global,
+    command: &Command,
+    given: Result<(Answer, Items), AllocError>,
+) -> ReplyLine
+    ensures { MatchResult given (λ g. result ≡ reply_of command.now g.0 g.1)
+        (λ _. result ≡ reply_of command.now NoMemory []) }
+{
+    let (answer, nodes) = match given {
+        Ok(given) => given,
+        Err(_) => (Answer::NoMemory, ListOf::new(alloc)),
+    };
+    ReplyLine {
+        line: command.line,
+        word: word_of(&command.what),
+        answer,
+        nodes,
+    }
+}

@@ -1,0 +1,20 @@
+//! Does the commands of a script in the order of the file, over the world of core steps.
+#![tactic(auto)]
+
+mod answers;
+mod appends;
+mod built;
+mod clears;
+mod in_order;
+mod moves;
+mod points;
+mod replies;
+mod reports;
+mod rows;
+mod run;
+mod stops;
+mod syncs;
+mod words;
+
+pub use built::is_built;
+pub use in_order::run_in_order;

@@ -1,0 +1,96 @@
+// A run in the order of the file.
+ghost use Rattle.std.specs.Prelude.{◌≡◌, ◌+◌, ◌<◌, ◌≤◌, IsTrue, IfOk, length, map};
+ghost use Rattle.std.specs.List.{All, range_with_len};
+ghost use Rattle.script_text.specs.declared.script.Command.{Command};
+ghost use Rattle.script_text.specs.Fitting.{IsFitting};
+ghost use Rattle.world_code.specs.WorldView.{world_of};
+ghost use Rattle.world_laws.specs.Worlds.{opened};
+ghost use Rattle.script_meaning.specs.States.{is_built};
+ghost use Rattle.script_in_order.specs.Doing.{IsFit};
+ghost use Rattle.script_in_order.specs.Runs.{no_replies, replies_at, asks, IsDone, IsRunAt};
+
+use crate::answers::{answer, reply_of};
+use crate::replies::Replies;
+use log_node::{ListOf, Shape};
+use script_text::{Command, Script};
+use skeen_core::MAX_ROWS;
+use std::alloc::{AllocError, Global};
+use world_code::World;
+
+// How many of the commands the client asks.
+fn asks(commands: &[Command], client: usize) -> usize
+    ensures { result ≡ asks client commands.now }
+{
+    commands
+        .iter()
+        .filter(|command| command.client as usize == client)
+        .count()
+}
+
+/// For each client room for the replies to all its commands.
+pub fn room_for_replies(alloc: Global, script: &Script) -> Result<Vec<Replies>, AllocError>
+    ensures { IfOk result (λ replies. replies.items ≡
+        map (λ client. no_replies (asks client script.now.commands))
+        (range_with_len 0 (length script.now.shape.homes))) }
+{
+    let mut replies = Vec::new(alloc);
+    for client in 0..script.shape.homes.len() {
+        let room = asks(script.commands.as_slice(), client);
+        replies.push(Replies::new(alloc, room)?)?;
+    }
+    Ok(replies)
+}
+
+// The same shape once more.
+fn copied(alloc: Global, shape: &Shape) -> Result<Shape, AllocError>
+    ensures { IfOk result (λ copy. copy ≡ shape.now) }
+{
+    let homes = Vec::from_slice(alloc, shape.homes.as_slice())?;
+    Ok(Shape {
+        regions: shape.regions,
+        colours: shape.colours,
+        homes: ListOf::from(homes),
+        rows: shape.rows,
+    })
+}
+
+/// The world before the first command of a script.
+pub fn open_world(alloc: Global, script: &Script) -> Result<World, AllocError>
+    requires fits { IsFitting script.now }
+    requires rows { script.now.shape.rows ≤ MAX_ROWS }
+    ensures { IfOk result (λ world. world_of world ≡ opened script.now.shape) }
+{
+    let shape = copied(alloc, &script.shape)?;
+    World::open(alloc, shape)
+}
+
+// Does one command; where it finds no memory before it has begun, it is answered so.
+fn do_command(alloc: Global, command: &Command, world: &mut World, replies: &mut Vec<Replies>)
+    requires built { IsTrue (is_built command.now.what) }
+    requires fits { IsFit (world_of world.old) command.now.client command.now.what }
+    requires client { command.now.client < length replies.old.items }
+    requires room { 0 < (replies_at replies.old.items command.now.client).room }
+    ensures { IsDone command.now (record { world = world.old; replies = replies.old.items })
+        (record { world = world.new; replies = replies.new.items }) }
+{
+    let given = answer(alloc, command, world);
+    let reply = reply_of(alloc, command, given);
+    replies[command.client as usize].add(reply);
+}
+
+/// Does the command at a place of a script, after those before it.
+pub fn do_next(
+    alloc: Global,
+    script: &Script,
+    place: usize,
+    world: &mut World,
+    replies: &mut Vec<Replies>,
+)
+    requires fits { IsFitting script.now }
+    requires built { All (λ (c : Command). IsTrue (is_built c.what)) script.now.commands }
+    requires place { place < length script.now.commands }
+    requires run { IsRunAt script.now place (record { world = world.old; replies = replies.old.items }) }
+    ensures { IsRunAt script.now (place + 1) (record { world = world.new; replies = replies.new.items }) }
+{
+    do_command(alloc, &script.commands.as_slice()[place], world, replies);
+}

@@ -1,0 +1,68 @@
+// Syncs.
+ghost use Rattle.std.specs.Prelude.{◌≡◌, ◌<◌, [], IfOk, OnErr, length};
+ghost use Rattle.playback.specs.declared.player.Player.{Player};
+ghost use Rattle.world_code.specs.WorldView.{world_of};
+ghost use Rattle.script_meaning.specs.Moves.{synced};
+ghost use Rattle.script_in_order.specs.Doing.{DoneBy};
+
+use log_node::{Items, ListOf};
+use playback::{PlayFault, Player, play};
+use report_text::{Answer, SyncPiece};
+use script_text::Command;
+use std::alloc::{AllocError, Global};
+use world_code::World;
+use world_laws::stays_within_cuts;
+
+// What the client has played of a colour of its region.
+fn player_of(world: &World, client: u8, region: u8, colour: u8) -> Player
+    requires client { client < length world.now.shape.homes }
+    requires colour { colour < world.now.shape.colours }
+    ensures { result ≡ record {
+      region = region;
+      colour = colour;
+      played = ((world_of world.now).clients client).played colour;
+    } }
+{
+    world.is_whole();
+    Player {
+        region,
+        colour,
+        played: world.client(client).played(colour),
+    }
+}
+
+/// Plays all nodes of a colour that the client has not played, up to the cut, in the order of play; refused where one
+/// of them is trimmed.
+pub fn sync(
+    alloc: Global,
+    command: &Command,
+    colour: u8,
+    world: &mut World,
+) -> Result<(Answer, Items), AllocError>
+    requires caller { command.now.client < length world.old.shape.homes }
+    requires within { colour < world.old.shape.colours }
+    ensures ok { IfOk result (λ g. DoneBy (λ _ state. synced state command.now colour) command.now
+        (world_of world.old) (world_of world.new) g.0 g.1) }
+    ensures err { OnErr result (world_of world.new ≡ world_of world.old) }
+{
+    stays_within_cuts();
+    world.is_whole();
+    let view = world.look(alloc, command.client, colour)?;
+    let mut player = player_of(world, command.client, view.region, colour);
+    match play(alloc, &view, &mut player) {
+        Err(PlayFault::NoMemory) => Err(AllocError),
+        Err(PlayFault::Trimmed { base }) => {
+            Ok((Answer::Trimmed { colour, base }, ListOf::new(alloc)))
+        }
+        Ok(played) => {
+            let sync = SyncPiece {
+                colour,
+                events: view.events,
+                counts: played.snapshot.counts,
+            };
+            let plays = played.items.len() as u64;
+            let _played = world.play(command.client, colour);
+            Ok((Answer::Synced { sync, plays }, played.items))
+        }
+    }
+}

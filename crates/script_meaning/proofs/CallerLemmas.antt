@@ -1,0 +1,27 @@
+-- For those who do the commands: each state to which commands lead has a world of the script's shape that steps have
+-- made.
+use Rattle.std.proofs.Common.{◌≡◌, List, refl, subst, ◌∙◌, ap, sym}
+use Rattle.world_laws.specs.Worlds.{World}
+use Rattle.world_laws.specs.Laws.{IsReached}
+use Rattle.world_laws.proofs.CallerLemmas.{opened_reached, run_reached}
+use Rattle.world_laws.proofs.Growing.{run_grows}
+use Rattle.script_text.specs.declared.script.Command.{Command}
+use Rattle.script_text.specs.declared.script.Script.{Script}
+use Rattle.script_meaning.specs.States.{State}
+use Rattle.script_meaning.specs.Meaning.{LeadTo, nothing, next}
+use Rattle.script_meaning.proofs.OneExactly.{done_extends}
+
+pub lead_reached : (script : Script) {commands : List Command} {state : State} → LeadTo script commands state
+    → IsReached state.world
+lead_reached script nothing = opened_reached script.shape
+lead_reached script (next {commands} {state} command grants leads) =
+    let more = (done_extends grants state command).world in
+    subst IsReached more.run (run_reached state.world more.steps (lead_reached script leads))
+
+pub lead_shape : (script : Script) {commands : List Command} {state : State} → LeadTo script commands state
+    → state.world.shape ≡ script.shape
+lead_shape script nothing = refl
+lead_shape script (next {commands} {state} command grants leads) =
+    let more = (done_extends grants state command).world in
+    ap (λ (x : World). x.shape) (sym more.run)
+    ∙ ((run_grows state.world more.steps).shape ∙ lead_shape script leads)

@@ -1,0 +1,108 @@
+-- What a client keeps beside a world, and what a command does to both.
+use Rattle.std.proofs.Common.{◌≡◌, ℕ, ◌≤◌, List, [], length, refl, subst, ap, sym, ◌∙◌, arith}
+use Rattle.std.specs.Prelude.{◌≢◌, IsTrue, slice_index}
+use Rattle.log_node.specs.declared.node.Shape.{Shape}
+use Rattle.log_node.specs.Seen.{PlacedNode}
+use Rattle.col_core.specs.declared.Entry.{Entry}
+use Rattle.col_core.specs.History.{line}
+use Rattle.col_core.specs.Log.{IsLater, places_of}
+use Rattle.col_core.specs.Keeping.{Kept}
+use Rattle.world_laws.specs.declared.steps.Step.{Step}
+use Rattle.world_laws.specs.Worlds.{World, ClientState, home_of, home_history, run_steps}
+use Rattle.world_laws.specs.Laws.{IsReached, log_of}
+use Rattle.world_laws.proofs.LaterLogs.{log_grows}
+use Rattle.script_text.specs.declared.script.What.{What}
+use Rattle.script_text.specs.declared.script.Object.{Object}
+use Rattle.report_text.specs.declared.report.Answer.{Answer}
+use Rattle.report_text.specs.declared.report.Answer.TheVariants as answers
+use Rattle.lawful_run.specs.Callers.{Caller}
+use Rattle.lawful_run.specs.Asks.{manner_of, may_help}
+use Rattle.lawful_run.specs.Explains.{Explains}
+use Rattle.lawful_run.specs.Lawful.{IsHelp}
+use Rattle.lawful_run.specs.Refusals.{nothing}
+use Rattle.lawful_run.proofs.Prefixes.{prefix_length}
+use Rattle.script_meaning.proofs.Moves.{Adds, adds_none, adds_map, others_places}
+use Rattle.script_meaning.proofs.Reached.{held_of, told_of}
+
+-- a client of a world, and where it calls from
+abbrev pub caller_in : World → List Object → ℕ → Caller
+caller_in w objects client = record {
+  client = client;
+  own = home_of w client;
+  regions = w.shape.regions;
+  rows = w.shape.rows;
+  objects = objects;
+}
+
+-- what a client keeps is what the world has of it
+pub record IsKeptBy (w : World) (client : ℕ) (kept : Kept) : Type 0 where
+  pub floor : kept.floor ≡ (w.clients client).floor
+  pub starts : kept.starts ≡ (w.clients client).played
+  pub seen : (r c : ℕ) → kept.seen r c ≤ length (w.histories r c)
+  pub known : (c : ℕ) → kept.known c ≤ length (line (home_history w client c))
+  pub made : (r c : ℕ) → places_of client (w.histories r c) ≡ kept.made r c
+  pub ids : kept.ids ≡ (w.clients client).count
+  pub rows : kept.rows ≡ (w.clients client).used
+
+-- the event is the client's, and helps another only in a command that may
+pub record MadeBy (client : ℕ) (what : What) (e : Entry) : Type 0 where
+  pub made : e.by ≡ client
+  pub may : IsHelp client e.event → IsTrue (may_help (manner_of what))
+
+pub record KeptAfter (w : World) (objects : List Object) (client : ℕ) (kept : Kept) (what : What) (answer : Answer)
+    (nodes : List PlacedNode) : Type 0 where
+  pub after : Kept
+  pub keeps : IsKeptBy w client after
+  pub explains : Explains (log_of w) (caller_in w objects client) kept what answer nodes after
+
+-- a command of the client, with its answer, between two worlds
+pub record Does (objects : List Object) (client : ℕ) (what : What) (w w' : World) (answer : Answer)
+    (nodes : List PlacedNode) :
+    Type 0 where
+  pub steps : List Step
+  pub run : run_steps w steps ≡ w'
+  pub shape : w'.shape ≡ w.shape
+  pub others : (n : ℕ) → n ≢ client → w'.clients n ≡ w.clients n
+  pub adds : (r c : ℕ) → Adds (MadeBy client what) (w.histories r c) (w'.histories r c)
+  pub keeps : (kept : Kept) → IsKeptBy w client kept → KeptAfter w' objects client kept what answer nodes
+
+-- the log after some steps is a later one
+pub later_log : (w w' : World) (steps : List Step) → IsReached w → run_steps w steps ≡ w' → IsLater (log_of w)
+    (log_of w')
+later_log w w' steps r run =
+    subst (λ (x : World). IsLater (log_of w) (log_of x)) run (log_grows w (held_of w r) (told_of w r) steps)
+
+-- what another client keeps is still what the world has of it
+pub kept_other : (objects : List Object) (client : ℕ) (what : What) (w w' : World) (answer : Answer)
+    (nodes : List PlacedNode) → Does objects client what w w' answer nodes → IsReached w → (n : ℕ) → n ≢ client
+    → (kept : Kept) → IsKeptBy w n kept → IsKeptBy w' n kept
+kept_other objects client what w w' answer nodes d r n ne kept k =
+    let later = later_log w w' d.steps r d.run in
+    record {
+      floor = k.floor ∙ ap (λ (s : ClientState). s.floor) (sym (d.others n ne));
+      starts = k.starts ∙ ap (λ (s : ClientState). s.played) (sym (d.others n ne));
+      seen = λ a c. let x = k.seen a c in
+          let y = prefix_length (w.histories a c) (w'.histories a c) (later.histories a c) in omega (arith, x, y);
+      known = λ c. let x = k.known c in
+          let y = prefix_length (line (home_history w n c)) (line (w'.histories (home_of w n) c))
+          (later.lines (home_of w n) c) in
+          subst (λ (s : ℕ). kept.known c ≤ length (line (w'.histories s c)))
+          (sym (ap (λ (s : Shape). slice_index s.homes n) d.shape)) (omega (arith, x, y));
+      made = λ a c. others_places n (w.histories a c) (w'.histories a c)
+          (adds_map (MadeBy client what) (λ (e : Entry). e.by ≡ n → ⊥) (w.histories a c) (w'.histories a c)
+          (λ e m same. ne (sym same ∙ m.made)) (d.adds a c)) ∙ k.made a c;
+      ids = k.ids ∙ ap (λ (s : ClientState). s.count) (sym (d.others n ne));
+      rows = k.rows ∙ ap (λ (s : ClientState). s.used) (sym (d.others n ne));
+    }
+
+-- a command that is granted no memory did nothing
+pub did_nothing : (objects : List Object) (client : ℕ) (what : What) (w : World)
+    → Does objects client what w w answers.NoMemory []
+did_nothing objects client what w = record {
+  steps = [];
+  run = refl;
+  shape = refl;
+  others = λ n ne. refl;
+  adds = λ r c. adds_none (MadeBy client what) (w.histories r c);
+  keeps = λ kept k. record { after = kept; keeps = k; explains = (refl, nothing) };
+}

@@ -1,0 +1,54 @@
+-- What a client keeps after the points of an append.
+use Rattle.std.proofs.Common.{◌≡◌, ℕ, ◌+◌, ◌≤◌, List, [], ◌∷◌, refl, subst, sym, inl, inr}
+use Rattle.col_core.specs.Keeping.{Kept, seen_after, kept_after_point}
+use Rattle.col_core.proofs.Members.{In}
+use Rattle.world_laws.proofs.Basics.{at_updated, at_updated_at}
+use Rattle.report_text.specs.declared.report.PointPiece.{PointPiece}
+use Rattle.lawful_run.specs.Appends.{kept_after_points}
+
+-- only what is seen and known changes, and both keep their bounds
+pub record PointsKept (seen_max : ℕ → ℕ → ℕ) (known_max : ℕ → ℕ) (kept kept' : Kept) : Type 0 where
+  pub floor : kept'.floor ≡ kept.floor
+  pub starts : kept'.starts ≡ kept.starts
+  pub made : kept'.made ≡ kept.made
+  pub ids : kept'.ids ≡ kept.ids
+  pub rows : kept'.rows ≡ kept.rows
+  pub seen : (r c : ℕ) → kept'.seen r c ≤ seen_max r c
+  pub known : (c : ℕ) → kept'.known c ≤ known_max c
+
+-- what a point shows is within the bounds
+pub record IsBoundedPoint (own : ℕ) (seen_max : ℕ → ℕ → ℕ) (known_max : ℕ → ℕ) (p : PointPiece) : Type 0 where
+  pub seen : seen_after p.at ≤ seen_max own p.colour
+  pub known : p.position + 1 ≤ known_max p.colour
+
+pub points_kept : (own : ℕ) (seen_max : ℕ → ℕ → ℕ) (known_max : ℕ → ℕ) (points : List PointPiece) (kept : Kept)
+    → ((p : PointPiece) → In p points → IsBoundedPoint own seen_max known_max p)
+    → ((r c : ℕ) → kept.seen r c ≤ seen_max r c) → ((c : ℕ) → kept.known c ≤ known_max c)
+    → PointsKept seen_max known_max kept (kept_after_points kept own points)
+points_kept own seen_max known_max [] kept all seen known = record {
+  floor = refl;
+  starts = refl;
+  made = refl;
+  ids = refl;
+  rows = refl;
+  seen = seen;
+  known = known;
+}
+points_kept own seen_max known_max (p ∷ points) kept all seen known =
+    let one = all p (inl refl) in
+    let kept1 = kept_after_point kept own p.colour p.at p.position in
+    let rest = points_kept own seen_max known_max points kept1 (λ q i. all q (inr i))
+    (λ r c. at_updated_at (λ (n : ℕ). n ≤ seen_max r c) kept.seen own p.colour (seen_after p.at) r c
+    (λ er ec. subst (λ (n : ℕ). seen_after p.at ≤ seen_max n c) (sym er)
+    (subst (λ (n : ℕ). seen_after p.at ≤ seen_max own n) (sym ec) one.seen)) (λ _. seen r c))
+    (λ c. at_updated (λ (n : ℕ). n ≤ known_max c) kept.known p.colour (p.position + 1) c
+    (λ ec. subst (λ (n : ℕ). p.position + 1 ≤ known_max n) (sym ec) one.known) (λ _. known c)) in
+    record {
+      floor = rest.floor;
+      starts = rest.starts;
+      made = rest.made;
+      ids = rest.ids;
+      rows = rest.rows;
+      seen = rest.seen;
+      known = rest.known;
+    }

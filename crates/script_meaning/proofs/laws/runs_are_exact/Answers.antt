@@ -1,0 +1,5 @@
+use Rattle.script_meaning.proofs.Exactness.{runs_are_exact}
+use Rattle.script_meaning.proofs.laws.runs_are_exact.Goals as goal
+
+pub returns : goal.returns
+returns c = runs_are_exact

@@ -1,0 +1,5 @@
+use Rattle.script_meaning.proofs.Lawfulness.{runs_are_lawful}
+use Rattle.script_meaning.proofs.laws.runs_are_lawful.Goals as goal
+
+pub returns : goal.returns
+returns c = runs_are_lawful

@@ -1,0 +1,102 @@
+-- What it means to do a script's commands in the order of the file, over the world of core steps.
+use Rattle.std.specs.Prelude.{◌≡◌, ◌≢◌, ℕ, List, [], ◌∷◌, ◌++◌, map, unwrap_or, slice_get, if◌then◌else◌}
+use Rattle.std.specs.List.{All, fold, flat_map, range_with_len, enumerate_from}
+use Rattle.log_node.specs.Sets.{members}
+use Rattle.skeen_core.specs.declared.marks.Why.TheVariants.{Memory}
+use Rattle.skeen_core.specs.declared.marks.Mark.TheVariants as marks
+use Rattle.skeen_core.specs.declared.marks.ColourMark.{ColourMark}
+use Rattle.skeen_core.specs.Standings.{Standing, queue_of}
+use Rattle.col_core.specs.History.{clock, entries, line}
+use Rattle.world_laws.specs.Worlds.{World, cut_after, base_after}
+use Rattle.world_laws.specs.Laws.{rows_of_region}
+use Rattle.script_text.specs.declared.script.What.{What}
+use Rattle.script_text.specs.declared.script.What.TheVariants as whats
+use Rattle.script_text.specs.declared.script.Command.{Command}
+use Rattle.script_text.specs.declared.script.Script.{Script}
+use Rattle.report_text.specs.declared.report.Answer.TheVariants as answers
+use Rattle.report_text.specs.declared.report.ReplyLine.{ReplyLine}
+use Rattle.report_text.specs.declared.report.ClientReport.{ClientReport}
+use Rattle.report_text.specs.declared.report.RowReport.{RowReport}
+use Rattle.report_text.specs.declared.report.ColumnReport.{ColumnReport}
+use Rattle.report_text.specs.declared.report.Report.{Report}
+use Rattle.lawful_run.specs.Columns.{row_report}
+use Rattle.script_meaning.specs.States.{State, opening, Grants, all_granted, answered}
+use Rattle.script_meaning.specs.Appends.{appended, stopped}
+use Rattle.script_meaning.specs.Moves.{synced, pulled, trimmed}
+
+-- the state after a command that is built and was granted memory before it did anything; another changes nothing
+abbrev pub done_one : Grants → State → Command → What → State
+done_one grants state command (whats.Append colours text) =
+    appended grants state command colours text (members colours)
+done_one grants state command (whats.Stop steps colours text) = stopped grants state command colours text steps
+done_one grants state command (whats.Sync colour) = synced state command colour
+done_one grants state command (whats.Scan colours) = state
+done_one grants state command (whats.Pull region colour) = pulled grants state command region colour
+done_one grants state command (whats.Trim colour) = trimmed state command colour
+done_one grants state command (whats.Put object key value) = state
+done_one grants state command (whats.Get object key) = state
+done_one grants state command (whats.Del object key) = state
+done_one grants state command (whats.PutAll object pairs) = state
+done_one grants state command (whats.GetAll object keys) = state
+done_one grants state command (whats.Read object keys) = state
+done_one grants state command (whats.Commit object pairs) = state
+done_one grants state command (whats.Enq object value) = state
+done_one grants state command (whats.Deq object) = state
+
+-- The state after a command, by where it finds memory: where it finds none before it does anything it is answered so,
+-- and nothing else changes.
+abbrev pub done : Grants → State → Command → State
+done grants state command =
+    if grants.start then done_one grants state command command.what
+    else answered state command state.world answers.NoMemory []
+
+-- the states to which the first commands lead, wherever each finds memory
+pub data LeadTo (script : Script) : List Command → State → Type 0 where
+  nothing : LeadTo script [] (opening script)
+  next : {commands : List Command} {state : State} (command : Command) (grants : Grants)
+      → LeadTo script commands state → LeadTo script (commands ++ command ∷ []) (done grants state command)
+
+-- the column in the end
+abbrev pub column_report : Script → World → ℕ → ℕ → ColumnReport
+column_report script w region colour =
+    let history = w.histories region colour in
+    record {
+      region = region;
+      colour = colour;
+      region_name = unwrap_or (slice_get script.regions region) [];
+      colour_name = unwrap_or (slice_get script.colours colour) [];
+      journal = history;
+      clock = clock history;
+      line = line history;
+      queue = map (λ (s : Standing). record { key = s.key; settled = s.settled }) (queue_of (entries history));
+      cut = cut_after region history;
+      base = base_after script.shape.regions region history;
+    }
+
+-- The report of a state: the replies to each client, the rows that the clients of each region began, and all columns by
+-- region and colour.
+abbrev pub report_of : Script → State → Report
+report_of script state = record {
+  clients = map (λ (c : ℕ × List ℕ). record { name = c.1; replies = state.replies c.0 })
+      (enumerate_from 0 script.clients);
+  rows = flat_map (λ region. map (row_report region) (rows_of_region state.world region))
+      (range_with_len 0 script.shape.regions);
+  columns = flat_map (λ region. map (column_report script state.world region)
+      (range_with_len 0 script.shape.colours)) (range_with_len 0 script.shape.regions);
+}
+
+-- the report of the commands done one after another, with memory granted everywhere
+abbrev pub step_report : Script → Report
+step_report script = report_of script (fold (done all_granted) (opening script) script.commands)
+
+-- the report is that of a state to which the commands lead
+pub record IsStepReport (script : Script) (report : Report) : Type 0 where
+  pub state : State
+  pub leads : LeadTo script script.commands state
+  pub shown : report ≡ report_of script state
+
+-- no reply and no mark tells of want of memory
+pub record FindsMemory (report : Report) : Type 0 where
+  pub replies : All (λ (c : ClientReport). All
+      (λ (r : ReplyLine). r.answer ≢ answers.NoMemory) c.replies) report.clients
+  pub marks : All (λ (r : RowReport). All (λ (m : ColourMark). m.mark ≢ marks.Fenced Memory) r.marks) report.rows

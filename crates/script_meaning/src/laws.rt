@@ -1,0 +1,17 @@
+// Laws of the runs in the order of the file. Each function does nothing, and its contract is the law.
+ghost use Rattle.script_meaning.specs.Laws.{RunsAreLawful, RunsAreExact, ScriptsStopLast};
+
+/// The report of a run in the order of the file is that of a lawful run, wherever its commands find memory.
+pub fn runs_are_lawful()
+    ensures { RunsAreLawful }
+{}
+
+/// Where it tells nowhere of want of memory, it is the report of the one run in which memory is found everywhere.
+pub fn runs_are_exact()
+    ensures { RunsAreExact }
+{}
+
+/// What is read as a script has no command of a client after its stop.
+pub fn scripts_stop_last()
+    ensures { ScriptsStopLast }
+{}

@@ -1,0 +1,106 @@
+-- A row is decided: what that makes of the world.
+use Rattle.std.proofs.Common.{◌≡◌, ℕ, Bool, true, false, length, refl, ap, sym, ◌∙◌, arith}
+use Rattle.std.specs.Prelude.{◌&&◌, not}
+use mathlib.Core.Path.{fun_ext}
+use Rattle.std.proofs.lemmas.Bool.{cond-true, cond-false, lt-ltb}
+use Rattle.log_node.specs.declared.ids.Row.{Row}
+use Rattle.skeen_core.specs.declared.marks.Outcome.{Outcome}
+use Rattle.skeen_core.specs.declared.marks.Outcome.TheVariants.{Open, Gone, Final}
+use Rattle.skeen_core.specs.Outcomes.{outcome_of}
+use Rattle.skeen_core.specs.Queues.{is_decided}
+use Rattle.skeen_core.specs.Boards.{begun_at, outcome_in, with_changed, decided, IsRow}
+use Rattle.col_core.specs.Keeping.{updated_at}
+use Rattle.col_core.proofs.Basics.{choice}
+use Rattle.world_laws.specs.declared.steps.Step.TheVariants as steps
+use Rattle.world_laws.specs.declared.steps.Reply.{Reply}
+use Rattle.world_laws.specs.declared.steps.Reply.TheVariants as replies
+use Rattle.world_laws.specs.Worlds.{World, RowState, row_of, marks_of, is_begun, may_decide, after_decide, after, reply}
+use Rattle.world_laws.specs.Worlds.{with_row}
+use Rattle.world_laws.specs.Laws.{IsBounded}
+use Rattle.world_laws.proofs.Basics.{at_updated_at}
+use Rattle.world_code.specs.WorldView.{WorldView, client_at, world_of, reply_to, IsWhole}
+use Rattle.world_code.proofs.Changing.{placed_of, whole_after, reached_step}
+use Rattle.world_code.proofs.Marking.{Begun, decided_row, decided_clients, outcome_here, board_world}
+
+-- a begun row is one of the board's
+pub row_is : (kept : WorldView) → IsWhole kept → (row : Row) → Begun kept row → IsBounded (world_of kept)
+    → IsRow kept.board row
+row_is kept w row b bounds =
+    let few = bounds.used row.client in
+    let used = b.used in
+    let rows = w.board_rows in
+    (b.in_board, omega (arith, few, used, rows))
+
+-- the same value at one place
+same_there : (f : ℕ → ℕ → RowState) (a n : ℕ) → updated_at f a n (f a n) ≡ f
+same_there f a n = fun_ext (λ b. fun_ext (λ m. at_updated_at (λ (v : RowState). v ≡ f b m) f a n (f a n) b m
+    (λ eb em. sym (ap (λ (k : ℕ). f k m) eb ∙ ap (f a) em)) (λ _. refl)))
+
+module _ (kept : WorldView) (w : IsWhole kept) (row : Row) (b : Begun kept row)
+    (opens : (row_of (world_of kept) row).last ≡ Open) where
+  abbrev its : RowState
+  its = row_of (world_of kept) row
+
+  abbrev outcome : Outcome
+  outcome = outcome_of (marks_of its)
+
+  abbrev pub decided_kept : WorldView
+  decided_kept = record kept { board = with_changed kept.board row decided }
+
+  -- the board's answer
+  pub outcome_is : outcome_in (begun_at kept.board row) ≡ outcome
+  outcome_is = ap outcome_in b.board_is ∙ outcome_here kept w row b
+
+  guard_is : may_decide (world_of kept) row ≡ is_decided outcome
+  guard_is = all_true (is_begun (world_of kept) row) (is_decided its.last) (is_decided outcome)
+      (lt-ltb row.number (length (client_at kept row.client).begun) b.used) (ap is_decided opens) where
+        all_true : (x y z : Bool) → x ≡ true → y ≡ false → (x && (not y && z)) ≡ z
+        all_true x y z s t = rw (s, t) refl
+
+  -- where the marks have no outcome, nothing is kept
+  none_kept : outcome ≡ Open → after_decide (world_of kept) row ≡ world_of kept
+  none_kept e =
+      ap (λ (r : RowState). with_row (world_of kept) row r)
+      (ap (λ (o : Outcome). let r : RowState = record its { last = o } in r) (e ∙ sym opens))
+      ∙ ap (λ (rs : ℕ → ℕ → RowState). let v : World = record (world_of kept) { rows = rs } in v)
+      (same_there (world_of kept).rows row.client row.number)
+
+  undecided : (o : Outcome) → is_decided o ≡ false → o ≡ Open
+  undecided Open e = refl
+  undecided (Gone why) e = absurd (let z : ⊥ = cc in z)
+  undecided (Final f) e = absurd (let z : ⊥ = cc in z)
+
+  same_after : (u : World) → u ≡ after_decide (world_of kept) row → u ≡ after (world_of kept) (steps.Decide row)
+  same_after u is = choice (λ (v : World). u ≡ v) (may_decide (world_of kept) row) (after_decide (world_of kept) row)
+      (world_of kept) (λ _. is)
+      (λ f. is ∙ none_kept (undecided outcome (sym guard_is ∙ f)))
+
+  pub decided_world : world_of decided_kept ≡ after (world_of kept) (steps.Decide row)
+  decided_world = same_after (world_of decided_kept) (board_world kept w row b decided
+      (record its { last = outcome }) (decided_row kept w row b))
+
+  pub decided_whole : IsWhole decided_kept
+  decided_whole =
+      whole_after kept kept.clients decided_kept.board kept.columns w (decided_clients kept w row b) (placed_of kept w)
+      w.appended
+      (reached_step kept (world_of decided_kept) (steps.Decide row) w decided_world)
+
+  -- the replies, by the board's answer
+  pub reply_open : (o : Outcome) → o ≡ outcome_in (begun_at kept.board row) → o ≡ Open
+      → ◌≡◌ {A = Reply} replies.Nothing (reply (world_of kept) (steps.Decide row))
+  reply_open o is e =
+      sym (cond-false (may_decide (world_of kept) row) _ _
+      (guard_is ∙ ap is_decided (sym outcome_is ∙ (sym is ∙ e))))
+
+  pub reply_decided : (o : Outcome) → o ≡ outcome_in (begun_at kept.board row) → is_decided o ≡ true
+      → ◌≡◌ {A = Reply} (replies.Decided o) (reply (world_of kept) (steps.Decide row))
+  reply_decided o is t =
+      ap (λ (x : Outcome). replies.Decided x) (is ∙ outcome_is)
+      ∙ sym (cond-true (may_decide (world_of kept) row) _ _
+      (guard_is ∙ (ap is_decided (sym outcome_is ∙ sym is) ∙ t)))
+
+  pub reply_is : (o : Outcome) → o ≡ outcome_in (begun_at kept.board row)
+      → reply_to o ≡ reply (world_of kept) (steps.Decide row)
+  reply_is Open is = reply_open Open is refl
+  reply_is (Gone why) is = reply_decided (Gone why) is refl
+  reply_is (Final f) is = reply_decided (Final f) is refl

@@ -1,0 +1,74 @@
+-- What the code reads of a column in its place, and what a raise makes of the world.
+use Rattle.std.proofs.Common.{◌≡◌, ℕ, zero, suc, ◌<◌, ◌≤◌, true, List, [], ◌∷◌, length, get_or, refl, ap, sym, ◌∙◌}
+use Rattle.std.proofs.Common.{arith}
+use Rattle.std.specs.Prelude.{nat_lt}
+use Rattle.std.proofs.lemmas.Bool.{and_parts, ltb-true, leb-true, cond-true}
+use Rattle.col_core.specs.declared.Event.TheVariants as events
+use Rattle.col_core.specs.History.{clock, last_stamp}
+use Rattle.column.specs.Columns.{ColumnState}
+use Rattle.column.specs.Columns as columns
+use Rattle.world_laws.specs.declared.steps.Step.TheVariants as steps
+use Rattle.world_laws.specs.Worlds.{may_raise, after_raise, is_column}
+use Rattle.world_code.specs.WorldView.{WorldView, column_at, world_of, IsWhole}
+use Rattle.world_code.proofs.Changing.{with_column, column_world, whole_column}
+
+-- within a list it does not matter what stands outside
+pub default_free : {A : Type 0} (xs : List A) (i : ℕ) (d e : A) → i < length xs → get_or xs i d ≡ get_or xs i e
+default_free [] i d e lt = absurd (let f : ⊥ = omega (arith, lt) in f)
+default_free (x ∷ xs) zero d e lt = refl
+default_free (x ∷ xs) (suc i) d e lt = default_free xs i d e (omega (arith, lt))
+
+-- what a raise asks for
+pub record MayRaise (kept : WorldView) (region colour to : ℕ) : Type 0 where
+  pub in_regions : region < kept.shape.regions
+  pub in_colours : colour < kept.shape.colours
+  pub above : clock (column_at kept.columns region colour).journal < to
+  pub within : to ≤ last_stamp
+
+pub may_raise_is : (kept : WorldView) (region colour to : ℕ) → may_raise (world_of kept) region colour to ≡ true
+    → MayRaise kept region colour to
+may_raise_is kept region colour to t =
+    let p = and_parts (is_column (world_of kept) region colour) _ t in
+    let q = and_parts (nat_lt region kept.shape.regions) _ p.0 in
+    let r = and_parts (nat_lt (clock (column_at kept.columns region colour).journal) to) _ p.1 in
+    record {
+      in_regions = ltb-true region kept.shape.regions q.0;
+      in_colours = ltb-true colour kept.shape.colours q.1;
+      above = ltb-true (clock (column_at kept.columns region colour).journal) to r.0;
+      within = leb-true to last_stamp r.1;
+    }
+
+module _ (kept : WorldView) (w : IsWhole kept) (by region colour to : ℕ)
+    (may : may_raise (world_of kept) region colour to ≡ true) where
+  abbrev old : ColumnState
+  old = column_at kept.columns region colour
+
+  m : MayRaise kept region colour to
+  m = may_raise_is kept region colour to may
+
+  pub row_there : region < length kept.columns
+  row_there = let n = w.regions in let lt = (may_raise_is kept region colour to may).in_regions in omega (arith, n, lt)
+
+  pub colour_there : colour < length (get_or kept.columns region [])
+  colour_there = let n = w.wide region [] row_there in let lt = (may_raise_is kept region colour to may).in_colours in
+      omega (arith, n, lt)
+
+  pub raised_world : world_of
+      (record kept { columns = with_column kept.columns region colour (columns.after_raise old by to) })
+      ≡ after_raise (world_of kept) by region colour to
+  raised_world = column_world kept region colour (columns.after_raise old by to)
+      (record { by = by; event = events.Raise to; stamp = 0 }) row_there colour_there refl
+
+  pub raised_whole : IsWhole
+      (record kept { columns = with_column kept.columns region colour (columns.after_raise old by to) })
+  raised_whole =
+      let p = w.placed region colour m.in_regions m.in_colours in
+      whole_column kept region colour (columns.after_raise old by to) (steps.Raise by region colour to) w m.in_regions
+      m.in_colours
+      (record { in_region = p.in_region; of_colour = p.of_colour; of_regions = p.of_regions })
+      (record { stored = (w.appended region colour).stored; copies = (w.appended region colour).copies })
+      (raised_world ∙ sym (cond-true (may_raise (world_of kept) region colour to) _ _ may))
+
+-- a place within a list is one within an equal list
+pub list_there : {A : Type 0} (xs ys : List A) (i : ℕ) → xs ≡ ys → i < length ys → i < length xs
+list_there xs ys i e lt = let n = ap length e in omega (arith, n, lt)

@@ -1,0 +1,168 @@
+-- A client's node enters its region's column: what that makes of the world.
+use Rattle.std.proofs.Common.{◌≡◌, ℕ, zero, suc, ◌<◌, true, false, List, [], ◌∷◌, ◌++◌, length, get_or, set, refl, ap}
+use Rattle.std.proofs.Common.{sym, ◌∙◌, arith, eq-eqb}
+use Rattle.std.specs.Prelude.{◌^◌, ◌==◌, nat_lt}
+use Rattle.std.proofs.lemmas.Bool.{and_parts, ltb-true, cond-true, not-true}
+use Rattle.log_node.specs.declared.ids.Colours.{Colours}
+use Rattle.log_node.specs.declared.ids.Counts.{Counts}
+use Rattle.log_node.specs.declared.node.Node.{Node}
+use Rattle.log_node.specs.Sets.{has, members}
+use Rattle.log_node.specs.Vectors.{zeros}
+use Rattle.col_core.specs.declared.Event.TheVariants as events
+use Rattle.col_core.specs.declared.Entry.{Entry}
+use Rattle.col_core.specs.Rows.{wants_of, node_wants}
+use Rattle.column.specs.Columns.{ColumnState, with_room, stamp_for}
+use Rattle.column.specs.Columns as columns
+use Rattle.world_laws.specs.declared.steps.Step.TheVariants as steps
+use Rattle.world_laws.specs.Worlds.{home_of, home_history, is_client, is_column, is_at_end}
+use Rattle.world_laws.specs.Worlds.{may_single, single_entry, after_single}
+use Rattle.world_code.specs.Clients.{ClientView, fresh_client, with_next_node, next_single}
+use Rattle.world_code.specs.WorldView.{WorldView, column_at, client_at, world_of, IsAppended, IsWhole}
+use Rattle.world_code.proofs.Worlds.{worlds}
+use Rattle.world_code.proofs.Changing.{with_column, clients_changed, nodes_changed, histories_changed, rows_same}
+use Rattle.world_code.proofs.Changing.{columns_placed, clients_set, whole_after, reached_step, columns_appended}
+use Rattle.world_code.proofs.Changing.{clients_appended}
+use Rattle.world_code.proofs.Appended.{appended_entered, is_listed}
+use Rattle.world_laws.proofs.Basics.{slice_last}
+use Rattle.std.specs.Prelude.{slice_get}
+use Rattle.std.proofs.Common.{get_or-set_same}
+
+-- a fact of each of sixteen numbers
+up_to_16 : (P : ℕ → Type 0) → P 0 → P 1 → P 2 → P 3 → P 4 → P 5 → P 6 → P 7 → P 8 → P 9 → P 10 → P 11 → P 12 → P 13
+    → P 14
+    → P 15 → (n : ℕ) → n < 16 → P n
+up_to_16 P a b c d e f g h i j k l m o p q zero lt = a
+up_to_16 P a b c d e f g h i j k l m o p q (suc zero) lt = b
+up_to_16 P a b c d e f g h i j k l m o p q (suc (suc zero)) lt = c
+up_to_16 P a b c d e f g h i j k l m o p q (suc (suc (suc zero))) lt = d
+up_to_16 P a b c d e f g h i j k l m o p q (suc (suc (suc (suc zero)))) lt = e
+up_to_16 P a b c d e f g h i j k l m o p q (suc (suc (suc (suc (suc zero))))) lt = f
+up_to_16 P a b c d e f g h i j k l m o p q (suc (suc (suc (suc (suc (suc zero)))))) lt = g
+up_to_16 P a b c d e f g h i j k l m o p q (suc (suc (suc (suc (suc (suc (suc zero))))))) lt = h
+up_to_16 P a b c d e f g h i j k l m o p q (suc (suc (suc (suc (suc (suc (suc (suc zero)))))))) lt = i
+up_to_16 P a b c d e f g h i j k l m o p q (suc (suc (suc (suc (suc (suc (suc (suc (suc zero))))))))) lt = j
+up_to_16 P a b c d e f g h i j k l m o p q (suc (suc (suc (suc (suc (suc (suc (suc (suc (suc zero)))))))))) lt = k
+up_to_16 P a b c d e f g h i j k l m o p q (suc (suc (suc (suc (suc (suc (suc (suc (suc (suc (suc zero))))))))))) lt = l
+up_to_16 P a b c d e f g h i j k l m o p q
+    (suc (suc (suc (suc (suc (suc (suc (suc (suc (suc (suc (suc zero)))))))))))) lt = m
+up_to_16 P a b c d e f g h i j k l m o p q
+    (suc (suc (suc (suc (suc (suc (suc (suc (suc (suc (suc (suc (suc zero))))))))))))) lt = o
+up_to_16 P a b c d e f g h i j k l m o p q
+    (suc (suc (suc (suc (suc (suc (suc (suc (suc (suc (suc (suc (suc (suc zero)))))))))))))) lt = p
+up_to_16 P a b c d e f g h i j k l m o p q
+    (suc (suc (suc (suc (suc (suc (suc (suc (suc (suc (suc (suc (suc (suc (suc zero))))))))))))))) lt = q
+up_to_16 P a b c d e f g h i j k l m o p q
+    (suc (suc (suc (suc (suc (suc (suc (suc (suc (suc (suc (suc (suc (suc (suc (suc n)))))))))))))))) lt =
+    absurd (let x : ⊥ = omega (arith, lt) in x)
+
+abbrev alone : ℕ → Colours
+alone colour = record { 0 = 2 ^ colour }
+
+-- a set of one colour
+members_alone : (colour : ℕ) → colour < 16 → members (alone colour) ≡ colour ∷ []
+members_alone = up_to_16 (λ colour. members (alone colour) ≡ colour ∷ []) refl refl refl refl refl refl refl refl refl
+    refl refl refl refl refl refl refl
+
+pub has_alone : (colour : ℕ) → colour < 16 → has (alone colour) colour ≡ true
+has_alone = up_to_16 (λ colour. has (alone colour) colour ≡ true) refl refl refl refl refl refl refl refl refl refl
+    refl refl refl refl refl refl
+
+-- the node wants of its colour what the client has played of it
+wants_alone : (c : ClientView) (client home colour : ℕ) (text : List ℕ) → colour < 16
+    → node_wants (next_single c client home colour text) colour ≡ get_or c.played colour zeros
+wants_alone c client home colour text lt =
+    ap (λ (cs : List ℕ). wants_of cs (get_or c.played colour zeros ∷ []) colour) (members_alone colour lt)
+    ∙ cond-true (colour == colour) _ _ (eq-eqb colour colour refl)
+
+-- what a single asks for
+pub record MaySingle (kept : WorldView) (client colour : ℕ) : Type 0 where
+  pub is_client : client < length kept.shape.homes
+  pub in_regions : home_of (world_of kept) client < kept.shape.regions
+  pub in_colours : colour < kept.shape.colours
+  pub not_at_end : is_at_end (home_history (world_of kept) client colour) (client_at kept client).floor ≡ false
+
+pub may_single_is : (kept : WorldView) (client colour : ℕ) → may_single (world_of kept) client colour ≡ true
+    → MaySingle kept client colour
+may_single_is kept client colour t =
+    let p = and_parts (is_client (world_of kept) client) _ t in
+    let q = and_parts (is_column (world_of kept) (home_of (world_of kept) client) colour) _ p.1 in
+    let r = and_parts (nat_lt (home_of (world_of kept) client) kept.shape.regions) _ q.0 in
+    record {
+      is_client = ltb-true client (length kept.shape.homes) p.0;
+      in_regions = ltb-true (home_of (world_of kept) client) kept.shape.regions r.0;
+      in_colours = ltb-true colour kept.shape.colours r.1;
+      not_at_end = not-true _ q.1;
+    }
+
+module _ (kept : WorldView) (w : IsWhole kept) (client colour : ℕ) (text : List ℕ)
+    (may : MaySingle kept client colour) where
+  abbrev home : ℕ
+  home = home_of (world_of kept) client
+
+  abbrev old : ColumnState
+  old = column_at kept.columns home colour
+
+  abbrev node : Node
+  node = next_single (client_at kept client) client home colour text
+
+  abbrev new_column : ColumnState
+  new_column = columns.after_single (with_room old) client node
+
+  abbrev new_client : ClientView
+  new_client = with_next_node (client_at kept client) node (stamp_for old node)
+
+  abbrev pub new_kept : WorldView
+  new_kept = record kept {
+    clients = set kept.clients client new_client;
+    columns = with_column kept.columns home colour new_column;
+  }
+
+  pub client_in : client < length kept.clients
+  client_in = let n = w.clients in let lt = may.is_client in omega (arith, n, lt)
+
+  pub home_in : home < length kept.columns
+  home_in = let n = w.regions in let lt = may.in_regions in omega (arith, n, lt)
+
+  pub colour_in : colour < length (get_or kept.columns home [])
+  colour_in = let n = w.wide home [] home_in in let lt = may.in_colours in omega (arith, n, lt)
+
+  small : colour < 16
+  small = let n = w.few_colours in let lt = may.in_colours in omega (arith, n, lt)
+
+  entry_is : ◌≡◌ {A = List Entry} new_column.journal
+      (home_history (world_of kept) client colour ++ single_entry (world_of kept) client colour ∷ [])
+  entry_is =
+      ap (λ (v : Counts). old.journal
+      ++ record { by = client; event = events.Single node.id node.floor v; stamp = stamp_for old node } ∷ [])
+      (ap (node_wants node) (w.placed home colour may.in_regions may.in_colours).of_colour
+      ∙ wants_alone (client_at kept client) client home colour text small)
+
+  pub single_world : world_of new_kept ≡ after_single (world_of kept) client colour text
+  single_world =
+      worlds kept.shape (world_of new_kept).histories (after_single (world_of kept) client colour text).histories
+      (clients_changed kept.clients client new_client client_in)
+      (rows_same kept.clients kept.board client new_client client_in refl)
+      (histories_changed kept.columns home colour new_column home_in colour_in _ entry_is)
+      (nodes_changed kept.clients client new_client client_in)
+
+  node_appended : IsAppended (set kept.clients client new_client) node.id node
+  node_appended =
+      ap (λ (c : ClientView). slice_get c.nodes node.id.count)
+      (get_or-set_same kept.clients client new_client fresh_client client_in)
+      ∙ (ap (slice_get new_client.nodes) (sym ((is_listed kept w).counts client))
+      ∙ slice_last (client_at kept client).nodes node)
+
+  pub single_whole : may_single (world_of kept) client colour ≡ true → IsWhole new_kept
+  single_whole t =
+      let p = w.placed home colour may.in_regions may.in_colours in
+      whole_after kept (set kept.clients client new_client) kept.board (with_column kept.columns home colour new_column)
+      w
+      (clients_set kept client new_client w client_in (w.colours client fresh_client client_in) refl)
+      (columns_placed kept home colour new_column w may.in_regions may.in_colours
+      (record { in_region = p.in_region; of_colour = p.of_colour; of_regions = p.of_regions }))
+      (columns_appended kept (set kept.clients client new_client) home colour new_column w may.in_regions may.in_colours
+      (clients_appended kept client new_client (node ∷ []) client_in refl w.appended)
+      (appended_entered (set kept.clients client new_client) old new_column _ node.id true _ refl refl
+      (clients_appended kept client new_client (node ∷ []) client_in refl w.appended home colour) node_appended))
+      (reached_step kept (world_of new_kept) (steps.Single client colour text) w
+      (single_world ∙ sym (cond-true (may_single (world_of kept) client colour) _ _ t)))

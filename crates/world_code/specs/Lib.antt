@@ -1,0 +1,4 @@
+pub mod Clients
+pub mod WorldView
+pub mod Completed
+pub mod Looks
