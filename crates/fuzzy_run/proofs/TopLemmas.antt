@@ -1,11 +1,11 @@
 -- What the parts of the top call say together.
-use Rattle.std.proofs.Common.{◌≡◌, ℕ, zero, suc, ◌<◌, ◌≤◌, ◌^◌, List, [], ◌∷◌, ◌++◌, length, take, drop, Bool, true}
-use Rattle.std.proofs.Common.{false, cond, Option, Some, None, refl, ap, sym, subst, ◌∙◌, inl, inr, ◌⊎◌, arith}
+use Rattle.std.proofs.Common.{◌≡◌, ⊥, ℕ, zero, suc, ◌+◌, ◌<◌, ◌≤◌, ◌^◌, List, [], ◌∷◌, ◌++◌, length, take, drop, Bool, true}
+use Rattle.std.proofs.Common.{false, cond, Option, Some, None, refl, ap, sym, subst, ◌∙◌, replicate, inl, inr, ◌⊎◌, arith}
 use Rattle.std.specs.Prelude.{IsTrue, IfSome, not}
 use Rattle.std.specs.Option.{option_map}
 use Rattle.std.specs.List.{All, find}
 use Rattle.std.specs.Io.KnownBytes.{Appends}
-use Rattle.std.proofs.lemmas.List.{take-append-drop}
+use Rattle.std.proofs.lemmas.List.{take-append-drop, length-replicate}
 use Rattle.std.proofs.lemmas.List.Elements.{All-nil}
 use Rattle.fuzzy_io.specs.Causes.{AppendsFront}
 use Rattle.script_text.specs.declared.script.Command.{Command}
@@ -19,7 +19,7 @@ use Rattle.report_text.specs.ReportText.{report_bytes, refusal_bytes}
 use Rattle.script_meaning.specs.States.{is_built}
 use Rattle.fuzzy_run.specs.declared.refusal.Cause.{Cause}
 use Rattle.fuzzy_run.specs.declared.refusal.Cause.TheVariants.{Faulty, NotBuilt}
-use Rattle.fuzzy_run.specs.Refusals.{cause_text, first_unbuilt, IsRefusedFor}
+use Rattle.fuzzy_run.specs.Refusals.{cause_text, first_unbuilt, IsTheScript, IsRefusedFor, IsDoable}
 use Rattle.fuzzy_run.specs.TopCall.{IsRunText, IsRefusalText, Writes, WritesFront, Shows, ShowsFront}
 
 -- where no command is first of those that are not done, all are done
@@ -43,7 +43,9 @@ cut_text P n text p = subst P (sym (take-append-drop n text)) p
 pub refusal_written : (bytes : List ℕ) (old new : Option (List ℕ)) (line : ℕ) (cause : Cause) → IsRefusedFor bytes line
     cause → Appends old new (refusal_bytes line (cause_text cause)) → Writes IsRefusalText (Some bytes) old new
 refusal_written bytes old new line cause is out = (
+  bytes,
   refusal_bytes line (cause_text cause),
+  refl,
   record
       { line = line; cause = cause; refused = is; shown = refl },
   out,
@@ -53,28 +55,34 @@ pub refusal_begun : (bytes : List ℕ) (old new : Option (List ℕ)) (line : ℕ
     cause → AppendsFront old new (refusal_bytes line (cause_text cause)) → WritesFront (Some bytes) old new
 refusal_begun bytes old new line cause is out =
     let text = refusal_bytes line (cause_text cause) in (
+      bytes,
       take out.0 text,
       drop out.0 text,
+      refl,
       inr (cut_text (IsRefusalText bytes) out.0 text
           (record { line = line; cause = cause; refused = is; shown = refl })),
       out.2,
     )
 
 -- a run of the script that the bytes are
-pub run_written : (bytes : List ℕ) (old new : Option (List ℕ)) (script : Script) → IsScript bytes script
+pub run_written : (bytes : List ℕ) (old new : Option (List ℕ)) (script : Script) → IsTheScript bytes script
     → Shows script old new → Writes IsRunText (Some bytes) old new
 run_written bytes old new script is (report, run, out) = (
+  bytes,
   report_bytes report,
+  refl,
   record
       { script = script; report = report; read = is; run = run; shown = refl },
   out,
 )
 
-pub front_begun : (bytes : List ℕ) (old new : Option (List ℕ)) (script : Script) → IsScript bytes script
+pub front_begun : (bytes : List ℕ) (old new : Option (List ℕ)) (script : Script) → IsTheScript bytes script
     → ShowsFront script old new → WritesFront (Some bytes) old new
 front_begun bytes old new script is (inl (report, run, out)) = (
+  bytes,
   take out.0 (report_bytes report),
   drop out.0 (report_bytes report),
+  refl,
   inl (cut_text (IsRunText bytes) out.0
       (report_bytes report) (record { script = script; report = report; read = is; run = run; shown = refl })),
   out.2,
@@ -82,15 +90,63 @@ front_begun bytes old new script is (inl (report, run, out)) = (
 front_begun bytes old new script is (inr (line, first, out)) = refusal_begun bytes old new line NotBuilt
     (script, is, first) out
 
--- more bytes than a script may have
+-- what was left is what was read, where it is told
+told : (left : Option (List ℕ)) (read bytes shown : List ℕ) → IfSome left (λ all. read ≡ all) → bytes ≡ read
+    → bytes ≡ shown → IfSome left (λ all. all ≡ shown)
+told None read bytes shown same is e = tt
+told (Some all) read bytes shown same is e = sym same ∙ (sym is ∙ e)
+
+-- what is said of the bytes that were read is said of those that were left
+pub written_of : (IsText : List ℕ → List ℕ → Type 0) (read bytes : List ℕ) (left old new : Option (List ℕ))
+    → bytes ≡ read → IfSome left (λ all. read ≡ all) → Writes IsText (Some bytes) old new → Writes IsText left old new
+written_of IsText read bytes left old new is same w = (w.0, w.1, told left read bytes w.0 same is w.2, w.3, w.4)
+
+pub begun_of : (read bytes : List ℕ) (left old new : Option (List ℕ))
+    → bytes ≡ read → IfSome left (λ all. read ≡ all) → WritesFront (Some bytes) old new → WritesFront left old new
+begun_of read bytes left old new is same w = (w.0, w.1, w.2, told left read bytes w.0 same is w.3, w.4, w.5)
+
+-- more bytes than a script may have are refused as too long
+too_long : (bytes : List ℕ) → 2 ^ 20 < length bytes → IsRefusedFor bytes 0 (Faulty ScriptTooLong)
+too_long bytes long = (inl (long, refl, refl), λ script is. let s = is.short in omega (arith, long, s))
+
+-- bytes that are more than so many
+more_than : (n : ℕ) → (bytes : List ℕ) × (n < length bytes)
+more_than n = (replicate (n + 1) 0, let l = length-replicate {A = ℕ} (n + 1) 0 in omega (arith, l))
+
+-- bytes that are too many: what was left, where it is told
+many_bytes : (left : Option (List ℕ)) → IfSome left (λ all. 2 ^ 20 < length all)
+    → (bytes : List ℕ) × (2 ^ 20 < length bytes) × IfSome left (λ all. all ≡ bytes)
+many_bytes None long = let m = more_than (2 ^ 20) in (m.0, m.1, tt)
+many_bytes (Some all) long = (all, long, refl)
+
 pub too_long_written : (left old new : Option (List ℕ)) → IfSome left (λ all. 2 ^ 20 < length all)
     → Appends old new (refusal_bytes 0 (cause_text (Faulty ScriptTooLong))) → Writes IsRefusalText left old new
-too_long_written None old new long out = tt
-too_long_written (Some all) old new long out = refusal_written all old new 0 (Faulty ScriptTooLong)
-    (inl (long, refl, refl)) out
+too_long_written left old new long out =
+    let m = many_bytes left long in
+    let w = refusal_written m.0 old new 0 (Faulty ScriptTooLong) (too_long m.0 m.1) out in
+    (m.0, w.1, m.2, w.3, w.4)
 
 pub too_long_begun : (left old new : Option (List ℕ)) → IfSome left (λ all. 2 ^ 20 < length all)
     → AppendsFront old new (refusal_bytes 0 (cause_text (Faulty ScriptTooLong))) → WritesFront left old new
-too_long_begun None old new long out = tt
-too_long_begun (Some all) old new long out = refusal_begun all old new 0 (Faulty ScriptTooLong) (inl (long, refl, refl))
-    out
+too_long_begun left old new long out =
+    let m = many_bytes left long in
+    let w = refusal_begun m.0 old new 0 (Faulty ScriptTooLong) (too_long m.0 m.1) out in
+    (m.0, w.1, w.2, m.2, w.4, w.5)
+
+-- a script of commands that are done is not refused
+not_refused : (line : ℕ) (cause : Cause) (bytes : List ℕ) (script : Script) → IsScript bytes script
+    → first_unbuilt script.commands ≡ None → IsRefusedFor bytes line cause → ⊥
+not_refused line (Faulty why) bytes script is built r = r.1 script is
+not_refused line NotBuilt bytes script is built (other, the, first) =
+    none_some (sym built ∙ (ap (λ (s : Script). first_unbuilt s.commands) (sym (the.only script is)) ∙ first)) where
+      none_some : {n : ℕ} → None ≡ Some n → ⊥
+      none_some e = let g : ⊥ = cc in g
+
+-- what is doable is not refused
+pub doable_not_refused : (left old new : Option (List ℕ)) → IsDoable left → Writes IsRefusalText left old new → ⊥
+doable_not_refused None old new (bytes, script, e, is, built) w = let g : ⊥ = cc in g
+doable_not_refused (Some all) old new (bytes, script, e, is, built) (shown, text, same, refused, out) =
+    not_refused refused.line refused.cause shown script
+    (subst (λ b. IsScript b script) (some_is e ∙ same) is) built refused.refused where
+      some_is : Some all ≡ Some bytes → bytes ≡ all
+      some_is f = cc

@@ -1,5 +1,5 @@
 -- Why bytes are not done.
-use Rattle.std.specs.Prelude.{◌≡◌, ℕ, List, Option, Some, codes, not}
+use Rattle.std.specs.Prelude.{◌≡◌, ⊥, ℕ, List, Option, Some, None, codes, not}
 use Rattle.std.specs.List.{find}
 use Rattle.std.specs.Option.{option_map}
 use Rattle.script_text.specs.declared.script.Command.{Command}
@@ -19,9 +19,24 @@ cause_text NotBuilt = codes "not built"
 abbrev pub first_unbuilt : List Command → Option ℕ
 first_unbuilt commands = option_map (λ (c : Command). c.line) (find (λ (c : Command). not (is_built c.what)) commands)
 
--- The bytes are no script, by this line and for this reason; or they are one with a command that is not done yet, first
--- on this line.
+-- the bytes are this script, and no other
+pub record IsTheScript (bytes : List ℕ) (script : Script) : Type 0 where
+  pub is : IsScript bytes script
+  pub only : (other : Script) → IsScript bytes other → script ≡ other
+
+-- the bytes are no script
+abbrev pub IsNoScript : List ℕ → Type 0
+IsNoScript bytes = (script : Script) → IsScript bytes script → ⊥
+
+-- The bytes are no script, and this is the first faulty line with its reason; or they are a script, and this is the line
+-- of the first command that is not done yet.
 abbrev pub IsRefusedFor : List ℕ → ℕ → Cause → Type 0
-IsRefusedFor bytes line (Faulty why) = IsRefused bytes line why
+IsRefusedFor bytes line (Faulty why) = IsRefused bytes line why × IsNoScript bytes
 IsRefusedFor bytes line NotBuilt =
-    (script : Script) × IsScript bytes script × (first_unbuilt script.commands ≡ Some line)
+    (script : Script) × IsTheScript bytes script × (first_unbuilt script.commands ≡ Some line)
+
+-- what is left to read is told, and it is a script of commands that are done
+abbrev pub IsDoable : Option (List ℕ) → Type 0
+IsDoable left =
+    (bytes : List ℕ) × (script : Script) × (left ≡ Some bytes) × IsScript bytes script
+    × (first_unbuilt script.commands ≡ None)

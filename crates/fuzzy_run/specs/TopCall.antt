@@ -3,14 +3,13 @@ use Rattle.std.specs.Prelude.{◌≡◌, ◌⊎◌, ℕ, List, ◌++◌, Option,
 use Rattle.std.specs.Io.KnownBytes.{Appends}
 use Rattle.fuzzy_io.specs.Causes.{AppendsFront}
 use Rattle.script_text.specs.declared.script.Script.{Script}
-use Rattle.script_text.specs.Grammar.{IsScript}
 use Rattle.report_text.specs.declared.report.Report.{Report}
 use Rattle.report_text.specs.ReportText.{report_bytes, refusal_bytes}
 use Rattle.lawful_run.specs.Lawful.{LawfulRun}
 use Rattle.script_meaning.specs.Meaning.{IsStepReport, FindsMemory, step_report}
 use Rattle.fuzzy_run.specs.declared.refusal.Cause.{Cause}
 use Rattle.fuzzy_run.specs.declared.refusal.Cause.TheVariants.{NotBuilt}
-use Rattle.fuzzy_run.specs.Refusals.{IsRefusedFor, cause_text, first_unbuilt}
+use Rattle.fuzzy_run.specs.Refusals.{IsTheScript, IsRefusedFor, cause_text, first_unbuilt}
 
 -- The report is that of a lawful run of the script, done in the order of the file; where no reply and no mark tells
 -- of want of memory, it is the one report that this means.
@@ -19,11 +18,11 @@ pub record IsRunOf (script : Script) (report : Report) : Type 0 where
   pub in_order : IsStepReport script report
   pub exact : FindsMemory report → report ≡ step_report script
 
--- The bytes are a script, and the text is that of a report of its run.
+-- The bytes are one script alone, and the text is that of a report of its run.
 pub record IsRunText (bytes text : List ℕ) : Type 0 where
   pub script : Script
   pub report : Report
-  pub read : IsScript bytes script
+  pub read : IsTheScript bytes script
   pub run : IsRunOf script report
   pub shown : text ≡ report_bytes report
 
@@ -34,15 +33,16 @@ pub record IsRefusalText (bytes text : List ℕ) : Type 0 where
   pub refused : IsRefusedFor bytes line cause
   pub shown : text ≡ refusal_bytes line (cause_text cause)
 
--- such a text of the bytes, where these are known, was written whole
+-- Such a text of some bytes was written whole; where the source tells what was left, these are the bytes.
 abbrev pub Writes : (List ℕ → List ℕ → Type 0) → Option (List ℕ) → Option (List ℕ) → Option (List ℕ) → Type 0
-Writes IsText left old new = IfSome left (λ bytes. (text : List ℕ) × IsText bytes text × Appends old new text)
+Writes IsText left old new =
+    (bytes text : List ℕ) × IfSome left (λ all. all ≡ bytes) × IsText bytes text × Appends old new text
 
 -- the beginning of such a text was written
 abbrev pub WritesFront : Option (List ℕ) → Option (List ℕ) → Option (List ℕ) → Type 0
 WritesFront left old new =
-    IfSome left (λ bytes. (front rest : List ℕ)
-    × (IsRunText bytes (front ++ rest) ⊎ IsRefusalText bytes (front ++ rest)) × Appends old new front)
+    (bytes front rest : List ℕ) × IfSome left (λ all. all ≡ bytes)
+    × (IsRunText bytes (front ++ rest) ⊎ IsRefusalText bytes (front ++ rest)) × Appends old new front
 
 -- the text of a report of the script's run was written whole
 abbrev pub Shows : Script → Option (List ℕ) → Option (List ℕ) → Type 0

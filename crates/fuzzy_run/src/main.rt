@@ -1,6 +1,9 @@
 //! Does a script of clients and commands over the shared log, and prints every reply and every column's history.
 #![tactic(auto)]
 
+ghost use Rattle.std.specs.Prelude.{◌≡◌, ◌≢◌};
+ghost use Rattle.std.specs.IoError.{error_kind};
+
 mod asked;
 mod refusal;
 mod status;
@@ -10,16 +13,26 @@ mod top;
 
 use fuzzy_io::{OpenGate, ReadSource, WriteSink};
 use status::Status;
+use std::io::ErrorKind;
 use std::process::ExitCode;
 use std::{env, io};
 use top::run;
 
-/// What is printed where the words are none that the program knows.
-const USAGE: &str = "usage: fuzzy_run step";
-
 // The words of the command line without the program's name.
 fn words_of(rt: &HostRuntime) -> io::Result<Vec<String>> {
     Ok(env::args(rt)?.skip(1).collect(rt.alloc())?)
+}
+
+// The status where the words of the command line could not be had.
+fn status_without_words(error: &io::Error) -> Status
+    ensures no_memory { error_kind error.now ≡ ErrorKind.OutOfMemory → result ≡ Status.NoMemory }
+    ensures bad_words { error_kind error.now ≢ ErrorKind.OutOfMemory → result ≡ Status.BadWords }
+{
+    match error.kind() {
+        ErrorKind::OutOfMemory => Status::NoMemory,
+        // A word that is no text is none that the program knows.
+        _ => Status::BadWords,
+    }
 }
 
 fn main(rt: HostRuntime) -> ExitCode {
@@ -34,11 +47,10 @@ fn main(rt: HostRuntime) -> ExitCode {
             &mut sink,
             &OpenGate,
         ),
-        // A word that is no text is none that the program knows.
-        Err(_) => Status::BadWords,
+        Err(error) => status_without_words(&error),
     };
-    if status == Status::BadWords {
-        let _ = eprintln!(rt; "{USAGE}");
+    if let Some(complaint) = status.complaint() {
+        let _ = eprintln!(rt; "{complaint}");
     }
     ExitCode::from(status.code())
 }

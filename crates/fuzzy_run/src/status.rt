@@ -1,6 +1,7 @@
 // How a run ends.
 ghost use Rattle.std.specs.Prelude.{◌≡◌};
-ghost use Rattle.fuzzy_run.specs.Statuses.{code_of};
+ghost use Rattle.std.specs.Option.{option_map};
+ghost use Rattle.fuzzy_run.specs.Statuses.{code_of, complaint_of};
 
 /// How a run ends; the program exits with its code.
 #[derive(Clone, Copy, Debug, PartialEq, Eq)]
@@ -31,6 +32,18 @@ impl Status {
             Status::ReadFault => 3,
             Status::WriteFault => 4,
             Status::NoMemory => 5,
+        }
+    }
+    /// What is said on standard error; a run that is done or refused has said it to the sink.
+    pub fn complaint(self) -> Option<&'static str>
+        ensures { option_map (λ s. s.now) result ≡ complaint_of self }
+    {
+        match self {
+            Status::Done | Status::Refused => None,
+            Status::BadWords => Some("usage: fuzzy_run step"),
+            Status::ReadFault => Some("fuzzy_run: the input failed"),
+            Status::WriteFault => Some("fuzzy_run: the output failed"),
+            Status::NoMemory => Some("fuzzy_run: out of memory"),
         }
     }
 }

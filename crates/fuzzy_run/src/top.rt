@@ -1,5 +1,5 @@
 // The top call: from the words of a command line and the bytes of a script to the bytes of a report.
-ghost use Rattle.std.specs.Prelude.{◌≡◌, ◌≢◌, ◌≤◌, ◌↔◌, ◌⊎◌, ℕ, map, None, Some, string_bytes};
+ghost use Rattle.std.specs.Prelude.{◌≡◌, ◌≢◌, ◌≤◌, ◌↔◌, ◌⊎◌, ⊥, ℕ, map, None, Some, string_bytes};
 ghost use Rattle.std.specs.Io.KnownBytes.{Appends, IsAtEnd};
 ghost use Rattle.fuzzy_io.specs.Causes.{Rose, ConsumesUpTo, AppendsFront};
 ghost use Rattle.script_text.specs.declared.script.Script.{Script};
@@ -8,7 +8,7 @@ ghost use Rattle.report_text.specs.declared.report.Report.{Report};
 ghost use Rattle.report_text.specs.ReportText.{report_bytes, refusal_bytes};
 ghost use Rattle.script_meaning.specs.States.{StopsAreLast};
 ghost use Rattle.fuzzy_run.specs.Words.{asked_by};
-ghost use Rattle.fuzzy_run.specs.Refusals.{first_unbuilt, cause_text};
+ghost use Rattle.fuzzy_run.specs.Refusals.{first_unbuilt, cause_text, IsDoable};
 ghost use Rattle.fuzzy_run.specs.TopCall.{IsRunOf, IsRunText, IsRefusalText, Writes, WritesFront, Shows, ShowsFront};
 
 use crate::asked::{Asked, read_words};
@@ -21,6 +21,7 @@ use script_meaning::scripts_stop_last;
 use script_text::{Reason, Script, ScriptFault, parse, rows_are_within_limits};
 use skeen_core::MAX_ROWS;
 use std::alloc::Global;
+use std::mem;
 use std::sync::Wait;
 use std::thread::Threads;
 
@@ -62,14 +63,17 @@ fn do_script<K: Sink>(alloc: Global, script: &Script, sink: &mut K) -> Status
         Ok(report) => report,
         Err(_) => return Status::NoMemory,
     };
-    match print(&report, sink) {
+    let printed = print(&report, sink);
+    // Not freed here: the process ends next, and its end frees all at once.
+    mem::forget(report);
+    match printed {
         Ok(()) => Status::Done,
         Err(Failed) => Status::WriteFault,
     }
 }
 
-// Does what the bytes are.
-fn answer<K: Sink>(alloc: Global, bytes: &[u8], sink: &mut K) -> Status
+// Does the script that the bytes are, or writes the line that says why they are none that can be done.
+fn do_bytes<K: Sink>(alloc: Global, bytes: &[u8], sink: &mut K) -> Status
     ensures done { result ≡ Status.Done → Writes IsRunText (Some bytes.now) (K.holds sink.old) (K.holds sink.new) }
     ensures refused { result ≡ Status.Refused
         → Writes IsRefusalText (Some bytes.now) (K.holds sink.old) (K.holds sink.new) }
@@ -81,7 +85,11 @@ fn answer<K: Sink>(alloc: Global, bytes: &[u8], sink: &mut K) -> Status
     rows_are_within_limits();
     scripts_stop_last();
     match parse(alloc, bytes) {
-        Ok(script) => do_script(alloc, &script, sink),
+        Ok(script) => {
+            let status = do_script(alloc, &script, sink);
+            mem::forget(script);
+            status
+        }
         Err(ScriptFault::Refused { line, why }) => refuse(sink, line, Cause::Faulty(why)),
         Err(ScriptFault::NoMemory) => Status::NoMemory,
     }
@@ -102,7 +110,7 @@ fn perform<S: Source, K: Sink>(alloc: Global, source: &mut S, sink: &mut K) -> S
     ensures no_other { result ≢ Status.BadWords }
 {
     match read_all(alloc, source, MAX_BYTES) {
-        Ok(bytes) => answer(alloc, bytes.as_slice(), sink),
+        Ok(bytes) => do_bytes(alloc, bytes.as_slice(), sink),
         Err(ReadStop::TooLong) => refuse(sink, 0, Cause::Faulty(Reason::ScriptTooLong)),
         Err(ReadStop::Failed) => Status::ReadFault,
         Err(ReadStop::NoMemory) => Status::NoMemory,
@@ -134,6 +142,10 @@ pub fn run<S: Source, K: Sink, G: Gate, R: Threads + Wait>(
         → sink.new ≡ sink.old }
     ensures front { result ≡ Status.WriteFault → WritesFront (S.left source.old) (K.holds sink.old) (K.holds sink.new) }
     ensures taken { ConsumesUpTo MAX_BYTES (S.left source.old) (S.left source.new) }
+    // What is a script of commands that are done is done: nothing but want of memory stands in the way.
+    ensures complete { asked_by (map string_bytes words.now) ≡ Some Asked.Step
+        → (Rose (S.faults source.old) (S.faults source.new) → ⊥) → (Rose (K.faults sink.old) (K.faults sink.new) → ⊥)
+        → IsDoable (S.left source.old) → (result ≡ Status.Done) ⊎ (result ≡ Status.NoMemory) }
 {
     match read_words(words) {
         None => Status::BadWords,
