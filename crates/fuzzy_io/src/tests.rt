@@ -66,6 +66,31 @@ fn a_reader_is_read_to_its_end(rt: HostRuntime) -> Result<(), Fail> {
 }
 
 #[test]
+fn the_end_of_a_reader_is_no_fault(rt: HostRuntime) -> Result<(), Fail> {
+    let mut source = ReadSource::open(b"end".as_slice());
+    let mut piece = [0; 4];
+    for count in [3, 0, 0] {
+        assert_eq!(rt; source.read(&mut piece), Ok(count));
+    }
+    Ok(())
+}
+
+#[test]
+fn just_the_listed_writes_fail(rt: HostRuntime) -> Result<(), Fail> {
+    let mut sink = MemorySink::open(rt.alloc(), 1, &[2, 9])?;
+    for number in 0..24 {
+        let wanted = if number == 2 || number == 9 {
+            Err(Failed)
+        } else {
+            Ok(1)
+        };
+        assert_eq!(rt; sink.write(b"ab"), wanted, "{number}");
+    }
+    assert_eq!(rt; sink.bytes(), b"aaaaaaaaaaaaaaaaaaaaaa".as_slice());
+    Ok(())
+}
+
+#[test]
 fn a_writer_gets_all_and_one_that_takes_nothing_is_a_fault(rt: HostRuntime) -> Result<(), Fail> {
     let mut written = Vec::new(rt.alloc());
     let mut sink = WriteSink::open(&mut written);

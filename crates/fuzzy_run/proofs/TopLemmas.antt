@@ -1,7 +1,7 @@
 -- What the parts of the top call say together.
-use Rattle.std.proofs.Common.{◌≡◌, ⊥, ℕ, zero, suc, ◌+◌, ◌<◌, ◌≤◌, ◌^◌, List, [], ◌∷◌, ◌++◌, length, take, drop, Bool, true}
+use Rattle.std.proofs.Common.{◌≡◌, ℕ, zero, suc, ◌+◌, ◌<◌, ◌≤◌, ◌^◌, List, [], ◌∷◌, ◌++◌, length, take, drop, Bool, true}
 use Rattle.std.proofs.Common.{false, cond, Option, Some, None, refl, ap, sym, subst, ◌∙◌, replicate, inl, inr, ◌⊎◌, arith}
-use Rattle.std.specs.Prelude.{IsTrue, IfSome, not}
+use Rattle.std.specs.Prelude.{IsTrue, IfSome, not, ◌≢◌}
 use Rattle.std.specs.Option.{option_map}
 use Rattle.std.specs.List.{All, find}
 use Rattle.std.specs.Io.KnownBytes.{Appends}
@@ -19,6 +19,8 @@ use Rattle.report_text.specs.ReportText.{report_bytes, refusal_bytes}
 use Rattle.script_meaning.specs.States.{is_built}
 use Rattle.fuzzy_run.specs.declared.refusal.Cause.{Cause}
 use Rattle.fuzzy_run.specs.declared.refusal.Cause.TheVariants.{Faulty, NotBuilt}
+use Rattle.fuzzy_run.specs.declared.status.Status.{Status}
+use Rattle.fuzzy_run.specs.declared.status.Status.TheVariants.{Done, BadWords, Refused, ReadFault, WriteFault, NoMemory}
 use Rattle.fuzzy_run.specs.Refusals.{cause_text, first_unbuilt, IsTheScript, IsRefusedFor, IsDoable}
 use Rattle.fuzzy_run.specs.TopCall.{IsRunText, IsRefusalText, Writes, WritesFront, Shows, ShowsFront}
 
@@ -115,7 +117,7 @@ more_than n = (replicate (n + 1) 0, let l = length-replicate {A = ℕ} (n + 1) 0
 
 -- bytes that are too many: what was left, where it is told
 many_bytes : (left : Option (List ℕ)) → IfSome left (λ all. 2 ^ 20 < length all)
-    → (bytes : List ℕ) × (2 ^ 20 < length bytes) × IfSome left (λ all. all ≡ bytes)
+    → (bytes : List ℕ) × (2 ^ 20 < length bytes) × IfSome left (λ all. bytes ≡ all)
 many_bytes None long = let m = more_than (2 ^ 20) in (m.0, m.1, tt)
 many_bytes (Some all) long = (all, long, refl)
 
@@ -123,15 +125,15 @@ pub too_long_written : (left old new : Option (List ℕ)) → IfSome left (λ al
     → Appends old new (refusal_bytes 0 (cause_text (Faulty ScriptTooLong))) → Writes IsRefusalText left old new
 too_long_written left old new long out =
     let m = many_bytes left long in
-    let w = refusal_written m.0 old new 0 (Faulty ScriptTooLong) (too_long m.0 m.1) out in
-    (m.0, w.1, m.2, w.3, w.4)
+    written_of IsRefusalText m.0 m.0 left old new refl m.2
+        (refusal_written m.0 old new 0 (Faulty ScriptTooLong) (too_long m.0 m.1) out)
 
 pub too_long_begun : (left old new : Option (List ℕ)) → IfSome left (λ all. 2 ^ 20 < length all)
     → AppendsFront old new (refusal_bytes 0 (cause_text (Faulty ScriptTooLong))) → WritesFront left old new
 too_long_begun left old new long out =
     let m = many_bytes left long in
-    let w = refusal_begun m.0 old new 0 (Faulty ScriptTooLong) (too_long m.0 m.1) out in
-    (m.0, w.1, w.2, m.2, w.4, w.5)
+    begun_of m.0 m.0 left old new refl m.2
+        (refusal_begun m.0 old new 0 (Faulty ScriptTooLong) (too_long m.0 m.1) out)
 
 -- a script of commands that are done is not refused
 not_refused : (line : ℕ) (cause : Cause) (bytes : List ℕ) (script : Script) → IsScript bytes script
@@ -150,3 +152,16 @@ doable_not_refused (Some all) old new (bytes, script, e, is, built) (shown, text
     (subst (λ b. IsScript b script) (some_is e ∙ same) is) built refused.refused where
       some_is : Some all ≡ Some bytes → bytes ≡ all
       some_is f = cc
+
+-- with no fault and what is doable, it is done or memory was refused
+pub completes : (status : Status) (left old new : Option (List ℕ)) (read_fault write_fault : Type 0)
+    → (status ≢ BadWords) → (status ≡ Refused → Writes IsRefusalText left old new)
+    → (status ≡ ReadFault → read_fault) → (status ≡ WriteFault → write_fault)
+    → (read_fault → ⊥) → (write_fault → ⊥) → IsDoable left → (status ≡ Done) ⊎ (status ≡ NoMemory)
+completes Done left old new r w no_words refused reading writing no_r no_w doable = inl refl
+completes BadWords left old new r w no_words refused reading writing no_r no_w doable = absurd (no_words refl)
+completes Refused left old new r w no_words refused reading writing no_r no_w doable =
+    absurd (doable_not_refused left old new doable (refused refl))
+completes ReadFault left old new r w no_words refused reading writing no_r no_w doable = absurd (no_r (reading refl))
+completes WriteFault left old new r w no_words refused reading writing no_r no_w doable = absurd (no_w (writing refl))
+completes NoMemory left old new r w no_words refused reading writing no_r no_w doable = inr refl

@@ -1,5 +1,5 @@
 -- Why bytes are not done.
-use Rattle.std.specs.Prelude.{◌≡◌, ⊥, ℕ, List, Option, Some, None, codes, not}
+use Rattle.std.specs.Prelude.{◌≡◌, ℕ, List, Option, Some, None, codes, not}
 use Rattle.std.specs.List.{find}
 use Rattle.std.specs.Option.{option_map}
 use Rattle.script_text.specs.declared.script.Command.{Command}
