@@ -264,9 +264,11 @@ module _ (old new : Log) (later : IsLater old new) (caller : Caller) where
   }
 
   raise_later : (kept : Kept) (stamp colour : ℕ) (at : At) → RaisesAt old caller kept stamp colour at → RaisesAt new caller kept stamp colour at
-  raise_later kept stamp colour (Event place) r = (r.0, entry_later old new later caller.own colour place _ r.1)
+  raise_later kept stamp colour (Event place) r =
+      let l = place_there old new later caller.own colour place _ r.2 in
+      (r.0, subst (λ (h : List Entry). kept.known colour ≤ length (line h)) (sym (taken_same old new later caller.own colour place (omega (arith, l)))) r.1, entry_later old new later caller.own colour place _ r.2)
   raise_later kept stamp colour (Look events) r =
-      (r.0, still_there old new later caller.own colour events r.1, subst (λ (h : List Entry). stamp ≤ clock h) (sym (taken_same old new later caller.own colour events r.1)) r.2)
+      (r.0, still_there old new later caller.own colour events r.1, subst (λ (h : List Entry). kept.known colour ≤ length (line h)) (sym (taken_same old new later caller.own colour events r.1)) r.2, subst (λ (h : List Entry). stamp ≤ clock h) (sym (taken_same old new later caller.own colour events r.1)) r.3)
 
   raises_later : (stamp : ℕ) (kept : Kept) (raises : List RaisePiece) (after : Kept) → Raises old caller stamp kept raises after → Raises new caller stamp kept raises after
   raises_later stamp kept [] after r = r
@@ -274,7 +276,7 @@ module _ (old new : Log) (later : IsLater old new) (caller : Caller) where
 
   -- the events before a raise were there
   raise_there : (kept : Kept) (stamp colour : ℕ) (at : At) → RaisesAt old caller kept stamp colour at → events_until at ≤ length (old.histories caller.own colour)
-  raise_there kept stamp colour (Event place) r = let l = place_there old new later caller.own colour place _ r.1 in omega (arith, l)
+  raise_there kept stamp colour (Event place) r = let l = place_there old new later caller.own colour place _ r.2 in omega (arith, l)
   raise_there kept stamp colour (Look events) r = r.1
 
   each_there : (stamp : ℕ) (kept : Kept) (raises : List RaisePiece) (after : Kept) → Raises old caller stamp kept raises after

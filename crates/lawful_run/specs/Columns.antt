@@ -1,5 +1,5 @@
 -- The columns and the rows of a report.
-use Rattle.std.specs.Prelude.{◌≡◌, ℕ, ◌<◌, List, length, map, Some, slice_get}
+use Rattle.std.specs.Prelude.{◌≡◌, ℕ, ◌<◌, List, length, map, Some, slice_get, slice_index}
 use Rattle.std.specs.List.{All, flat_map, range_with_len}
 use Rattle.std.specs.List.Sorted.{IsNonDecreasing}
 use Rattle.skeen_core.specs.Standings.{queue_of}
@@ -46,10 +46,17 @@ pub record AreColumns (log : Log) (script : Script) (columns : List ColumnReport
 abbrev pub row_report : ℕ → BegunRow → RowReport
 row_report region r = record { region = region; row = r.row; id = r.node.id; marks = r.marks; last = r.last }
 
+-- the script has the client, in this region
+abbrev pub IsClientIn : Script → ℕ → ℕ → Type 0
+IsClientIn script region client =
+    (client < length script.shape.homes) × (slice_index script.shape.homes client ≡ region)
+
 -- all begun rows are there, lawful beside the histories
 pub record AreRows (log : Log) (script : Script) (reports : List RowReport) : Type 0 where
   pub all : reports ≡ flat_map (λ region. map (row_report region) (log.rows region)) (range_with_len 0 script.shape.regions)
   pub by_client : (region : ℕ) → region < script.shape.regions → IsNonDecreasing (map (λ (r : BegunRow). r.row.client) (log.rows region))
+  -- each row is of a client of its region
+  pub of_clients : (region : ℕ) → region < script.shape.regions → All (λ (r : BegunRow). IsClientIn script region r.row.client) (log.rows region)
   pub lawful : (region : ℕ) → region < script.shape.regions → AreLawfulRows region script.shape.colours (log.histories region) (log.rows region)
 
 -- what each region holds of another's chain is a true copy

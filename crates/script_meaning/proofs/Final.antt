@@ -392,9 +392,9 @@ module _ (objects : List Object) (S : ℕ → Type 0) (grants : Grants) (w : Wor
           others = λ n ne. clears.helped.clients n
               ∙ (updated-not w3.clients u (record (w3.clients u) { floor = f }) n ne
               ∙ several.others3 objects S grants w reached fin u colours text free ok n ne);
-          adds = λ r d. adds_trans (MadeBy u (whats.Append colours text)) (w.histories r d) (w3.histories r d)
+          adds = λ r d. adds_trans (MadeBy u (whats.Append colours text) own r) (w.histories r d) (w3.histories r d)
               (w6.histories r d) (several.adds3 objects S grants w reached fin u colours text free ok r d)
-              (adds_map (HelpIn own u r) (MadeBy u (whats.Append colours text)) (w5.histories r d) (w6.histories r d)
-              (λ x i. record { made = i.made; may = λ _. refl }) (clears.helped.adds r d));
+              (adds_map (HelpIn own u r) (MadeBy u (whats.Append colours text) own r) (w5.histories r d) (w6.histories r d)
+              (λ x i. record { made = i.made; may = λ _. refl; home = λ _. i.at_home }) (clears.helped.adds r d));
           keeps = λ kept k. record { after = kept' kept k; keeps = keeps kept k; explains = explains kept k };
         }))

@@ -45,9 +45,10 @@ pub record IsKeptBy (w : World) (client : ℕ) (kept : Kept) : Type 0 where
   pub rows : kept.rows ≡ (w.clients client).used
 
 -- the event is the client's, and helps another only in a command that may
-pub record MadeBy (client : ℕ) (what : What) (e : Entry) : Type 0 where
+pub record MadeBy (client : ℕ) (what : What) (own region : ℕ) (e : Entry) : Type 0 where
   pub made : e.by ≡ client
   pub may : IsHelp client e.event → IsTrue (may_help (manner_of what))
+  pub home : IsHelp client e.event → region ≡ own
 
 pub record KeptAfter (w : World) (objects : List Object) (client : ℕ) (kept : Kept) (what : What) (answer : Answer)
     (nodes : List PlacedNode) : Type 0 where
@@ -63,7 +64,7 @@ pub record Does (objects : List Object) (client : ℕ) (what : What) (w w' : Wor
   pub run : run_steps w steps ≡ w'
   pub shape : w'.shape ≡ w.shape
   pub others : (n : ℕ) → n ≢ client → w'.clients n ≡ w.clients n
-  pub adds : (r c : ℕ) → Adds (MadeBy client what) (w.histories r c) (w'.histories r c)
+  pub adds : (r c : ℕ) → Adds (MadeBy client what (home_of w client) r) (w.histories r c) (w'.histories r c)
   pub keeps : (kept : Kept) → IsKeptBy w client kept → KeptAfter w' objects client kept what answer nodes
 
 -- the log after some steps is a later one
@@ -89,7 +90,7 @@ kept_other objects client what w w' answer nodes d r n ne kept k =
           subst (λ (s : ℕ). kept.known c ≤ length (line (w'.histories s c)))
           (sym (ap (λ (s : Shape). slice_index s.homes n) d.shape)) (omega (arith, x, y));
       made = λ a c. others_places n (w.histories a c) (w'.histories a c)
-          (adds_map (MadeBy client what) (λ (e : Entry). e.by ≡ n → ⊥) (w.histories a c) (w'.histories a c)
+          (adds_map (MadeBy client what (home_of w client) a) (λ (e : Entry). e.by ≡ n → ⊥) (w.histories a c) (w'.histories a c)
           (λ e m same. ne (sym same ∙ m.made)) (d.adds a c)) ∙ k.made a c;
       ids = k.ids ∙ ap (λ (s : ClientState). s.count) (sym (d.others n ne));
       rows = k.rows ∙ ap (λ (s : ClientState). s.used) (sym (d.others n ne));
@@ -103,6 +104,6 @@ did_nothing objects client what w = record {
   run = refl;
   shape = refl;
   others = λ n ne. refl;
-  adds = λ r c. adds_none (MadeBy client what) (w.histories r c);
+  adds = λ r c. adds_none (MadeBy client what (home_of w client) r) (w.histories r c);
   keeps = λ kept k. record { after = kept; keeps = k; explains = (refl, nothing) };
 }

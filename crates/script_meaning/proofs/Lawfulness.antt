@@ -32,7 +32,7 @@ use Rattle.report_text.specs.declared.report.QueueKey.{QueueKey}
 use Rattle.report_text.specs.declared.report.ReplyLine.{ReplyLine}
 use Rattle.report_text.specs.declared.report.ClientReport.{ClientReport}
 use Rattle.report_text.specs.declared.report.ColumnReport.{ColumnReport}
-use Rattle.lawful_run.specs.Columns.{IsColumnReport, AreColumns, AreRows, AreCopies}
+use Rattle.lawful_run.specs.Columns.{IsColumnReport, AreColumns, AreRows, AreCopies, IsClientIn}
 use Rattle.lawful_run.specs.Lawful.{IsClientRun, IsHelp, HasHelping, HasStopped, LeavesOpen, LawfulRun}
 use Rattle.script_meaning.specs.States.{State}
 use Rattle.script_meaning.specs.Meaning.{column_report, report_of}
@@ -153,10 +153,18 @@ module _ (script : Script) (fits : IsFitting script) (state : State) (is : Runs 
   begun = record {
     all = refl;
     by_client = λ region lt. by_client w region;
+    of_clients = λ region lt. all_in (λ (r : BegunRow). IsClientIn script region r.row.client)
+        (rows_of_region w region) (λ r i. client_in region r (of_region w region r i));
     lawful = λ region lt. subst (λ (s : Shape). AreLawfulRows region s.colours (w.histories region)
         (rows_of_region w region))
         is.shape (have_lawful_rows w (held_of w is.reached) (told_of w is.reached) region);
-  }
+  } where
+    client_in : (region : ℕ) (r : BegunRow) → (a : ℕ) × OfRegion w region a r → IsClientIn script region r.row.client
+    client_in region r o =
+        let same : o.0 ≡ r.row.client = ap (λ (y : BegunRow). y.row.client) o.1.is in
+        let there = (told_of w is.reached).clients o.0 o.1.number o.1.begun in
+        subst (λ (n : ℕ). IsClientIn script region n) same
+        (subst (λ (s : Shape). (o.0 < length s.homes) × (slice_index s.homes o.0 ≡ region)) is.shape (there, o.1.home))
 
   copies : AreCopies log script
   unfolding log
@@ -225,11 +233,12 @@ module _ (script : Script) (fits : IsFitting script) (state : State) (is : Runs 
             ∙ (listed_of w is.reached).rows a x.number x.begun)
 
   helpers : (region colour : ℕ) (e : Entry) → region < regions → colour < colours
-      → Contains (log.histories region colour) e → IsHelp e.by e.event → HasHelping script e.by
+      → Contains (log.histories region colour) e → IsHelp e.by e.event
+      → HasHelping script e.by × ((caller_of script e.by).own ≡ region)
   unfolding log
   helpers region colour e lt lc among help =
       let m = is.helpers region colour e (in_contains _ _ among) help in
-      (m.command, contains_in _ _ m.there, m.may)
+      ((m.command, contains_in _ _ m.there, m.may), is.homes region colour e (in_contains _ _ among) help)
 
   -- a client that stopped is shown so
   has_stopped : (n : ℕ) → IsStopped script.commands state.replies n → HasStopped (report_of script state) n

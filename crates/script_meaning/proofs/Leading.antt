@@ -10,7 +10,7 @@ use Rattle.col_core.specs.Log.{Log}
 use Rattle.col_core.specs.Keeping.{Kept, nothing_kept}
 use Rattle.col_core.proofs.Basics.{by_test, apart}
 use Rattle.col_core.proofs.Members.{In}
-use Rattle.world_laws.specs.Worlds.{World}
+use Rattle.world_laws.specs.Worlds.{home_of, World}
 use Rattle.world_laws.specs.Laws.{IsReached, log_of}
 use Rattle.world_laws.proofs.Basics.{at_updated, updated-here, in_append, in_left, in_right}
 use Rattle.world_laws.proofs.CallerLemmas.{opened_reached, run_reached}
@@ -115,6 +115,8 @@ pub record Runs (script : Script) (commands : List Command) (state : State) : Ty
   pub clients : (n : ℕ) → IsExplained script state.world n (asked_by n commands) (state.replies n)
   pub makers : (r c : ℕ) (e : Entry) → In e (state.world.histories r c) → e.by < length script.shape.homes
   pub helpers : (r c : ℕ) (e : Entry) → In e (state.world.histories r c) → IsHelp e.by e.event → MayHelp commands e.by
+  pub homes : (r c : ℕ) (e : Entry) → In e (state.world.histories r c) → IsHelp e.by e.event
+      → slice_index script.shape.homes e.by ≡ r
   pub finished : Finished (IsStopped commands state.replies) state.world
 
 -- a command of a client of the script that has not stopped
@@ -145,6 +147,7 @@ runs_opening script = record {
   };
   makers = λ r c e i. absurd i;
   helpers = λ r c e i h. absurd i;
+  homes = λ r c e i h. absurd i;
   finished = λ row b. absurd (none row.number b);
 } where
   none : (n : ℕ) → nat_lt n 0 ≡ true → ⊥
@@ -239,17 +242,17 @@ module _ (script : Script) (commands : List Command) (state : State) (command : 
         (λ f. other_after n (λ e. apart (n == u) (eq-eqb n u e) f))
 
     in_history : (r c : ℕ) (e : Entry) → In e (w'.histories r c)
-        → In e (w.histories r c) ⊎ MadeBy u command.what e
+        → In e (w.histories r c) ⊎ MadeBy u command.what (home_of w u) r e
     in_history r c e i =
         let a = does.adds r c in
         turn (in_append e (w.histories r c) a.more (subst (λ (h : List Entry). In e h) a.is i)) where
-          turn : In e (w.histories r c) ⊎ In e (does.adds r c).more → In e (w.histories r c) ⊎ MadeBy u command.what e
+          turn : In e (w.histories r c) ⊎ In e (does.adds r c).more → In e (w.histories r c) ⊎ MadeBy u command.what (home_of w u) r e
           turn (inl j) = inl j
           turn (inr j) = inr ((does.adds r c).each e j)
 
     makers_after : (r c : ℕ) (e : Entry) → In e (w'.histories r c) → e.by < length script.shape.homes
     makers_after r c e i = turn (in_history r c e i) where
-      turn : In e (w.histories r c) ⊎ MadeBy u command.what e → e.by < length script.shape.homes
+      turn : In e (w.histories r c) ⊎ MadeBy u command.what (home_of w u) r e → e.by < length script.shape.homes
       turn (inl j) = runs.makers r c e j
       turn (inr m) = subst (λ (n : ℕ). n < length script.shape.homes) (sym m.made) fit.caller
 
@@ -263,7 +266,7 @@ module _ (script : Script) (commands : List Command) (state : State) (command : 
           (λ f. subst (λ (l : List Command). In d l)
           (sym (asked-other n commands command (λ e. apart (u == n) (eq-eqb u n e) f))) j)
 
-      turn : In e (w.histories r c) ⊎ MadeBy u command.what e → MayHelp commands' e.by
+      turn : In e (w.histories r c) ⊎ MadeBy u command.what (home_of w u) r e → MayHelp commands' e.by
       turn (inl j) =
           let m = runs.helpers r c e j h in
           record { command = m.command; there = asked_more e.by m.command m.there; may = m.may }
@@ -273,6 +276,16 @@ module _ (script : Script) (commands : List Command) (state : State) (command : 
             (in_right command (asked_by e.by commands) (command ∷ []) (inl refl));
         may = m.may (subst (λ (n : ℕ). IsHelp n e.event) m.made h);
       }
+
+    homes_after : (r c : ℕ) (e : Entry) → In e (w'.histories r c) → IsHelp e.by e.event
+        → slice_index script.shape.homes e.by ≡ r
+    homes_after r c e i h = turn (in_history r c e i) where
+      turn : In e (w.histories r c) ⊎ MadeBy u command.what (home_of w u) r e → slice_index script.shape.homes e.by ≡ r
+      turn (inl j) = runs.homes r c e j h
+      turn (inr m) =
+          ap (slice_index script.shape.homes) m.made
+          ∙ (ap (λ (s : Shape). slice_index s.homes u) (sym runs.shape)
+          ∙ sym (m.home (subst (λ (n : ℕ). IsHelp n e.event) m.made h)))
 
     -- who stopped before has stopped still
     stopped_still : (n : ℕ) → IsStopped commands state.replies n → IsStopped commands' state'.replies n
@@ -303,6 +316,7 @@ module _ (script : Script) (commands : List Command) (state : State) (command : 
       clients = clients_after;
       makers = makers_after;
       helpers = helpers_after;
+      homes = homes_after;
       finished = f;
     }
 

@@ -319,12 +319,12 @@ module _ (objects : List Object) (S : ℕ → Type 0) (grants : Grants) (w : Wor
         run = steps_run;
         shape = shape2;
         others = λ n ne. clears.helped.clients n ∙ updated-not w.clients u (single_client w u c) n ne;
-        adds = λ r d. adds_trans (MadeBy u (whats.Append colours text)) (w.histories r d) (w1.histories r d)
+        adds = λ r d. adds_trans (MadeBy u (whats.Append colours text) own r) (w.histories r d) (w1.histories r d)
             (w2.histories r d)
-            (adds_last (λ _ _. MadeBy u (whats.Append colours text)) (with_client w u (single_client w u c)) own c e
-            (record { made = refl; may = λ x. absurd x }) r d)
-            (adds_map (HelpIn own u r) (MadeBy u (whats.Append colours text)) (w1.histories r d) (w2.histories r d)
-            (λ f i. record { made = i.made; may = λ _. refl }) (clears.helped.adds r d));
+            (adds_last (λ r _. MadeBy u (whats.Append colours text) own r) (with_client w u (single_client w u c)) own c e
+            (record { made = refl; may = λ x. absurd x; home = λ x. absurd x }) r d)
+            (adds_map (HelpIn own u r) (MadeBy u (whats.Append colours text) own r) (w1.histories r d) (w2.histories r d)
+            (λ f i. record { made = i.made; may = λ _. refl; home = λ _. i.at_home }) (clears.helped.adds r d));
         keeps = λ kept k. record {
           after = kept' colours one set kept k;
           keeps = keeps colours one set kept k;

@@ -225,9 +225,9 @@ module _ (objects : List Object) (S : ℕ → Type 0) (grants : Grants) (w : Wor
   steps3 : run_steps w (Begin u colours text ∷ L) ≡ w3
   steps3 = begun.steps_run objects w reached u colours text ok L on
 
-  pub adds3 : (r c : ℕ) → Adds (MadeBy u (whats.Append colours text)) (w.histories r c) (w3.histories r c)
-  adds3 r c = adds_map (StepIn own u id row L r c) (MadeBy u (whats.Append colours text)) (w.histories r c)
-      (w3.histories r c) (λ e s. record { made = s.made; may = λ _. refl })
+  pub adds3 : (r c : ℕ) → Adds (MadeBy u (whats.Append colours text) own r) (w.histories r c) (w3.histories r c)
+  adds3 r c = adds_map (StepIn own u id row L r c) (MadeBy u (whats.Append colours text) own r) (w.histories r c)
+      (w3.histories r c) (λ e s. record { made = s.made; may = λ _. refl; home = λ _. s.at_home })
       ((begun.on3 objects w reached u colours text ok L on).adds r c)
 
   pub others3 : (n : ℕ) → n ≢ u → w3.clients n ≡ w.clients n

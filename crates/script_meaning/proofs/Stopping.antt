@@ -371,8 +371,8 @@ module _ (objects : List Object) (S : ℕ → Type 0) (grants : Grants) (w : Wor
     run = begun.steps_run objects w reached u colours text ok L on;
     shape = shape3;
     others = begun.others3 objects w reached u colours text ok L on;
-    adds = λ r c. adds_map (StepIn own u id row L r c) (MadeBy u (whats.Stop (suc n) colours text)) (w.histories r c)
-        (w3.histories r c) (λ e s. record { made = s.made; may = λ _. refl })
+    adds = λ r c. adds_map (StepIn own u id row L r c) (MadeBy u (whats.Stop (suc n) colours text) own r) (w.histories r c)
+        (w3.histories r c) (λ e s. record { made = s.made; may = λ _. refl; home = λ _. s.at_home })
         ((begun.on3 objects w reached u colours text ok L on).adds r c);
     keeps = λ kept k. record {
       after = with_made (with_row kept) own places;
