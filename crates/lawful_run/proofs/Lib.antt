@@ -1,3 +1,12 @@
 pub mod Prefixes
 pub mod Later
 pub mod ReadItems
+pub mod Listed
+pub mod Entered
+pub mod Replies
+pub mod Traces
+pub mod Uses
+pub mod Origins
+pub mod Standing
+pub mod Returned
+pub mod Lines

@@ -9,3 +9,4 @@ pub mod Explains
 pub mod Columns
 pub mod Lawful
 pub mod Laws
+pub mod Readings
