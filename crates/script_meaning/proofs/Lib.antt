@@ -3,6 +3,7 @@ mod WorkedMoves
 mod Reached
 pub mod Rows
 pub mod RowSteps
+mod Completed
 pub mod Moves
 pub mod Clearing
 pub mod Lines

@@ -109,9 +109,9 @@ module _ (objects : List Object) (w : World) (reached : IsReached w) (u region c
   line_there x is = ap (λ (l : List Entry). length (line (take (length theirs) l))) is
       ∙ ap (λ (l : List Entry). length (line l)) (take_at theirs (give ∷ []) (length theirs) refl)
 
-  adds1 : (r d : ℕ) → Adds (MadeBy u (whats.Pull region c) own r) (w.histories r d) (w1.histories r d)
-  adds1 = adds_last (λ r d. MadeBy u (whats.Pull region c) own r) w region c give
-      (record { made = refl; may = λ none. absurd none; home = λ none. absurd none })
+  adds1 : (end : World) (r d : ℕ) → Adds (MadeBy u (whats.Pull region c) end own r) (w.histories r d) (w1.histories r d)
+  adds1 end = adds_last (λ r d. MadeBy u (whats.Pull region c) end own r) w region c give
+      (record { made = refl; help = λ none. absurd none })
 
   module _ (kept : Kept) (k : IsKeptBy w u kept) where
     abbrev kept0 : Kept
@@ -160,7 +160,7 @@ module _ (objects : List Object) (w : World) (reached : IsReached w) (u region c
         run = give_is;
         shape = refl;
         others = λ n _. refl;
-        adds = adds1;
+        adds = adds1 w1;
         keeps = λ kept k. record {
           after = with_places (kept0 kept k) region c (length theirs ∷ []);
           keeps = k_gave kept k;
@@ -260,7 +260,7 @@ module _ (objects : List Object) (w : World) (reached : IsReached w) (u region c
           run = give_is;
           shape = refl;
           others = λ n _. refl;
-          adds = adds1;
+          adds = adds1 w1;
           keeps = λ kept k. record {
             after = kept_after_pull kept own region c (length theirs) (Look (length ours)) [];
             keeps = looked kept k;
@@ -357,10 +357,10 @@ module _ (objects : List Object) (w : World) (reached : IsReached w) (u region c
           run = ap (λ (x : World). after x (Carry u region own c have count)) give_is ∙ carry_is;
           shape = refl;
           others = λ n _. refl;
-          adds = λ r d. adds_trans (MadeBy u (whats.Pull region c) own r) (w.histories r d) (w1.histories r d)
+          adds = λ r d. adds_trans (MadeBy u (whats.Pull region c) w2 own r) (w.histories r d) (w1.histories r d)
               (w2.histories r d)
-              (adds1 r d) (adds_last (λ r d. MadeBy u (whats.Pull region c) own r) w1 own c carry
-              (record { made = refl; may = λ none. absurd none; home = λ none. absurd none }) r d);
+              (adds1 w2 r d) (adds_last (λ r d. MadeBy u (whats.Pull region c) w2 own r) w1 own c carry
+              (record { made = refl; help = λ none. absurd none }) r d);
           keeps = λ kept k. record {
             after = kept_after_pull kept own region c (length theirs) (Event (length ours)) [];
             keeps = k2 kept k;

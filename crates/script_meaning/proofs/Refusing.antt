@@ -38,7 +38,7 @@ same_world objects u what w answer explains = record {
   run = refl;
   shape = refl;
   others = λ n ne. refl;
-  adds = λ r c. adds_none (MadeBy u what (home_of w u) r) (w.histories r c);
+  adds = λ r c. adds_none (MadeBy u what w (home_of w u) r) (w.histories r c);
   keeps = λ kept k. record { after = kept; keeps = k; explains = explains kept k };
 }
 

@@ -36,7 +36,7 @@ find_none test (x ∷ xs) h =
     if_false (test x) (Some x) (find test xs) (h x (inl refl)) ∙ find_none test xs (λ y i. h y (inr i))
 
 -- an id that does not wait is not open
-no_open : (w : World) → Held w → (r c : ℕ) (id : Id) → is_waiting (status_in (w.histories r c) id) ≡ false
+pub no_open : (w : World) → Held w → (r c : ℕ) (id : Id) → is_waiting (status_in (w.histories r c) id) ≡ false
     → open_entry id (entries (w.histories r c)) ≡ None
 no_open w h r c id none = find_none (is_open_id id) (entries (w.histories r c)) each where
   each : (x : Standing) → In x (entries (w.histories r c)) → is_open_id id x ≡ false

@@ -43,7 +43,7 @@ use Rattle.script_meaning.proofs.Moves.{Adds, adds_map, StepIn}
 use Rattle.script_meaning.proofs.Reached.{held_of}
 use Rattle.script_meaning.proofs.Clearing.{Finished}
 use Rattle.script_meaning.proofs.Settled.{settled_in}
-use Rattle.script_meaning.proofs.Kept.{caller_in, IsKeptBy, MadeBy, Does}
+use Rattle.script_meaning.proofs.Kept.{caller_in, IsKeptBy, MadeBy, made_own, Does}
 use Rattle.script_meaning.proofs.One.{caller_same}
 use Rattle.script_meaning.proofs.Begun as begun
 use Rattle.script_meaning.proofs.Begun.{begins_later}
@@ -225,9 +225,10 @@ module _ (objects : List Object) (S : ℕ → Type 0) (grants : Grants) (w : Wor
   steps3 : run_steps w (Begin u colours text ∷ L) ≡ w3
   steps3 = begun.steps_run objects w reached u colours text ok L on
 
-  pub adds3 : (r c : ℕ) → Adds (MadeBy u (whats.Append colours text) own r) (w.histories r c) (w3.histories r c)
-  adds3 r c = adds_map (StepIn own u id row L r c) (MadeBy u (whats.Append colours text) own r) (w.histories r c)
-      (w3.histories r c) (λ e s. record { made = s.made; may = λ _. refl; home = λ _. s.at_home })
+  pub adds3 : (end : World) (r c : ℕ) → Adds (MadeBy u (whats.Append colours text) end own r) (w.histories r c)
+      (w3.histories r c)
+  adds3 end r c = adds_map (StepIn own u id row L r c) (MadeBy u (whats.Append colours text) end own r) (w.histories r c)
+      (w3.histories r c) (λ e s. made_own u (whats.Append colours text) end own r id refl e s.made s.of)
       ((begun.on3 objects w reached u colours text ok L on).adds r c)
 
   pub others3 : (n : ℕ) → n ≢ u → w3.clients n ≡ w.clients n
@@ -302,7 +303,7 @@ module _ (objects : List Object) (S : ℕ → Type 0) (grants : Grants) (w : Wor
     run = steps3;
     shape = shape3;
     others = others3;
-    adds = adds3;
+    adds = adds3 w3;
     keeps = λ kept k. record {
       after = with_made (with_row kept) own places;
       keeps = keeps3 kept k;
@@ -319,7 +320,7 @@ module _ (objects : List Object) (S : ℕ → Type 0) (grants : Grants) (w : Wor
     run = steps3;
     shape = shape3;
     others = others3;
-    adds = adds3;
+    adds = adds3 w3;
     keeps = λ kept k. record {
       after = with_made (with_row kept) own places;
       keeps = keeps3 kept k;

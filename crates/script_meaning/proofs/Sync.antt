@@ -102,7 +102,7 @@ module _ (objects : List Object) (w : World) (reached : IsReached w) (u c : ℕ)
     run = refl;
     shape = refl;
     others = λ n ne. refl;
-    adds = λ r d. adds_none (MadeBy u (whats.Sync c) own r) (w.histories r d);
+    adds = λ r d. adds_none (MadeBy u (whats.Sync c) w own r) (w.histories r d);
     keeps = λ kept k. record {
       after = kept;
       keeps = k;
@@ -231,7 +231,7 @@ module _ (objects : List Object) (w : World) (reached : IsReached w) (u c : ℕ)
           run = if_true (may_play w u c) w' w ok;
           shape = refl;
           others = λ m ne. updated-not w.clients u (played_client w u c) m ne;
-          adds = λ r d. adds_none (MadeBy u (whats.Sync c) own r) (w.histories r d);
+          adds = λ r d. adds_none (MadeBy u (whats.Sync c) w' own r) (w.histories r d);
           keeps = λ kept k. record {
             after = kept' kept k;
             keeps = keeps kept k;
