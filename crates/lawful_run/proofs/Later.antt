@@ -39,8 +39,9 @@ use Rattle.col_core.specs.RegionOrder.{IsRegionOrder, IsClearUpTo}
 use Rattle.col_core.proofs.Facts.{mark_stays, outcome_stays}
 use Rattle.lawful_run.specs.Callers.{Caller, node_of}
 use Rattle.lawful_run.specs.Asks.{Manner, Appending, Stopping, Syncing, Moving, Getting, Reading, Committing, Dequeuing, colours_synced, manner_of}
-use Rattle.lawful_run.specs.Appends.{AppendsOne, HadNoStamp, AreSteps, BeginsRow, EntersAt, StandsAt, AppendsSeveral, Appends, AppendsUnshown, one_unshown, several_unshown, IsGoneAtEnd, HasNoStamp, none_for_one, none_for_several, IsSettledIn, IsSettled, Stops, stopped_at_once, stopped_after, IsGoneForMemory}
-use Rattle.lawful_run.specs.Reads.{Syncs, ShowsNode, ShowsPlayed, played_stamp, kept_after_piece, IsTrimmed, RaisesAt, kept_after_place, Raises, ClearSyncs, events_until, IsReadStamp, ReadsAt, lines_read, AreRead, ShowsKey, HidesSync, not_played, played, HidesSyncs, HidesRead}
+use Rattle.lawful_run.specs.Appends.{AppendsOne, HadNoStamp, AreSteps, BeginsRow, EntersAt, StandsAt, AppendsSeveral, Appends, AppendsUnshown, one_unshown, several_unshown, IsGoneAtEnd, HasNoStamp, none_for_one, none_for_several, IsSettledIn, IsSettled, IsGoneForMemory}
+use Rattle.lawful_run.specs.Stops.{Stops, stopped_at_once, stopped_after}
+use Rattle.lawful_run.specs.Reads.{Syncs, ShowsNode, ShowsPlayed, played_stamp, kept_after_piece, IsTrimmed, RaisesAt, kept_after_place, Raises, ClearSyncs, events_until, IsReadStamp, IsAboveClocks, ReadsAt, lines_read, AreRead, ShowsKey, HidesSync, not_played, played, HidesSyncs, HidesRead}
 use Rattle.lawful_run.specs.Moves.{GivesAt, GivesTooLow, CarriesAt, Pulls, Trims}
 use Rattle.lawful_run.specs.Objects.{IsObjectNode, AreObjectNodes, own_played, GetsValue, Takes, places_within, IsChainNode, GetsValues}
 use Rattle.lawful_run.specs.Refusals.{Hides, FindsNoMemory, nothing, gone, gave, hidden, kept_before}
@@ -308,13 +309,17 @@ module _ (old new : Log) (later : IsLater old new) (caller : Caller) where
       let l = there raise among in
       inr (raise, among, events, seen, until, is ∙ ap clock (sym (taken_same old new later caller.own raise.colour events (omega (arith, until, l)))))
 
+  above_later : (kept : Kept) (colours : List ℕ) (stamp : ℕ) → IsAboveClocks old caller kept colours stamp → IsAboveClocks new caller kept colours stamp
+  above_later kept colours stamp above k d lt =
+      let a = above k d lt in
+      (still_there old new later caller.own _ _ a.0, subst (λ (h : List Entry). clock h ≤ stamp) (sym (taken_same old new later caller.own _ _ a.0)) a.1)
+
   read_later : (kept : Kept) (colours : List ℕ) (stamp : ℕ) (raises : List RaisePiece) (syncs : List SyncPiece) (after : Kept) → ReadsAt old caller kept colours stamp raises syncs after → ReadsAt new caller kept colours stamp raises syncs after
   read_later kept colours stamp raises syncs after r = record {
     raised_colours = r.raised_colours;
     synced_colours = r.synced_colours;
     above_floor = r.above_floor;
-    above_clocks = λ k d lt. let a = r.above_clocks k d lt in
-        (still_there old new later caller.own _ _ a.0, subst (λ (h : List Entry). clock h ≤ stamp) (sym (taken_same old new later caller.own _ _ a.0)) a.1);
+    above_clocks = above_later kept colours stamp r.above_clocks;
     chosen = chosen_later kept raises stamp (λ raise among. each_there stamp kept raises r.raised r.raising raise among.0 among.1 among.2) r.chosen;
     raised = r.raised;
     raising = raises_later stamp kept raises r.raised r.raising;
@@ -332,10 +337,9 @@ module _ (old new : Log) (later : IsLater old new) (caller : Caller) where
 
   hides_sync_later : (kept : Kept) (colour : ℕ) (snapshot : Counts) (stamp : ℕ) → HidesSync old caller kept colour snapshot stamp → HidesSync new caller kept colour snapshot stamp
   hides_sync_later kept colour snapshot stamp not_played = not_played
-  hides_sync_later kept colour snapshot stamp (played events s seen there cut) =
-      subst (λ (n : ℕ). HidesSync new caller kept colour snapshot n) (stamp_same kept colour events snapshot there)
-      (played events snapshot seen (still_there old new later caller.own colour events there)
-      (subst (λ (h : List Dated). IsGreatestReachable (chain caller.own h) snapshot) (sym (first_same old new later caller.own colour events there)) cut))
+  hides_sync_later kept colour snapshot stamp (played events s syncs) =
+      subst (λ (n : ℕ). HidesSync new caller kept colour snapshot n) (stamp_same kept colour events snapshot syncs.there)
+      (played events snapshot (syncs_later kept colour events snapshot syncs))
 
   hides_syncs_later : (kept : Kept) (colours : List ℕ) (after : Kept) → HidesSyncs old caller kept colours after → HidesSyncs new caller kept colours after
   hides_syncs_later kept [] after h = h
@@ -347,7 +351,9 @@ module _ (old new : Log) (later : IsLater old new) (caller : Caller) where
     stamp = h.stamp;
     places = h.places;
     few = h.few;
-    raises = λ colour k d lt. let r = h.raises colour k d lt in (r.0, entry_later old new later caller.own colour _ _ r.1);
+    raises = λ colour k d lt. let r = h.raises colour k d lt in (r.0, raise_later kept h.stamp colour (Event (slice_index_or (h.places colour) k d)) r.1);
+    above_floor = h.above_floor;
+    above_clocks = above_later kept colours h.stamp h.above_clocks;
     chosen = chosen h.chosen;
     synced = h.synced;
     syncing = hides_syncs_later kept colours h.synced h.syncing;

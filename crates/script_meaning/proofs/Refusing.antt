@@ -18,7 +18,8 @@ use Rattle.report_text.specs.declared.report.Answer.{Answer}
 use Rattle.report_text.specs.declared.report.Answer.TheVariants as answers
 use Rattle.lawful_run.specs.Callers.{Caller}
 use Rattle.lawful_run.specs.Asks.{AsksToAppend}
-use Rattle.lawful_run.specs.Appends.{none_for_one, stopped_at_once}
+use Rattle.lawful_run.specs.Appends.{none_for_one}
+use Rattle.lawful_run.specs.Stops.{stopped_at_once}
 use Rattle.lawful_run.specs.Explains.{Explains, IsNoStopAtOnce}
 use Rattle.script_meaning.specs.Appends.{is_full}
 use Rattle.script_meaning.proofs.Moves.{adds_none}
@@ -49,7 +50,7 @@ pub did_end_one : (objects : List Object) (u c : ℕ) (colours : Colours) (text 
 did_end_one objects u c colours text w one client column refused =
     same_world objects u (whats.Append colours text) w (answers.StampEnd c) (λ kept k. (
       refl,
-      (λ a b e. absurd (let x : ⊥ = cc in x)),
+      (λ e. absurd (let x : ⊥ = cc in x)),
       (
         colours,
         text,

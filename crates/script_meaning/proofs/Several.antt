@@ -32,6 +32,7 @@ use Rattle.script_text.specs.declared.script.Object.{Object}
 use Rattle.script_text.specs.declared.script.What.TheVariants as whats
 use Rattle.report_text.specs.declared.report.Answer.TheVariants as answers
 use Rattle.lawful_run.specs.Callers.{Caller, node_of}
+use Rattle.lawful_run.specs.Asks.{Stopping, manner_of}
 use Rattle.lawful_run.specs.Appends.{BeginsRow, IsSettledIn, IsSettled, IsGoneAtEnd, none_for_several, IsGoneForMemory}
 use Rattle.lawful_run.specs.Refusals.{gone}
 use Rattle.lawful_run.specs.Explains.{Explains}
@@ -330,5 +331,5 @@ module _ (objects : List Object) (S : ℕ → Type 0) (grants : Grants) (w : Wor
           (refl, no_stop, (colours, text, (refl, refl), none_for_several places (gone_at_end kept k e)));
     };
   } where
-    no_stop : (c : Colours) (t : List ℕ) → whats.Append colours text ≢ whats.Stop 0 c t
-    no_stop c t e = absurd (let x : ⊥ = cc in x)
+    no_stop : manner_of (whats.Append colours text) ≢ Stopping
+    no_stop e = let f : ⊥ = cc in f

@@ -33,7 +33,8 @@ use Rattle.script_text.specs.declared.script.Object.{Object}
 use Rattle.script_text.specs.declared.script.What.TheVariants as whats
 use Rattle.report_text.specs.declared.report.Answer.TheVariants as answers
 use Rattle.lawful_run.specs.Callers.{Caller, node_of}
-use Rattle.lawful_run.specs.Appends.{IsMarked, IsDecided, IsSettledIn, IsStepWithin, StopsAfter, Stops, stopped_after}
+use Rattle.lawful_run.specs.Appends.{IsSettledIn}
+use Rattle.lawful_run.specs.Stops.{IsMarked, IsDecided, IsStepWithin, StopsAfter, Stops, stopped_after}
 use Rattle.lawful_run.specs.Explains.{Explains}
 use Rattle.lawful_run.proofs.Prefixes.{get_within}
 use Rattle.script_meaning.specs.States.{Grants}
