@@ -33,9 +33,9 @@ use Rattle.script_meaning.specs.States.{Grants}
 use Rattle.script_meaning.specs.Helping.{Helping, open_below, node_with, helped_row, helped_node, helped_first, helped_times, cleared, all_cleared}
 use Rattle.script_meaning.proofs.Reached.{held_of, told_of, listed_of}
 use Rattle.script_meaning.proofs.Rows.{node_id, IsDone, IsStill, done_still, still_trans}
-use Rattle.script_meaning.proofs.RowSteps.{completed_done, completed_still, complete_steps_on, open_row, open_before}
-use Rattle.script_meaning.proofs.Completed.{of_done_still}
-use Rattle.script_meaning.proofs.Moves.{Adds, adds_none, adds_trans, adds_map, StepIn, OnRow, on_steps, HelpIn, help_of}
+use Rattle.script_meaning.proofs.Completions.{completed_done, completed_still, complete_steps_on, open_row, open_before}
+use Rattle.script_meaning.proofs.StaysComplete.{of_done_still}
+use Rattle.script_meaning.proofs.Additions.{Adds, adds_none, adds_trans, adds_map, StepIn, OnRow, on_steps, HelpIn, help_of}
 
 -- the rows that are not done are of clients for which the fact holds
 abbrev pub Finished : (ℕ → Type 0) → World → Type 0

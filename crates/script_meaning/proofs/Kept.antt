@@ -24,8 +24,8 @@ use Rattle.lawful_run.specs.Explains.{Explains}
 use Rattle.lawful_run.specs.Lawful.{IsHelp}
 use Rattle.lawful_run.specs.Refusals.{nothing}
 use Rattle.lawful_run.proofs.Prefixes.{prefix_length}
-use Rattle.script_meaning.proofs.Completed.{OfDone, own_no_help}
-use Rattle.script_meaning.proofs.Moves.{Adds, adds_none, adds_map, others_places, HelpIn}
+use Rattle.script_meaning.proofs.StaysComplete.{OfDone, own_no_help}
+use Rattle.script_meaning.proofs.Additions.{Adds, adds_none, adds_map, others_places, HelpIn}
 use Rattle.script_meaning.proofs.Reached.{held_of, told_of}
 
 -- a client of a world, and where it calls from

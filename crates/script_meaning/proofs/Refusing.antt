@@ -22,7 +22,7 @@ use Rattle.lawful_run.specs.Appends.{none_for_one}
 use Rattle.lawful_run.specs.Stops.{stopped_at_once}
 use Rattle.lawful_run.specs.Explains.{Explains, IsNoStopAtOnce}
 use Rattle.script_meaning.specs.Appends.{is_full}
-use Rattle.script_meaning.proofs.Moves.{adds_none}
+use Rattle.script_meaning.proofs.Additions.{adds_none}
 use Rattle.script_meaning.proofs.Reached.{told_of}
 use Rattle.script_meaning.proofs.Kept.{caller_in, IsKeptBy, MadeBy, Does}
 

@@ -28,7 +28,7 @@ use Rattle.world_laws.proofs.Marks.{is_waiting}
 use Rattle.lawful_run.specs.Callers.{Caller}
 use Rattle.lawful_run.specs.Appends.{IsSettledIn}
 use Rattle.script_meaning.proofs.Reached.{held_of, told_of}
-use Rattle.script_meaning.proofs.First.{in_any}
+use Rattle.script_meaning.proofs.FirstProposal.{in_any}
 
 find_none : {A : Type 0} (test : A → Bool) (xs : List A) → ((x : A) → In x xs → test x ≡ false) → find test xs ≡ None
 find_none test [] h = refl

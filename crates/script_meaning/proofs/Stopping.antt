@@ -39,18 +39,18 @@ use Rattle.lawful_run.specs.Explains.{Explains}
 use Rattle.lawful_run.proofs.Prefixes.{get_within}
 use Rattle.script_meaning.specs.States.{Grants}
 use Rattle.script_meaning.proofs.Rows.{node_id}
-use Rattle.script_meaning.proofs.RowSteps.{IsOn, complete_steps_on, settle_at}
-use Rattle.script_meaning.proofs.Moves.{adds_map, StepIn, From}
+use Rattle.script_meaning.proofs.Completions.{IsOn, complete_steps_on, settle_at}
+use Rattle.script_meaning.proofs.Additions.{adds_map, StepIn, From}
 use Rattle.script_meaning.proofs.Reached.{held_of}
 use Rattle.script_meaning.proofs.Clearing.{Finished}
 use Rattle.script_meaning.proofs.Kept.{caller_in, IsKeptBy, MadeBy, made_own, Does}
-use Rattle.script_meaning.proofs.One.{caller_same}
-use Rattle.script_meaning.proofs.Begun as begun
+use Rattle.script_meaning.proofs.AppendOne.{caller_same}
+use Rattle.script_meaning.proofs.BeginRow as begun
 use Rattle.script_meaning.proofs.Settled.{settled_in}
-use Rattle.script_meaning.proofs.Several.{Rising, colours_rise}
+use Rattle.script_meaning.proofs.AppendSeveral.{Rising, colours_rise}
 use Rattle.script_meaning.proofs.Lists.{in_map_back}
 use Rattle.script_meaning.proofs.Playing.{got_at}
-use Rattle.script_meaning.proofs.Marking.{MarksColour, AllMissing, IsMarkList, mark_list, marked_first, taken_at, take_past, one_place}
+use Rattle.script_meaning.proofs.CompletionParts.{MarksColour, AllMissing, IsMarkList, mark_list, marked_first, taken_at, take_past, one_place}
 
 -- Which step stands where
 

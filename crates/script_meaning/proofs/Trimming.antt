@@ -21,7 +21,7 @@ use Rattle.report_text.specs.declared.report.Answer.TheVariants as answers
 use Rattle.lawful_run.specs.Moves.{Trims}
 use Rattle.script_meaning.proofs.Clearing.{Finished}
 use Rattle.script_meaning.proofs.Kept.{caller_in, IsKeptBy, MadeBy, Does, later_log}
-use Rattle.script_meaning.proofs.Moves.{adds_last}
+use Rattle.script_meaning.proofs.Additions.{adds_last}
 use Rattle.script_meaning.proofs.OwnEvents.{history_is, own_kept, seen_here, finished_last}
 
 module _ (objects : List Object) (w : World) (reached : IsReached w) (u c : ℕ)

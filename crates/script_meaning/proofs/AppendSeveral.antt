@@ -39,15 +39,15 @@ use Rattle.lawful_run.specs.Explains.{Explains}
 use Rattle.script_meaning.specs.States.{Grants}
 use Rattle.script_meaning.specs.Appends.{ended_colour}
 use Rattle.script_meaning.proofs.Rows.{IsDone}
-use Rattle.script_meaning.proofs.RowSteps.{completed_done, complete_steps_on, IsOn}
-use Rattle.script_meaning.proofs.Moves.{Adds, adds_map, StepIn}
+use Rattle.script_meaning.proofs.Completions.{completed_done, complete_steps_on, IsOn}
+use Rattle.script_meaning.proofs.Additions.{Adds, adds_map, StepIn}
 use Rattle.script_meaning.proofs.Reached.{held_of}
 use Rattle.script_meaning.proofs.Clearing.{Finished}
 use Rattle.script_meaning.proofs.Settled.{settled_in}
 use Rattle.script_meaning.proofs.Kept.{caller_in, IsKeptBy, MadeBy, made_own, Does}
-use Rattle.script_meaning.proofs.One.{caller_same}
-use Rattle.script_meaning.proofs.Begun as begun
-use Rattle.script_meaning.proofs.Begun.{begins_later}
+use Rattle.script_meaning.proofs.AppendOne.{caller_same}
+use Rattle.script_meaning.proofs.BeginRow as begun
+use Rattle.script_meaning.proofs.BeginRow.{begins_later}
 use Rattle.world_laws.proofs.RegionRows.{all_in}
 use Rattle.script_meaning.proofs.Lists.{in_range, in_map_back}
 

@@ -18,7 +18,7 @@ use Rattle.script_meaning.specs.Moves.{nodes_played, synced, with_give, with_car
 use Rattle.script_meaning.proofs.Clearing.{Finished}
 use Rattle.script_meaning.proofs.Kept.{Does}
 use Rattle.script_meaning.proofs.MoveCases.{play_answer, trimmed_answer, pull_answer, with_trim, base_answer, played, refused, synced_is, stayed, carried, given, pulled_is, from_is, trimmed_is}
-use Rattle.script_meaning.proofs.Leading.{IsStopped, Runs, IsFit, runs_done}
+use Rattle.script_meaning.proofs.Invariant.{IsStopped, Runs, IsFit, runs_done}
 use Rattle.script_meaning.proofs.Pulling as pulling
 use Rattle.script_meaning.proofs.Reached.{held_of, cuts_of}
 use Rattle.script_meaning.proofs.OwnEvents.{finished_client}

@@ -42,14 +42,14 @@ use Rattle.script_meaning.specs.Laws.{RunsAreLawful}
 use Rattle.lawful_run.proofs.Prefixes.{get_within}
 use Rattle.script_meaning.proofs.Lists.{in_range}
 use Rattle.script_meaning.proofs.Rows.{node_id, IsDone}
-use Rattle.script_meaning.proofs.Completed.{step_of_one}
+use Rattle.script_meaning.proofs.StaysComplete.{step_of_one}
 use Rattle.script_meaning.proofs.Settled.{no_open}
-use Rattle.script_meaning.proofs.RowSteps.{HasRow, open_row}
+use Rattle.script_meaning.proofs.Completions.{HasRow, open_row}
 use Rattle.script_meaning.proofs.Reached.{held_of, told_of, listed_of}
 use Rattle.script_meaning.proofs.Clearing.{waits_not_done}
-use Rattle.script_meaning.proofs.Rowing.{by_client, rows_begun}
-use Rattle.script_meaning.proofs.Leading.{IsStopped, Runs}
-use Rattle.script_meaning.proofs.Whole.{all_at, runs_all}
+use Rattle.script_meaning.proofs.RowsOfClients.{by_client, rows_begun}
+use Rattle.script_meaning.proofs.Invariant.{IsStopped, Runs}
+use Rattle.script_meaning.proofs.InvariantHolds.{all_at, runs_all}
 
 -- Lists
 

@@ -23,9 +23,9 @@ use Rattle.world_laws.proofs.Keeps.{at_last}
 use Rattle.world_laws.proofs.Growing.{after_grows}
 use Rattle.lawful_run.specs.Appends.{IsStepOf}
 use Rattle.lawful_run.specs.Lawful.{IsHelp}
-use Rattle.script_meaning.proofs.Completed.{OfDone}
+use Rattle.script_meaning.proofs.StaysComplete.{OfDone}
 use Rattle.script_meaning.proofs.Rows.{node_id, still_begun}
-use Rattle.script_meaning.proofs.RowSteps.{IsOn}
+use Rattle.script_meaning.proofs.Completions.{IsOn}
 
 -- what comes to a history
 pub record Adds (P : Entry → Type 0) (old new : List Entry) : Type 0 where

@@ -40,7 +40,7 @@ use Rattle.script_meaning.specs.States.{Grants, position_of}
 use Rattle.script_meaning.specs.Helping.{all_cleared}
 use Rattle.script_meaning.specs.Appends.{point_in, with_single}
 use Rattle.script_meaning.proofs.Rows.{IsDone, single_still, done_still, in_past, standing_as}
-use Rattle.script_meaning.proofs.Moves.{adds_trans, adds_map, adds_last, HelpIn, help_not_own, places_more, no_places}
+use Rattle.script_meaning.proofs.Additions.{adds_trans, adds_map, adds_last, HelpIn, help_not_own, places_more, no_places}
 use Rattle.script_meaning.proofs.Reached.{held_of, listed_of}
 use Rattle.script_meaning.proofs.Clearing.{Finished, Helped, helped_reached, helped_finished, ClearsAll, clear_all}
 use Rattle.script_meaning.proofs.Lines.{stands_there, final_stays, absent_line, position_behind}

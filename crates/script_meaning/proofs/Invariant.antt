@@ -33,7 +33,7 @@ use Rattle.lawful_run.proofs.Later.{explained_later}
 use Rattle.script_meaning.specs.States.{State, opening, is_built, answered}
 use Rattle.script_meaning.proofs.Reached.{held_of}
 use Rattle.script_meaning.proofs.Rows.{IsDone}
-use Rattle.script_meaning.proofs.Completed.{OfDone, of_done_stays}
+use Rattle.script_meaning.proofs.StaysComplete.{OfDone, of_done_stays}
 use Rattle.script_meaning.proofs.Clearing.{Finished}
 use Rattle.script_meaning.proofs.Kept.{caller_in, IsKeptBy, MadeBy, Does, later_log, kept_other}
 use Rattle.script_meaning.proofs.Lists.{asked_by, asked-own, asked-other}

@@ -52,21 +52,21 @@ use Rattle.script_meaning.specs.States.{Grants, position_of}
 use Rattle.script_meaning.specs.Helping.{all_cleared}
 use Rattle.script_meaning.specs.Appends.{point_in}
 use Rattle.script_meaning.proofs.Rows.{node_id, standing_as}
-use Rattle.script_meaning.proofs.RowSteps.{IsOn}
-use Rattle.script_meaning.proofs.Moves.{adds_trans, adds_map, HelpIn}
+use Rattle.script_meaning.proofs.Completions.{IsOn}
+use Rattle.script_meaning.proofs.Additions.{adds_trans, adds_map, HelpIn}
 use Rattle.script_meaning.proofs.Reached.{held_of, told_of}
 use Rattle.script_meaning.proofs.Clearing.{Finished, helped_reached, helped_finished, ClearsAll, clear_all}
 use Rattle.script_meaning.proofs.Lines.{stands_there, final_stays, absent_line, position_behind}
 use Rattle.script_meaning.proofs.Kept.{caller_in, IsKeptBy, MadeBy, made_helping, Does, later_log}
-use Rattle.script_meaning.proofs.One.{caller_same, updated-not, helped_places}
-use Rattle.script_meaning.proofs.Begun as begun
-use Rattle.script_meaning.proofs.First.{ProposesFirst, proposes_first, in_any}
+use Rattle.script_meaning.proofs.AppendOne.{caller_same, updated-not, helped_places}
+use Rattle.script_meaning.proofs.BeginRow as begun
+use Rattle.script_meaning.proofs.FirstProposal.{ProposesFirst, proposes_first, in_any}
 use Rattle.world_laws.proofs.RegionRows.{all_in, in_map}
 use Rattle.script_meaning.proofs.Lists.{range_in, some_in, each_of, map_same}
-use Rattle.script_meaning.proofs.Several as several
-use Rattle.script_meaning.proofs.Several.{mark_number, not_any}
+use Rattle.script_meaning.proofs.AppendSeveral as several
+use Rattle.script_meaning.proofs.AppendSeveral.{mark_number, not_any}
 use Rattle.script_meaning.proofs.OwnEvents.{finished_client}
-use Rattle.script_meaning.proofs.Points.{PointsKept, IsBoundedPoint, points_kept}
+use Rattle.script_meaning.proofs.Points.{made_seen, PointsKept, IsBoundedPoint, points_kept}
 
 module _ (objects : List Object) (S : ℕ → Type 0) (grants : Grants) (w : World) (reached : IsReached w)
     (fin : Finished S w)
@@ -354,7 +354,12 @@ module _ (objects : List Object) (S : ℕ → Type 0) (grants : Grants) (w : Wor
             let m : max (kept_after_points kept own points).floor f ≡ f = omega (arith, a, b, c) in
             m ∙ ap (λ (s : ClientState). s.floor) (sym mine6);
         starts = all_points.starts ∙ (k.starts ∙ ap (λ (s : ClientState). s.played) (sym mine6));
-        seen = all_points.seen;
+        seen = made_seen own (λ r c. length (w6.histories r c)) (with_row (with_floor (kept_after_points kept own points) f))
+            places all_points.seen (λ c. begun.place_facts objects w reached u colours text ok L on
+            (λ place. place < length (w6.histories own c)) c (λ i e at_i _.
+            let a = get_within (w3.histories own c) i e at_i in
+            let b = prefix_length (w3.histories own c) (w6.histories own c) (later36.histories own c) in
+            omega (arith, a, b)));
         known = λ c. subst (λ (s : Shape). (kept_after_points kept own points).known c
             ≤ length (line (w6.histories (slice_index s.homes u) c))) (sym shape6) (all_points.known c);
         made = λ r c. helped_places u own w5 w6 clears.helped r c
