@@ -355,11 +355,9 @@ module _ (objects : List Object) (S : ℕ → Type 0) (grants : Grants) (w : Wor
             m ∙ ap (λ (s : ClientState). s.floor) (sym mine6);
         starts = all_points.starts ∙ (k.starts ∙ ap (λ (s : ClientState). s.played) (sym mine6));
         seen = made_seen own (λ r c. length (w6.histories r c)) (with_row (with_floor (kept_after_points kept own points) f))
-            places all_points.seen (λ c. begun.place_facts objects w reached u colours text ok L on
-            (λ place. place < length (w6.histories own c)) c (λ i e at_i _.
-            let a = get_within (w3.histories own c) i e at_i in
-            let b = prefix_length (w3.histories own c) (w6.histories own c) (later36.histories own c) in
-            omega (arith, a, b)));
+            places all_points.seen (λ c. begun.places_before objects w reached u colours text ok L on c
+            (length (w6.histories own c))
+            (prefix_length (w3.histories own c) (w6.histories own c) (later36.histories own c)));
         known = λ c. subst (λ (s : Shape). (kept_after_points kept own points).known c
             ≤ length (line (w6.histories (slice_index s.homes u) c))) (sym shape6) (all_points.known c);
         made = λ r c. helped_places u own w5 w6 clears.helped r c

@@ -158,6 +158,10 @@ module _ (objects : List Object) (w : World) (reached : IsReached w) (u : ℕ) (
       ∙ (get_behind (w.histories own c) (more c) i ∙ at_i))
       ((on3.adds own c).each e (slice_in (more c) i e at_i)))
 
+  pub places_before : (c n : ℕ) → length (w3.histories own c) ≤ n → All (λ place. place < n) (places c)
+  places_before c n le = place_facts (λ place. place < n) c
+      (λ i e at_i _. let a = get_within (w3.histories own c) i e at_i in omega (arith, a, le))
+
   -- Other rows
 
   pub still3 : (other : Row) → is_begun w other ≡ true → IsStill w w3 other
@@ -314,8 +318,7 @@ module _ (objects : List Object) (w : World) (reached : IsReached w) (u : ℕ) (
       starts = k.starts ∙ ap (λ (s : ClientState). s.played) (sym mine3);
       seen = made_seen own (λ r c. length (w3.histories r c)) (with_row kept) places
           (λ r c. let a = k.seen r c in let b = longer3 r c in omega (arith, a, b))
-          (λ c. place_facts (λ place. place < length (w3.histories own c)) c
-          (λ i e at_i _. get_within (w3.histories own c) i e at_i));
+          (λ c. places_before c (length (w3.histories own c)) (omega arith));
       known = λ c. subst (λ (s : Shape). kept.known c ≤ length (line (w3.histories (slice_index s.homes u) c)))
           (sym shape3)
           (let a = k.known c in let b = longer_line3 own c in omega (arith, a, b));

@@ -1,7 +1,7 @@
 -- Helping: what it adds and leaves, and that a cleared column has no open entry below the key.
 use Rattle.std.proofs.Common.{◌≡◌, ℕ, zero, suc, ◌<◌, ◌≤◌, List, [], ◌∷◌, ◌++◌, length, Some, Bool, true, false, refl, subst, ap, sym, ◌∙◌, inl, inr, ◌⊎◌, arith, eq-eqb}
 use Rattle.std.specs.Prelude.{◌==◌, ◌&&◌, ◌≢◌, not, nat_lt, slice_get, slice_index}
-use Rattle.std.specs.List.{fold, filter}
+use Rattle.std.specs.List.{fold}
 use Rattle.std.proofs.lemmas.Bool.{ltb-true, eqb-true, and_from}
 use Rattle.log_node.specs.declared.ids.Id.{Id}
 use Rattle.log_node.specs.declared.ids.Key.{Key}
@@ -13,9 +13,7 @@ use Rattle.skeen_core.specs.Standings.{Standing}
 use Rattle.col_core.specs.declared.Entry.{Entry}
 use Rattle.col_core.specs.History.{entries}
 use Rattle.col_core.proofs.Basics.{by_test, both, apart, not_true}
-use Rattle.col_core.proofs.KeyOrder.{key-irrefl}
-use Rattle.col_core.proofs.LawfulPasts.{entries-of}
-use Rattle.col_core.proofs.Members.{In, in_filter, in_filter-back, Rises, rises, rises-filter}
+use Rattle.col_core.proofs.Members.{In, in_filter, in_filter-back}
 use Rattle.col_core.proofs.Pasts.{Waits}
 use Rattle.world_laws.specs.declared.steps.Step.{Step}
 use Rattle.world_laws.specs.Worlds.{World, ClientState, RowState, home_of, home_history, run_steps, is_begun, row_of}
@@ -23,7 +21,6 @@ use Rattle.world_laws.specs.Completing.{complete_steps}
 use Rattle.world_laws.specs.Laws.{IsReached}
 use Rattle.world_laws.proofs.Held.{status_in, Held}
 use Rattle.world_laws.proofs.Marks.{is_waiting}
-use Rattle.world_laws.proofs.Histories.{lawful_past_in}
 use Rattle.world_laws.proofs.RegionRows.{same_number}
 use Rattle.world_laws.proofs.Growing.{run_grows}
 use Rattle.world_laws.proofs.Runs.{run_held, run_steps-append}
@@ -34,6 +31,7 @@ use Rattle.script_meaning.specs.Helping.{Helping, open_below, node_with, helped_
 use Rattle.script_meaning.proofs.Reached.{held_of, told_of, listed_of}
 use Rattle.script_meaning.proofs.Rows.{node_id, IsDone, IsStill, done_still, still_trans}
 use Rattle.script_meaning.proofs.Completions.{completed_done, completed_still, complete_steps_on, open_row, open_before}
+use Rattle.script_meaning.proofs.Counting.{fewer_less, below_rises}
 use Rattle.script_meaning.proofs.StaysComplete.{of_done_still}
 use Rattle.script_meaning.proofs.Additions.{Adds, adds_none, adds_trans, adds_map, StepIn, OnRow, on_steps, HelpIn, help_of}
 
@@ -247,53 +245,6 @@ help_one S grants by own colour key h reached fin free at e i =
       stopped : {P Q : Type 0} → P ⊎ Q → (P → ⊥) → (Q → ⊥) → ⊥
       stopped (inl p) f g = f p
       stopped (inr q) f g = g q
-
--- Counting
-
-Without : Standing → List Standing → Type 0
-Without e ys = (zs : List Standing) × (length ys ≡ suc (length zs))
-    × ((x : Standing) → In x ys → x ≢ e → In x zs)
-
-without : (e : Standing) (ys : List Standing) → In e ys → Without e ys
-unfolding Without
-without e [] i = absurd i
-without e (y ∷ ys) (inl is) = (ys, refl, λ x j ne. turn x j ne) where
-  turn : (x : Standing) → (y ≡ x) ⊎ In x ys → x ≢ e → In x ys
-  turn x (inl f) ne = absurd (ne (sym f ∙ is))
-  turn x (inr j) ne = j
-without e (y ∷ ys) (inr i) =
-    let r = without e ys i in
-    let l = r.1 in
-    (y ∷ r.0, ap suc l, λ x j ne. turn r.0 x j (λ k. r.2 x k ne)) where
-      turn : (zs : List Standing) (x : Standing) → (y ≡ x) ⊎ In x ys → (In x ys → In x zs) → (y ≡ x) ⊎ In x zs
-      turn zs x (inl f) rest = inl f
-      turn zs x (inr j) rest = inr (rest j)
-
--- entries that rise in key are no more than those among which they are
-fewer : (xs ys : List Standing) → Rises xs → ((x : Standing) → In x xs → In x ys) → length xs ≤ length ys
-unfolding Rises Without
-fewer [] ys r sub = omega arith
-fewer (x ∷ xs) ys r sub =
-    let z = without x ys (sub x (inl refl)) in
-    let n = fewer xs z.0 r.1 (λ y i. z.2 y (sub y (inr i)) (λ e. key-irrefl x.key
-    (subst (λ (k : Standing). key_below x.key k.key ≡ true) e (r.0 y i)))) in
-    let l = z.1 in
-    omega (arith, n, l)
-
-fewer_less : (xs ys : List Standing) (e : Standing) → Rises xs → In e ys
-    → ((x : Standing) → In x xs → In x ys × (x ≢ e)) → length xs < length ys
-unfolding Without
-fewer_less xs ys e r i sub =
-    let z = without e ys i in
-    let n = fewer xs z.0 r (λ x j. let s = sub x j in z.2 x s.0 s.1) in
-    let l = z.1 in
-    omega (arith, n, l)
-
-below_rises : (w : World) → Held w → (r c : ℕ) (key : Key) → Rises (open_below key (w.histories r c))
-below_rises w h r c key =
-    subst (λ (es : List Standing). Rises (filter (λ (e : Standing). not e.settled && key_below e.key key) es))
-    (sym (entries-of (w.histories r c)))
-    (rises-filter (λ (e : Standing). not e.settled && key_below e.key key) _ (rises _ (lawful_past_in w h r c)))
 
 -- Clearing
 

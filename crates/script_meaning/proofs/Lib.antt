@@ -5,6 +5,7 @@ pub mod Rows
 pub mod Completions
 mod StaysComplete
 pub mod Additions
+mod Counting
 pub mod Clearing
 pub mod Lines
 mod Kept
