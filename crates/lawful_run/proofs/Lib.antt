@@ -1,4 +1,7 @@
 pub mod Prefixes
+mod LaterFacts
+mod LaterAppends
+mod LaterReads
 pub mod Later
 pub mod ReadItems
 pub mod Listed

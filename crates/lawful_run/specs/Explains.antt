@@ -21,8 +21,9 @@ use Rattle.report_text.specs.declared.report.Answer.{Answer}
 use Rattle.report_text.specs.declared.report.Answer.TheVariants as answers
 use Rattle.report_text.specs.declared.report.ReplyLine.{ReplyLine}
 use Rattle.lawful_run.specs.Callers.{Caller, node_of}
-use Rattle.lawful_run.specs.Asks.{kind_of, home_of, colours_of, home_asked, AsksToAppend, colours_synced, Appending, Committing, Dequeuing, Syncing, Getting, Reading, manner_of}
-use Rattle.lawful_run.specs.Appends.{Appends, AppendsUnshown, HasNoStamp, IsFull, Stops}
+use Rattle.lawful_run.specs.Asks.{kind_of, home_of, colours_of, home_asked, AsksToAppend, colours_synced, Appending, Stopping, Committing, Dequeuing, Syncing, Getting, Reading, manner_of}
+use Rattle.lawful_run.specs.Appends.{Appends, AppendsUnshown, HasNoStamp, IsFull}
+use Rattle.lawful_run.specs.Stops.{Stops}
 use Rattle.lawful_run.specs.Reads.{Syncs, ShowsPlayed, greatest_stamp, kept_after_piece, IsTrimmed, ReadsAt, AreRead, ShowsKey}
 use Rattle.lawful_run.specs.Moves.{Pulls, kept_after_pull, Trims}
 use Rattle.lawful_run.specs.Objects.{AreObjectNodes, GetsValue, GetsValues, AreAnswers, Takes, shown_verdict}
@@ -45,7 +46,7 @@ Explains log caller kept what (answers.Stood stamp row points) nodes after =
     × AppendsBy caller kept what (λ colours text.
     Appends log caller kept (node_of caller kept colours text) stamp row points after)
 Explains log caller kept what (answers.StampEnd colour) nodes after =
-    (nodes ≡ []) × IsNoStopAtOnce what
+    (nodes ≡ []) × (manner_of what ≢ Stopping)
     × AppendsBy caller kept what (λ colours text.
     HasNoStamp log caller kept (node_of caller kept colours text) colour after)
 Explains log caller kept what (answers.Full used) nodes after =

@@ -10,7 +10,7 @@ use Rattle.col_core.specs.declared.Event.TheVariants as events
 use Rattle.col_core.specs.History.{line}
 use Rattle.col_core.specs.Cuts.{chain, base}
 use Rattle.col_core.specs.Log.{Log, first}
-use Rattle.col_core.specs.Keeping.{Kept, updated_at, kept_after_event, seen_after}
+use Rattle.col_core.specs.Keeping.{Kept, updated_at, kept_after_event, seen_after, seen_past}
 use Rattle.lawful_run.specs.Callers.{Caller}
 use Rattle.lawful_run.specs.Reads.{kept_after_place}
 
@@ -52,10 +52,12 @@ pub record Pulls (log : Log) (caller : Caller) (kept : Kept) (region colour node
   pub holds : length (line (take place (log.histories region colour)))
       ≤ length (chain caller.own (first log caller.own colour (seen_after carry)) region)
 
--- with events made at these places of a column
+-- with events made, and so seen, at these places of a column
 abbrev pub with_places : Kept → ℕ → ℕ → List ℕ → Kept
-with_places kept region colour places =
-    record kept { made = updated_at kept.made region colour (kept.made region colour ++ places) }
+with_places kept region colour places = record kept {
+  seen = updated_at kept.seen region colour (seen_past (kept.seen region colour) places);
+  made = updated_at kept.made region colour (kept.made region colour ++ places);
+}
 
 -- what a client keeps after a pull
 abbrev pub kept_after_pull : Kept → ℕ → ℕ → ℕ → ℕ → At → List ℕ → Kept

@@ -32,21 +32,22 @@ use Rattle.script_text.specs.declared.script.Object.{Object}
 use Rattle.script_text.specs.declared.script.What.TheVariants as whats
 use Rattle.report_text.specs.declared.report.Answer.TheVariants as answers
 use Rattle.lawful_run.specs.Callers.{Caller, node_of}
+use Rattle.lawful_run.specs.Asks.{Stopping, manner_of}
 use Rattle.lawful_run.specs.Appends.{BeginsRow, IsSettledIn, IsSettled, IsGoneAtEnd, none_for_several, IsGoneForMemory}
 use Rattle.lawful_run.specs.Refusals.{gone}
 use Rattle.lawful_run.specs.Explains.{Explains}
 use Rattle.script_meaning.specs.States.{Grants}
 use Rattle.script_meaning.specs.Appends.{ended_colour}
 use Rattle.script_meaning.proofs.Rows.{IsDone}
-use Rattle.script_meaning.proofs.RowSteps.{completed_done, complete_steps_on, IsOn}
-use Rattle.script_meaning.proofs.Moves.{Adds, adds_map, StepIn}
+use Rattle.script_meaning.proofs.Completions.{completed_done, complete_steps_on, IsOn}
+use Rattle.script_meaning.proofs.Additions.{Adds, adds_map, StepIn}
 use Rattle.script_meaning.proofs.Reached.{held_of}
 use Rattle.script_meaning.proofs.Clearing.{Finished}
 use Rattle.script_meaning.proofs.Settled.{settled_in}
-use Rattle.script_meaning.proofs.Kept.{caller_in, IsKeptBy, MadeBy, Does}
-use Rattle.script_meaning.proofs.One.{caller_same}
-use Rattle.script_meaning.proofs.Begun as begun
-use Rattle.script_meaning.proofs.Begun.{begins_later}
+use Rattle.script_meaning.proofs.Kept.{caller_in, IsKeptBy, MadeBy, made_own, Does}
+use Rattle.script_meaning.proofs.AppendOne.{caller_same}
+use Rattle.script_meaning.proofs.BeginRow as begun
+use Rattle.script_meaning.proofs.BeginRow.{begins_later}
 use Rattle.world_laws.proofs.RegionRows.{all_in}
 use Rattle.script_meaning.proofs.Lists.{in_range, in_map_back}
 
@@ -225,9 +226,10 @@ module _ (objects : List Object) (S : ℕ → Type 0) (grants : Grants) (w : Wor
   steps3 : run_steps w (Begin u colours text ∷ L) ≡ w3
   steps3 = begun.steps_run objects w reached u colours text ok L on
 
-  pub adds3 : (r c : ℕ) → Adds (MadeBy u (whats.Append colours text) own r) (w.histories r c) (w3.histories r c)
-  adds3 r c = adds_map (StepIn own u id row L r c) (MadeBy u (whats.Append colours text) own r) (w.histories r c)
-      (w3.histories r c) (λ e s. record { made = s.made; may = λ _. refl; home = λ _. s.at_home })
+  pub adds3 : (end : World) (r c : ℕ) → Adds (MadeBy u (whats.Append colours text) end own r) (w.histories r c)
+      (w3.histories r c)
+  adds3 end r c = adds_map (StepIn own u id row L r c) (MadeBy u (whats.Append colours text) end own r) (w.histories r c)
+      (w3.histories r c) (λ e s. made_own u (whats.Append colours text) end own r id refl e s.made s.of)
       ((begun.on3 objects w reached u colours text ok L on).adds r c)
 
   pub others3 : (n : ℕ) → n ≢ u → w3.clients n ≡ w.clients n
@@ -302,7 +304,7 @@ module _ (objects : List Object) (S : ℕ → Type 0) (grants : Grants) (w : Wor
     run = steps3;
     shape = shape3;
     others = others3;
-    adds = adds3;
+    adds = adds3 w3;
     keeps = λ kept k. record {
       after = with_made (with_row kept) own places;
       keeps = keeps3 kept k;
@@ -319,7 +321,7 @@ module _ (objects : List Object) (S : ℕ → Type 0) (grants : Grants) (w : Wor
     run = steps3;
     shape = shape3;
     others = others3;
-    adds = adds3;
+    adds = adds3 w3;
     keeps = λ kept k. record {
       after = with_made (with_row kept) own places;
       keeps = keeps3 kept k;
@@ -329,5 +331,5 @@ module _ (objects : List Object) (S : ℕ → Type 0) (grants : Grants) (w : Wor
           (refl, no_stop, (colours, text, (refl, refl), none_for_several places (gone_at_end kept k e)));
     };
   } where
-    no_stop : (c : Colours) (t : List ℕ) → whats.Append colours text ≢ whats.Stop 0 c t
-    no_stop c t e = absurd (let x : ⊥ = cc in x)
+    no_stop : manner_of (whats.Append colours text) ≢ Stopping
+    no_stop e = let f : ⊥ = cc in f

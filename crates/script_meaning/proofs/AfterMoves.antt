@@ -1,13 +1,11 @@
 -- After a sync, a pull and a trim there holds what held before.
-use Rattle.std.proofs.Common.{refl, ◌≡◌, ◌≢◌, ◌⊎◌, inl, inr, ℕ, ◌<◌, List, [], ◌∷◌, ◌++◌, length, true, false, ap, sym, subst, ◌∙◌, arith, eq-eqb}
-use Rattle.std.specs.Prelude.{◌==◌, nat_lt, not, slice_index}
+use Rattle.std.proofs.Common.{refl, ◌≡◌, ◌≢◌, ℕ, ◌<◌, List, [], ◌∷◌, ◌++◌, length, true, false, ap, sym, subst, arith, eq-eqb}
+use Rattle.std.specs.Prelude.{◌==◌, not, slice_index}
 use Rattle.std.proofs.lemmas.Bool.{and_from, lt-ltb, eqb-true}
-use Rattle.log_node.specs.declared.ids.Row.{Row}
 use Rattle.log_node.specs.declared.node.Shape.{Shape}
 use Rattle.col_core.proofs.Basics.{choice, apart}
 use Rattle.world_laws.specs.declared.steps.Step.TheVariants.{Play}
-use Rattle.world_laws.specs.Worlds.{World, ClientState, home_of, is_begun, is_client, is_column, are_two_columns, may_play, after_play, after}
-use Rattle.world_laws.proofs.Basics.{at_updated}
+use Rattle.world_laws.specs.Worlds.{World, home_of, is_client, is_column, are_two_columns, may_play, after_play, after}
 use Rattle.world_laws.proofs.Growing.{played_client}
 use Rattle.playback.proofs.Playing.{order_is_played}
 use Rattle.script_text.specs.declared.script.What.{What}
@@ -20,10 +18,9 @@ use Rattle.script_meaning.specs.Moves.{nodes_played, synced, with_give, with_car
 use Rattle.script_meaning.proofs.Clearing.{Finished}
 use Rattle.script_meaning.proofs.Kept.{Does}
 use Rattle.script_meaning.proofs.MoveCases.{play_answer, trimmed_answer, pull_answer, with_trim, base_answer, played, refused, synced_is, stayed, carried, given, pulled_is, from_is, trimmed_is}
-use Rattle.script_meaning.proofs.Leading.{IsStopped, Runs, IsFit, runs_done}
+use Rattle.script_meaning.proofs.Invariant.{IsStopped, Runs, IsFit, runs_done}
 use Rattle.script_meaning.proofs.Pulling as pulling
 use Rattle.script_meaning.proofs.Reached.{held_of, cuts_of}
-use Rattle.script_meaning.proofs.Rows.{IsDone}
 use Rattle.script_meaning.proofs.OwnEvents.{finished_client}
 use Rattle.script_meaning.proofs.Refusing.{did_same}
 use Rattle.script_meaning.proofs.Sync.{did_play, did_refuse}

@@ -1,5 +1,5 @@
 -- An append to several colours that is final.
-use Rattle.std.proofs.Common.{◌≡◌, ◌⊎◌, inl, inr, ℕ, ◌+◌, ◌<◌, ◌≤◌, max, List, [], ◌∷◌, ◌++◌, length, map, Some, true, false, refl, ap, sym, subst, ◌∙◌, arith}
+use Rattle.std.proofs.Common.{◌≡◌, ℕ, ◌+◌, ◌<◌, ◌≤◌, max, List, [], ◌∷◌, ◌++◌, length, map, Some, true, false, refl, ap, sym, subst, ◌∙◌, arith}
 use Rattle.std.specs.Prelude.{nat_lt, nat_le, slice_get, slice_index, reverse}
 use Rattle.std.specs.List.{list_any, list_all, range_with_len}
 use Rattle.std.proofs.lemmas.Bool.{ltb-true, lt-ltb, le-leb, and_from}
@@ -32,7 +32,7 @@ use Rattle.world_laws.specs.declared.steps.Step.TheVariants.{Begin, Seen}
 use Rattle.world_laws.specs.Worlds.{World, ClientState, home_of, home_history, after, run_steps, is_begun, row_of, next_id, next_row, is_client, is_column, may_begin, may_see, begun_node, after_begin, after_seen}
 use Rattle.world_laws.specs.Completing.{complete_steps}
 use Rattle.world_laws.specs.Laws.{IsReached, log_of, StandsAsDecided}
-use Rattle.world_laws.proofs.Basics.{at_updated, updated-here, in_contains, contains_in}
+use Rattle.world_laws.proofs.Basics.{updated-here, in_contains, contains_in}
 use Rattle.world_laws.proofs.Marks.{in_colours, final_is, number_within}
 use Rattle.world_laws.proofs.Histories.{lawful_past_in}
 use Rattle.world_laws.proofs.Keeps.{next_absent}
@@ -51,22 +51,22 @@ use Rattle.lawful_run.proofs.Prefixes.{prefix_length, prefix_get, get_within}
 use Rattle.script_meaning.specs.States.{Grants, position_of}
 use Rattle.script_meaning.specs.Helping.{all_cleared}
 use Rattle.script_meaning.specs.Appends.{point_in}
-use Rattle.script_meaning.proofs.Rows.{node_id, IsDone, standing_as}
-use Rattle.script_meaning.proofs.RowSteps.{IsOn}
-use Rattle.script_meaning.proofs.Moves.{adds_trans, adds_map, HelpIn}
+use Rattle.script_meaning.proofs.Rows.{node_id, standing_as}
+use Rattle.script_meaning.proofs.Completions.{IsOn}
+use Rattle.script_meaning.proofs.Additions.{adds_trans, adds_map, HelpIn}
 use Rattle.script_meaning.proofs.Reached.{held_of, told_of}
 use Rattle.script_meaning.proofs.Clearing.{Finished, helped_reached, helped_finished, ClearsAll, clear_all}
 use Rattle.script_meaning.proofs.Lines.{stands_there, final_stays, absent_line, position_behind}
-use Rattle.script_meaning.proofs.Kept.{caller_in, IsKeptBy, MadeBy, Does, later_log}
-use Rattle.script_meaning.proofs.One.{caller_same, updated-not, helped_places}
-use Rattle.script_meaning.proofs.Begun as begun
-use Rattle.script_meaning.proofs.First.{ProposesFirst, proposes_first, in_any}
+use Rattle.script_meaning.proofs.Kept.{caller_in, IsKeptBy, MadeBy, made_helping, Does, later_log}
+use Rattle.script_meaning.proofs.AppendOne.{caller_same, updated-not, helped_places}
+use Rattle.script_meaning.proofs.BeginRow as begun
+use Rattle.script_meaning.proofs.FirstProposal.{ProposesFirst, proposes_first, in_any}
 use Rattle.world_laws.proofs.RegionRows.{all_in, in_map}
 use Rattle.script_meaning.proofs.Lists.{range_in, some_in, each_of, map_same}
-use Rattle.script_meaning.proofs.Several as several
-use Rattle.script_meaning.proofs.Several.{mark_number, not_any}
+use Rattle.script_meaning.proofs.AppendSeveral as several
+use Rattle.script_meaning.proofs.AppendSeveral.{mark_number, not_any}
 use Rattle.script_meaning.proofs.OwnEvents.{finished_client}
-use Rattle.script_meaning.proofs.Points.{PointsKept, IsBoundedPoint, points_kept}
+use Rattle.script_meaning.proofs.Points.{made_seen, PointsKept, IsBoundedPoint, points_kept}
 
 module _ (objects : List Object) (S : ℕ → Type 0) (grants : Grants) (w : World) (reached : IsReached w)
     (fin : Finished S w)
@@ -240,7 +240,7 @@ module _ (objects : List Object) (S : ℕ → Type 0) (grants : Grants) (w : Wor
     later6 = later_log w w6 (Begin u colours text ∷ (L ++ Seen u f ∷ clears.helped.steps)) reached run6
 
     final6 : (c : ℕ) → In c (members colours) → In (standing_as f id true) (entries (w6.histories own c))
-    final6 c i = final_stays (HelpIn own u own) w5 w6 (held_of w5 reached5) (held_of w6 reached6) own c
+    final6 c i = final_stays (HelpIn w6 own u own) w5 w6 (held_of w5 reached5) (held_of w6 reached6) own c
         (clears.helped.adds own c) f id (final3 c i)
 
     abbrev position : ℕ → ℕ
@@ -354,7 +354,10 @@ module _ (objects : List Object) (S : ℕ → Type 0) (grants : Grants) (w : Wor
             let m : max (kept_after_points kept own points).floor f ≡ f = omega (arith, a, b, c) in
             m ∙ ap (λ (s : ClientState). s.floor) (sym mine6);
         starts = all_points.starts ∙ (k.starts ∙ ap (λ (s : ClientState). s.played) (sym mine6));
-        seen = all_points.seen;
+        seen = made_seen own (λ r c. length (w6.histories r c)) (with_row (with_floor (kept_after_points kept own points) f))
+            places all_points.seen (λ c. begun.places_before objects w reached u colours text ok L on c
+            (length (w6.histories own c))
+            (prefix_length (w3.histories own c) (w6.histories own c) (later36.histories own c)));
         known = λ c. subst (λ (s : Shape). (kept_after_points kept own points).known c
             ≤ length (line (w6.histories (slice_index s.homes u) c))) (sym shape6) (all_points.known c);
         made = λ r c. helped_places u own w5 w6 clears.helped r c
@@ -392,9 +395,9 @@ module _ (objects : List Object) (S : ℕ → Type 0) (grants : Grants) (w : Wor
           others = λ n ne. clears.helped.clients n
               ∙ (updated-not w3.clients u (record (w3.clients u) { floor = f }) n ne
               ∙ several.others3 objects S grants w reached fin u colours text free ok n ne);
-          adds = λ r d. adds_trans (MadeBy u (whats.Append colours text) own r) (w.histories r d) (w3.histories r d)
-              (w6.histories r d) (several.adds3 objects S grants w reached fin u colours text free ok r d)
-              (adds_map (HelpIn own u r) (MadeBy u (whats.Append colours text) own r) (w5.histories r d) (w6.histories r d)
-              (λ x i. record { made = i.made; may = λ _. refl; home = λ _. i.at_home }) (clears.helped.adds r d));
+          adds = λ r d. adds_trans (MadeBy u (whats.Append colours text) w6 own r) (w.histories r d) (w3.histories r d)
+              (w6.histories r d) (several.adds3 objects S grants w reached fin u colours text free ok w6 r d)
+              (adds_map (HelpIn w6 own u r) (MadeBy u (whats.Append colours text) w6 own r) (w5.histories r d)
+              (w6.histories r d) (made_helping u (whats.Append colours text) w6 own r refl) (clears.helped.adds r d));
           keeps = λ kept k. record { after = kept' kept k; keeps = keeps kept k; explains = explains kept k };
         }))

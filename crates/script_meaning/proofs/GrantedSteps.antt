@@ -26,7 +26,7 @@ use Rattle.world_laws.proofs.Runs.{run_steps-append}
 use Rattle.script_meaning.specs.States.{Grants, all_granted}
 use Rattle.script_meaning.specs.Helping.{Helping, open_below, node_with, helped_row, helped_node, helped_first, helped_times, cleared, all_cleared}
 use Rattle.script_meaning.proofs.Rows.{still_begun}
-use Rattle.script_meaning.proofs.RowSteps.{IsOn, complete_steps_on}
+use Rattle.script_meaning.proofs.Completions.{IsOn, complete_steps_on}
 
 -- no begun row has a fence for want of memory
 abbrev pub IsClean : World → Type 0

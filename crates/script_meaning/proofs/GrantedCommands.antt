@@ -26,8 +26,8 @@ use Rattle.script_meaning.specs.Appends.{with_single, appended_one, appended_by,
 use Rattle.script_meaning.specs.Moves.{nodes_played, synced, lacking, with_give, with_carry, pulled_from, pulled, trimmed}
 use Rattle.script_meaning.proofs.MoveCases.{play_answer, trimmed_answer, pull_answer, with_trim, base_answer, played, refused, synced_is, stayed, carried, given, pulled_is, from_is, from_all, trimmed_is}
 use Rattle.script_meaning.specs.Meaning.{done_one, done}
-use Rattle.script_meaning.proofs.Exactly.{IsClean, RunsTo, stays_there, runs_on, clean_from, complete_exact, taken_exact, clears_run, clears_exact}
-use Rattle.script_meaning.proofs.Leading.{line_of}
+use Rattle.script_meaning.proofs.GrantedSteps.{IsClean, RunsTo, stays_there, runs_on, clean_from, complete_exact, taken_exact, clears_run, clears_exact}
+use Rattle.script_meaning.proofs.Invariant.{line_of}
 
 -- some steps lead to the state, and replies are kept
 pub record Extends (old new : State) : Type 0 where

@@ -3,14 +3,14 @@ use Rattle.std.proofs.Common.{◌≡◌, ◌⊎◌, inl, inr, ℕ, zero, suc, �
 use Rattle.std.specs.Prelude.{IsTrue, slice_index, unwrap_or}
 use Rattle.std.specs.Option.{option_map}
 use Rattle.std.specs.List.{All, Contains, filter, flat_map, range_with_len, enumerate_from}
-use Rattle.std.proofs.lemmas.Bool.{lt-ltb}
+use Rattle.std.proofs.lemmas.Bool.{lt-ltb, ltb-true}
 use Rattle.std.proofs.lemmas.List.{map-append, length-map}
 use Rattle.std.proofs.lemmas.List.Elements.{All-nil, All-append, All-map}
 use Rattle.std.proofs.lemmas.Option.{slice_get-map}
 use Rattle.std.proofs.lemmas.Simd.{map-map}
 use Rattle.log_node.specs.declared.node.Shape.{Shape}
 use Rattle.skeen_core.specs.declared.marks.Outcome.TheVariants.{Open}
-use Rattle.skeen_core.specs.Standings.{Standing, queue_of}
+use Rattle.skeen_core.specs.Standings.{Standing, queue_of, open_entry}
 use Rattle.col_core.specs.declared.Entry.{Entry}
 use Rattle.col_core.specs.History.{entries}
 use Rattle.col_core.specs.Computed.{dated}
@@ -24,7 +24,7 @@ use Rattle.world_laws.specs.Worlds.{World, home_of}
 use Rattle.world_laws.specs.Laws.{log_of, rows_of_region}
 use Rattle.world_laws.proofs.Basics.{in_contains, contains_in, slice_last}
 use Rattle.world_laws.proofs.LawfulRows.{have_lawful_rows}
-use Rattle.world_laws.proofs.RegionRows.{all_in, OfRegion, of_region}
+use Rattle.world_laws.proofs.RegionRows.{all_in, OfRegion, of_region, same_number}
 use Rattle.script_text.specs.declared.script.Command.{Command}
 use Rattle.script_text.specs.declared.script.Script.{Script}
 use Rattle.script_text.specs.Fitting.{IsFitting}
@@ -32,20 +32,24 @@ use Rattle.report_text.specs.declared.report.QueueKey.{QueueKey}
 use Rattle.report_text.specs.declared.report.ReplyLine.{ReplyLine}
 use Rattle.report_text.specs.declared.report.ClientReport.{ClientReport}
 use Rattle.report_text.specs.declared.report.ColumnReport.{ColumnReport}
+use Rattle.lawful_run.specs.Callers.{caller_of}
 use Rattle.lawful_run.specs.Columns.{IsColumnReport, AreColumns, AreRows, AreCopies, IsClientIn}
-use Rattle.lawful_run.specs.Lawful.{IsClientRun, IsHelp, HasHelping, HasStopped, LeavesOpen, LawfulRun}
+use Rattle.lawful_run.specs.Appends.{IsStepOf}
+use Rattle.lawful_run.specs.Lawful.{IsClientRun, IsHelp, HasHelping, HasStopped, LeavesOpen, IsComplete, LawfulRun}
 use Rattle.script_meaning.specs.States.{State}
 use Rattle.script_meaning.specs.Meaning.{column_report, report_of}
 use Rattle.script_meaning.specs.Laws.{RunsAreLawful}
 use Rattle.lawful_run.proofs.Prefixes.{get_within}
 use Rattle.script_meaning.proofs.Lists.{in_range}
-use Rattle.script_meaning.proofs.Rows.{IsDone}
-use Rattle.script_meaning.proofs.RowSteps.{HasRow, open_row}
+use Rattle.script_meaning.proofs.Rows.{node_id, IsDone}
+use Rattle.script_meaning.proofs.StaysComplete.{step_of_one}
+use Rattle.script_meaning.proofs.Settled.{no_open}
+use Rattle.script_meaning.proofs.Completions.{HasRow, open_row}
 use Rattle.script_meaning.proofs.Reached.{held_of, told_of, listed_of}
 use Rattle.script_meaning.proofs.Clearing.{waits_not_done}
-use Rattle.script_meaning.proofs.Rowing.{by_client, rows_begun}
-use Rattle.script_meaning.proofs.Leading.{IsStopped, Runs}
-use Rattle.script_meaning.proofs.Whole.{all_at, runs_all}
+use Rattle.script_meaning.proofs.RowsOfClients.{by_client, rows_begun}
+use Rattle.script_meaning.proofs.Invariant.{IsStopped, Runs}
+use Rattle.script_meaning.proofs.InvariantHolds.{all_at, runs_all}
 
 -- Lists
 
@@ -238,7 +242,31 @@ module _ (script : Script) (fits : IsFitting script) (state : State) (is : Runs 
   unfolding log
   helpers region colour e lt lc among help =
       let m = is.helpers region colour e (in_contains _ _ among) help in
-      ((m.command, contains_in _ _ m.there, m.may), is.homes region colour e (in_contains _ _ among) help)
+      ((m.command, contains_in _ _ m.there, m.may), m.home)
+
+  -- the append of a row that is done is complete
+  complete : (region : ℕ) (r : BegunRow) (a : ℕ) (o : OfRegion w region a r)
+      → IsDone w (record { client = a; number = o.number }) → IsComplete log script region r
+  unfolding log
+  complete region r a o done = record {
+    decided = λ e. done.decided (ap (λ (y : BegunRow). y.last) o.is ∙ e);
+    open_nowhere = λ c _. subst (λ (y : BegunRow). open_entry y.node.id (entries (w.histories region c)) ≡ None) o.is
+        (no_open w (held_of w is.reached) region c (w.rows a o.number).node.id (done.waits region c));
+  }
+
+  helped : (region colour : ℕ) (e : Entry) (r : BegunRow) → region < regions → colour < colours
+      → Contains (log.histories region colour) e → IsHelp e.by e.event → Contains (log.rows region) r
+      → IsStepOf r.node.id e.event → IsComplete log script region r
+  unfolding log
+  helped region colour e r lt lc among help listed of =
+      let m = (is.helpers region colour e (in_contains _ _ among) help).complete in
+      let o = of_region w region r (in_contains _ _ listed) in
+      let ids : node_id w m.row ≡ (w.rows o.0 o.1.number).node.id =
+      step_of_one (node_id w m.row) r.node.id e.event m.of of ∙ ap (λ (y : BegunRow). y.node.id) (sym o.1.is) in
+      let same = same_number w (held_of w is.reached) m.row.client m.row.number o.0 o.1.number
+      (ltb-true _ _ m.begun) o.1.begun ids in
+      complete region r o.0 o.1 (subst (IsDone w) (ap (λ (n : ℕ). record { client = n; number = m.row.number }) same.0
+      ∙ ap (λ (n : ℕ). record { client = o.0; number = n }) same.1) m.done)
 
   -- a client that stopped is shown so
   has_stopped : (n : ℕ) → IsStopped script.commands state.replies n → HasStopped (report_of script state) n
@@ -302,6 +330,7 @@ module _ (script : Script) (fits : IsFitting script) (state : State) (is : Runs 
     begun = begun;
     copies = copies;
     helpers = helpers;
+    helped = helped;
     left_open = left_open;
   }
 

@@ -30,14 +30,15 @@ use Rattle.world_laws.proofs.CallerLemmas.{after_reached, run_reached}
 use Rattle.script_text.specs.declared.script.Object.{Object}
 use Rattle.lawful_run.specs.Callers.{Caller, node_of, row_of as named_row}
 use Rattle.lawful_run.specs.Appends.{IsStepOf, BeginsRow}
-use Rattle.lawful_run.proofs.Prefixes.{prefix_length, prefix_get}
+use Rattle.lawful_run.proofs.Prefixes.{prefix_length, prefix_get, get_within}
 use Rattle.script_meaning.proofs.Rows.{IsDone, IsStill, done_still, still_trans, step_still, run_still}
-use Rattle.script_meaning.proofs.RowSteps.{IsOn, on_touches}
-use Rattle.script_meaning.proofs.Moves.{StepIn, OnRow, on_steps, places_more, no_places, all_from}
+use Rattle.script_meaning.proofs.Completions.{IsOn, on_touches}
+use Rattle.script_meaning.proofs.Additions.{StepIn, OnRow, on_steps, places_more, no_places, all_from}
 use Rattle.script_meaning.proofs.Reached.{held_of, told_of, listed_of}
 use Rattle.script_meaning.proofs.Clearing.{Finished}
 use Rattle.script_meaning.proofs.Kept.{caller_in, IsKeptBy, later_log}
-use Rattle.script_meaning.proofs.One.{updated-not}
+use Rattle.script_meaning.proofs.AppendOne.{updated-not}
+use Rattle.script_meaning.proofs.Points.{made_seen}
 
 pub get_behind : {A : Type 0} (xs ys : List A) (i : ℕ) → slice_get (xs ++ ys) (length xs + i) ≡ slice_get ys i
 get_behind [] ys i = let e : 0 + i ≡ i = omega arith in ap (slice_get ys) e
@@ -156,6 +157,10 @@ module _ (objects : List Object) (w : World) (reached : IsReached w) (u : ℕ) (
       (ap (λ (l : List Entry). slice_get l (length (w.histories own c) + i)) (history3 c)
       ∙ (get_behind (w.histories own c) (more c) i ∙ at_i))
       ((on3.adds own c).each e (slice_in (more c) i e at_i)))
+
+  pub places_before : (c n : ℕ) → length (w3.histories own c) ≤ n → All (λ place. place < n) (places c)
+  places_before c n le = place_facts (λ place. place < n) c
+      (λ i e at_i _. let a = get_within (w3.histories own c) i e at_i in omega (arith, a, le))
 
   -- Other rows
 
@@ -311,7 +316,9 @@ module _ (objects : List Object) (w : World) (reached : IsReached w) (u : ℕ) (
     keeps3 = record {
       floor = k.floor ∙ ap (λ (s : ClientState). s.floor) (sym mine3);
       starts = k.starts ∙ ap (λ (s : ClientState). s.played) (sym mine3);
-      seen = λ r c. let a = k.seen r c in let b = longer3 r c in omega (arith, a, b);
+      seen = made_seen own (λ r c. length (w3.histories r c)) (with_row kept) places
+          (λ r c. let a = k.seen r c in let b = longer3 r c in omega (arith, a, b))
+          (λ c. places_before c (length (w3.histories own c)) (omega arith));
       known = λ c. subst (λ (s : Shape). kept.known c ≤ length (line (w3.histories (slice_index s.homes u) c)))
           (sym shape3)
           (let a = k.known c in let b = longer_line3 own c in omega (arith, a, b));

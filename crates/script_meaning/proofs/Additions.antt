@@ -23,8 +23,9 @@ use Rattle.world_laws.proofs.Keeps.{at_last}
 use Rattle.world_laws.proofs.Growing.{after_grows}
 use Rattle.lawful_run.specs.Appends.{IsStepOf}
 use Rattle.lawful_run.specs.Lawful.{IsHelp}
+use Rattle.script_meaning.proofs.StaysComplete.{OfDone}
 use Rattle.script_meaning.proofs.Rows.{node_id, still_begun}
-use Rattle.script_meaning.proofs.RowSteps.{IsOn}
+use Rattle.script_meaning.proofs.Completions.{IsOn}
 
 -- what comes to a history
 pub record Adds (P : Entry → Type 0) (old new : List Entry) : Type 0 where
@@ -275,11 +276,12 @@ all_from Q k client (e ∷ more) h =
 
 -- Helps
 
--- the event of another client's append, made by the client in its region
-pub record HelpIn (own by r : ℕ) (e : Entry) : Type 0 where
+-- the event of another client's append, made by the client in its region, which is complete in the world afterwards
+pub record HelpIn (w : World) (own by r : ℕ) (e : Entry) : Type 0 where
   pub at_home : r ≡ own
   pub made : e.by ≡ by
   pub help : IsHelp by e.event
+  pub complete : OfDone w e.event
 
 pub help_of : (by : ℕ) (id : Id) (ev : Event) → (id.client ≡ by → ⊥) → IsStepOf id ev → IsHelp by ev
 help_of by id (events.Single other floor wants) ne s = s

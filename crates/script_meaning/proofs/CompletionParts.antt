@@ -22,7 +22,7 @@ use Rattle.world_laws.proofs.Marks.{has_colour}
 use Rattle.world_laws.proofs.Completing.{mark_step_marks}
 use Rattle.world_laws.proofs.Growing.{run_grows}
 use Rattle.script_meaning.proofs.Rows.{still_begun}
-use Rattle.script_meaning.proofs.Several.{Rising}
+use Rattle.script_meaning.proofs.AppendSeveral.{Rising}
 
 -- the step sets the mark of the colour
 abbrev pub MarksColour : ℕ → Step → Type 0

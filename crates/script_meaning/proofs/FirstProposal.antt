@@ -30,10 +30,10 @@ use Rattle.world_laws.proofs.RegionRows.{same_number}
 use Rattle.world_laws.proofs.Told.{FitsEvent}
 use Rattle.script_text.specs.declared.script.Object.{Object}
 use Rattle.lawful_run.specs.Appends.{IsStepOf}
-use Rattle.script_meaning.proofs.RowSteps.{IsOn}
-use Rattle.script_meaning.proofs.Moves.{StepIn, OnRow}
+use Rattle.script_meaning.proofs.Completions.{IsOn}
+use Rattle.script_meaning.proofs.Additions.{StepIn, OnRow}
 use Rattle.script_meaning.proofs.Reached.{held_of, told_of}
-use Rattle.script_meaning.proofs.Begun as begun
+use Rattle.script_meaning.proofs.BeginRow as begun
 
 pub in_any : {A : Type 0} (test : A → Bool) (xs : List A) (x : A) → In x xs → test x ≡ true → list_any test xs ≡ true
 in_any test [] x i t = absurd i

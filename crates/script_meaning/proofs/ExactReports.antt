@@ -29,12 +29,12 @@ use Rattle.script_meaning.specs.States.{State, all_granted, opening}
 use Rattle.script_meaning.specs.Meaning.{done, LeadTo, nothing, next, report_of, FindsMemory}
 use Rattle.script_meaning.specs.Laws.{RunsAreExact}
 use Rattle.script_meaning.proofs.Reached.{told_of}
-use Rattle.script_meaning.proofs.Exactly.{IsClean, clean_from}
-use Rattle.script_meaning.proofs.Leading.{Runs}
+use Rattle.script_meaning.proofs.GrantedSteps.{IsClean, clean_from}
+use Rattle.script_meaning.proofs.Invariant.{Runs}
 use Rattle.script_meaning.proofs.Lists.{range_in, in_map_back}
-use Rattle.script_meaning.proofs.Lawfulness.{numbered-at, numbered-get}
-use Rattle.script_meaning.proofs.Whole.{all_at, runs_all}
-use Rattle.script_meaning.proofs.OneExactly.{done_extends, done_exact}
+use Rattle.script_meaning.proofs.LawfulReports.{numbered-at, numbered-get}
+use Rattle.script_meaning.proofs.InvariantHolds.{all_at, runs_all}
+use Rattle.script_meaning.proofs.GrantedCommands.{done_extends, done_exact}
 
 -- All commands
 

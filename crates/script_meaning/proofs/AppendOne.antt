@@ -40,11 +40,11 @@ use Rattle.script_meaning.specs.States.{Grants, position_of}
 use Rattle.script_meaning.specs.Helping.{all_cleared}
 use Rattle.script_meaning.specs.Appends.{point_in, with_single}
 use Rattle.script_meaning.proofs.Rows.{IsDone, single_still, done_still, in_past, standing_as}
-use Rattle.script_meaning.proofs.Moves.{adds_trans, adds_map, adds_last, HelpIn, help_not_own, places_more, no_places}
+use Rattle.script_meaning.proofs.Additions.{adds_trans, adds_map, adds_last, HelpIn, help_not_own, places_more, no_places}
 use Rattle.script_meaning.proofs.Reached.{held_of, listed_of}
 use Rattle.script_meaning.proofs.Clearing.{Finished, Helped, helped_reached, helped_finished, ClearsAll, clear_all}
 use Rattle.script_meaning.proofs.Lines.{stands_there, final_stays, absent_line, position_behind}
-use Rattle.script_meaning.proofs.Kept.{caller_in, IsKeptBy, MadeBy, Does, later_log}
+use Rattle.script_meaning.proofs.Kept.{caller_in, IsKeptBy, MadeBy, made_helping, Does, later_log}
 
 pub caller_same : (w w' : World) (objects : List Object) (client : ℕ) → w'.shape ≡ w.shape
     → caller_in w' objects client ≡ caller_in w objects client
@@ -141,7 +141,7 @@ module _ (objects : List Object) (S : ℕ → Type 0) (grants : Grants) (w : Wor
       ∙ (status-last h e id ∙ if_true _ (Alone stamp) (status_in h id) (same_id-refl id))))
 
   final2 : In (standing_as stamp id true) (entries (w2.histories own c))
-  final2 = final_stays (HelpIn own u own) w1 w2 (held_of w1 reached1) (held_of w2 reached2) own c
+  final2 = final_stays (HelpIn w2 own u own) w1 w2 (held_of w1 reached1) (held_of w2 reached2) own c
       (clears.helped.adds own c) stamp id final1
 
   abbrev position : ℕ
@@ -319,12 +319,12 @@ module _ (objects : List Object) (S : ℕ → Type 0) (grants : Grants) (w : Wor
         run = steps_run;
         shape = shape2;
         others = λ n ne. clears.helped.clients n ∙ updated-not w.clients u (single_client w u c) n ne;
-        adds = λ r d. adds_trans (MadeBy u (whats.Append colours text) own r) (w.histories r d) (w1.histories r d)
+        adds = λ r d. adds_trans (MadeBy u (whats.Append colours text) w2 own r) (w.histories r d) (w1.histories r d)
             (w2.histories r d)
-            (adds_last (λ r _. MadeBy u (whats.Append colours text) own r) (with_client w u (single_client w u c)) own c e
-            (record { made = refl; may = λ x. absurd x; home = λ x. absurd x }) r d)
-            (adds_map (HelpIn own u r) (MadeBy u (whats.Append colours text) own r) (w1.histories r d) (w2.histories r d)
-            (λ f i. record { made = i.made; may = λ _. refl; home = λ _. i.at_home }) (clears.helped.adds r d));
+            (adds_last (λ r _. MadeBy u (whats.Append colours text) w2 own r) (with_client w u (single_client w u c)) own c
+            e (record { made = refl; help = λ x. absurd x }) r d)
+            (adds_map (HelpIn w2 own u r) (MadeBy u (whats.Append colours text) w2 own r) (w1.histories r d)
+            (w2.histories r d) (made_helping u (whats.Append colours text) w2 own r refl) (clears.helped.adds r d));
         keeps = λ kept k. record {
           after = kept' colours one set kept k;
           keeps = keeps colours one set kept k;

@@ -10,7 +10,7 @@ use Rattle.col_core.specs.Log.{Log}
 use Rattle.col_core.specs.Keeping.{Kept, nothing_kept}
 use Rattle.col_core.proofs.Basics.{by_test, apart}
 use Rattle.col_core.proofs.Members.{In}
-use Rattle.world_laws.specs.Worlds.{home_of, World}
+use Rattle.world_laws.specs.Worlds.{World, home_of}
 use Rattle.world_laws.specs.Laws.{IsReached, log_of}
 use Rattle.world_laws.proofs.Basics.{at_updated, updated-here, in_append, in_left, in_right}
 use Rattle.world_laws.proofs.CallerLemmas.{opened_reached, run_reached}
@@ -31,7 +31,9 @@ use Rattle.lawful_run.specs.Explains.{Explains, Answers, Explained, start, next}
 use Rattle.lawful_run.specs.Lawful.{IsHelp}
 use Rattle.lawful_run.proofs.Later.{explained_later}
 use Rattle.script_meaning.specs.States.{State, opening, is_built, answered}
+use Rattle.script_meaning.proofs.Reached.{held_of}
 use Rattle.script_meaning.proofs.Rows.{IsDone}
+use Rattle.script_meaning.proofs.StaysComplete.{OfDone, of_done_stays}
 use Rattle.script_meaning.proofs.Clearing.{Finished}
 use Rattle.script_meaning.proofs.Kept.{caller_in, IsKeptBy, MadeBy, Does, later_log, kept_other}
 use Rattle.script_meaning.proofs.Lists.{asked_by, asked-own, asked-other}
@@ -102,11 +104,14 @@ pub record IsExplained (script : Script) (w : World) (client : ℕ) (commands : 
   pub explained : Explained (log_of w) (caller_of script client) commands replies kept
   pub keeps : IsKeptBy w client kept
 
--- a client asked a command that may help
-pub record MayHelp (commands : List Command) (client : ℕ) : Type 0 where
+-- a help in a column of the region: its maker is of the region and asked a command that may help, and the append that
+-- it helps is complete
+pub record IsFitHelp (script : Script) (commands : List Command) (w : World) (region : ℕ) (e : Entry) : Type 0 where
   pub command : Command
-  pub there : In command (asked_by client commands)
+  pub there : In command (asked_by e.by commands)
   pub may : IsTrue (may_help (manner_of command.what))
+  pub home : slice_index script.shape.homes e.by ≡ region
+  pub complete : OfDone w e.event
 
 -- what holds after the first commands
 pub record Runs (script : Script) (commands : List Command) (state : State) : Type 0 where
@@ -114,9 +119,8 @@ pub record Runs (script : Script) (commands : List Command) (state : State) : Ty
   pub shape : state.world.shape ≡ script.shape
   pub clients : (n : ℕ) → IsExplained script state.world n (asked_by n commands) (state.replies n)
   pub makers : (r c : ℕ) (e : Entry) → In e (state.world.histories r c) → e.by < length script.shape.homes
-  pub helpers : (r c : ℕ) (e : Entry) → In e (state.world.histories r c) → IsHelp e.by e.event → MayHelp commands e.by
-  pub homes : (r c : ℕ) (e : Entry) → In e (state.world.histories r c) → IsHelp e.by e.event
-      → slice_index script.shape.homes e.by ≡ r
+  pub helpers : (r c : ℕ) (e : Entry) → In e (state.world.histories r c) → IsHelp e.by e.event
+      → IsFitHelp script commands state.world r e
   pub finished : Finished (IsStopped commands state.replies) state.world
 
 -- a command of a client of the script that has not stopped
@@ -147,7 +151,6 @@ runs_opening script = record {
   };
   makers = λ r c e i. absurd i;
   helpers = λ r c e i h. absurd i;
-  homes = λ r c e i h. absurd i;
   finished = λ row b. absurd (none row.number b);
 } where
   none : (n : ℕ) → nat_lt n 0 ≡ true → ⊥
@@ -242,21 +245,23 @@ module _ (script : Script) (commands : List Command) (state : State) (command : 
         (λ f. other_after n (λ e. apart (n == u) (eq-eqb n u e) f))
 
     in_history : (r c : ℕ) (e : Entry) → In e (w'.histories r c)
-        → In e (w.histories r c) ⊎ MadeBy u command.what (home_of w u) r e
+        → In e (w.histories r c) ⊎ MadeBy u command.what w' (home_of w u) r e
     in_history r c e i =
         let a = does.adds r c in
         turn (in_append e (w.histories r c) a.more (subst (λ (h : List Entry). In e h) a.is i)) where
-          turn : In e (w.histories r c) ⊎ In e (does.adds r c).more → In e (w.histories r c) ⊎ MadeBy u command.what (home_of w u) r e
+          turn : In e (w.histories r c) ⊎ In e (does.adds r c).more
+              → In e (w.histories r c) ⊎ MadeBy u command.what w' (home_of w u) r e
           turn (inl j) = inl j
           turn (inr j) = inr ((does.adds r c).each e j)
 
     makers_after : (r c : ℕ) (e : Entry) → In e (w'.histories r c) → e.by < length script.shape.homes
     makers_after r c e i = turn (in_history r c e i) where
-      turn : In e (w.histories r c) ⊎ MadeBy u command.what (home_of w u) r e → e.by < length script.shape.homes
+      turn : In e (w.histories r c) ⊎ MadeBy u command.what w' (home_of w u) r e → e.by < length script.shape.homes
       turn (inl j) = runs.makers r c e j
       turn (inr m) = subst (λ (n : ℕ). n < length script.shape.homes) (sym m.made) fit.caller
 
-    helpers_after : (r c : ℕ) (e : Entry) → In e (w'.histories r c) → IsHelp e.by e.event → MayHelp commands' e.by
+    helpers_after : (r c : ℕ) (e : Entry) → In e (w'.histories r c) → IsHelp e.by e.event
+        → IsFitHelp script commands' w' r e
     helpers_after r c e i h = turn (in_history r c e i) where
       asked_more : (n : ℕ) (d : Command) → In d (asked_by n commands) → In d (asked_by n commands')
       asked_more n d j =
@@ -266,26 +271,27 @@ module _ (script : Script) (commands : List Command) (state : State) (command : 
           (λ f. subst (λ (l : List Command). In d l)
           (sym (asked-other n commands command (λ e. apart (u == n) (eq-eqb u n e) f))) j)
 
-      turn : In e (w.histories r c) ⊎ MadeBy u command.what (home_of w u) r e → MayHelp commands' e.by
+      turn : In e (w.histories r c) ⊎ MadeBy u command.what w' (home_of w u) r e → IsFitHelp script commands' w' r e
       turn (inl j) =
           let m = runs.helpers r c e j h in
-          record { command = m.command; there = asked_more e.by m.command m.there; may = m.may }
-      turn (inr m) = record {
-        command = command;
-        there = subst (λ (l : List Command). In command l) (sym (asked-own e.by commands command (sym m.made)))
-            (in_right command (asked_by e.by commands) (command ∷ []) (inl refl));
-        may = m.may (subst (λ (n : ℕ). IsHelp n e.event) m.made h);
-      }
-
-    homes_after : (r c : ℕ) (e : Entry) → In e (w'.histories r c) → IsHelp e.by e.event
-        → slice_index script.shape.homes e.by ≡ r
-    homes_after r c e i h = turn (in_history r c e i) where
-      turn : In e (w.histories r c) ⊎ MadeBy u command.what (home_of w u) r e → slice_index script.shape.homes e.by ≡ r
-      turn (inl j) = runs.homes r c e j h
+          record {
+            command = m.command;
+            there = asked_more e.by m.command m.there;
+            may = m.may;
+            home = m.home;
+            complete = of_done_stays w w' (held_of w runs.reached) does.steps does.run e.event m.complete;
+          }
       turn (inr m) =
-          ap (slice_index script.shape.homes) m.made
-          ∙ (ap (λ (s : Shape). slice_index s.homes u) (sym runs.shape)
-          ∙ sym (m.home (subst (λ (n : ℕ). IsHelp n e.event) m.made h)))
+          let k = m.help (subst (λ (n : ℕ). IsHelp n e.event) m.made h) in
+          record {
+            command = command;
+            there = subst (λ (l : List Command). In command l) (sym (asked-own e.by commands command (sym m.made)))
+                (in_right command (asked_by e.by commands) (command ∷ []) (inl refl));
+            may = k.may;
+            home = ap (slice_index script.shape.homes) m.made
+                ∙ (ap (λ (s : Shape). slice_index s.homes u) (sym runs.shape) ∙ sym k.home);
+            complete = k.complete;
+          }
 
     -- who stopped before has stopped still
     stopped_still : (n : ℕ) → IsStopped commands state.replies n → IsStopped commands' state'.replies n
@@ -316,7 +322,6 @@ module _ (script : Script) (commands : List Command) (state : State) (command : 
       clients = clients_after;
       makers = makers_after;
       helpers = helpers_after;
-      homes = homes_after;
       finished = f;
     }
 

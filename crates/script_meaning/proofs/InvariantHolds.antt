@@ -31,14 +31,14 @@ use Rattle.script_meaning.specs.Meaning.{done_one, done, LeadTo, nothing, next}
 use Rattle.script_meaning.proofs.Clearing.{Finished}
 use Rattle.script_meaning.proofs.Kept.{Does, did_nothing}
 use Rattle.script_meaning.proofs.Sets.{one_is_power}
-use Rattle.script_meaning.proofs.One as one
-use Rattle.script_meaning.proofs.Moving as moving
-use Rattle.script_meaning.proofs.Begun as begun
-use Rattle.script_meaning.proofs.Several as several
-use Rattle.script_meaning.proofs.Final as final
+use Rattle.script_meaning.proofs.AppendOne as one
+use Rattle.script_meaning.proofs.AfterMoves as moving
+use Rattle.script_meaning.proofs.BeginRow as begun
+use Rattle.script_meaning.proofs.AppendSeveral as several
+use Rattle.script_meaning.proofs.AppendFinal as final
 use Rattle.script_meaning.proofs.Refusing.{did_end_one, did_full, did_stop_at_once}
 use Rattle.script_meaning.proofs.Stopping as stopping
-use Rattle.script_meaning.proofs.Leading.{IsStopped, Runs, IsFit, runs_opening, runs_done, runs_stopped, free}
+use Rattle.script_meaning.proofs.Invariant.{IsStopped, Runs, IsFit, runs_opening, runs_done, runs_stopped, free}
 
 pub all_at : {A : Type 0} (P : A → Type 0) (xs : List A) → All P xs → (x : A) → In x xs → P x
 all_at P xs all x i = let c = contains_in xs x i in subst P c.2 (all c.0 x c.1)
