@@ -187,10 +187,9 @@ module _ (log : Log) (caller : Caller) where
   hidden_read kept colours after h = turn h.after_is where
     none : (colour place : ℕ) (id : Id) → Contains (h.places colour) place → IsSingleAt log caller.own colour place id → ⊥
     none colour place id i =
-        let r = All-contains (λ (p : ℕ). Contains colours colour
-        × (slice_get (log.histories caller.own colour) p ≡ Some (record { by = caller.client; event = events.Raise h.stamp; stamp = 0 })))
-        (h.places colour) place (h.raises colour) i in
-        no_single log caller.own colour place id _ r.1 tt
+        let r = All-contains (λ (p : ℕ). Contains colours colour × RaisesAt log caller kept h.stamp colour (ats.Event p))
+            (h.places colour) place (h.raises colour) i in
+        no_single log caller.own colour place id _ r.1.2 tt
 
     before : Quiet log kept h.synced
     before = hidden_syncs kept colours h.synced h.syncing

@@ -27,7 +27,8 @@ use Rattle.report_text.specs.declared.report.PointPiece.{PointPiece}
 use Rattle.report_text.specs.declared.report.ReplyLine.{ReplyLine}
 use Rattle.lawful_run.specs.Callers.{Caller, node_of}
 use Rattle.lawful_run.specs.Asks.{AsksToAppend, colours_synced, manner_of}
-use Rattle.lawful_run.specs.Appends.{BeginsRow, AppendsOne, Appends, AppendsUnshown, one_unshown, several_unshown, kept_after_points, HasNoStamp, none_for_one, none_for_several, Stops, stopped_at_once, stopped_after}
+use Rattle.lawful_run.specs.Appends.{BeginsRow, AppendsOne, Appends, AppendsUnshown, one_unshown, several_unshown, kept_after_points, HasNoStamp, none_for_one, none_for_several}
+use Rattle.lawful_run.specs.Stops.{Stops, stopped_at_once, stopped_after}
 use Rattle.lawful_run.specs.Refusals.{FindsNoMemory, nothing, gone, gave, hidden, kept_before, kept_behind}
 use Rattle.lawful_run.specs.Explains.{Explains, Answers, Explained, start, next}
 use Rattle.lawful_run.specs.Readings.{Told, Nowhere, told, kept_at}
