@@ -13,3 +13,6 @@ pub mod Origins
 pub mod Standing
 pub mod Returned
 pub mod Lines
+pub mod Onward
+pub mod Shown
+pub mod Once

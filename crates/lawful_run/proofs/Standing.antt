@@ -53,7 +53,7 @@ places_there client (d ∷ h) p (suc n) e there own =
     choice (λ (l : List ℕ). In (p + suc n) l) ((d.by == client) && is_own client d.event) (p ∷ places_from (p + 1) client h) (places_from (p + 1) client h)
     (λ t. inr moved) (λ f. moved)
 
-get_there : {A : Type 0} (xs : List A) (n : ℕ) → n < length xs → (x : A) × (slice_get xs n ≡ Some x)
+pub get_there : {A : Type 0} (xs : List A) (n : ℕ) → n < length xs → (x : A) × (slice_get xs n ≡ Some x)
 get_there [] n lt = absurd (let f : ⊥ = omega (arith, lt) in f)
 get_there (x ∷ xs) zero lt = (x, refl)
 get_there (x ∷ xs) (suc n) lt = get_there xs n (omega (arith, lt))
