@@ -354,7 +354,8 @@ module _ (objects : List Object) (S : ℕ → Type 0) (grants : Grants) (w : Wor
             let m : max (kept_after_points kept own points).floor f ≡ f = omega (arith, a, b, c) in
             m ∙ ap (λ (s : ClientState). s.floor) (sym mine6);
         starts = all_points.starts ∙ (k.starts ∙ ap (λ (s : ClientState). s.played) (sym mine6));
-        seen = made_seen own (λ r c. length (w6.histories r c)) (with_row (with_floor (kept_after_points kept own points) f))
+        seen = made_seen own (λ r c. length (w6.histories r c))
+            (with_row (with_floor (kept_after_points kept own points) f))
             places all_points.seen (λ c. begun.places_before objects w reached u colours text ok L on c
             (length (w6.histories own c))
             (prefix_length (w3.histories own c) (w6.histories own c) (later36.histories own c)));
