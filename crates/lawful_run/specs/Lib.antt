@@ -10,3 +10,4 @@ pub mod Explains
 pub mod Columns
 pub mod Lawful
 pub mod Laws
+pub mod Readings
