@@ -38,74 +38,99 @@ use Rattle.lawful_run.proofs.LaterAppends.{append_later, unshown_later, has_no_s
 use Rattle.lawful_run.proofs.LaterReads.{syncs_later, played_later, piece_same, trimmed_later, read_later, keys_later, shows_key_later, hides_later}
 
 module _ (old new : Log) (later : IsLater old new) (caller : Caller) where
-  gives_later : (region colour place from : ℕ) → GivesAt old caller region colour place from → GivesAt new caller region colour place from
+  gives_later : (region colour place from : ℕ) → GivesAt old caller region colour place from
+      → GivesAt new caller region colour place from
   gives_later region colour place from g = entry_later old new later region colour place _ g
 
-  too_low_later : (region colour place : ℕ) → GivesTooLow old caller region colour place → GivesTooLow new caller region colour place
+  too_low_later : (region colour place : ℕ) → GivesTooLow old caller region colour place
+      → GivesTooLow new caller region colour place
   too_low_later region colour place g =
       let l = place_there old new later region colour place _ g.1 in
-      (g.0, gives_later region colour place g.0 g.1, subst (λ (h : List Dated). g.0 < at (base region caller.regions h) region) (sym (first_same old new later region colour place (omega (arith, l)))) g.2)
+      (g.0, gives_later region colour place g.0 g.1, subst
+          (λ (h : List Dated). g.0 < at (base region caller.regions h) region)
+              (sym (first_same old new later region colour place (omega (arith, l)))) g.2)
 
-  carries_later : (kept : Kept) (region colour nodes : ℕ) (at : At) → CarriesAt old caller kept region colour nodes at → CarriesAt new caller kept region colour nodes at
-  carries_later kept region colour nodes (Event place) c = (c.0, c.1, c.2, entry_later old new later caller.own colour place _ c.3, c.4)
-  carries_later kept region colour nodes (Look events) c = (c.0, still_there old new later caller.own colour events c.1, c.2)
+  carries_later : (kept : Kept) (region colour nodes : ℕ) (at : At)
+      → CarriesAt old caller kept region colour nodes at → CarriesAt new caller kept region colour nodes at
+  carries_later kept region colour nodes (Event place) c =
+      (c.0, c.1, c.2, entry_later old new later caller.own colour place _ c.3, c.4)
+  carries_later kept region colour nodes (Look events) c =
+      (c.0, still_there old new later caller.own colour events c.1, c.2)
 
   -- what was seen, and what a carry has seen, were there
   carry_there : (kept : Kept) (region colour nodes : ℕ) (at : At) → CarriesAt old caller kept region colour nodes at
-      → (kept.seen caller.own colour ≤ length (old.histories caller.own colour)) × (seen_after at ≤ length (old.histories caller.own colour))
-  carry_there kept region colour nodes (Event place) c = let l = place_there old new later caller.own colour place _ c.3 in let s = c.0 in (omega (arith, l, s), omega (arith, l))
+      → (kept.seen caller.own colour ≤ length (old.histories caller.own colour))
+          × (seen_after at ≤ length (old.histories caller.own colour))
+  carry_there kept region colour nodes (Event place) c = let l =
+      place_there old new later caller.own colour place _ c.3 in let s = c.0 in (omega (arith, l, s), omega (arith, l))
   carry_there kept region colour nodes (Look events) c = let l = c.1 in let s = c.0 in (omega (arith, l, s), l)
 
-  pulls_later : (kept : Kept) (region colour nodes place : ℕ) (carry : At) (too_low : List ℕ) → Pulls old caller kept region colour nodes place carry too_low → Pulls new caller kept region colour nodes place carry too_low
+  pulls_later : (kept : Kept) (region colour nodes place : ℕ) (carry : At) (too_low : List ℕ)
+      → Pulls old caller kept region colour nodes place carry too_low
+          → Pulls new caller kept region colour nodes place carry too_low
   pulls_later kept region colour nodes place carry too_low p =
       let l = place_there old new later region colour place _ p.gives in
       let c = carry_there kept region colour nodes carry p.carries in
       let line_same = taken_same old new later region colour place (omega (arith, l)) in
       record {
         another = p.another;
-        made_again = all_of (GivesTooLow old caller region colour) (GivesTooLow new caller region colour) (too_low_later region colour) too_low p.made_again;
+        made_again = all_of (GivesTooLow old caller region colour) (GivesTooLow new caller region colour)
+            (too_low_later region colour) too_low p.made_again;
         unseen = p.unseen;
         from = p.from;
         gives = gives_later region colour place p.from p.gives;
-        asks_on = subst (λ (h : List Dated). min (length (line (take place (new.histories region colour)))) (length (chain caller.own h region)) ≤ p.from)
+        asks_on = subst (λ (h : List Dated). min (length (line (take place (new.histories region colour))))
+            (length (chain caller.own h region)) ≤ p.from)
             (sym (first_same old new later caller.own colour (kept.seen caller.own colour) c.0))
-            (subst (λ (h : List Entry). min (length (line h)) (length (chain caller.own (first old caller.own colour (kept.seen caller.own colour)) region)) ≤ p.from) (sym line_same) p.asks_on);
+            (subst (λ (h : List Entry). min (length (line h))
+                (length (chain caller.own (first old caller.own colour
+                    (kept.seen caller.own colour)) region)) ≤ p.from) (sym line_same) p.asks_on);
         carries = carries_later kept region colour nodes carry p.carries;
-        holds = subst (λ (h : List Dated). length (line (take place (new.histories region colour))) ≤ length (chain caller.own h region))
+        holds = subst (λ (h : List Dated). length (line (take place (new.histories region colour))) ≤ length
+            (chain caller.own h region))
             (sym (first_same old new later caller.own colour (seen_after carry) c.1))
-            (subst (λ (h : List Entry). length (line h) ≤ length (chain caller.own (first old caller.own colour (seen_after carry)) region)) (sym line_same) p.holds);
+            (subst (λ (h : List Entry). length (line h) ≤ length
+                (chain caller.own (first old caller.own colour (seen_after carry)) region)) (sym line_same) p.holds);
       }
 
-  trims_later : (kept : Kept) (colour place : ℕ) (shown : Counts) → Trims old caller kept colour place shown → Trims new caller kept colour place shown
+  trims_later : (kept : Kept) (colour place : ℕ) (shown : Counts) → Trims old caller kept colour place shown
+      → Trims new caller kept colour place shown
   trims_later kept colour place shown t =
       let l = place_there old new later caller.own colour place _ t.trimmed in record {
         unseen = t.unseen;
         trimmed = entry_later old new later caller.own colour place _ t.trimmed;
-        is_base = t.is_base ∙ ap (base caller.own caller.regions) (sym (first_same old new later caller.own colour (place + 1) (omega (arith, l))));
+        is_base = t.is_base ∙ ap (base caller.own caller.regions)
+            (sym (first_same old new later caller.own colour (place + 1) (omega (arith, l))));
       }
 
   -- OBJECTS
-  gets_later : (colours : List ℕ) (sync : SyncPiece) (key : List ℕ) (value : Value) → sync.events ≤ length (old.histories caller.own sync.colour)
+  gets_later : (colours : List ℕ) (sync : SyncPiece) (key : List ℕ) (value : Value)
+      → sync.events ≤ length (old.histories caller.own sync.colour)
       → GetsValue old caller colours sync key value → GetsValue new caller colours sync key value
   gets_later colours sync key value there g = record {
     nodes = g.nodes;
-    played = subst (λ (h : List Entry). AreObjectNodes new (take (at sync.counts caller.own) (line h)) g.nodes) (sym (taken_same old new later caller.own sync.colour sync.events there))
+    played = subst (λ (h : List Entry). AreObjectNodes new (take (at sync.counts caller.own) (line h)) g.nodes)
+        (sym (taken_same old new later caller.own sync.colour sync.events there))
         (objects_later old new later (own_played old caller sync) g.nodes g.played);
     value_is = g.value_is;
   }
 
-  chain_node_later : (sync : SyncPiece) → sync.events ≤ length (old.histories caller.own sync.colour) → (place : Place) (node : ChainNode)
-      → IsChainNode old (chain caller.own (first old caller.own sync.colour sync.events)) place node → IsChainNode new (chain caller.own (first new caller.own sync.colour sync.events)) place node
+  chain_node_later : (sync : SyncPiece) → sync.events ≤ length (old.histories caller.own sync.colour)
+      → (place : Place) (node : ChainNode)
+      → IsChainNode old (chain caller.own (first old caller.own sync.colour sync.events)) place node
+          → IsChainNode new (chain caller.own (first new caller.own sync.colour sync.events)) place node
   chain_node_later sync there place node n = record {
     head = n.head;
-    stands = subst (λ (h : List Dated). Stands (chain caller.own h) place n.head) (sym (first_same old new later caller.own sync.colour sync.events there)) n.stands;
+    stands = subst (λ (h : List Dated). Stands (chain caller.own h) place n.head)
+        (sym (first_same old new later caller.own sync.colour sync.events there)) n.stands;
     region_is = n.region_is;
     position_is = n.position_is;
     needs_are = n.needs_are;
     text = text_later old new later _ _ n.text;
   }
 
-  gets_values_later : (sync : SyncPiece) (key : List ℕ) (values : List (List ℕ)) → sync.events ≤ length (old.histories caller.own sync.colour)
+  gets_values_later : (sync : SyncPiece) (key : List ℕ) (values : List (List ℕ))
+      → sync.events ≤ length (old.histories caller.own sync.colour)
       → GetsValues old caller sync key values → GetsValues new caller sync key values
   gets_values_later sync key values there g = record {
     nodes = g.nodes;
@@ -113,32 +138,47 @@ module _ (old new : Log) (later : IsLater old new) (caller : Caller) where
     answer = g.answer;
   }
 
-  takes_later : (point : PointPiece) (value : Value) → point.position ≤ length (line (old.histories caller.own point.colour)) → Takes old caller point value → Takes new caller point value
+  takes_later : (point : PointPiece) (value : Value)
+      → point.position ≤ length (line (old.histories caller.own point.colour)) → Takes old caller point value
+          → Takes new caller point value
   takes_later point value there t = record {
     nodes = t.nodes;
-    before = subst (λ (keys : List Key). AreObjectNodes new keys t.nodes) (sym (prefix_take _ _ point.position (later.lines caller.own point.colour) there))
-        (objects_later old new later (take point.position (line (old.histories caller.own point.colour))) t.nodes t.before);
+    before = subst (λ (keys : List Key). AreObjectNodes new keys t.nodes)
+        (sym (prefix_take _ _ point.position (later.lines caller.own point.colour) there))
+        (objects_later old new later (take point.position
+            (line (old.histories caller.own point.colour))) t.nodes t.before);
     value_is = t.value_is;
   }
 
   -- a point's position is within its line
-  point_there : (kept : Kept) (node : Node) (stamp : ℕ) (point : PointPiece) (after : Kept) → Appends old caller kept node stamp None (point ∷ []) after → point.position ≤ length (line (old.histories caller.own point.colour))
-  point_there kept node stamp point after a = let l = get_within (line (old.histories caller.own point.colour)) point.position _ a.3.stands in omega (arith, l)
+  point_there : (kept : Kept) (node : Node) (stamp : ℕ) (point : PointPiece) (after : Kept)
+      → Appends old caller kept node stamp None (point ∷ []) after
+          → point.position ≤ length (line (old.histories caller.own point.colour))
+  point_there kept node stamp point after a = let l =
+      get_within (line (old.histories caller.own point.colour)) point.position _ a.3.stands in omega (arith, l)
 
-  memory_later : (kept : Kept) (what : What) (after : Kept) → FindsNoMemory old caller kept what after → FindsNoMemory new caller kept what after
+  memory_later : (kept : Kept) (what : What) (after : Kept) → FindsNoMemory old caller kept what after
+      → FindsNoMemory new caller kept what after
   memory_later kept what after nothing = nothing
-  memory_later kept what after (gone colours text places asks g) = gone colours text places asks (for_memory_later old new later caller kept (node_of caller kept colours text) places g)
+  memory_later kept what after (gone colours text places asks g) =
+      gone colours text places asks (for_memory_later old new later caller kept
+          (node_of caller kept colours text) places g)
   memory_later kept what after (gave region colour too_low gives is low few all) =
-      gave region colour too_low gives is (all_of (GivesTooLow old caller region colour) (GivesTooLow new caller region colour) (too_low_later region colour) too_low low) few
+      gave region colour too_low gives is (all_of (GivesTooLow old caller region colour)
+          (GivesTooLow new caller region colour) (too_low_later region colour) too_low low) few
       (λ k d lt. let g = all k d lt in (g.0, gives_later region colour _ g.0 g.1))
-  memory_later kept what after (hidden then h) = hidden then (hides_later old new later caller kept (colours_synced caller what) (manner_of what) then h)
+  memory_later kept what after (hidden then h) = hidden then
+      (hides_later old new later caller kept (colours_synced caller what) (manner_of what) then h)
 
-  explains_later : (kept : Kept) (what : What) (answer : Answer) (nodes : List PlacedNode) (after : Kept) → Explains old caller kept what answer nodes after → Explains new caller kept what answer nodes after
+  explains_later : (kept : Kept) (what : What) (answer : Answer) (nodes : List PlacedNode) (after : Kept)
+      → Explains old caller kept what answer nodes after → Explains new caller kept what answer nodes after
   explains_later kept what answers.NoMemory nodes after e = (e.0, memory_later kept what after e.1)
   explains_later kept what (answers.Stood stamp row points) nodes after e =
-      (e.0, e.1, (e.2.0, e.2.1, e.2.2, append_later old new later caller kept (node_of caller kept e.2.0 e.2.1) stamp row points after e.2.3))
+      (e.0, e.1, (e.2.0, e.2.1, e.2.2, append_later old new later caller kept
+          (node_of caller kept e.2.0 e.2.1) stamp row points after e.2.3))
   explains_later kept what (answers.StampEnd colour) nodes after e =
-      (e.0, e.1, (e.2.0, e.2.1, e.2.2, has_no_stamp_later old new later caller kept (node_of caller kept e.2.0 e.2.1) colour after e.2.3))
+      (e.0, e.1, (e.2.0, e.2.1, e.2.2, has_no_stamp_later old new later caller kept
+          (node_of caller kept e.2.0 e.2.1) colour after e.2.3))
   explains_later kept what (answers.Full used) nodes after e = e
   explains_later kept what (answers.Stopped steps) nodes after e =
       (e.0, e.1, e.2, e.3, stops_later old new later caller kept (node_of caller kept e.1 e.2) steps after e.4)
@@ -269,21 +309,28 @@ module _ (old new : Log) (later : IsLater old new) (caller : Caller) where
         ),
       )
   explains_later kept what (answers.Trimmed colour base) nodes after e =
-      (e.0, e.1, e.2, trimmed_later old new later caller kept colour base e.3, hides_later old new later caller kept (colours_synced caller what) (manner_of what) after e.4)
+      (e.0, e.1, e.2, trimmed_later old new later caller kept colour base e.3, hides_later old new later caller kept
+          (colours_synced caller what) (manner_of what) after e.4)
   explains_later kept what (answers.NotHome home) nodes after e = e
 
-answers_later : (old new : Log) → IsLater old new → (caller : Caller) (kept : Kept) (command : Command) (reply : ReplyLine) (after : Kept) → Answers old caller kept command reply after → Answers new caller kept command reply after
+answers_later : (old new : Log) → IsLater old new → (caller : Caller) (kept : Kept) (command : Command)
+    (reply : ReplyLine) (after : Kept) → Answers old caller kept command reply after
+        → Answers new caller kept command reply after
 answers_later old new later caller kept command reply after a = record {
   line = a.line;
   word = a.word;
   answered = a.answered;
-  explained = explains_later old new later caller (kept_before command.what kept) command.what reply.answer reply.nodes a.answered a.explained;
+  explained = explains_later old new later caller
+      (kept_before command.what kept) command.what reply.answer reply.nodes a.answered a.explained;
   after_is = a.after_is;
   away = a.away;
 }
 
 -- what is explained stays so when the log grows
-pub explained_later : (old new : Log) → IsLater old new → (caller : Caller) {commands : List Command} {replies : List ReplyLine} {kept : Kept} → Explained old caller commands replies kept → Explained new caller commands replies kept
+pub explained_later : (old new : Log) → IsLater old new
+    → (caller : Caller) {commands : List Command} {replies : List ReplyLine} {kept : Kept}
+        → Explained old caller commands replies kept → Explained new caller commands replies kept
 explained_later old new later caller start = start
 explained_later old new later caller (next command reply before last) =
-    next command reply (explained_later old new later caller before) (answers_later old new later caller _ command reply _ last)
+    next command reply (explained_later old new later caller before)
+        (answers_later old new later caller _ command reply _ last)

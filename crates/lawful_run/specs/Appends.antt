@@ -23,10 +23,11 @@ use Rattle.col_core.specs.Keeping.{Kept, kept_after_single, kept_after_point, wi
 use Rattle.report_text.specs.declared.report.PointPiece.{PointPiece}
 use Rattle.lawful_run.specs.Callers.{Caller}
 
--- An append to one colour: the node that the client's command makes over what it keeps is the next of its nodes. It entered
--- by an event at the place, which was not seen before, and stands under its stamp at the position of the line, behind all
--- nodes that were known to stand there.
-pub record AppendsOne (log : Log) (caller : Caller) (kept : Kept) (node : Node) (colour stamp place position : ℕ) : Type 0 where
+-- An append to one colour: the node that the client's command makes over what it keeps is the next of its nodes. It
+-- entered by an event at the place, which was not seen before, and stands under its stamp at the position of the line,
+-- behind all nodes that were known to stand there.
+pub record AppendsOne (log : Log) (caller : Caller) (kept : Kept) (node : Node)
+    (colour stamp place position : ℕ) : Type 0 where
   pub next : slice_get (log.nodes caller.client) kept.ids ≡ Some node
   pub entered : slice_get (log.histories caller.own colour) place
       ≡ Some (record { by = caller.client; event = Single node.id kept.floor (kept.starts colour); stamp = stamp })
@@ -87,14 +88,16 @@ StandsUnder log caller node stamp colour position =
     slice_get (line (log.histories caller.own colour)) position ≡ Some (entry_key stamp node.id)
 
 -- a point of an append to several colours: where the node entered, and where it stands
-pub record StandsAt (log : Log) (caller : Caller) (kept : Kept) (node : Node) (stamp : ℕ) (point : PointPiece) : Type 0 where
+pub record StandsAt (log : Log) (caller : Caller) (kept : Kept) (node : Node) (stamp : ℕ)
+    (point : PointPiece) : Type 0 where
   pub entered : EntersAt log caller kept node point.colour point.at
   pub stands : StandsUnder log caller node stamp point.colour point.position
   pub behind : kept.known point.colour ≤ point.position
 
 -- An append to several colours: its row is final under the stamp, and the node stands at each of the points, one for
 -- each of its colours.
-pub record AppendsSeveral (log : Log) (caller : Caller) (kept : Kept) (node : Node) (stamp : ℕ) (points : List PointPiece)
+pub record AppendsSeveral (log : Log) (caller : Caller) (kept : Kept) (node : Node) (stamp : ℕ)
+    (points : List PointPiece)
     (places : ℕ → List ℕ) : Type 0 where
   pub begins : BeginsRow log caller kept node places
   pub outcome : HasOutcome log node (Final stamp)
@@ -104,7 +107,8 @@ pub record AppendsSeveral (log : Log) (caller : Caller) (kept : Kept) (node : No
 
 -- after these points
 abbrev pub kept_after_points : Kept → ℕ → List PointPiece → Kept
-kept_after_points kept own points = fold (λ k (p : PointPiece). kept_after_point k own p.colour p.at p.position) kept points
+kept_after_points kept own points =
+    fold (λ k (p : PointPiece). kept_after_point k own p.colour p.at p.position) kept points
 
 -- The append was answered with its stamp, its row where it took one, and its points; and what the client then keeps.
 abbrev pub Appends : Log → Caller → Kept → Node → ℕ → Option ℕ → List PointPiece → Kept → Type 0
@@ -143,12 +147,14 @@ IsSettled log caller node = All (IsSettledIn log caller node) (members node.colo
 
 -- The row of an append to several colours is gone, since the colour had no stamp left, which is the least such colour;
 -- and the node is open nowhere.
-pub record IsGoneAtEnd (log : Log) (caller : Caller) (kept : Kept) (node : Node) (colour : ℕ) (places : ℕ → List ℕ) : Type 0 where
+pub record IsGoneAtEnd (log : Log) (caller : Caller) (kept : Kept) (node : Node) (colour : ℕ)
+    (places : ℕ → List ℕ) : Type 0 where
   pub begins : BeginsRow log caller kept node places
   pub outcome : HasOutcome log node (Gone StampEnd)
   pub fence : HasMark log node colour (marks.Fenced StampEnd)
   pub least : All (λ other. other < colour
-      → (mark : Mark) × (mark ≢ marks.None) × (mark ≢ marks.Fenced StampEnd) × HasMark log node other mark) (members node.colours)
+      → (mark : Mark) × (mark ≢ marks.None) × (mark ≢ marks.Fenced StampEnd) × HasMark log node other mark)
+          (members node.colours)
   pub settled : IsSettled log caller node
 
 -- No stamp was left for the append in this colour; and what the client then keeps.
@@ -165,7 +171,8 @@ pub record IsFull (caller : Caller) (kept : Kept) (colours : Colours) (used : �
   pub all : kept.rows ≡ caller.rows
 
 -- An append to several colours found no memory: its row is gone for that, and the node is open nowhere.
-pub record IsGoneForMemory (log : Log) (caller : Caller) (kept : Kept) (node : Node) (places : ℕ → List ℕ) : Type 0 where
+pub record IsGoneForMemory (log : Log) (caller : Caller) (kept : Kept) (node : Node)
+    (places : ℕ → List ℕ) : Type 0 where
   pub begins : BeginsRow log caller kept node places
   pub outcome : HasOutcome log node (Gone Memory)
   pub settled : IsSettled log caller node

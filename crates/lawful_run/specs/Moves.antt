@@ -38,9 +38,10 @@ CarriesAt log caller kept region colour nodes (Event place) =
 CarriesAt log caller kept region colour nodes (Look events) =
     (kept.seen caller.own colour ≤ events) × (events ≤ length (log.histories caller.own colour)) × (nodes ≡ 0)
 
--- A pull: a give at a place that was not seen before, from no lesser number than what the client had seen to be held, or
--- the line's length; then a carry, after which all is held that stood in the line at the give.
-pub record Pulls (log : Log) (caller : Caller) (kept : Kept) (region colour nodes place : ℕ) (carry : At) (too_low : List ℕ) : Type 0 where
+-- A pull: a give at a place that was not seen before, from no lesser number than what the client had seen to be held,
+-- or the line's length; then a carry, after which all is held that stood in the line at the give.
+pub record Pulls (log : Log) (caller : Caller) (kept : Kept) (region colour nodes place : ℕ) (carry : At)
+    (too_low : List ℕ) : Type 0 where
   pub another : region ≢ caller.own
   pub made_again : All (GivesTooLow log caller region colour) too_low
   pub unseen : kept.seen region colour ≤ place

@@ -20,8 +20,8 @@ use Rattle.report_text.specs.declared.report.SyncPiece.{SyncPiece}
 use Rattle.report_text.specs.declared.report.RaisePiece.{RaisePiece}
 use Rattle.lawful_run.specs.Callers.{Caller}
 
--- A sync: after a number of events, no fewer than were seen, the snapshot is the greatest vector that can be reached; no
--- node that was not yet played is below the base, and all own nodes that were known to stand are within.
+-- A sync: after a number of events, no fewer than were seen, the snapshot is the greatest vector that can be reached;
+-- no node that was not yet played is below the base, and all own nodes that were known to stand are within.
 pub record Syncs (log : Log) (caller : Caller) (kept : Kept) (colour events : ℕ) (snapshot : Counts) : Type 0 where
   pub unseen : kept.seen caller.own colour ≤ events
   pub there : events ≤ length (log.histories caller.own colour)
@@ -30,14 +30,16 @@ pub record Syncs (log : Log) (caller : Caller) (kept : Kept) (colour events : �
   pub within : kept.known colour ≤ at snapshot caller.own
 
 -- A node line shows the node that stands at the place, by its key, and the text that its node was appended with.
-pub record ShowsNode (log : Log) (caller : Caller) (colour events : ℕ) (place : Place) (item : PlacedNode) : Type 0 where
+pub record ShowsNode (log : Log) (caller : Caller) (colour events : ℕ) (place : Place)
+    (item : PlacedNode) : Type 0 where
   pub head : Head
   pub stands : Stands (chain caller.own (first log caller.own colour events)) place head
   pub key : item.head.key ≡ head.key
   pub text : HasText log head.key.id item.node.text
 
 -- The node lines of a sync show the nodes from the start to the snapshot, each once, in the order of play.
-pub record ShowsPlayed (log : Log) (caller : Caller) (kept : Kept) (colour events : ℕ) (snapshot : Counts) (nodes : List PlacedNode) : Type 0 where
+pub record ShowsPlayed (log : Log) (caller : Caller) (kept : Kept) (colour events : ℕ) (snapshot : Counts)
+    (nodes : List PlacedNode) : Type 0 where
   pub order : List Place
   pub played : IsPlayOrder (chain caller.own (first log caller.own colour events)) (kept.starts colour) snapshot order
   pub lines : AllZip (ShowsNode log caller colour events) order nodes
@@ -72,7 +74,8 @@ abbrev pub RaisesAt : Log → Caller → Kept → ℕ → ℕ → At → Type 0
 RaisesAt log caller kept stamp colour (Event place) =
     (kept.seen caller.own colour ≤ place)
     × (kept.known colour ≤ length (line (take place (log.histories caller.own colour))))
-    × (slice_get (log.histories caller.own colour) place ≡ Some (record { by = caller.client; event = Raise stamp; stamp = 0 }))
+    × (slice_get (log.histories caller.own colour) place
+        ≡ Some (record { by = caller.client; event = Raise stamp; stamp = 0 }))
 RaisesAt log caller kept stamp colour (Look events) =
     (kept.seen caller.own colour ≤ events) × (events ≤ length (log.histories caller.own colour))
     × (kept.known colour ≤ length (line (take events (log.histories caller.own colour))))
@@ -169,7 +172,8 @@ pub record HidesRead (log : Log) (caller : Caller) (kept : Kept) (colours : List
   -- the places of the raises, by colour
   pub places : ℕ → List ℕ
   pub few : (colour : ℕ) → length (places colour) ≤ 1
-  pub raises : (colour : ℕ) → All (λ place. Contains colours colour × RaisesAt log caller kept stamp colour (Event place))
+  pub raises : (colour : ℕ) → All (λ place. Contains colours colour
+      × RaisesAt log caller kept stamp colour (Event place))
       (places colour)
   pub above_floor : kept.floor ≤ stamp
   pub above_clocks : IsAboveClocks log caller kept colours stamp
@@ -180,4 +184,5 @@ pub record HidesRead (log : Log) (caller : Caller) (kept : Kept) (colours : List
       × (stamp ≡ clock (take events (log.histories caller.own colour))))
   pub synced : Kept
   pub syncing : HidesSyncs log caller kept colours synced
-  pub after_is : (after ≡ with_made synced caller.own places) ⊎ (after ≡ with_made (with_floor synced stamp) caller.own places)
+  pub after_is : (after ≡ with_made synced caller.own places)
+      ⊎ (after ≡ with_made (with_floor synced stamp) caller.own places)

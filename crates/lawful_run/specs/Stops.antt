@@ -36,9 +36,11 @@ IsStepWithin n k steps (Trim counts) = ⊥
 
 -- An append of several colours has stopped after so many steps, one or more: it has begun its row, then marked its
 -- colours in their order, then decided, then settled its colours in their order; and the client took no later step.
-pub record StopsAfter (log : Log) (caller : Caller) (kept : Kept) (node : Node) (steps : ℕ) (places : ℕ → List ℕ) : Type 0 where
+pub record StopsAfter (log : Log) (caller : Caller) (kept : Kept) (node : Node) (steps : ℕ)
+    (places : ℕ → List ℕ) : Type 0 where
   pub begins : BeginsRow log caller kept node places
-  pub marked : (n colour : ℕ) → slice_get (members node.colours) n ≡ Some colour → n + 1 < steps → IsMarked log node colour
+  pub marked : (n colour : ℕ) → slice_get (members node.colours) n ≡ Some colour → n + 1 < steps
+      → IsMarked log node colour
   pub decided : length (members node.colours) + 2 ≤ steps → IsDecided log node
   pub settled : (n colour : ℕ) → slice_get (members node.colours) n ≡ Some colour
       → n + length (members node.colours) + 2 < steps → IsSettledIn log caller node colour

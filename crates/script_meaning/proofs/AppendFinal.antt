@@ -64,7 +64,6 @@ use Rattle.script_meaning.proofs.FirstProposal.{ProposesFirst, proposes_first, i
 use Rattle.world_laws.proofs.RegionRows.{all_in, in_map}
 use Rattle.script_meaning.proofs.Lists.{range_in, some_in, each_of, map_same}
 use Rattle.script_meaning.proofs.AppendSeveral as several
-use Rattle.script_meaning.proofs.AppendSeveral.{mark_number, not_any}
 use Rattle.script_meaning.proofs.OwnEvents.{finished_client}
 use Rattle.script_meaning.proofs.Points.{made_seen, PointsKept, IsBoundedPoint, points_kept}
 
@@ -116,10 +115,10 @@ module _ (objects : List Object) (S : ℕ → Type 0) (grants : Grants) (w : Wor
         (sym (several.last_is objects S grants w reached fin u colours text free ok) ∙ e)
 
     number : (c : ℕ) → In c (members colours) → (s : ℕ) × ((row_of w3 row).marks c ≡ marks.Number s)
-    number c i = mark_number ((row_of w3 row).marks c)
-        (not_any is_missing (row_of w3 row).marks (members colours) c i marks_final.0)
-        (not_any is_stamp_end_fence (row_of w3 row).marks (members colours) c i marks_final.1)
-        (not_any is_memory_fence (row_of w3 row).marks (members colours) c i marks_final.2)
+    number c i = several.mark_number ((row_of w3 row).marks c)
+        (several.not_any is_missing (row_of w3 row).marks (members colours) c i marks_final.0)
+        (several.not_any is_stamp_end_fence (row_of w3 row).marks (members colours) c i marks_final.1)
+        (several.not_any is_memory_fence (row_of w3 row).marks (members colours) c i marks_final.2)
 
     first : (c : ℕ) → In c (members colours) → ProposesFirst w w3 u (begun_node w u colours text) row c
     first c i =
@@ -270,12 +269,6 @@ module _ (objects : List Object) (S : ℕ → Type 0) (grants : Grants) (w : Wor
     abbrev places : ℕ → List ℕ
     places = begun.places objects w reached u colours text ok L on
 
-    longer6 : (r c : ℕ) → length (w.histories r c) ≤ length (w6.histories r c)
-    longer6 r c = prefix_length (w.histories r c) (w6.histories r c) (later6.histories r c)
-
-    longer_line6 : (c : ℕ) → length (line (w.histories own c)) ≤ length (line (w6.histories own c))
-    longer_line6 c = prefix_length (line (w.histories own c)) (line (w6.histories own c)) (later6.lines own c)
-
     mine6 : w6.clients u ≡ record (begun_client w u) { floor = f }
     mine6 = clears.helped.clients u
         ∙ (updated-here w3.clients u (record (w3.clients u) { floor = f })
@@ -312,8 +305,8 @@ module _ (objects : List Object) (S : ℕ → Type 0) (grants : Grants) (w : Wor
           (kept_after_points kept own points)
       all_points = points_kept own (λ r c. length (w6.histories r c))
           (λ c. length (line (w6.histories own c))) points kept
-          bounded (λ r c. let a = k.seen r c in let b = longer6 r c in omega (arith, a, b))
-          (λ c. let a = k.known c in let b = longer_line6 c in omega (arith, a, b))
+          bounded (λ r c. let a = k.seen r c in let b = prefix_length _ _ (later6.histories r c) in omega (arith, a, b))
+          (λ c. let a = k.known c in let b = prefix_length _ _ (later6.lines own c) in omega (arith, a, b))
 
       abbrev kept' : Kept
       kept' = with_made (with_row (with_floor (kept_after_points kept own points) f)) own places
@@ -354,7 +347,8 @@ module _ (objects : List Object) (S : ℕ → Type 0) (grants : Grants) (w : Wor
             let m : max (kept_after_points kept own points).floor f ≡ f = omega (arith, a, b, c) in
             m ∙ ap (λ (s : ClientState). s.floor) (sym mine6);
         starts = all_points.starts ∙ (k.starts ∙ ap (λ (s : ClientState). s.played) (sym mine6));
-        seen = made_seen own (λ r c. length (w6.histories r c)) (with_row (with_floor (kept_after_points kept own points) f))
+        seen = made_seen own (λ r c. length (w6.histories r c))
+            (with_row (with_floor (kept_after_points kept own points) f))
             places all_points.seen (λ c. begun.places_before objects w reached u colours text ok L on c
             (length (w6.histories own c))
             (prefix_length (w3.histories own c) (w6.histories own c) (later36.histories own c)));

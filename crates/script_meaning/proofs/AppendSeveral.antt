@@ -228,7 +228,8 @@ module _ (objects : List Object) (S : ℕ → Type 0) (grants : Grants) (w : Wor
 
   pub adds3 : (end : World) (r c : ℕ) → Adds (MadeBy u (whats.Append colours text) end own r) (w.histories r c)
       (w3.histories r c)
-  adds3 end r c = adds_map (StepIn own u id row L r c) (MadeBy u (whats.Append colours text) end own r) (w.histories r c)
+  adds3 end r c = adds_map (StepIn own u id row L r c) (MadeBy u (whats.Append colours text) end own r)
+      (w.histories r c)
       (w3.histories r c) (λ e s. made_own u (whats.Append colours text) end own r id refl e s.made s.of)
       ((begun.on3 objects w reached u colours text ok L on).adds r c)
 
@@ -258,11 +259,13 @@ module _ (objects : List Object) (S : ℕ → Type 0) (grants : Grants) (w : Wor
     -- it is open in none of its colours
     settled : IsSettled (log_of w3) (caller_in w objects u) node
     settled = all_in (IsSettledIn (log_of w3) (caller_in w objects u) node) (members colours) (λ c i.
-        settled_in w3 reached3 row begun3 (caller_in w objects u) (ap (λ (x : Shape). slice_index x.homes u) shape3) node
+        settled_in w3 reached3 row begun3 (caller_in w objects u)
+            (ap (λ (x : Shape). slice_index x.homes u) shape3) node
         (ap (λ (x : Node). x.id) node3 ∙ begun.id_is objects w reached u colours text ok L on kept k) c (has_mark c i)
         (set_all c i)
         (subst (λ (x : Id). is_waiting (status_in (w3.histories own c) x) ≡ false)
-        (ap (λ (x : Node). x.id) node3 ∙ begun.id_is objects w reached u colours text ok L on kept k) (done3.waits own c)))
+        (ap (λ (x : Node). x.id) node3 ∙ begun.id_is objects w reached u colours text ok L on kept k)
+            (done3.waits own c)))
 
     -- gone for memory
     gone_memory : last ≡ Gone Memory → IsGoneForMemory (log_of w3) (caller_in w objects u) kept node places

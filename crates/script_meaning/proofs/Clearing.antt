@@ -157,12 +157,14 @@ help_row w h by own row grants b ne at undone = record {
   w' : World
   w' = run_steps w (complete_steps w by row grants)
 
-  on : OnRow own by (node_id w row) row (complete_steps w by row grants) w (run_steps w (complete_steps w by row grants))
+  on : OnRow own by (node_id w row) row (complete_steps w by row grants) w
+      (run_steps w (complete_steps w by row grants))
   on = on_steps w own by (node_id w row) row (complete_steps w by row grants) b refl at
       (complete_steps_on w by row grants)
 
   same_node : (x : Row) → x.number < (w.clients x.client).used → node_id w' x ≡ node_id w x
-  same_node x lt = ap (λ (n : Node). n.id) ((run_grows w (complete_steps w by row grants)).rows x.client x.number lt).node
+  same_node x lt =
+      ap (λ (n : Node). n.id) ((run_grows w (complete_steps w by row grants)).rows x.client x.number lt).node
 
   other : (node_id w row).client ≡ by → ⊥
   other e = ne (sym (h.rows row.client row.number (ltb-true _ _ b)).of_client ∙ e)
@@ -263,7 +265,8 @@ empty_is (x ∷ xs) le = absurd (let f : ⊥ = omega (arith, le) in f)
 home_kept : (w w' : World) (by : ℕ) → w'.shape ≡ w.shape → home_of w' by ≡ home_of w by
 home_kept w w' by e = ap (λ (s : Shape). slice_index s.homes by) e
 
-clear_times : (S : ℕ → Type 0) (n : ℕ) (grants : Grants) (by own colour : ℕ) (key : Key) (h : Helping) → IsReached h.world
+clear_times : (S : ℕ → Type 0) (n : ℕ) (grants : Grants) (by own colour : ℕ) (key : Key) (h : Helping)
+    → IsReached h.world
     → Finished S h.world → (S by → ⊥) → home_of h.world by ≡ own
     → length (open_below key (h.world.histories own colour)) ≤ n
     → Clears by own colour key h.world (helped_times n grants by colour key h).world

@@ -57,7 +57,8 @@ mark_steps_on w by row grants (c ∷ cs) s i =
     (mark_steps w by row grants cs)
     (λ _ j. turn j (mark_steps_on (after w (mark_step w by row grants c)) by row grants cs s))
     (λ _. mark_steps_on w by row grants cs s) i where
-      turn : (mark_step w by row grants c ≡ s) ⊎ In s (mark_steps (after w (mark_step w by row grants c)) by row grants cs)
+      turn : (mark_step w by row grants c ≡ s) ⊎ In s
+          (mark_steps (after w (mark_step w by row grants c)) by row grants cs)
           → (In s (mark_steps (after w (mark_step w by row grants c)) by row grants cs) → IsOn by row s) → IsOn by row s
       turn (inl e) rest = subst (IsOn by row) e (mark_step_on w by row grants c)
       turn (inr i) rest = rest i

@@ -99,7 +99,8 @@ module _ (grants : Grants) (state : State) (command : Command) where
       (λ _. by_extends v (next_row w u) (members colours) (row_of v (next_row w u)).last
       (record { steps = append_steps grants w u colours text; run = refl }))
 
-  append_extends : (colours : Colours) (text ms : List ℕ) → Extends state (appended grants state command colours text ms)
+  append_extends : (colours : Colours) (text ms : List ℕ)
+      → Extends state (appended grants state command colours text ms)
   append_extends colours text [] = answer_extends state command w answers.NoMemory [] (stays_there w)
   append_extends colours text (c ∷ []) = one_extends text c
   append_extends colours text (c ∷ d ∷ ms) = several_extends colours text
@@ -282,7 +283,8 @@ module _ (grants : Grants) (state : State) (command : Command) where
       (λ g. absurd (told_so (with_give w u region c) (subst TellsNone
       (pulled_is grants state command region c ∙ (if_false (region == own) (stayed grants state command) from f
       ∙ (from_is grants state command region c
-      ∙ if_false grants.carry (carried grants state command region c) (given grants state command region c) g))) tells)))
+      ∙ if_false grants.carry (carried grants state command region c)
+          (given grants state command region c) g))) tells)))
       ∙ sym (if_false (region == own) (stayed grants state command) from_all_found f)))
       ∙ sym (pulled_is all_granted state command region c))
 

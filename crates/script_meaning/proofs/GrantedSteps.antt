@@ -235,7 +235,8 @@ row_runs : (grants : Grants) (by : ℕ) (h : Helping) (o : Option Row) → RunsT
 row_runs grants by h None = stays_there h.world
 row_runs grants by h (Some row) = record { steps = complete_steps h.world by row (grants.helps h.helps); run = refl }
 
-node_runs : (grants : Grants) (by : ℕ) (h : Helping) (o : Option Node) → RunsTo h.world (helped_node grants by h o).world
+node_runs : (grants : Grants) (by : ℕ) (h : Helping) (o : Option Node)
+    → RunsTo h.world (helped_node grants by h o).world
 node_runs grants by h None = stays_there h.world
 node_runs grants by h (Some node) = row_runs grants by h node.row
 

@@ -60,7 +60,8 @@ pub record MadeBy (client : ℕ) (what : What) (w : World) (own region : ℕ) (e
   pub help : IsHelp client e.event → Helps what w own region e.event
 
 -- what clears made
-pub made_helping : (client : ℕ) (what : What) (w : World) (own region : ℕ) → may_help (manner_of what) ≡ true → (e : Entry)
+pub made_helping : (client : ℕ) (what : What) (w : World) (own region : ℕ) → may_help (manner_of what) ≡ true
+    → (e : Entry)
     → HelpIn w own client region e → MadeBy client what w own region e
 made_helping client what w own region may e i = record {
   made = i.made;

@@ -52,8 +52,8 @@ appended_one grants state command text colour =
 abbrev pub is_full : World → ℕ → Bool
 is_full w client = not (nat_lt (w.clients client).used w.shape.rows)
 
--- The steps of an append to several colours: the row begins, its colours are marked, it is decided, and it is settled in
--- each colour.
+-- The steps of an append to several colours: the row begins, its colours are marked, it is decided, and it is settled
+-- in each colour.
 abbrev pub append_steps : Grants → World → ℕ → Colours → List ℕ → List Step
 append_steps grants w client colours text =
     Begin client colours text
