@@ -1,8 +1,8 @@
 -- When a report is that of a lawful run of a script.
-use Rattle.std.specs.Prelude.{◌≡◌, ◌≢◌, ◌⊎◌, IsTrue, ℕ, ◌+◌, ◌<◌, List, length, map, Some, slice_get}
+use Rattle.std.specs.Prelude.{◌≡◌, ◌≢◌, ◌⊎◌, IsTrue, ℕ, ◌+◌, ◌<◌, List, length, map, Some, None, slice_get}
 use Rattle.std.specs.List.{All, Contains, filter}
 use Rattle.skeen_core.specs.declared.marks.Outcome.TheVariants.{Open}
-use Rattle.skeen_core.specs.Standings.{Standing}
+use Rattle.skeen_core.specs.Standings.{Standing, open_entry}
 use Rattle.col_core.specs.declared.Event.{Event}
 use Rattle.col_core.specs.declared.Event.TheVariants.{Single, Propose, Settle, Raise, Give, Carry, Trim}
 use Rattle.col_core.specs.declared.Entry.{Entry}
@@ -18,11 +18,12 @@ use Rattle.report_text.specs.declared.report.ClientReport.{ClientReport}
 use Rattle.report_text.specs.declared.report.Report.{Report}
 use Rattle.lawful_run.specs.Callers.{caller_of, commands_of}
 use Rattle.lawful_run.specs.Asks.{manner_of, may_help}
+use Rattle.lawful_run.specs.Appends.{IsStepOf}
 use Rattle.lawful_run.specs.Columns.{AreColumns, AreRows, AreCopies}
 use Rattle.lawful_run.specs.Explains.{Explained}
 
--- A client's replies are explained by the log. Its own steps stand just where its commands made them, in their order, and
--- it appended no nodes and began no rows but those of its commands.
+-- A client's replies are explained by the log. Its own steps stand just where its commands made them, in their order,
+-- and it appended no nodes and began no rows but those of its commands.
 pub record IsClientRun (log : Log) (script : Script) (client : ℕ) (replies : List ReplyLine) : Type 0 where
   pub kept : Kept
   pub explained : Explained log (caller_of script client) (commands_of script client) replies kept
@@ -62,11 +63,19 @@ pub record HasStopped (report : Report) (client : ℕ) : Type 0 where
 -- What is left open in the end is of clients that stopped: ids that are open in a column, and rows without an outcome.
 pub record LeavesOpen (log : Log) (script : Script) (report : Report) : Type 0 where
   pub ids : (region colour : ℕ) → region < script.shape.regions → colour < script.shape.colours
-      → All (λ (e : Standing). IsTrue e.settled ⊎ HasStopped report e.key.id.client) (entries (log.histories region colour))
+      → All (λ (e : Standing). IsTrue e.settled ⊎ HasStopped report e.key.id.client)
+          (entries (log.histories region colour))
   pub rows : (region : ℕ) → region < script.shape.regions
       → All (λ (r : BegunRow). r.last ≡ Open → HasStopped report r.row.client) (log.rows region)
 
--- Some log, of which the columns and rows of the report are the histories and rows, explains the replies to each client.
+-- The append of a row is complete: the row keeps an outcome, and its node is open in no column of the region.
+pub record IsComplete (log : Log) (script : Script) (region : ℕ) (r : BegunRow) : Type 0 where
+  pub decided : r.last ≢ Open
+  pub open_nowhere : (colour : ℕ) → colour < script.shape.colours
+      → open_entry r.node.id (entries (log.histories region colour)) ≡ None
+
+-- Some log, of which the columns and rows of the report are the histories and rows, explains the replies to each
+-- client.
 pub record LawfulRun (script : Script) (report : Report) : Type 0 where
   pub log : Log
   pub names : map (λ (c : ClientReport). c.name) report.clients ≡ script.clients
@@ -74,6 +83,13 @@ pub record LawfulRun (script : Script) (report : Report) : Type 0 where
   pub columns : AreColumns log script report.columns
   pub begun : AreRows log script report.rows
   pub copies : AreCopies log script
+  -- who helps has a command that may help, and is of the column's region
   pub helpers : (region colour : ℕ) (e : Entry) → region < script.shape.regions → colour < script.shape.colours
-      → Contains (log.histories region colour) e → IsHelp e.by e.event → HasHelping script e.by
+      → Contains (log.histories region colour) e → IsHelp e.by e.event
+      → HasHelping script e.by × ((caller_of script e.by).own ≡ region)
+  -- who helps an append leaves it complete
+  pub helped : (region colour : ℕ) (e : Entry) (r : BegunRow) → region < script.shape.regions
+      → colour < script.shape.colours
+      → Contains (log.histories region colour) e → IsHelp e.by e.event → Contains (log.rows region) r
+      → IsStepOf r.node.id e.event → IsComplete log script region r
   pub left_open : LeavesOpen log script report
