@@ -126,14 +126,14 @@ pub too_long_written : (left old new : Option (List ℕ)) → IfSome left (λ al
 too_long_written left old new long out =
     let m = many_bytes left long in
     written_of IsRefusalText m.0 m.0 left old new refl m.2
-        (refusal_written m.0 old new 0 (Faulty ScriptTooLong) (too_long m.0 m.1) out)
+    (refusal_written m.0 old new 0 (Faulty ScriptTooLong) (too_long m.0 m.1) out)
 
 pub too_long_begun : (left old new : Option (List ℕ)) → IfSome left (λ all. 2 ^ 20 < length all)
     → AppendsFront old new (refusal_bytes 0 (cause_text (Faulty ScriptTooLong))) → WritesFront left old new
 too_long_begun left old new long out =
     let m = many_bytes left long in
     begun_of m.0 m.0 left old new refl m.2
-        (refusal_begun m.0 old new 0 (Faulty ScriptTooLong) (too_long m.0 m.1) out)
+    (refusal_begun m.0 old new 0 (Faulty ScriptTooLong) (too_long m.0 m.1) out)
 
 -- a script of commands that are done is not refused
 not_refused : (line : ℕ) (cause : Cause) (bytes : List ℕ) (script : Script) → IsScript bytes script

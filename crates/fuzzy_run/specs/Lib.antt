@@ -2,3 +2,4 @@ pub mod Statuses
 pub mod Words
 pub mod Refusals
 pub mod TopCall
+pub mod Reading

@@ -5,6 +5,7 @@ ghost use Rattle.std.specs.Prelude.{◌≡◌, ◌≢◌};
 ghost use Rattle.std.specs.IoError.{error_kind};
 
 mod asked;
+mod reading;
 mod refusal;
 mod status;
 #[cfg(test)]

@@ -9,9 +9,11 @@ ghost use Rattle.report_text.specs.ReportText.{report_bytes, refusal_bytes};
 ghost use Rattle.script_meaning.specs.States.{StopsAreLast};
 ghost use Rattle.fuzzy_run.specs.Words.{asked_by};
 ghost use Rattle.fuzzy_run.specs.Refusals.{first_unbuilt, cause_text, IsDoable};
+ghost use Rattle.fuzzy_run.specs.Reading.{LawsForReaders};
 ghost use Rattle.fuzzy_run.specs.TopCall.{IsRunOf, IsRunText, IsRefusalText, Writes, WritesFront, Shows, ShowsFront};
 
 use crate::asked::{Asked, read_words};
+use crate::reading::laws_for_readers;
 use crate::refusal::{Cause, first_unbuilt};
 use crate::status::Status;
 use fuzzy_io::{Failed, Gate, ReadStop, Sink, Source, read_all};
@@ -132,6 +134,8 @@ pub fn run<S: Source, K: Sink, G: Gate, R: Threads + Wait>(
     ensures to_the_end { result ≡ Status.Done → IsAtEnd (S.left source.new) }
     ensures refused { result ≡ Status.Refused
         → Writes IsRefusalText (S.left source.old) (K.holds sink.old) (K.holds sink.new) }
+    // What holds of each such report, for a reader.
+    ensures reads { LawsForReaders }
     // When each other answer comes. Memory alone may be refused at any time.
     ensures bad_words { (result ≡ Status.BadWords) ↔ (asked_by (map string_bytes words.now) ≡ None) }
     ensures read_fault { result ≡ Status.ReadFault → Rose (S.faults source.old) (S.faults source.new) }
@@ -147,6 +151,7 @@ pub fn run<S: Source, K: Sink, G: Gate, R: Threads + Wait>(
         → (Rose (S.faults source.old) (S.faults source.new) → ⊥) → (Rose (K.faults sink.old) (K.faults sink.new) → ⊥)
         → IsDoable (S.left source.old) → (result ≡ Status.Done) ⊎ (result ≡ Status.NoMemory) }
 {
+    laws_for_readers();
     match read_words(words) {
         None => Status::BadWords,
         Some(Asked::Step) => perform(alloc, source, sink),
