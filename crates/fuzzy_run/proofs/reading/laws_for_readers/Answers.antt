@@ -1,14 +1,14 @@
 use Rattle.script_text.proofs.FittingLemmas.{script_fits}
 use Rattle.fuzzy_run.proofs.reading.laws_for_readers.Goals as goal
 
-pub returns-clause-0 : goal.returns-clause-0
-returns-clause-0 g c = record {
+pub returns : goal.returns
+returns g = record {
   fitting = script_fits;
-  returned = c.returned_appends_stand.ensures;
-  rising = c.closing_lines_rise.ensures;
-  one_key = c.one_key.ensures;
-  one_order = c.one_order.ensures;
-  nothing_else = c.nothing_else_stands.ensures;
-  as_appended = c.shown_as_appended.ensures;
-  once = c.shown_once.ensures;
+  returned = g.returned_appends_stand.ensures;
+  rising = g.closing_lines_rise.ensures;
+  one_key = g.one_key.ensures;
+  one_order = g.one_order.ensures;
+  nothing_else = g.nothing_else_stands.ensures;
+  as_appended = g.shown_as_appended.ensures;
+  once = g.shown_once.ensures;
 }
