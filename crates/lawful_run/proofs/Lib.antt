@@ -10,6 +10,7 @@ pub mod Replies
 pub mod Traces
 pub mod Uses
 pub mod Origins
+pub mod Clients
 pub mod Standing
 pub mod Returned
 pub mod Lines

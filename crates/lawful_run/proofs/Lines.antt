@@ -140,14 +140,15 @@ module _ (script : Script) (report : Report) (fits : IsFitting script) (run : La
   pub append_of : (region colour : ℕ) (key : Key) (s : Stands run region colour key)
       → IsAppend run key.id.client s.origin.k s.origin.step.reply key.id s.origin.colours s.origin.text
   append_of region colour key s =
-      let o = s.origin in record {
-        shown = s.shown;
-        of_client = s.of_client;
+      let o = s.origin in
+      let same = o.kept_is ∙ sym (s.client.numbered o.k) in record {
+        shown = s.client.shown;
+        of_client = s.client.of_client;
         replied = o.step.replied;
         command = o.step.command;
         asked = o.step.asked;
-        asks = subst (λ (kept : Kept). AsksToAppend (caller_of script key.id.client) kept o.step.command.what o.colours o.text) o.kept_is o.asks;
-        id_is = o.id_is ∙ ap (λ (kept : Kept). record { client = key.id.client; count = kept.ids }) o.kept_is;
+        asks = subst (λ (kept : Kept). AsksToAppend (caller_of script key.id.client) kept o.step.command.what o.colours o.text) same o.asks;
+        id_is = o.id_is ∙ ap (λ (kept : Kept). record { client = key.id.client; count = kept.ids }) same;
       }
 
 pub one_key : OneKey

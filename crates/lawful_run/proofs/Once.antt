@@ -42,7 +42,7 @@ use Rattle.lawful_run.proofs.Prefixes.{get_within}
 use Rattle.lawful_run.proofs.Listed.{get_in}
 use Rattle.lawful_run.proofs.Entered.{one_in_line}
 use Rattle.lawful_run.proofs.Replies.{Step, step_of}
-use Rattle.lawful_run.proofs.Standing.{get_there}
+use Rattle.lawful_run.proofs.Clients.{get_there}
 use Rattle.lawful_run.proofs.Lines.{rising, same_region}
 use Rattle.lawful_run.proofs.Onward.{Past, answered, within-self}
 use Rattle.lawful_run.proofs.Shown.{zip_at, legal_at, stands_in, chain_at, home, named}

@@ -51,12 +51,12 @@ use Rattle.lawful_run.specs.Reads.{Syncs, ShowsNode, ShowsKey, ShowsPlayed, AreR
 use Rattle.lawful_run.specs.Refusals.{kept_before}
 use Rattle.lawful_run.specs.Explains.{Explains, Answers, Explained}
 use Rattle.lawful_run.specs.Lawful.{LawfulRun}
-use Rattle.lawful_run.specs.Readings.{kept_at, IsAppend, ShownAsAppended, ShownOnce}
+use Rattle.lawful_run.specs.Readings.{Nowhere, told, kept_at, IsAppend, ShownAsAppended, ShownOnce}
 use Rattle.lawful_run.proofs.Prefixes.{prefix_get, get_within}
 use Rattle.lawful_run.proofs.Listed.{to_in, from_in, in_get, get_in, in_map, in_map_back, in_flat_map}
 use Rattle.lawful_run.proofs.Replies.{Step, step_of, contains_at}
 use Rattle.lawful_run.proofs.Standing as standing
-use Rattle.lawful_run.proofs.Standing.{column_is, stands_of, get_there}
+use Rattle.lawful_run.proofs.Standing.{column_is, stands_of}
 use Rattle.lawful_run.proofs.Lines.{rising, node_there, same_region, append_of}
 use Rattle.lawful_run.proofs.Onward.{split, Past}
 
@@ -186,7 +186,7 @@ module _ (script : Script) (report : Report) (fits : IsFitting script) (run : La
 
   -- the text of a node that stands is the one that its command appended
   text_of : (region colour : ℕ) (key : Key) → standing.Stands run region colour key → (text : List ℕ) → HasText run.log key.id text
-      → (k : ℕ) × (other : ReplyLine) × (colours : Colours) × IsAppend run key.id.client k other key.id colours text
+      → (k : ℕ) × (other : ReplyLine) × (colours : Colours) × IsAppend run key.id.client k other key.id colours text × (told other.answer ≢ Nowhere)
   text_of region colour key s text t =
       let n = node_there script report fits run region colour key s in
       let there = t.1 in
@@ -198,6 +198,7 @@ module _ (script : Script) (report : Report) (fits : IsFitting script) (run : La
         s.origin.colours,
         subst (λ (x : List ℕ). IsAppend run key.id.client s.origin.k s.origin.step.reply key.id s.origin.colours x) is
             (append_of script report fits run region colour key s),
+        s.stands,
       )
 
   -- a client of the report is one of the script's, in a region that there is
@@ -233,11 +234,14 @@ module _ (script : Script) (report : Report) (fits : IsFitting script) (run : La
   abbrev IsAppended : PlacedNode → Type 0
   IsAppended item =
       (k : ℕ) × (other : ReplyLine) × (colours : Colours) × IsAppend run item.head.key.id.client k other item.head.key.id colours item.node.text
+      × (told other.answer ≢ Nowhere)
 
   by_key : (item : PlacedNode) (key : Key) → item.head.key ≡ key
-      → (k : ℕ) × (other : ReplyLine) × (colours : Colours) × IsAppend run key.id.client k other key.id colours item.node.text → IsAppended item
+      → (k : ℕ) × (other : ReplyLine) × (colours : Colours) × IsAppend run key.id.client k other key.id colours item.node.text
+      × (told other.answer ≢ Nowhere) → IsAppended item
   by_key item key is a =
-      subst (λ (x : Key). (k : ℕ) × (other : ReplyLine) × (colours : Colours) × IsAppend run x.id.client k other x.id colours item.node.text) (sym is) a
+      subst (λ (x : Key). (k : ℕ) × (other : ReplyLine) × (colours : Colours) × IsAppend run x.id.client k other x.id colours item.node.text
+      × (told other.answer ≢ Nowhere)) (sym is) a
 
   none_shown : (nodes : List PlacedNode) (n : ℕ) (item : PlacedNode) → nodes ≡ [] → slice_get nodes n ≡ Some item → IsAppended item
   none_shown nodes n item e there = let f : slice_get [] n ≡ Some item = subst (λ (l : List PlacedNode). slice_get l n ≡ Some item) e there in absurd (let g : ⊥ = cc in g)
