@@ -16,7 +16,7 @@ use Rattle.lawful_run.specs.Lawful.{LawfulRun}
 use Rattle.lawful_run.specs.Readings.{kept_at, kept_in, kept_of, Nowhere, told, OneCommand}
 use Rattle.lawful_run.proofs.Prefixes.{get_within}
 use Rattle.lawful_run.proofs.Replies.{step_of}
-use Rattle.lawful_run.proofs.Uses.{answer_use, answer_used}
+use Rattle.lawful_run.proofs.Used.{answer_use, answer_used}
 
 -- a client that is shown, and the explanation by which its nodes are numbered
 pub record IsShown {script : Script} {report : Report} (run : LawfulRun script report) (client : ℕ) : Type 0 where
@@ -53,7 +53,7 @@ ids_rise {log} {caller} {commands} {replies} e i (suc more) le =
     ap (λ n. (kept_at e n).ids) (let g : i + suc more ≡ i + more + 1 = omega arith in g) ∙ ap
     (λ (k : Kept). k.ids) step.next_is in
     elim (answer_use log caller (kept_at e (i + more)) step.command step.reply step.after step.answers) [
-      | inl q ↦ let s = q.ids in omega (arith, before, next, s)
+      | inl q ↦ let s = q.0.ids in omega (arith, before, next, s)
       | inr u ↦ let s = u.ids in omega (arith, before, next, s)
     ]
 

@@ -205,43 +205,45 @@ module _ (script : Script) (report : Report) (fits : IsFitting script) (run : La
   once_each : (i j m n : ℕ) (one other : ReplyLine) (s t : SyncPiece) (plays more : ℕ) (a b : PlacedNode)
       → slice_get shown.replies i ≡ Some one → slice_get shown.replies j ≡ Some other
       → one.answer ≡ answers.Synced s plays → other.answer ≡ answers.Synced t more → s.colour ≡ t.colour
-      → slice_get one.nodes m ≡ Some a → slice_get other.nodes n ≡ Some b → a.head.key.id ≡ b.head.key.id → (i ≡ j) × (m ≡ n)
-  once_each i j m n one other s t plays more a b ri rj is it colour am bn same = turn (cases_lt i j) (cases_lt j i) where
-    x : IsSync i one.nodes s
-    x = sync_of i one s plays ri is
+      → slice_get one.nodes m ≡ Some a → slice_get other.nodes n ≡ Some b → a.head.key.id ≡ b.head.key.id → (i ≡ j) ×
+      (m ≡ n)
+  once_each i j m n one other s t plays more a b ri rj is it colour am bn same = turn (cases_lt i j)
+      (cases_lt j i) where
+        x : IsSync i one.nodes s
+        x = sync_of i one s plays ri is
 
-    y : IsSync j other.nodes t
-    y = sync_of j other t more rj it
+        y : IsSync j other.nodes t
+        y = sync_of j other t more rj it
 
-    p : IsShownAt i one.nodes s x m a
-    p = shown_at i one.nodes s x m a am
+        p : IsShownAt i one.nodes s x m a
+        p = shown_at i one.nodes s x m a am
 
-    q : IsShownAt j other.nodes t y n b
-    q = shown_at j other.nodes t y n b bn
+        q : IsShownAt j other.nodes t y n b
+        q = shown_at j other.nodes t y n b bn
 
-    here : i ≡ j → m ≡ n
-    here e =
-        let r : Some one ≡ Some other = sym ri ∙ (ap (slice_get shown.replies) e ∙ rj) in
-        let reply : one ≡ other = cc (r) in
-        let b' : slice_get one.nodes n ≡ Some b = subst (λ (z : ReplyLine). slice_get z.nodes n ≡ Some b)
-        (sym reply) bn in
-        let u = shown_at i one.nodes s x n b b' in
-        let o = one_place s.colour x.within p.place u.place a.head.key
-        b.head.key p.within u.within p.stands u.stands same in
-        let place : u.place ≡ p.place = place_is u.place p.place (sym o.0) (sym o.1) in
-        let own = (caller_of script client).own in
-        once (chain own (first run.log own s.colour s.events))
-        ((kept_at (run.clients client shown of_client).explained i).starts s.colour) s.counts
-        x.syncs.cut.reached x.shows.order x.shows.played m n p.place p.there (u.there ∙ ap (λ z. Some z) place)
+        here : i ≡ j → m ≡ n
+        here e =
+            let r : Some one ≡ Some other = sym ri ∙ (ap (slice_get shown.replies) e ∙ rj) in
+            let reply : one ≡ other = cc (r) in
+            let b' : slice_get one.nodes n ≡ Some b = subst (λ (z : ReplyLine). slice_get z.nodes n ≡ Some b)
+            (sym reply) bn in
+            let u = shown_at i one.nodes s x n b b' in
+            let o = one_place s.colour x.within p.place u.place a.head.key
+            b.head.key p.within u.within p.stands u.stands same in
+            let place : u.place ≡ p.place = place_is u.place p.place (sym o.0) (sym o.1) in
+            let own = (caller_of script client).own in
+            once (chain own (first run.log own s.colour s.events))
+            ((kept_at (run.clients client shown of_client).explained i).starts s.colour) s.counts
+            x.syncs.cut.reached x.shows.order x.shows.played m n p.place p.there (u.there ∙ ap (λ z. Some z) place)
 
-    turn : (i < j) ⊎ (j ≤ i) → (j < i) ⊎ (i ≤ j) → (i ≡ j) × (m ≡ n)
-    turn (inl lt) other_way =
-        absurd (not_again i j m n one.nodes other.nodes s t x y a b
-        colour lt (get_within shown.replies j other rj) p q same)
-    turn (inr ge) (inl lt) =
-        absurd (not_again j i n m other.nodes one.nodes t s y x b a
-        (sym colour) lt (get_within shown.replies i one ri) q p (sym same))
-    turn (inr ge) (inr le) = let e : i ≡ j = omega (arith, ge, le) in (e, here e)
+        turn : (i < j) ⊎ (j ≤ i) → (j < i) ⊎ (i ≤ j) → (i ≡ j) × (m ≡ n)
+        turn (inl lt) other_way =
+            absurd (not_again i j m n one.nodes other.nodes s t x y a b
+            colour lt (get_within shown.replies j other rj) p q same)
+        turn (inr ge) (inl lt) =
+            absurd (not_again j i n m other.nodes one.nodes t s y x b a
+            (sym colour) lt (get_within shown.replies i one ri) q p (sym same))
+        turn (inr ge) (inr le) = let e : i ≡ j = omega (arith, ge, le) in (e, here e)
 
 pub shown_once : ShownOnce
 shown_once script report fits run client i j m n one other s t plays more a b hi is am hj it bn colour same =

@@ -2,8 +2,6 @@
 use Rattle.std.proofs.Common.{◌≡◌, ℕ, zero, suc, ◌+◌, ◌≤◌, List, [], ◌∷◌, ◌++◌, length, take, drop, Option, Some, None, slice_get, refl, ap, sym, subst, ◌∙◌, inl, inr, arith}
 use Rattle.std.specs.Prelude.{◌==◌, ◌≢◌, max, if◌then◌else◌}
 use Rattle.std.specs.List.{All}
-use Rattle.std.proofs.lemmas.Bool.{eqb-true}
-use Rattle.std.proofs.lemmas.List.{take-append-le}
 use Rattle.std.proofs.lemmas.List.Elements.{All-contains}
 use Rattle.log_node.specs.declared.ids.Counts.{Counts}
 use Rattle.log_node.specs.declared.node.At.{At}
@@ -13,16 +11,14 @@ use Rattle.log_node.specs.Seen.{PlacedNode}
 use Rattle.log_node.specs.Vectors.{IsWithin}
 use Rattle.col_core.specs.Cuts.{Dated, Reachable, chain}
 use Rattle.col_core.specs.Computed.{dated}
-use Rattle.col_core.specs.Legal.{IsColumnHistory, IsLawfulEvent}
+use Rattle.col_core.specs.Legal.{IsColumnHistory}
 use Rattle.col_core.specs.Log.{Log, first}
 use Rattle.col_core.specs.Keeping.{Kept, updated, updated_at, seen_after, seen_past, kept_after_event, kept_after_look, kept_after_sync, kept_after_single, kept_after_point, with_made, with_floor, with_row, with_node}
-use Rattle.col_core.proofs.Basics.{choice}
 use Rattle.col_core.proofs.ChainGrowth.{chains_grow, reachable_grows}
 use Rattle.col_core.proofs.CutLaws.{within, within-at}
 use Rattle.col_core.proofs.DatedLaws.{later}
 use Rattle.col_core.proofs.Facts.{dates_longer}
 use Rattle.script_text.specs.declared.script.What.{What}
-use Rattle.script_text.specs.declared.script.What.TheVariants as whats
 use Rattle.script_text.specs.declared.script.Command.{Command}
 use Rattle.report_text.specs.declared.report.Answer.{Answer}
 use Rattle.report_text.specs.declared.report.Answer.TheVariants as answers
@@ -36,10 +32,11 @@ use Rattle.lawful_run.specs.Appends.{EntersAt, StandsAt, Appends, AppendsUnshown
 use Rattle.lawful_run.specs.Stops.{Stops, stopped_at_once, stopped_after}
 use Rattle.lawful_run.specs.Reads.{Syncs, kept_after_piece, RaisesAt, kept_after_place, Raises, ClearSyncs, ReadsAt, HidesSync, not_played, played, HidesSyncs, HidesRead}
 use Rattle.lawful_run.specs.Moves.{CarriesAt, Pulls, with_places, kept_after_pull}
-use Rattle.lawful_run.specs.Refusals.{Hides, FindsNoMemory, nothing, gone, gave, hidden, kept_before, kept_behind}
+use Rattle.lawful_run.specs.Refusals.{Hides, FindsNoMemory, nothing, gone, gave, hidden, kept_before}
 use Rattle.lawful_run.specs.Explains.{Explains, Answers}
-use Rattle.lawful_run.proofs.Prefixes.{get-append, get_within}
 use Rattle.lawful_run.proofs.Replies.{contains_at}
+use Rattle.lawful_run.proofs.Beginnings.{at_new, at_new_at, split, taken, front}
+use Rattle.lawful_run.proofs.LettingGo.{before_is, behind_is}
 
 -- a client that keeps this has seen so many events of its column of the colour, and starts past these counts
 pub record Past (own colour events : ℕ) (counts : Counts) (kept : Kept) : Type 0 where
@@ -56,41 +53,6 @@ within-trans u v w a b = within u w (λ r lt. let x = within-at u v a r lt in le
 seen_past_more : (seen : ℕ) (places : List ℕ) → seen ≤ seen_past seen places
 seen_past_more seen [] = omega arith
 seen_past_more seen (place ∷ places) = let r = seen_past_more (max seen (place + 1)) places in omega (arith, r)
-
--- at another value
-at_new : {A : Type 0} (P : A → Type 0) (f : ℕ → A) (n : ℕ) (x : A) (m : ℕ) → (m ≡ n → P x) → P (f m) → P
-    (updated f n x m)
-at_new P f n x m here there = choice P (m == n) x (f m) (λ t. here (eqb-true m n t)) (λ _. there)
-
-at_new_at : (P : ℕ → Type 0) (f : ℕ → ℕ → ℕ) (a n x b m : ℕ) → (b ≡ a → m ≡ n → P x) → P (f b m) → P
-    (updated_at f a n x b m)
-at_new_at P f a n x b m here there =
-    at_new (λ (g : ℕ → ℕ). P (g m)) f a (updated (f a) n x) b
-    (λ e. at_new P (f a) n x m (here e) (subst (λ r. P (f r m)) e there)) there
-
-pub split : {A : Type 0} (xs : List A) (n : ℕ) → take n xs ++ drop n xs ≡ xs
-split [] zero = refl
-split [] (suc n) = refl
-split (x ∷ xs) zero = refl
-split (x ∷ xs) (suc n) = ap (λ l. x ∷ l) (split xs n)
-
-short : {A : Type 0} (xs : List A) (n m : ℕ) → n ≤ m → take n (take m xs) ≡ take n xs
-short xs zero m le = refl
-short xs (suc n) zero le = absurd (let f : ⊥ = omega (arith, le) in f)
-short [] (suc n) (suc m) le = refl
-short (x ∷ xs) (suc n) (suc m) le = ap (λ l. x ∷ l) (short xs n m (omega (arith, le)))
-
-taken : {A : Type 0} (xs : List A) (n m : ℕ) → n ≤ m → take n xs ++ drop n (take m xs) ≡ take m xs
-taken xs n m le = ap (λ l. l ++ drop n (take m xs)) (sym (short xs n m le)) ∙ split (take m xs) n
-
--- the beginning of a column's history is one
-pub front : (own regions : ℕ) (before more : List Dated) → IsColumnHistory own regions (before ++ more)
-    → IsColumnHistory own regions before
-front own regions before more h n d there =
-    let lt = get_within before n d there in
-    subst (λ (ds : List Dated). IsLawfulEvent own regions ds d.entry.event d.entry.stamp)
-    (take-append-le n before more (omega (arith, lt)))
-    (h n d (get-append before more n d there))
 
 all_at : {A : Type 0} (P : A → Type 0) (xs : List A) → All P xs → (k : ℕ) (x : A) → slice_get xs k ≡ Some x → P x
 all_at P xs a k x there = All-contains P xs x a (contains_at xs k x there)
@@ -397,45 +359,13 @@ module _ (log : Log) (caller : Caller) (colour : ℕ)
   explained kept what (answers.Trimmed c base) nodes after e = hides kept _ _ after e.4
   explained kept what (answers.NotHome home) nodes after e = to_same kept after e.1 (same refl refl)
 
-  before : (what : What) (kept : Kept) → Onward kept (kept_before what kept)
-  before (whats.Append colours text) kept = same refl refl
-  before (whats.Stop steps colours text) kept = same refl refl
-  before (whats.Sync c) kept = same refl refl
-  before (whats.Scan colours) kept = same refl refl
-  before (whats.Pull region c) kept = same refl refl
-  before (whats.Trim c) kept = same refl refl
-  before (whats.Put object key value) kept = same refl refl
-  before (whats.Get object key) kept = same refl refl
-  before (whats.Del object key) kept = same refl refl
-  before (whats.PutAll object pairs) kept = same refl refl
-  before (whats.GetAll object keys) kept = same refl refl
-  before (whats.Read object keys) kept = same refl refl
-  before (whats.Commit object pairs) kept = same refl refl
-  before (whats.Enq object value) kept = same refl refl
-  before (whats.Deq object) kept = same refl refl
-
-  pub behind : (what : What) (kept : Kept) → Onward kept (kept_behind what kept)
-  behind (whats.Append colours text) kept = same refl refl
-  behind (whats.Stop steps colours text) kept = same refl refl
-  behind (whats.Sync c) kept = same refl refl
-  behind (whats.Scan colours) kept = same refl refl
-  behind (whats.Pull region c) kept = same refl refl
-  behind (whats.Trim c) kept = same refl refl
-  behind (whats.Put object key value) kept = same refl refl
-  behind (whats.Get object key) kept = same refl refl
-  behind (whats.Del object key) kept = same refl refl
-  behind (whats.PutAll object pairs) kept = same refl refl
-  behind (whats.GetAll object keys) kept = same refl refl
-  behind (whats.Read object keys) kept = same refl refl
-  behind (whats.Commit object pairs) kept = same refl refl
-  behind (whats.Enq object value) kept = same refl refl
-  behind (whats.Deq object) kept = same refl refl
-
   -- a command leaves past what was past
   pub answered : (kept : Kept) (command : Command) (reply : ReplyLine) (after : Kept)
       → Answers log caller kept command reply after → Onward kept after
   answered kept command reply after a =
-      then_on {middle = kept_before command.what kept} (before command.what kept)
+      then_on {middle = kept_before command.what kept}
+      (before_is (Onward kept) command.what kept (same refl refl) (λ object. same refl refl))
       (then_on {middle = a.answered} (explained
       (kept_before command.what kept) command.what reply.answer reply.nodes a.answered a.explained)
-      (to_same _ after a.after_is (behind command.what a.answered)))
+      (to_same _ after a.after_is (behind_is (Onward a.answered) command.what a.answered (same refl refl)
+      (λ object. same refl refl))))

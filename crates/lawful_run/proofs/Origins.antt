@@ -1,5 +1,5 @@
 -- The command from which an id comes.
-use Rattle.std.proofs.Common.{◌≡◌, ℕ, ◌<◌, List, [], ◌∷◌, length, Some, slice_get, refl, ap, sym, subst, ◌∙◌, ◌⊎◌, inl, inr, arith}
+use Rattle.std.proofs.Common.{◌≡◌, ℕ, ◌<◌, List, [], ◌∷◌, length, Some, slice_get, refl, ap, sym, subst, ◌∙◌, inl, inr, arith}
 use Rattle.std.specs.Prelude.{◌≢◌}
 use Rattle.std.specs.List.{Contains}
 use Rattle.log_node.specs.declared.ids.Id.{Id}
@@ -16,8 +16,9 @@ use Rattle.lawful_run.specs.Readings.{Nowhere, told, kept_at}
 use Rattle.std.proofs.lemmas.Bool.{cases_lt}
 use Rattle.lawful_run.proofs.Prefixes.{get_within}
 use Rattle.lawful_run.proofs.Replies.{Step, step_later, newest_step, kept_before, kept_end}
-use Rattle.lawful_run.proofs.Traces.{IsSingleAt, Quiet, in_none}
-use Rattle.lawful_run.proofs.Uses.{Fate, Uses, answer_use}
+use Rattle.lawful_run.proofs.Traces.{IsSingleAt, in_none}
+use Rattle.lawful_run.proofs.Uses.{Fate, Uses, Leaves}
+use Rattle.lawful_run.proofs.Used.{answer_use}
 
 -- a command of the client used the id for a node on these colours and with this text
 pub record Origin {log : Log} {caller : Caller} {commands : List Command} {replies : List ReplyLine} {last : Kept}
@@ -93,9 +94,9 @@ id_origin start count lt = absurd (let f : ⊥ = omega (arith, lt) in f)
 id_origin {log} {caller} (next {commands} {replies} {kept} {after} command reply e a) count lt =
     turn (id_origin e count) (answer_use log caller kept command reply after a) where
       turn : (count < kept.ids → Origin e (record { client = caller.client; count = count }))
-          → Quiet log kept after ⊎ Uses log caller kept command.what (told reply.answer) after
+          → Leaves log caller kept command.what (told reply.answer) after
           → Origin (next command reply e a) (record { client = caller.client; count = count })
-      turn before (inl q) = let same = q.ids in origin_later command reply e a _ (before (omega (arith, lt, same)))
+      turn before (inl q) = let same = q.0.ids in origin_later command reply e a _ (before (omega (arith, lt, same)))
       turn before (inr u) = let more = u.ids in elim (cases_lt count kept.ids) [
         | inl l ↦ origin_later command reply e a _ (before l)
         | inr ge ↦ let is : kept.ids ≡ count = omega (arith, ge, lt, more) in
@@ -114,10 +115,10 @@ alone_origin {log} {caller} (next {commands} {replies} {kept} {after} command re
     =
     turn (alone_origin e region colour place id s) (answer_use log caller kept command reply after a) where
       turn : (Contains (kept.made region colour) place → AloneAt e region colour id)
-          → Quiet log kept after ⊎ Uses log caller kept command.what (told reply.answer) after
+          → Leaves log caller kept command.what (told reply.answer) after
           → AloneAt (next command reply e a) region colour id
       turn before (inl q) = alone_later command reply e a region colour id
-          (before (q.made region colour place id s among))
+          (before (q.0.made region colour place id s among))
       turn before (inr u) = elim u.made [
         | inl m ↦ alone_later command reply e a region colour id (before (m region colour place id s among))
         | inr (c, only, stands, m) ↦ elim (m region colour place id s among) [

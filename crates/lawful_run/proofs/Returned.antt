@@ -29,7 +29,7 @@ use Rattle.lawful_run.specs.Lawful.{LawfulRun}
 use Rattle.lawful_run.specs.Readings.{kept_at, kept_of, Nowhere, Under, told, StandsAtEnd, StandsAtPoints, StandsAs, ReturnedAppendsStand}
 use Rattle.lawful_run.proofs.Replies.{step_of}
 use Rattle.lawful_run.proofs.Traces.{one_of}
-use Rattle.lawful_run.proofs.Uses.{before_ids}
+use Rattle.lawful_run.proofs.Used.{before_ids}
 use Rattle.lawful_run.proofs.Clients.{shown_there}
 
 -- what a command asks does not rest on a read that it lets go

@@ -48,7 +48,7 @@ use Rattle.lawful_run.proofs.Replies.{step_of, contains_at}
 use Rattle.lawful_run.proofs.Standing as standing
 use Rattle.lawful_run.proofs.Standing.{column_is, stands_of}
 use Rattle.lawful_run.proofs.Lines.{node_there, append_of}
-use Rattle.lawful_run.proofs.Onward.{split}
+use Rattle.lawful_run.proofs.Beginnings.{split}
 
 -- LISTS
 get-map : {A B : Type 0} (f : A → B) (xs : List A) (k : ℕ) (b : B) → slice_get (map f xs) k ≡ Some b → (x : A) ×
@@ -339,5 +339,6 @@ shown_as_appended script report fits run client n reply there item inside =
     let m = in_get reply.nodes item (to_in reply.nodes item inside) in
     shown_in script report fits run client (home script report fits run client there.0 there.1)
     (kept_before step.command.what (kept_at e n)) step.command.what step.reply.answer step.reply.nodes
-    step.answers.answered step.answers.explained (named script report fits run client n step.command step.asked) m.0 item
+    step.answers.answered step.answers.explained
+    (named script report fits run client n step.command step.asked) m.0 item
     (subst (λ (x : ReplyLine). slice_get x.nodes m.0 ≡ Some item) (sym s.1) m.1)

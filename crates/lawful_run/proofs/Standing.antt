@@ -171,7 +171,8 @@ module _ (script : Script) (report : Report) (fits : IsFitting script) (run : La
             (run.log.rows region) colour ev
         fitting e among ev is =
             subst (FitsRows (run.log.rows region) colour) is
-            (All-contains (λ (x : Entry). FitsRows (run.log.rows region) colour x.event) (run.log.histories region colour) e
+            (All-contains (λ (x : Entry). FitsRows (run.log.rows region) colour x.event)
+            (run.log.histories region colour) e
             ((run.begun.lawful region lr).events colour lc) (from_in (run.log.histories region colour) e among))
 
         turn : CameIn (run.log.histories region colour) key → Stands run region colour key
@@ -222,7 +223,8 @@ module _ (script : Script) (report : Report) (fits : IsFitting script) (run : La
                   let there = from_in (run.log.rows region) r among in
                   let o = All-contains (λ (x : BegunRow). IsClientIn script region x.row.client) (run.log.rows region) r
                   (run.begun.of_clients region lr) there in
-                  let fit = All-contains (FitsRow region) (run.log.rows region) r (run.begun.lawful region lr).fit there in
+                  let fit = All-contains (FitsRow region) (run.log.rows region) r
+                  (run.begun.lawful region lr).fit there in
                   let less = o.0 in
                   let long = fits.clients in
                   let c = client_shown r.row.client (omega (arith, less, long)) in
