@@ -75,7 +75,7 @@ RaisesAt log caller kept stamp colour (Event place) =
     (kept.seen caller.own colour ≤ place)
     × (kept.known colour ≤ length (line (take place (log.histories caller.own colour))))
     × (slice_get (log.histories caller.own colour) place
-        ≡ Some (record { by = caller.client; event = Raise stamp; stamp = 0 }))
+    ≡ Some (record { by = caller.client; event = Raise stamp; stamp = 0 }))
 RaisesAt log caller kept stamp colour (Look events) =
     (kept.seen caller.own colour ≤ events) × (events ≤ length (log.histories caller.own colour))
     × (kept.known colour ≤ length (line (take events (log.histories caller.own colour))))
