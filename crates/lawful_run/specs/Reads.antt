@@ -69,7 +69,7 @@ pub record IsTrimmed (log : Log) (caller : Caller) (kept : Kept) (colour : ℕ) 
   pub below : IsFalse (is_within shown (kept.starts colour))
 
 -- A raise to a stamp is the client's own event at the place, which was not seen before; or after so many events, no
--- fewer than were seen, the clock is at the stamp already.
+-- fewer than were seen, the clock is at the stamp already. The nodes that the client knew to stand there stand by then.
 abbrev pub RaisesAt : Log → Caller → Kept → ℕ → ℕ → At → Type 0
 RaisesAt log caller kept stamp colour (Event place) =
     (kept.seen caller.own colour ≤ place)
