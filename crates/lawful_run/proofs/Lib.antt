@@ -9,10 +9,14 @@ pub mod Entered
 pub mod Replies
 pub mod Traces
 pub mod Uses
+pub mod LettingGo
+pub mod Used
 pub mod Origins
+pub mod Clients
 pub mod Standing
 pub mod Returned
 pub mod Lines
+pub mod Beginnings
 pub mod Onward
 pub mod Shown
 pub mod Once

@@ -1,7 +1,7 @@
 -- What stands in lists.
 use Rattle.std.proofs.Common.{◌≡◌, ℕ, zero, suc, ◌+◌, ◌<◌, ◌≤◌, List, [], ◌∷◌, ◌++◌, length, reverse, map, Some, slice_get, slice_index_or, refl, ap, sym, subst, ◌∙◌, ◌⊎◌, inl, inr, arith}
 use Rattle.std.specs.Prelude.{◌≢◌}
-use Rattle.std.specs.List.{All, AllPairs, Contains, flat_map, range_with_len}
+use Rattle.std.specs.List.{AllPairs, Contains, flat_map, range_with_len}
 use Rattle.std.proofs.lemmas.Bool.{cases_lt}
 use Rattle.col_core.proofs.Members.{In}
 use Rattle.col_core.proofs.LawfulPasts.{reverse-cons}
@@ -39,11 +39,12 @@ module _ {A : Type 0} where
 
   pub in_reverse : (x : A) (xs : List A) → In x (reverse xs) → In x xs
   in_reverse x [] i = i
-  in_reverse x (y ∷ ys) i = turn (in_reverse x ys) (in_split x (reverse ys) (y ∷ []) (subst (λ (l : List A). In x l) (reverse-cons y ys) i)) where
-    turn : (In x (reverse ys) → In x ys) → In x (reverse ys) ⊎ ((y ≡ x) ⊎ ⊥) → (y ≡ x) ⊎ In x ys
-    turn back (inl a) = inr (back a)
-    turn back (inr (inl e)) = inl e
-    turn back (inr (inr f)) = absurd f
+  in_reverse x (y ∷ ys) i = turn (in_reverse x ys)
+      (in_split x (reverse ys) (y ∷ []) (subst (λ (l : List A). In x l) (reverse-cons y ys) i)) where
+        turn : (In x (reverse ys) → In x ys) → In x (reverse ys) ⊎ ((y ≡ x) ⊎ ⊥) → (y ≡ x) ⊎ In x ys
+        turn back (inl a) = inr (back a)
+        turn back (inr (inl e)) = inl e
+        turn back (inr (inr f)) = absurd f
 
   -- two elements with one value of what differs between all
   pub same_one : {B : Type 0} (f : A → B) (xs : List A) → AllPairs (λ x y. f x ≢ f y) xs → (i j : ℕ) (x y : A)
@@ -60,8 +61,10 @@ module _ {A : Type 0} where
     within (w ∷ ws) (suc k) z e = let l = within ws k z e in omega (arith, l)
 
     turn : (i < j) ⊎ (j ≤ i) → (j < i) ⊎ (i ≤ j) → x ≡ y
-    turn (inl lt) other = absurd (apart i j x lt (within xs j y b) (ap f (index xs i x x a) ∙ (same ∙ ap f (sym (index xs j y x b)))))
-    turn (inr ge) (inl lt) = absurd (apart j i x lt (within xs i x a) (ap f (index xs j y x b) ∙ (sym same ∙ ap f (sym (index xs i x x a)))))
+    turn (inl lt) other = absurd (apart i j x lt (within xs j y b)
+        (ap f (index xs i x x a) ∙ (same ∙ ap f (sym (index xs j y x b)))))
+    turn (inr ge) (inl lt) = absurd (apart j i x lt (within xs i x a)
+        (ap f (index xs j y x b) ∙ (sym same ∙ ap f (sym (index xs i x x a)))))
     turn (inr ge) (inr le) =
         let e : i ≡ j = omega (arith, ge, le) in
         let s : slice_get xs j ≡ Some x = subst (λ (n : ℕ). slice_get xs n ≡ Some x) e a in
@@ -77,7 +80,8 @@ module _ {A : Type 0} where
   in_map_back f (y ∷ ys) b (inl e) = (y, inl refl, e)
   in_map_back f (y ∷ ys) b (inr i) = let r = in_map_back f ys b i in (r.0, inr r.1, r.2)
 
-  pub in_flat_map : {B : Type 0} (f : A → List B) (xs : List A) (b : B) → In b (flat_map f xs) → (x : A) × In x xs × In b (f x)
+  pub in_flat_map : {B : Type 0} (f : A → List B) (xs : List A) (b : B) → In b (flat_map f xs) → (x : A) × In x xs
+      × In b (f x)
   in_flat_map f [] b i = absurd i
   in_flat_map {B} f (y ∷ ys) b i = turn (in_flat_map f ys b) (split b (f y) (flat_map f ys) i) where
     split : (c : B) (us bs : List B) → In c (us ++ bs) → In c us ⊎ In c bs
@@ -85,7 +89,8 @@ module _ {A : Type 0} where
     split c (a ∷ us) bs (inl e) = inl (inl e)
     split c (a ∷ us) bs (inr h) = elim (split c us bs h) [ inl l ↦ inl (inr l) | inr r ↦ inr r ]
 
-    turn : (In b (flat_map f ys) → (x : A) × In x ys × In b (f x)) → In b (f y) ⊎ In b (flat_map f ys) → (x : A) × ((y ≡ x) ⊎ In x ys) × In b (f x)
+    turn : (In b (flat_map f ys) → (x : A) × In x ys × In b (f x)) → In b (f y) ⊎ In b (flat_map f ys) → (x : A) ×
+        ((y ≡ x) ⊎ In x ys) × In b (f x)
     turn more (inl h) = (y, inl refl, h)
     turn more (inr h) = let r = more h in (r.0, inr r.1, r.2)
 
@@ -93,4 +98,5 @@ module _ {A : Type 0} where
 pub in_range : (a n x : ℕ) → In x (range_with_len a n) → (a ≤ x) × (x < a + n)
 in_range a zero x i = absurd i
 in_range a (suc n) x (inl e) = (omega (arith, e), omega (arith, e))
-in_range a (suc n) x (inr i) = let r = in_range (a + 1) n x i in let l = r.0 in let u = r.1 in (omega (arith, l), omega (arith, u))
+in_range a (suc n) x (inr i) = let r = in_range (a + 1) n x i in let l = r.0 in let u = r.1 in
+    (omega (arith, l), omega (arith, u))

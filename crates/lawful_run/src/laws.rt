@@ -1,6 +1,6 @@
 // Laws of explanations, and of what a reader takes from a report.
 ghost use Rattle.lawful_run.specs.Laws.{ExplanationsLast, ReadItemsLast};
-ghost use Rattle.lawful_run.specs.Readings.{ClosingLinesRise, NothingElseStands, OneKey, OneOrder, ReturnedAppendsStand, ShownAsAppended, ShownOnce};
+ghost use Rattle.lawful_run.specs.Readings.{ClosingLinesRise, NothingElseStands, OneCommand, OneKey, OneOrder, ReturnedAppendsStand, ShownAsAppended, ShownOnce};
 
 /// What a log explains to a client, each later log explains as well.
 pub fn explanations_last()
@@ -26,6 +26,11 @@ pub fn closing_lines_rise()
 /// An id has one key in all closing lines.
 pub fn one_key()
     ensures { OneKey }
+{}
+
+/// An id is of one command alone.
+pub fn one_command()
+    ensures { OneCommand }
 {}
 
 /// Two nodes stand in one order in each closing line that has both.
