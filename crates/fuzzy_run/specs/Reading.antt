@@ -1,9 +1,9 @@
 -- What a reader takes from the report of a run.
-use Rattle.lawful_run.specs.Readings.{ReturnedAppendsStand, ClosingLinesRise, OneKey, OneOrder, NothingElseStands, ShownAsAppended, ShownOnce}
+use Rattle.std.specs.Prelude.{ℕ, List}
+use Rattle.lawful_run.specs.Readings.{ReturnedAppendsStand, ClosingLinesRise, OneKey, OneCommand, OneOrder, NothingElseStands, ShownAsAppended, ShownOnce}
 use Rattle.script_text.specs.declared.script.Script.{Script}
 use Rattle.script_text.specs.Grammar.{IsScript}
 use Rattle.script_text.specs.Fitting.{IsFitting}
-use Rattle.std.specs.Prelude.{ℕ, List}
 
 -- What holds of the report of each lawful run of a script.
 pub record LawsForReaders : Type 0 where
@@ -12,6 +12,7 @@ pub record LawsForReaders : Type 0 where
   pub returned : ReturnedAppendsStand
   pub rising : ClosingLinesRise
   pub one_key : OneKey
+  pub one_command : OneCommand
   pub one_order : OneOrder
   pub nothing_else : NothingElseStands
   pub as_appended : ShownAsAppended

@@ -2,8 +2,8 @@
 ghost use Rattle.fuzzy_run.specs.Reading.{LawsForReaders};
 
 use lawful_run::{
-    closing_lines_rise, nothing_else_stands, one_key, one_order, returned_appends_stand,
-    shown_as_appended, shown_once,
+    closing_lines_rise, nothing_else_stands, one_command, one_key, one_order,
+    returned_appends_stand, shown_as_appended, shown_once,
 };
 
 /// What holds of the report of each lawful run of a script.
@@ -13,6 +13,7 @@ pub fn laws_for_readers()
     returned_appends_stand();
     closing_lines_rise();
     one_key();
+    one_command();
     one_order();
     nothing_else_stands();
     shown_as_appended();

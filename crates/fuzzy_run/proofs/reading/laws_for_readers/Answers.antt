@@ -7,6 +7,7 @@ returns g = record {
   returned = g.returned_appends_stand.ensures;
   rising = g.closing_lines_rise.ensures;
   one_key = g.one_key.ensures;
+  one_command = g.one_command.ensures;
   one_order = g.one_order.ensures;
   nothing_else = g.nothing_else_stands.ensures;
   as_appended = g.shown_as_appended.ensures;
