@@ -1,0 +1,91 @@
+-- Columns that are not as they may be.
+use Rattle.std.proofs.Common.{◌≡◌, ℕ, List, [], ◌∷◌, refl, ap, arith, lit<}
+use Rattle.std.specs.Prelude.{slice_index}
+use Rattle.log_node.specs.declared.ids.Counts.{Counts}
+use Rattle.log_node.specs.Vectors.{at}
+use Rattle.col_core.specs.Computed.{dated}
+use Rattle.col_core.proofs.CutLaws.{cut-is_greatest}
+use Rattle.col_core.proofs.Uniqueness.{cut_unique}
+use Rattle.report_text.specs.declared.report.ColumnReport.{ColumnReport}
+use Rattle.lawful_run.specs.Lawful.{LawfulRun}
+use Rattle.wrong_reports.specs.Cases.{Case, IsUnlawful}
+use Rattle.wrong_reports.specs.Columns.{another_clock, another_line, another_queue, another_cut, another_base, another_regions_name, another_colours_name, a_missing_column, a_stamp_that_is_not_next, an_id_that_enters_twice, a_settling_of_what_is_not_open, a_raise_to_the_clock, a_give_to_its_own_region, a_trim_with_a_stamp, an_event_by_nobody, a_give_beyond_the_line, a_carry_with_a_gap, a_carry_of_nothing, a_carry_of_its_own_region, a_base_that_forgets_another_region, single}
+use Rattle.wrong_reports.proofs.Tools.{column_at, some_same}
+
+pub clock : IsUnlawful another_clock
+clock run = let s = (column_at another_clock run 0 _ refl).closing.clock_shown in cc (s)
+
+pub line : IsUnlawful another_line
+line run = let s = (column_at another_line run 0 _ refl).closing.line_shown in cc (s)
+
+pub queue : IsUnlawful another_queue
+queue run = let s = (column_at another_queue run 0 _ refl).closing.queue_shown in cc (s)
+
+pub cut_shown : IsUnlawful another_cut
+cut_shown run =
+    let g = (column_at another_cut run 0 _ refl).closing.cut_shown in
+    let h = cut_unique _ _ _ g (cut-is_greatest 0 (dated 0 (single ∷ []))) in
+    let f : 0 ≡ 1 = ap (λ (v : Counts). at v 0) h in omega (arith, f)
+
+pub base : IsUnlawful another_base
+base run =
+    let s = (column_at another_base run 0 _ refl).closing.base_shown in
+    let f : 1 ≡ 0 = ap (λ (v : Counts). at v 0) s in omega (arith, f)
+
+pub region_name : IsUnlawful another_regions_name
+region_name run =
+    let s = some_same _ _ (column_at another_regions_name run 0 _ refl).region_named in
+    let f : 101 ≡ 119 = ap (λ (name : List ℕ). slice_index name 0) s in omega (arith, f)
+
+pub colour_name : IsUnlawful another_colours_name
+colour_name run =
+    let s = some_same _ _ (column_at another_colours_name run 0 _ refl).colour_named in
+    let f : 120 ≡ 121 = ap (λ (name : List ℕ). slice_index name 0) s in omega (arith, f)
+
+pub missing : IsUnlawful a_missing_column
+missing run = let s = run.columns.all in cc (s)
+
+-- EVENTS THAT MAY NOT COME
+pub not_next : IsUnlawful a_stamp_that_is_not_next
+not_next run = let s = ((column_at a_stamp_that_is_not_next run 0 _ refl).legal 0 _ refl).stamped in cc (s)
+
+pub enters_twice : IsUnlawful an_id_that_enters_twice
+enters_twice run = let s = ((column_at an_id_that_enters_twice run 0 _ refl).legal 1 _ refl).fresh in cc (s)
+
+pub not_open : IsUnlawful a_settling_of_what_is_not_open
+not_open run = ((column_at a_settling_of_what_is_not_open run 0 _ refl).legal 1 _ refl).1
+
+pub raise_to_clock : IsUnlawful a_raise_to_the_clock
+raise_to_clock run = let s = ((column_at a_raise_to_the_clock run 0 _ refl).legal 1 _ refl).1 in omega (arith, s)
+
+pub give_to_own : IsUnlawful a_give_to_its_own_region
+give_to_own run = ((column_at a_give_to_its_own_region run 0 _ refl).legal 1 _ refl).1 refl
+
+pub trim_with_stamp : IsUnlawful a_trim_with_a_stamp
+trim_with_stamp run = let s = (column_at a_trim_with_a_stamp run 0 _ refl).legal 1 _ refl in cc (s)
+
+pub by_nobody : IsUnlawful an_event_by_nobody
+by_nobody run = let s = (column_at an_event_by_nobody run 0 _ refl).makers 1 single (lit< tt) in omega (arith, s)
+
+pub give_beyond : IsUnlawful a_give_beyond_the_line
+give_beyond run = let s = ((column_at a_give_beyond_the_line run 1 _ refl).legal 0 _ refl).3 in omega (arith, s)
+
+pub carry_gap : IsUnlawful a_carry_with_a_gap
+carry_gap run = let s = ((column_at a_carry_with_a_gap run 1 _ refl).legal 0 _ refl).3 in cc (s)
+
+pub carry_nothing : IsUnlawful a_carry_of_nothing
+carry_nothing run = let s = ((column_at a_carry_of_nothing run 1 _ refl).legal 0 _ refl).4 in omega (arith, s)
+
+pub carry_own : IsUnlawful a_carry_of_its_own_region
+carry_own run = ((column_at a_carry_of_its_own_region run 1 _ refl).legal 0 _ refl).1 refl
+
+-- COPIES
+-- what w holds of e
+module _ (case : Case) (run : LawfulRun case.script case.report) (of_e of_w : ColumnReport) where
+  pub copies : 0 ≡ of_e.region → Unit {0}
+  copies h = tt
+
+pub base_forgets : IsUnlawful a_base_that_forgets_another_region
+base_forgets run =
+    let s = (column_at a_base_that_forgets_another_region run 0 _ refl).closing.base_shown in
+    let f : 1 ≡ 0 = ap (λ (v : Counts). at v 0) s in omega (arith, f)
