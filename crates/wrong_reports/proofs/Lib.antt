@@ -5,4 +5,5 @@ pub mod WrongReplies
 pub mod WrongNaming
 pub mod WrongColumns
 pub mod WrongRows
+pub mod WrongSeveral
 pub mod WrongHelping

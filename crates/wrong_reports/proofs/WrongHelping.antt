@@ -25,8 +25,8 @@ use Rattle.lawful_run.specs.Appends.{StopsAfter, Stops, stopped_at_once, stopped
 use Rattle.lawful_run.specs.Columns.{IsClientIn}
 use Rattle.lawful_run.specs.Lawful.{LawfulRun, HasStopped, HasHelping}
 use Rattle.wrong_reports.specs.Cases.{Case, IsUnlawful, a, b, x, id, proposes, on_both}
-use Rattle.wrong_reports.specs.Rows.{settles}
-use Rattle.wrong_reports.specs.Helping.{phantom, a_phantom_of_another_region, a_phantom_of_nobody, proposed, a_stopped_append_that_goes_on, a_stop_before_its_steps, a_stop_after_other_steps, left_open_by_one_who_did_not_stop, a_row_left_open, helped_by_b, one_who_only_syncs_helps, one_of_another_region_helps, a_helped_append_left_open}
+use Rattle.wrong_reports.specs.Rows.{settles, proposed}
+use Rattle.wrong_reports.specs.Helping.{phantom, a_phantom_of_another_region, a_phantom_of_nobody, a_stopped_append_that_goes_on, a_stop_before_its_steps, a_stop_after_other_steps, left_open_by_one_who_did_not_stop, a_row_left_open, helped_by_b, one_who_only_syncs_helps, one_of_another_region_helps, a_helped_append_left_open}
 use Rattle.wrong_reports.proofs.Tools.{only, column_at}
 use Rattle.wrong_reports.proofs.BegunRows.{one_row, second_row, only_row, at_row, in_rows}
 

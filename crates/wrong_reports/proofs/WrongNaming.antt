@@ -15,7 +15,9 @@ use Rattle.col_core.specs.Log.{places_of}
 use Rattle.col_core.specs.Keeping.{Kept}
 use Rattle.lawful_run.specs.Lawful.{LawfulRun}
 use Rattle.wrong_reports.specs.Cases.{IsUnlawful, alone, a, e, x, id, key, counts, empty, enters, column}
-use Rattle.wrong_reports.specs.Naming.{trim, trimmed, case, an_own_event_that_no_reply_names, an_event_named_twice, events_named_out_of_order, an_event_seen_before_it_is_made, a_look_behind_what_was_seen, an_event_that_is_not_there, one_node, an_append_at_another_position, an_append_under_another_stamp, an_append_not_above_the_floor, a_single_of_nobody, no_stamp_with_stamps_left, a_full_that_needs_no_row}
+use Rattle.script_text.specs.declared.script.What.TheVariants.{Sync}
+use Rattle.wrong_reports.specs.Cases.{asks}
+use Rattle.wrong_reports.specs.Naming.{a_floor_that_is_forgotten, a_raise_that_no_reply_names, a_single_that_no_reply_names, synced_at, trim, trimmed, case, an_own_event_that_no_reply_names, an_event_named_twice, events_named_out_of_order, an_event_seen_before_it_is_made, a_look_behind_what_was_seen, an_event_that_is_not_there, one_node, an_append_at_another_position, an_append_under_another_stamp, an_append_not_above_the_floor, a_single_of_nobody, no_stamp_with_stamps_left, a_full_that_needs_no_row}
 use Rattle.wrong_reports.proofs.Tools.{only, column_at, some_same}
 use Rattle.wrong_reports.proofs.Told.{two, trim_says, stood_says, no_stamp_says}
 
@@ -75,6 +77,9 @@ not_there run =
 single_id : (i j : Id) (floor other : ℕ) (wants more : Counts) → Single i floor wants ≡ Single j other more → i ≡ j
 single_id i j floor other wants more e = cc (e)
 
+single_floor : (i j : Id) (floor other : ℕ) (wants more : Counts) → Single i floor wants ≡ Single j other more → floor ≡ other
+single_floor i j floor other wants more e = cc (e)
+
 pub another_position : IsUnlawful an_append_at_another_position
 another_position run =
     let s = only run.log _ _ _ _ (run.clients 0 _ refl).explained in
@@ -129,3 +134,32 @@ no_row_needed run =
     let c = said.2.0 in
     let s1 : 2 ≤ 1 = subst (λ (c : Colours). 2 ≤ length (members c)) c s in
     omega (arith, s1)
+
+pub forgotten : IsUnlawful a_floor_that_is_forgotten
+forgotten run =
+    let t = two run.log _ _ _ _ _ _ (run.clients 0 _ refl).explained in
+    let k = (stood_says run.log _ _ _ _ _ _ _ _ _ _ _ t.first).1 in
+    let s = (stood_says run.log _ _ _ _ _ _ _ _ _ _ _ t.second).0.entered in
+    let h = (column_at a_floor_that_is_forgotten run 0 _ refl).history in
+    let same = some_same (enters a (id a 1) 0 2) _ (ap (λ (es : List Entry). slice_get es 1) h ∙ s) in
+    let floor : 0 ≡ t.kept.floor = single_floor _ _ _ _ _ _ (ap (λ (en : Entry). en.event) same) in
+    let f : 0 ≡ 1 = floor ∙ ap (λ (k : Kept). k.floor) k in
+    omega (arith, f)
+
+-- what no reply names
+unnamed : (journal : List Entry) (column : ColumnReport) → column.journal ≡ journal → column.region ≡ 0 → column.colour ≡ 0
+    → places_of 0 journal ≡ 0 ∷ []
+    → LawfulRun (alone (asks 6 a (Sync x) ∷ [])) (case (asks 6 a (Sync x) ∷ []) (synced_at 6 0 ∷ []) column).report → ⊥
+unnamed journal column is region colour places run =
+    let client = run.clients 0 _ refl in
+    let s = only run.log _ _ _ _ client.explained in
+    let h : journal ≡ run.log.histories 0 0 = (let g = history_is _ _ column run in cc (is, region, colour, g)) in
+    let m = client.made 0 0 (lit< tt) (lit< tt) in
+    let both : 0 ∷ [] ≡ [] = sym places ∙ ap (places_of 0) h ∙ m ∙ ap (λ (kept : Kept). kept.made 0 0) (s.after_is ∙ s.explained.4) in
+    cc (both)
+
+pub raise_unnamed : IsUnlawful a_raise_that_no_reply_names
+raise_unnamed run = unnamed _ _ refl refl refl refl run
+
+pub single_unnamed : IsUnlawful a_single_that_no_reply_names
+single_unnamed run = unnamed _ _ refl refl refl refl run

@@ -7,7 +7,7 @@ use Rattle.script_text.specs.declared.script.Word.TheVariants as words
 use Rattle.report_text.specs.declared.report.Answer.TheVariants as answers
 use Rattle.report_text.specs.declared.report.ColumnReport.{ColumnReport}
 use Rattle.wrong_reports.specs.Cases.{Case, a, b, e, w, x, y, id, key, counts, on_x, on_y, on_both, together, script, asks, replies, to_both, column, empty, enters, proposes, point, shows}
-use Rattle.wrong_reports.specs.Rows.{row, settles, one_append}
+use Rattle.wrong_reports.specs.Rows.{row, settles, one_append, proposed}
 
 -- PHANTOMS: a row, and a node in both lines, that no command of the script made
 -- 7 append nomemory
@@ -37,10 +37,6 @@ abbrev pub a_phantom_of_nobody : Case
 a_phantom_of_nobody = phantom 2
 
 -- STOPS
--- = clock 1 line - queue a.0:1? cut 0 base 0
-abbrev pub proposed : ℕ → ColumnReport
-proposed colour = column e colour (proposes a (id a 0) 0 1 ∷ []) 1 [] (record { key = key 1 (id a 0); settled = false } ∷ []) (counts 0 0) (counts 0 0)
-
 -- 8 stop stopped 1
 -- row e a.0 a.0 x=1 y=- open
 -- column e x

@@ -2,6 +2,7 @@
 use Rattle.std.specs.Prelude.{ℕ, List, [], ◌∷◌, codes, None}
 use Rattle.log_node.specs.declared.node.At.TheVariants.{Event}
 use Rattle.log_node.specs.Seen.{PlacedNode}
+use Rattle.col_core.specs.declared.Event.TheVariants.{Raise}
 use Rattle.script_text.specs.declared.script.What.TheVariants.{Append, Sync, Trim}
 use Rattle.script_text.specs.declared.script.Word.TheVariants as words
 use Rattle.script_text.specs.declared.script.Command.{Command}
@@ -9,7 +10,7 @@ use Rattle.report_text.specs.declared.report.Answer.TheVariants as answers
 use Rattle.report_text.specs.declared.report.ReplyLine.{ReplyLine}
 use Rattle.report_text.specs.declared.report.ColumnReport.{ColumnReport}
 use Rattle.col_core.specs.declared.Entry.{Entry}
-use Rattle.wrong_reports.specs.Cases.{Case, a, e, x, id, key, counts, on_x, alone, asks, replies, to_a, look, column, empty, enters, trims, point, shows}
+use Rattle.wrong_reports.specs.Cases.{Case, a, e, x, id, key, counts, on_x, alone, asks, replies, to_a, look, column, by, empty, enters, trims, point, shows}
 
 -- 0 a trim 0
 abbrev pub trim : Entry
@@ -132,59 +133,28 @@ no_stamp_with_stamps_left = case (append 6 ∷ []) (replies 6 words.Append (answ
 abbrev pub a_full_that_needs_no_row : Case
 a_full_that_needs_no_row = case (append 6 ∷ []) (replies 6 words.Append (answers.Full 1) ∷ []) (empty e x)
 
--- A SYNC AFTER IT
-abbrev pub shown : ℕ → List ℕ → PlacedNode
-shown stamp text = record {
-  head = record { key = key stamp (id a 0); needs = counts 0 0 };
-  node = record {
-    id = id a 0;
-    region = e;
-    colours = on_x;
-    text = text;
-    floor = 0;
-    wants = counts 0 0 ∷ [];
-    row = None;
-  };
-}
-
-abbrev pub plays_nodes : List PlacedNode → ℕ → Case
-plays_nodes nodes count = case (append 6 ∷ asks 7 a (Sync x) ∷ [])
-    (stood_at 6 1 0 0
-    ∷ record { line = 7; word = words.Sync; answer = answers.Synced (look x 1 (counts 1 0)) count; nodes = nodes } ∷ [])
-    one_node
-
 -- 6 append ok 1 x!0@0
--- 7 sync ok x?1/1 plays 1
--- + a.0 1 t
+-- 7 append ok 2 x!1@1
+-- column e x
+-- 0 a single a.0 floor 0 wants 0 stamp 1
+-- 1 a single a.1 floor 0 wants 0 stamp 2
+-- = clock 2 line a.0:1,a.1:2 queue - cut 2 base 0
+abbrev pub a_floor_that_is_forgotten : Case
+a_floor_that_is_forgotten = case (append 6 ∷ append 7 ∷ []) (stood_at 6 1 0 0 ∷ stood_at 7 2 1 1 ∷ [])
+    (column e x (enters a (id a 0) 0 1 ∷ enters a (id a 1) 0 2 ∷ []) 2 (key 1 (id a 0) ∷ key 2 (id a 1) ∷ []) [] (counts 2 0) (counts 0 0))
+
+-- EVENTS THAT NO REPLY NAMES
+-- 6 sync ok x?0/0 plays 0
+-- column e x
+-- 0 a raise 1
+-- = clock 1 line - queue - cut 0 base 0
+abbrev pub a_raise_that_no_reply_names : Case
+a_raise_that_no_reply_names = case (asks 6 a (Sync x) ∷ []) (synced_at 6 0 ∷ [])
+    (column e x (by a (Raise 1) 0 ∷ []) 1 [] [] (counts 0 0) (counts 0 0))
+
+-- 6 sync ok x?0/0 plays 0
 -- column e x
 -- 0 a single a.0 floor 0 wants 0 stamp 1
 -- = clock 1 line a.0:1 queue - cut 1 base 0
-abbrev pub a_node_with_another_text : Case
-a_node_with_another_text = plays_nodes (shown 1 (codes "t") ∷ []) 1
-
--- 6 append ok 1 x!0@0
--- 7 sync ok x?1/1 plays 0
--- column e x
--- 0 a single a.0 floor 0 wants 0 stamp 1
--- = clock 1 line a.0:1 queue - cut 1 base 0
-abbrev pub a_node_that_is_not_shown : Case
-a_node_that_is_not_shown = plays_nodes [] 0
-
--- 6 append ok 1 x!0@0
--- 7 sync ok x?1/1 plays 1
--- + a.0 2 s
--- column e x
--- 0 a single a.0 floor 0 wants 0 stamp 1
--- = clock 1 line a.0:1 queue - cut 1 base 0
-abbrev pub a_node_under_another_stamp : Case
-a_node_under_another_stamp = plays_nodes (shown 2 (codes "s") ∷ []) 1
-
--- 6 append ok 1 x!0@0
--- 7 sync ok x?1/1 plays 2
--- + a.0 1 s
--- + a.0 1 s
--- column e x
--- 0 a single a.0 floor 0 wants 0 stamp 1
--- = clock 1 line a.0:1 queue - cut 1 base 0
-abbrev pub a_node_shown_twice : Case
-a_node_shown_twice = plays_nodes (shown 1 (codes "s") ∷ shown 1 (codes "s") ∷ []) 2
+abbrev pub a_single_that_no_reply_names : Case
+a_single_that_no_reply_names = case (asks 6 a (Sync x) ∷ []) (synced_at 6 0 ∷ []) one_node

@@ -1,5 +1,5 @@
 -- Reports whose rows are wrong. The script: the client a appends the text s to x and y.
-use Rattle.std.specs.Prelude.{ℕ, List, [], ◌∷◌, codes, Some, None}
+use Rattle.std.specs.Prelude.{ℕ, List, [], ◌∷◌, codes, Some, None, false}
 use Rattle.log_node.specs.declared.ids.Id.{Id}
 use Rattle.skeen_core.specs.declared.marks.Why.TheVariants as whys
 use Rattle.skeen_core.specs.declared.marks.Mark.{Mark}
@@ -13,6 +13,7 @@ use Rattle.script_text.specs.declared.script.Word.TheVariants as words
 use Rattle.script_text.specs.declared.script.Script.{Script}
 use Rattle.report_text.specs.declared.report.Answer.TheVariants as answers
 use Rattle.report_text.specs.declared.report.ReplyLine.{ReplyLine}
+use Rattle.report_text.specs.declared.report.QueueKey.{QueueKey}
 use Rattle.report_text.specs.declared.report.RowReport.{RowReport}
 use Rattle.report_text.specs.declared.report.ColumnReport.{ColumnReport}
 use Rattle.wrong_reports.specs.Cases.{Case, a, b, e, x, y, id, key, counts, on_x, on_both, together, asks, replies, to_both, column, empty, by, enters, proposes, point, shows}
@@ -164,3 +165,7 @@ a_settling_under_a_lesser_stamp = record {
       2 (key 1 (id a 0) ∷ key 1 (id b 0) ∷ []) [] (counts 2 0) (counts 0 0)
       ∷ complete y ∷ []);
 }
+
+-- = clock 1 line - queue a.0:1? cut 0 base 0
+abbrev pub proposed : ℕ → ColumnReport
+proposed colour = column e colour (proposes a (id a 0) 0 1 ∷ []) 1 [] (record { key = key 1 (id a 0); settled = false } ∷ []) (counts 0 0) (counts 0 0)

@@ -6,7 +6,8 @@ ghost use Rattle.wrong_reports.specs.Columns.{another_regions_name, another_colo
 ghost use Rattle.wrong_reports.specs.Columns.{a_stamp_that_is_not_next, an_id_that_enters_twice, a_settling_of_what_is_not_open};
 ghost use Rattle.wrong_reports.specs.Columns.{a_raise_to_the_clock, a_give_to_its_own_region, a_give_beyond_the_line};
 ghost use Rattle.wrong_reports.specs.Columns.{a_trim_with_a_stamp, an_event_by_nobody, a_carry_with_a_gap};
-ghost use Rattle.wrong_reports.specs.Columns.{a_carry_of_nothing, a_carry_of_its_own_region};
+ghost use Rattle.wrong_reports.specs.Columns.{a_carry_of_nothing, a_carry_of_its_own_region, a_carry_of_what_the_origin_lacks};
+ghost use Rattle.wrong_reports.specs.Columns.{a_carry_with_other_needs, noted_more_than_is_held};
 
 /// The closing line shows the clock.
 #[tactic(auto, using(crate::proofs::WrongColumns::clock))]
@@ -126,4 +127,22 @@ pub fn a_carry_of_nothing_is_unlawful()
 #[tactic(auto, using(crate::proofs::WrongColumns::carry_own))]
 pub fn a_carry_of_its_own_region_is_unlawful()
     ensures { IsUnlawful a_carry_of_its_own_region }
+{}
+
+/// What is carried stands in the origin.
+#[tactic(auto, using(crate::proofs::WrongColumns::lacks))]
+pub fn a_carry_of_what_the_origin_lacks_is_unlawful()
+    ensures { IsUnlawful a_carry_of_what_the_origin_lacks }
+{}
+
+/// What is carried has the needs that it has in the origin.
+#[tactic(auto, using(crate::proofs::WrongColumns::other_needs))]
+pub fn a_carry_with_other_needs_is_unlawful()
+    ensures { IsUnlawful a_carry_with_other_needs }
+{}
+
+/// No more is asked past than is held.
+#[tactic(auto, using(crate::proofs::WrongColumns::noted_more))]
+pub fn noted_more_than_is_held_is_unlawful()
+    ensures { IsUnlawful noted_more_than_is_held }
 {}

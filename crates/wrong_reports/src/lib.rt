@@ -6,15 +6,17 @@ mod helping;
 mod naming;
 mod replies;
 mod rows;
+mod several;
 
 pub use columns::{
     a_base_that_forgets_another_region_is_unlawful, a_carry_of_its_own_region_is_unlawful,
-    a_carry_of_nothing_is_unlawful, a_carry_with_a_gap_is_unlawful, a_give_beyond_the_line_is_unlawful,
-    a_give_to_its_own_region_is_unlawful, a_missing_column_is_unlawful, a_raise_to_the_clock_is_unlawful,
-    a_settling_of_what_is_not_open_is_unlawful, a_stamp_that_is_not_next_is_unlawful,
-    a_trim_with_a_stamp_is_unlawful, an_event_by_nobody_is_unlawful, an_id_that_enters_twice_is_unlawful,
-    another_base_is_unlawful, another_clock_is_unlawful, another_colours_name_is_unlawful, another_cut_is_unlawful,
-    another_line_is_unlawful, another_queue_is_unlawful, another_regions_name_is_unlawful,
+    a_carry_of_nothing_is_unlawful, a_carry_of_what_the_origin_lacks_is_unlawful, a_carry_with_a_gap_is_unlawful,
+    a_carry_with_other_needs_is_unlawful, a_give_beyond_the_line_is_unlawful, a_give_to_its_own_region_is_unlawful,
+    a_missing_column_is_unlawful, a_raise_to_the_clock_is_unlawful, a_settling_of_what_is_not_open_is_unlawful,
+    a_stamp_that_is_not_next_is_unlawful, a_trim_with_a_stamp_is_unlawful, an_event_by_nobody_is_unlawful,
+    an_id_that_enters_twice_is_unlawful, another_base_is_unlawful, another_clock_is_unlawful,
+    another_colours_name_is_unlawful, another_cut_is_unlawful, another_line_is_unlawful, another_queue_is_unlawful,
+    another_regions_name_is_unlawful, noted_more_than_is_held_is_unlawful,
 };
 pub use helping::{
     a_helped_append_left_open_is_unlawful, a_phantom_of_another_region_is_unlawful, a_phantom_of_nobody_is_unlawful,
@@ -23,7 +25,9 @@ pub use helping::{
     one_of_another_region_helps_is_unlawful, one_who_only_syncs_helps_is_unlawful,
 };
 pub use naming::{
-    a_full_that_needs_no_row_is_unlawful, a_look_behind_what_was_seen_is_unlawful, a_single_of_nobody_is_unlawful,
+    a_floor_that_is_forgotten_is_unlawful, a_full_that_needs_no_row_is_unlawful,
+    a_look_behind_what_was_seen_is_unlawful, a_raise_that_no_reply_names_is_unlawful,
+    a_single_of_nobody_is_unlawful, a_single_that_no_reply_names_is_unlawful,
     an_append_at_another_position_is_unlawful, an_append_not_above_the_floor_is_unlawful,
     an_append_under_another_stamp_is_unlawful, an_event_named_twice_is_unlawful,
     an_event_seen_before_it_is_made_is_unlawful, an_event_that_is_not_there_is_unlawful,
@@ -41,4 +45,9 @@ pub use rows::{
     a_row_out_of_count_is_unlawful, a_settling_under_a_lesser_stamp_is_unlawful,
     a_settling_unlike_the_outcome_is_unlawful, an_outcome_of_other_marks_is_unlawful, full_too_early_is_unlawful,
     rows_out_of_order_is_unlawful, two_orders_is_unlawful, two_rows_for_one_node_is_unlawful,
+};
+pub use several::{
+    a_colour_without_a_point_is_unlawful, a_row_that_no_command_began_is_unlawful,
+    an_append_to_several_that_leaves_the_floor_is_unlawful, another_rows_number_is_unlawful,
+    stood_before_it_is_decided_is_unlawful, stood_before_it_is_settled_is_unlawful,
 };

@@ -4,6 +4,7 @@ ghost use Rattle.wrong_reports.specs.Naming.{an_own_event_that_no_reply_names, a
 ghost use Rattle.wrong_reports.specs.Naming.{an_event_seen_before_it_is_made, a_look_behind_what_was_seen, an_event_that_is_not_there};
 ghost use Rattle.wrong_reports.specs.Naming.{an_append_at_another_position, an_append_under_another_stamp, an_append_not_above_the_floor};
 ghost use Rattle.wrong_reports.specs.Naming.{a_single_of_nobody, no_stamp_with_stamps_left, a_full_that_needs_no_row};
+ghost use Rattle.wrong_reports.specs.Naming.{a_floor_that_is_forgotten, a_raise_that_no_reply_names, a_single_that_no_reply_names};
 
 /// Each own event is of a command.
 #[tactic(auto, using(crate::proofs::WrongNaming::own_event_left_out))]
@@ -75,4 +76,22 @@ pub fn no_stamp_with_stamps_left_is_unlawful()
 #[tactic(auto, using(crate::proofs::WrongNaming::no_row_needed))]
 pub fn a_full_that_needs_no_row_is_unlawful()
     ensures { IsUnlawful a_full_that_needs_no_row }
+{}
+
+/// A node has its client's floor.
+#[tactic(auto, using(crate::proofs::WrongNaming::forgotten))]
+pub fn a_floor_that_is_forgotten_is_unlawful()
+    ensures { IsUnlawful a_floor_that_is_forgotten }
+{}
+
+/// Raises are own steps.
+#[tactic(auto, using(crate::proofs::WrongNaming::raise_unnamed))]
+pub fn a_raise_that_no_reply_names_is_unlawful()
+    ensures { IsUnlawful a_raise_that_no_reply_names }
+{}
+
+/// Singles are own steps.
+#[tactic(auto, using(crate::proofs::WrongNaming::single_unnamed))]
+pub fn a_single_that_no_reply_names_is_unlawful()
+    ensures { IsUnlawful a_single_that_no_reply_names }
 {}

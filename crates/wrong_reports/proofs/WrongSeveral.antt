@@ -1,0 +1,73 @@
+-- Replies to an append to several colours that are unlike its row.
+use Rattle.std.proofs.Common.{◌≡◌, ◌≢◌, ℕ, zero, suc, ◌+◌, ◌<◌, ◌≤◌, List, [], ◌∷◌, ◌++◌, length, map, Some, None, refl, ap, sym, subst, ◌∙◌, arith, lit<, codes, slice_get}
+use Rattle.std.specs.List.{All, Contains, filter}
+use Rattle.log_node.specs.declared.ids.Id.{Id}
+use Rattle.log_node.specs.declared.ids.Counts.{Counts}
+use Rattle.skeen_core.specs.declared.marks.Outcome.TheVariants.{Open, Final}
+use Rattle.col_core.specs.declared.Event.TheVariants.{Single}
+use Rattle.col_core.specs.declared.Entry.{Entry}
+use Rattle.col_core.specs.History.{line}
+use Rattle.col_core.specs.Rows.{BegunRow, is_of}
+use Rattle.col_core.specs.Keeping.{Kept}
+use Rattle.report_text.specs.declared.report.PointPiece.{PointPiece}
+use Rattle.lawful_run.specs.Appends.{StandsAt}
+use Rattle.lawful_run.specs.Lawful.{LawfulRun}
+use Rattle.wrong_reports.specs.Cases.{Case, IsUnlawful, a, e, x, y, id, enters, point}
+use Rattle.wrong_reports.specs.Rows.{proposed}
+use Rattle.wrong_reports.specs.Several.{another_rows_number, a_colour_without_a_point, stood_before_it_is_settled, stood_before_it_is_decided, a_row_that_no_command_began, an_append_to_several_that_leaves_the_floor}
+use Rattle.wrong_reports.proofs.Tools.{only, column_at, some_same, none_there}
+use Rattle.wrong_reports.proofs.Told.{two, stood_says, several_says}
+use Rattle.wrong_reports.proofs.BegunRows.{begun, OneRow, one_row, only_row}
+
+pub rows_number : IsUnlawful another_rows_number
+rows_number run =
+    let s = only run.log _ _ _ _ (run.clients 0 _ refl).explained in
+    let n = (several_says run.log _ _ _ _ _ _ _ _ _ _ s).0 in
+    omega (arith, n)
+
+pub without_point : IsUnlawful a_colour_without_a_point
+without_point run =
+    let s = only run.log _ _ _ _ (run.clients 0 _ refl).explained in
+    let c = (several_says run.log _ _ _ _ _ _ _ _ _ _ s).2.colours in
+    let f : 1 ≡ 2 = ap (λ (cs : List ℕ). length cs) c in
+    omega (arith, f)
+
+pub not_settled : IsUnlawful stood_before_it_is_settled
+not_settled run =
+    let s = only run.log _ _ _ _ (run.clients 0 _ refl).explained in
+    let p = (several_says run.log _ _ _ _ _ _ _ _ _ _ s).2.each 0 (point x 0 0) (lit< tt) in
+    let h = (column_at stood_before_it_is_settled run 0 (proposed x) refl).history in
+    none_there _ (ap (λ (es : List Entry). slice_get (line es) 0) h ∙ p.stands)
+
+pub not_decided : IsUnlawful stood_before_it_is_decided
+not_decided run =
+    let s = only run.log _ _ _ _ (run.clients 0 _ refl).explained in
+    let o = (several_says run.log _ _ _ _ _ _ _ _ _ _ s).2.outcome in
+    let one = one_row 0 (run.log.rows 0) _ run.begun.all in
+    let r = only_row _ o.0 (subst (λ (rows : List BegunRow). Contains rows o.0) one.rows_are o.1.begun) in
+    let f : Open ≡ Final 1 = ap (λ (r : BegunRow). r.last) r ∙ o.2 in
+    cc (f)
+
+pub no_command : IsUnlawful a_row_that_no_command_began
+no_command run =
+    let client = run.clients 0 _ refl in
+    let s = only run.log _ _ _ _ client.explained in
+    let one = one_row 0 (run.log.rows 0) _ run.begun.all in
+    let n : length (filter (is_of 0) (run.log.rows 0)) ≡ client.kept.rows = client.rows in
+    let f : 1 ≡ 0 = ap (λ (rows : List BegunRow). length (filter (is_of 0) rows)) (sym one.rows_are) ∙ n
+        ∙ ap (λ (k : Kept). k.rows) (s.after_is ∙ s.explained.4) in
+    omega (arith, f)
+
+single_floor : (i j : Id) (floor other : ℕ) (wants more : Counts) → Single i floor wants ≡ Single j other more → floor ≡ other
+single_floor i j floor other wants more e = cc (e)
+
+pub leaves_floor : IsUnlawful an_append_to_several_that_leaves_the_floor
+leaves_floor run =
+    let t = two run.log _ _ _ _ _ _ (run.clients 0 _ refl).explained in
+    let k = (several_says run.log _ _ _ _ _ _ _ _ _ _ t.first).3 in
+    let s = (stood_says run.log _ _ _ _ _ _ _ _ _ _ _ t.second).0.entered in
+    let h = (column_at an_append_to_several_that_leaves_the_floor run 0 _ refl).history in
+    let same = some_same (enters a (id a 1) 0 2) _ (ap (λ (es : List Entry). slice_get es 2) h ∙ s) in
+    let floor : 0 ≡ t.kept.floor = single_floor _ _ _ _ _ _ (ap (λ (en : Entry). en.event) same) in
+    let f : 0 ≡ 1 = floor ∙ ap (λ (k : Kept). k.floor) k in
+    omega (arith, f)
