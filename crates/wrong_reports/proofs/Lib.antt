@@ -3,6 +3,7 @@ pub mod Told
 pub mod BegunRows
 pub mod WrongReplies
 pub mod WrongNaming
+pub mod WrongShown
 pub mod WrongColumns
 pub mod WrongRows
 pub mod WrongSeveral

@@ -62,6 +62,14 @@ a_node_that_is_not_shown = plays_nodes [] 0
 abbrev pub a_node_under_another_stamp : Case
 a_node_under_another_stamp = plays_nodes (shown 2 (codes "s") ∷ []) 1
 
+abbrev pub two_plays : ReplyLine
+two_plays = record {
+  line = 8;
+  word = words.Sync;
+  answer = answers.Synced (look x 2 (counts 2 0)) 2;
+  nodes = record (shown 2 (codes "s")) { head = record { key = key 2 (id a 1); needs = counts 0 0 } } ∷ shown 1 (codes "s") ∷ [];
+}
+
 -- 6 append ok 1 x!0@0
 -- 7 append ok 2 x!1@1
 -- 8 sync ok x?2/2 plays 2
@@ -73,13 +81,7 @@ a_node_under_another_stamp = plays_nodes (shown 2 (codes "s") ∷ []) 1
 -- = clock 2 line a.0:1,a.1:2 queue - cut 2 base 0
 abbrev pub nodes_in_another_order : Case
 nodes_in_another_order = case (append 6 ∷ append 7 ∷ asks 8 a (Sync x) ∷ [])
-    (stood_at 6 1 0 0 ∷ stood_at 7 2 1 1
-    ∷ record {
-      line = 8;
-      word = words.Sync;
-      answer = answers.Synced (look x 2 (counts 2 0)) 2;
-      nodes = record (shown 2 (codes "s")) { head = record { key = key 2 (id a 1); needs = counts 0 0 } } ∷ shown 1 (codes "s") ∷ [];
-    } ∷ [])
+    (stood_at 6 1 0 0 ∷ stood_at 7 2 1 1 ∷ two_plays ∷ [])
     (column e x two_entries 2 (key 1 (id a 0) ∷ key 2 (id a 1) ∷ []) [] (counts 2 0) (counts 0 0))
 
 -- 6 append ok 1 x!0@0

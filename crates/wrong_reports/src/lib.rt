@@ -7,6 +7,7 @@ mod naming;
 mod replies;
 mod rows;
 mod several;
+mod shown;
 
 pub use columns::{
     a_base_that_forgets_another_region_is_unlawful, a_carry_of_its_own_region_is_unlawful,
@@ -50,4 +51,8 @@ pub use several::{
     a_colour_without_a_point_is_unlawful, a_row_that_no_command_began_is_unlawful,
     an_append_to_several_that_leaves_the_floor_is_unlawful, another_rows_number_is_unlawful,
     stood_before_it_is_decided_is_unlawful, stood_before_it_is_settled_is_unlawful,
+};
+pub use shown::{
+    a_node_shown_twice_is_unlawful, a_node_that_is_not_shown_is_unlawful, a_node_under_another_stamp_is_unlawful,
+    a_node_with_another_text_is_unlawful, nodes_in_another_order_is_unlawful,
 };
