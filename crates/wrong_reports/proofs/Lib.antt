@@ -7,4 +7,7 @@ pub mod WrongShown
 pub mod WrongColumns
 pub mod WrongRows
 pub mod WrongSeveral
+pub mod WrongReads
+pub mod WrongMoves
+pub mod WrongObjects
 pub mod WrongHelping

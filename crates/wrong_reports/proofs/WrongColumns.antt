@@ -9,9 +9,8 @@ use Rattle.col_core.specs.declared.Entry.{Entry}
 use Rattle.col_core.specs.Computed.{dated}
 use Rattle.col_core.proofs.CutLaws.{cut-is_greatest}
 use Rattle.col_core.proofs.Uniqueness.{cut_unique}
-use Rattle.report_text.specs.declared.report.ColumnReport.{ColumnReport}
 use Rattle.lawful_run.specs.Lawful.{LawfulRun}
-use Rattle.wrong_reports.specs.Cases.{Case, IsUnlawful, counts}
+use Rattle.wrong_reports.specs.Cases.{IsUnlawful, counts}
 use Rattle.wrong_reports.specs.Columns.{copies, a_carry_of_what_the_origin_lacks, a_carry_with_other_needs, noted_more_than_is_held, single, another_clock, another_line, another_queue, another_cut, another_base, another_regions_name, another_colours_name, a_missing_column, a_stamp_that_is_not_next, an_id_that_enters_twice, a_settling_of_what_is_not_open, a_raise_to_the_clock, a_give_to_its_own_region, a_trim_with_a_stamp, an_event_by_nobody, a_give_beyond_the_line, a_carry_with_a_gap, a_carry_of_nothing, a_carry_of_its_own_region, a_base_that_forgets_another_region, single}
 use Rattle.wrong_reports.proofs.Tools.{column_at, some_same}
 

@@ -1,6 +1,6 @@
 -- Replies to an append to several colours that are unlike its row.
-use Rattle.std.proofs.Common.{◌≡◌, ◌≢◌, ℕ, zero, suc, ◌+◌, ◌<◌, ◌≤◌, List, [], ◌∷◌, ◌++◌, length, map, Some, None, refl, ap, sym, subst, ◌∙◌, arith, lit<, codes, slice_get}
-use Rattle.std.specs.List.{All, Contains, filter}
+use Rattle.std.proofs.Common.{◌≡◌, ℕ, List, length, refl, ap, sym, subst, ◌∙◌, arith, lit<, slice_get}
+use Rattle.std.specs.List.{Contains, filter}
 use Rattle.log_node.specs.declared.ids.Id.{Id}
 use Rattle.log_node.specs.declared.ids.Counts.{Counts}
 use Rattle.skeen_core.specs.declared.marks.Outcome.TheVariants.{Open, Final}
@@ -9,15 +9,12 @@ use Rattle.col_core.specs.declared.Entry.{Entry}
 use Rattle.col_core.specs.History.{line}
 use Rattle.col_core.specs.Rows.{BegunRow, is_of}
 use Rattle.col_core.specs.Keeping.{Kept}
-use Rattle.report_text.specs.declared.report.PointPiece.{PointPiece}
-use Rattle.lawful_run.specs.Appends.{StandsAt}
-use Rattle.lawful_run.specs.Lawful.{LawfulRun}
-use Rattle.wrong_reports.specs.Cases.{Case, IsUnlawful, a, e, x, y, id, enters, point}
+use Rattle.wrong_reports.specs.Cases.{IsUnlawful, a, e, x, id, enters, point}
 use Rattle.wrong_reports.specs.Rows.{proposed}
 use Rattle.wrong_reports.specs.Several.{another_rows_number, a_colour_without_a_point, stood_before_it_is_settled, stood_before_it_is_decided, a_row_that_no_command_began, an_append_to_several_that_leaves_the_floor}
 use Rattle.wrong_reports.proofs.Tools.{only, column_at, some_same, none_there}
 use Rattle.wrong_reports.proofs.Told.{two, stood_says, several_says}
-use Rattle.wrong_reports.proofs.BegunRows.{begun, OneRow, one_row, only_row}
+use Rattle.wrong_reports.proofs.BegunRows.{one_row, only_row}
 
 pub rows_number : IsUnlawful another_rows_number
 rows_number run =

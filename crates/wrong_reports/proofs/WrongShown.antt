@@ -1,10 +1,9 @@
 -- Syncs that show other nodes than they play.
-use Rattle.std.proofs.Common.{◌≡◌, ◌⊎◌, inl, inr, ℕ, zero, suc, ◌+◌, ◌<◌, ◌≤◌, List, [], ◌∷◌, ◌++◌, length, take, Bool, true, false, Some, None, refl, ap, sym, subst, ◌∙◌, arith, lit<, codes, slice_get, ne_eqb}
+use Rattle.std.proofs.Common.{◌≡◌, inl, ℕ, zero, suc, ◌+◌, List, [], ◌∷◌, take, Some, refl, ap, sym, subst, ◌∙◌, arith, codes, slice_get, ne_eqb}
 use Rattle.std.specs.Prelude.{slice_index}
 use Rattle.std.specs.List.{AllZip, count_by}
 use Rattle.log_node.specs.declared.ids.Id.{Id}
 use Rattle.log_node.specs.declared.ids.Key.{Key}
-use Rattle.log_node.specs.declared.ids.Counts.{Counts}
 use Rattle.log_node.specs.declared.node.Head.{Head}
 use Rattle.log_node.specs.declared.node.Node.{Node}
 use Rattle.log_node.specs.Seen.{PlacedNode}
@@ -13,11 +12,11 @@ use Rattle.col_core.specs.Cuts.{Chains, chain}
 use Rattle.col_core.specs.Computed.{dated}
 use Rattle.col_core.specs.PlayOrder.{Place, IsPlayOrder, same_place}
 use Rattle.col_core.specs.Log.{Log, first}
-use Rattle.col_core.specs.Keeping.{Kept, nothing_kept}
-use Rattle.lawful_run.specs.Callers.{caller_of, node_of}
+use Rattle.col_core.specs.Keeping.{Kept}
+use Rattle.lawful_run.specs.Callers.{caller_of}
 use Rattle.lawful_run.specs.Reads.{ShowsNode, ShowsPlayed}
 use Rattle.lawful_run.specs.Lawful.{LawfulRun}
-use Rattle.wrong_reports.specs.Cases.{Case, IsUnlawful, a, e, x, id, key, counts, on_x, alone, asks}
+use Rattle.wrong_reports.specs.Cases.{IsUnlawful, a, x, id, key, counts, asks}
 use Rattle.script_text.specs.declared.script.What.TheVariants.{Sync}
 use Rattle.wrong_reports.specs.Naming.{append, stood_at, one_node}
 use Rattle.wrong_reports.specs.Shown.{shown, plays_nodes, two_entries, a_node_with_another_text, a_node_that_is_not_shown, a_node_under_another_stamp, a_node_shown_twice, nodes_in_another_order, two_plays}

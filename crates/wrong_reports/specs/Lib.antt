@@ -5,4 +5,7 @@ pub mod Shown
 pub mod Columns
 pub mod Rows
 pub mod Several
+pub mod Reads
+pub mod Moves
+pub mod Objects
 pub mod Helping

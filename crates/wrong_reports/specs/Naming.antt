@@ -1,7 +1,6 @@
 -- Reports whose replies name other events or nodes than they may.
 use Rattle.std.specs.Prelude.{ℕ, List, [], ◌∷◌, codes, None}
 use Rattle.log_node.specs.declared.node.At.TheVariants.{Event}
-use Rattle.log_node.specs.Seen.{PlacedNode}
 use Rattle.col_core.specs.declared.Event.TheVariants.{Raise}
 use Rattle.script_text.specs.declared.script.What.TheVariants.{Append, Sync, Trim}
 use Rattle.script_text.specs.declared.script.Word.TheVariants as words

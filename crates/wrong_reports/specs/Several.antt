@@ -1,22 +1,14 @@
 -- Replies to an append to several colours that are unlike its row.
-use Rattle.std.specs.Prelude.{ℕ, List, [], ◌∷◌, codes, Some, None}
-use Rattle.log_node.specs.declared.ids.Id.{Id}
-use Rattle.skeen_core.specs.declared.marks.Why.TheVariants as whys
-use Rattle.skeen_core.specs.declared.marks.Mark.{Mark}
+use Rattle.std.specs.Prelude.{List, [], ◌∷◌, codes, Some, None}
 use Rattle.skeen_core.specs.declared.marks.Mark.TheVariants as marks
 use Rattle.skeen_core.specs.declared.marks.Outcome.{Outcome}
-use Rattle.skeen_core.specs.declared.marks.Outcome.TheVariants.{Open, Gone, Final}
-use Rattle.col_core.specs.declared.Event.TheVariants.{Settle}
-use Rattle.col_core.specs.declared.Entry.{Entry}
+use Rattle.skeen_core.specs.declared.marks.Outcome.TheVariants.{Open, Final}
 use Rattle.script_text.specs.declared.script.What.TheVariants.{Append, Sync}
 use Rattle.script_text.specs.declared.script.Word.TheVariants as words
-use Rattle.script_text.specs.declared.script.Script.{Script}
 use Rattle.report_text.specs.declared.report.Answer.{Answer}
 use Rattle.report_text.specs.declared.report.Answer.TheVariants as answers
-use Rattle.report_text.specs.declared.report.ReplyLine.{ReplyLine}
-use Rattle.report_text.specs.declared.report.RowReport.{RowReport}
 use Rattle.report_text.specs.declared.report.ColumnReport.{ColumnReport}
-use Rattle.wrong_reports.specs.Cases.{Case, a, b, e, x, y, id, key, counts, on_x, on_both, together, asks, replies, to_both, look, column, empty, by, enters, proposes, point, shows}
+use Rattle.wrong_reports.specs.Cases.{Case, a, e, x, y, id, key, counts, on_x, on_both, together, asks, replies, to_both, look, column, empty, enters, proposes, point, shows}
 use Rattle.wrong_reports.specs.Rows.{row, settles, complete, proposed, one_append, stood}
 
 abbrev pub answered : Answer → Outcome → List ColumnReport → Case

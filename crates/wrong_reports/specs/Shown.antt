@@ -1,16 +1,12 @@
 -- Syncs that show other nodes than they play.
 use Rattle.std.specs.Prelude.{ℕ, List, [], ◌∷◌, codes, None}
-use Rattle.log_node.specs.declared.node.At.TheVariants.{Event}
 use Rattle.log_node.specs.Seen.{PlacedNode}
-use Rattle.col_core.specs.declared.Event.TheVariants.{Raise}
-use Rattle.script_text.specs.declared.script.What.TheVariants.{Append, Sync, Trim}
+use Rattle.script_text.specs.declared.script.What.TheVariants.{Sync}
 use Rattle.script_text.specs.declared.script.Word.TheVariants as words
-use Rattle.script_text.specs.declared.script.Command.{Command}
 use Rattle.report_text.specs.declared.report.Answer.TheVariants as answers
 use Rattle.report_text.specs.declared.report.ReplyLine.{ReplyLine}
-use Rattle.report_text.specs.declared.report.ColumnReport.{ColumnReport}
 use Rattle.col_core.specs.declared.Entry.{Entry}
-use Rattle.wrong_reports.specs.Cases.{Case, a, e, x, id, key, counts, on_x, alone, asks, replies, to_a, look, column, by, empty, enters, trims, point, shows}
+use Rattle.wrong_reports.specs.Cases.{Case, a, e, x, id, key, counts, on_x, asks, look, column, enters}
 use Rattle.wrong_reports.specs.Naming.{case, append, stood_at, one_node}
 
 abbrev pub shown : ℕ → List ℕ → PlacedNode

@@ -3,7 +3,10 @@
 
 mod columns;
 mod helping;
+mod moves;
 mod naming;
+mod objects;
+mod reads;
 mod replies;
 mod rows;
 mod several;
@@ -25,6 +28,12 @@ pub use helping::{
     a_stopped_append_that_goes_on_is_unlawful, left_open_by_one_who_did_not_stop_is_unlawful,
     one_of_another_region_helps_is_unlawful, one_who_only_syncs_helps_is_unlawful,
 };
+pub use moves::{
+    a_base_that_is_not_there_is_unlawful, a_pull_of_more_nodes_is_unlawful, a_pull_that_asks_again_is_unlawful,
+    a_pull_that_leaves_a_node_is_unlawful, a_sync_of_what_was_trimmed_is_unlawful,
+    a_trim_beyond_the_snapshot_is_unlawful, another_region_taken_for_its_own_is_unlawful,
+    trimmed_where_nothing_is_is_unlawful,
+};
 pub use naming::{
     a_floor_that_is_forgotten_is_unlawful, a_full_that_needs_no_row_is_unlawful,
     a_look_behind_what_was_seen_is_unlawful, a_raise_that_no_reply_names_is_unlawful,
@@ -34,6 +43,19 @@ pub use naming::{
     an_event_seen_before_it_is_made_is_unlawful, an_event_that_is_not_there_is_unlawful,
     an_own_event_that_no_reply_names_is_unlawful, events_named_out_of_order_is_unlawful,
     no_stamp_with_stamps_left_is_unlawful,
+};
+pub use objects::{
+    a_causal_value_of_nothing_is_unlawful, a_commit_that_keeps_its_read_is_unlawful,
+    a_dequeue_answered_as_an_append_is_unlawful, a_dequeue_of_nothing_is_unlawful,
+    a_read_that_is_forgotten_is_unlawful, a_value_of_another_key_is_unlawful, a_value_of_nothing_is_unlawful,
+    another_home_is_unlawful, answered_away_from_home_is_unlawful, refused_at_home_is_unlawful,
+};
+pub use reads::{
+    a_raise_before_its_clients_nodes_is_unlawful, a_raise_that_does_not_reach_is_unlawful,
+    a_raise_that_leaves_the_clock_is_unlawful, a_read_below_a_clock_that_was_seen_is_unlawful,
+    a_read_below_the_floor_is_unlawful, a_read_over_an_open_entry_is_unlawful, a_read_stamp_of_nothing_is_unlawful,
+    a_scan_of_more_nodes_is_unlawful, a_scan_that_leaves_a_node_out_is_unlawful, a_scan_without_a_raise_is_unlawful,
+    a_scan_without_a_sync_is_unlawful,
 };
 pub use replies::{
     a_look_at_what_is_not_there_is_unlawful, a_missing_reply_is_unlawful,
