@@ -85,9 +85,15 @@ kept_after_point kept own colour at position = record kept {
   known = updated kept.known colour (position + 1);
 }
 
--- with events made at these places of its region's columns, by colour
+-- how many events are seen by one who saw so many, and made events at these places
+abbrev pub seen_past : ℕ → List ℕ → ℕ
+seen_past seen [] = seen
+seen_past seen (place ∷ places) = seen_past (max seen (place + 1)) places
+
+-- with events made, and so seen, at these places of its region's columns, by colour
 abbrev pub with_made : Kept → ℕ → (ℕ → List ℕ) → Kept
 with_made kept own places = record kept {
+  seen = updated kept.seen own (λ colour. seen_past (kept.seen own colour) (places colour));
   made = updated kept.made own (λ colour. kept.made own colour ++ places colour);
 }
 

@@ -1,5 +1,5 @@
 -- What the answer to an append says of the log.
-use Rattle.std.specs.Prelude.{◌≡◌, ◌≢◌, ◌⊎◌, IsTrue, ℕ, ◌+◌, ◌==◌, ◌<◌, ◌≤◌, List, [], ◌∷◌, length, take, map, Option, Some, None, slice_get, if◌then◌else◌}
+use Rattle.std.specs.Prelude.{◌≡◌, ◌≢◌, ◌⊎◌, IsTrue, ℕ, ◌==◌, ◌<◌, ◌≤◌, List, [], ◌∷◌, length, take, map, Option, Some, None, slice_get, if◌then◌else◌}
 use Rattle.std.specs.List.{All, fold}
 use Rattle.log_node.specs.declared.ids.Id.{Id}
 use Rattle.log_node.specs.declared.ids.Colours.{Colours}
@@ -11,8 +11,7 @@ use Rattle.skeen_core.specs.declared.marks.Why.{Why}
 use Rattle.skeen_core.specs.declared.marks.Why.TheVariants.{Memory, StampEnd}
 use Rattle.skeen_core.specs.declared.marks.Mark.{Mark}
 use Rattle.skeen_core.specs.declared.marks.Mark.TheVariants as marks
-use Rattle.skeen_core.specs.declared.marks.Outcome.{Outcome}
-use Rattle.skeen_core.specs.declared.marks.Outcome.TheVariants.{Open, Gone, Final}
+use Rattle.skeen_core.specs.declared.marks.Outcome.TheVariants.{Gone, Final}
 use Rattle.skeen_core.specs.Standings.{open_entry}
 use Rattle.col_core.specs.declared.Event as events
 use Rattle.col_core.specs.declared.Event.TheVariants.{Single, Propose, Settle, Raise, Give, Carry, Trim}
@@ -24,10 +23,11 @@ use Rattle.col_core.specs.Keeping.{Kept, kept_after_single, kept_after_point, wi
 use Rattle.report_text.specs.declared.report.PointPiece.{PointPiece}
 use Rattle.lawful_run.specs.Callers.{Caller}
 
--- An append to one colour: the node that the client's command makes over what it keeps is the next of its nodes. It entered
--- by an event at the place, which was not seen before, and stands under its stamp at the position of the line, behind all
--- nodes that were known to stand there.
-pub record AppendsOne (log : Log) (caller : Caller) (kept : Kept) (node : Node) (colour stamp place position : ℕ) : Type 0 where
+-- An append to one colour: the node that the client's command makes over what it keeps is the next of its nodes. It
+-- entered by an event at the place, which was not seen before, and stands under its stamp at the position of the line,
+-- behind all nodes that were known to stand there.
+pub record AppendsOne (log : Log) (caller : Caller) (kept : Kept) (node : Node)
+    (colour stamp place position : ℕ) : Type 0 where
   pub next : slice_get (log.nodes caller.client) kept.ids ≡ Some node
   pub entered : slice_get (log.histories caller.own colour) place
       ≡ Some (record { by = caller.client; event = Single node.id kept.floor (kept.starts colour); stamp = stamp })
@@ -88,14 +88,16 @@ StandsUnder log caller node stamp colour position =
     slice_get (line (log.histories caller.own colour)) position ≡ Some (entry_key stamp node.id)
 
 -- a point of an append to several colours: where the node entered, and where it stands
-pub record StandsAt (log : Log) (caller : Caller) (kept : Kept) (node : Node) (stamp : ℕ) (point : PointPiece) : Type 0 where
+pub record StandsAt (log : Log) (caller : Caller) (kept : Kept) (node : Node) (stamp : ℕ)
+    (point : PointPiece) : Type 0 where
   pub entered : EntersAt log caller kept node point.colour point.at
   pub stands : StandsUnder log caller node stamp point.colour point.position
   pub behind : kept.known point.colour ≤ point.position
 
 -- An append to several colours: its row is final under the stamp, and the node stands at each of the points, one for
 -- each of its colours.
-pub record AppendsSeveral (log : Log) (caller : Caller) (kept : Kept) (node : Node) (stamp : ℕ) (points : List PointPiece)
+pub record AppendsSeveral (log : Log) (caller : Caller) (kept : Kept) (node : Node) (stamp : ℕ)
+    (points : List PointPiece)
     (places : ℕ → List ℕ) : Type 0 where
   pub begins : BeginsRow log caller kept node places
   pub outcome : HasOutcome log node (Final stamp)
@@ -105,7 +107,8 @@ pub record AppendsSeveral (log : Log) (caller : Caller) (kept : Kept) (node : No
 
 -- after these points
 abbrev pub kept_after_points : Kept → ℕ → List PointPiece → Kept
-kept_after_points kept own points = fold (λ k (p : PointPiece). kept_after_point k own p.colour p.at p.position) kept points
+kept_after_points kept own points =
+    fold (λ k (p : PointPiece). kept_after_point k own p.colour p.at p.position) kept points
 
 -- The append was answered with its stamp, its row where it took one, and its points; and what the client then keeps.
 abbrev pub Appends : Log → Caller → Kept → Node → ℕ → Option ℕ → List PointPiece → Kept → Type 0
@@ -144,12 +147,14 @@ IsSettled log caller node = All (IsSettledIn log caller node) (members node.colo
 
 -- The row of an append to several colours is gone, since the colour had no stamp left, which is the least such colour;
 -- and the node is open nowhere.
-pub record IsGoneAtEnd (log : Log) (caller : Caller) (kept : Kept) (node : Node) (colour : ℕ) (places : ℕ → List ℕ) : Type 0 where
+pub record IsGoneAtEnd (log : Log) (caller : Caller) (kept : Kept) (node : Node) (colour : ℕ)
+    (places : ℕ → List ℕ) : Type 0 where
   pub begins : BeginsRow log caller kept node places
   pub outcome : HasOutcome log node (Gone StampEnd)
   pub fence : HasMark log node colour (marks.Fenced StampEnd)
   pub least : All (λ other. other < colour
-      → (mark : Mark) × (mark ≢ marks.None) × (mark ≢ marks.Fenced StampEnd) × HasMark log node other mark) (members node.colours)
+      → (mark : Mark) × (mark ≢ marks.None) × (mark ≢ marks.Fenced StampEnd) × HasMark log node other mark)
+          (members node.colours)
   pub settled : IsSettled log caller node
 
 -- No stamp was left for the append in this colour; and what the client then keeps.
@@ -165,45 +170,9 @@ pub record IsFull (caller : Caller) (kept : Kept) (colours : Colours) (used : �
   pub shown : used ≡ kept.rows
   pub all : kept.rows ≡ caller.rows
 
--- a colour of the node's row has a mark
-abbrev pub IsMarked : Log → Node → ℕ → Type 0
-IsMarked log node colour = (mark : Mark) × (mark ≢ marks.None) × HasMark log node colour mark
-
--- the node's row keeps an outcome
-abbrev pub IsDecided : Log → Node → Type 0
-IsDecided log node = (outcome : Outcome) × (outcome ≢ Open) × HasOutcome log node outcome
-
--- The n-th colour of k has its proposal among so many first steps of the append (after the beginning of the row), and
--- its settling too (after all proposals and the decision).
-abbrev pub IsStepWithin : ℕ → ℕ → ℕ → events.Event → Type 0
-IsStepWithin n k steps (Single id floor wants) = ⊥
-IsStepWithin n k steps (Propose id floor wants) = n + 1 < steps
-IsStepWithin n k steps (Settle id outcome) = n + k + 2 < steps
-IsStepWithin n k steps (Raise to) = ⊥
-IsStepWithin n k steps (Give region from) = ⊥
-IsStepWithin n k steps (Carry region start heads) = ⊥
-IsStepWithin n k steps (Trim counts) = ⊥
-
--- An append of several colours has stopped after so many steps, one or more: it has begun its row, then marked its
--- colours in their order, then decided, then settled its colours in their order; and the client took no later step.
-pub record StopsAfter (log : Log) (caller : Caller) (kept : Kept) (node : Node) (steps : ℕ) (places : ℕ → List ℕ) : Type 0 where
-  pub begins : BeginsRow log caller kept node places
-  pub marked : (n colour : ℕ) → slice_get (members node.colours) n ≡ Some colour → n + 1 < steps → IsMarked log node colour
-  pub decided : length (members node.colours) + 2 ≤ steps → IsDecided log node
-  pub settled : (n colour : ℕ) → slice_get (members node.colours) n ≡ Some colour
-      → n + length (members node.colours) + 2 < steps → IsSettledIn log caller node colour
-  pub no_later : (n colour : ℕ) → slice_get (members node.colours) n ≡ Some colour → All (λ place.
-      (e : Entry) × (slice_get (log.histories caller.own colour) place ≡ Some e)
-      × IsStepWithin n (length (members node.colours)) steps e.event) (places colour)
-
--- A stop, and what the client then keeps.
-pub data Stops (log : Log) (caller : Caller) (kept : Kept) (node : Node) : ℕ → Kept → Type 0 where
-  stopped_at_once : Stops log caller kept node 0 kept
-  stopped_after : (steps : ℕ) (places : ℕ → List ℕ) → StopsAfter log caller kept node (steps + 1) places
-      → Stops log caller kept node (steps + 1) (with_made (with_row kept) caller.own places)
-
 -- An append to several colours found no memory: its row is gone for that, and the node is open nowhere.
-pub record IsGoneForMemory (log : Log) (caller : Caller) (kept : Kept) (node : Node) (places : ℕ → List ℕ) : Type 0 where
+pub record IsGoneForMemory (log : Log) (caller : Caller) (kept : Kept) (node : Node)
+    (places : ℕ → List ℕ) : Type 0 where
   pub begins : BeginsRow log caller kept node places
   pub outcome : HasOutcome log node (Gone Memory)
   pub settled : IsSettled log caller node

@@ -33,7 +33,8 @@ commands_of script client = filter (λ (c : Command). c.client == client) script
 
 -- the row that a node on these colours takes, where there are several
 abbrev pub row_of : ℕ → ℕ → List ℕ → Option Row
-row_of client rows colours = if nat_lt 1 (length colours) then Some (record { client = client; number = rows }) else None
+row_of client rows colours =
+    if nat_lt 1 (length colours) then Some (record { client = client; number = rows }) else None
 
 -- the node that a client appends over what it keeps
 abbrev pub node_of : Caller → Kept → Colours → List ℕ → Node

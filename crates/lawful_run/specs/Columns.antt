@@ -18,17 +18,20 @@ use Rattle.report_text.specs.declared.report.ColumnReport.{ColumnReport}
 
 -- the numbers of the columns, by region and then colour
 abbrev pub column_numbers : ℕ → ℕ → List (ℕ × ℕ)
-column_numbers regions colours = flat_map (λ region. map (λ colour. (region, colour)) (range_with_len 0 colours)) (range_with_len 0 regions)
+column_numbers regions colours = flat_map (λ region. map (λ colour. (region, colour)) (range_with_len 0 colours))
+    (range_with_len 0 regions)
 
 -- the closing line shows what the whole history is
 pub record ShowsClosing (regions : ℕ) (history : List Entry) (column : ColumnReport) : Type 0 where
   pub clock_shown : column.clock ≡ clock history
   pub line_shown : column.line ≡ line history
-  pub queue_shown : map (λ (q : QueueKey). record { key = q.key; settled = q.settled }) column.queue ≡ queue_of (entries history)
+  pub queue_shown : map (λ (q : QueueKey). record { key = q.key; settled = q.settled }) column.queue
+      ≡ queue_of (entries history)
   pub cut_shown : IsGreatestReachable (chain column.region (dated column.region history)) column.cut
   pub base_shown : column.base ≡ base column.region regions (dated column.region history)
 
--- A column's journal is its history in the log, each event is lawful after those before, and the closing line shows its end.
+-- A column's journal is its history in the log, each event is lawful after those before, and the closing line shows
+-- its end.
 pub record IsColumnReport (log : Log) (script : Script) (column : ColumnReport) : Type 0 where
   pub history : column.journal ≡ log.histories column.region column.colour
   pub legal : IsColumnHistory column.region script.shape.regions (dated column.region column.journal)
@@ -39,7 +42,8 @@ pub record IsColumnReport (log : Log) (script : Script) (column : ColumnReport) 
 
 -- all columns are there, each a legal history
 pub record AreColumns (log : Log) (script : Script) (columns : List ColumnReport) : Type 0 where
-  pub all : map (λ (c : ColumnReport). (c.region, c.colour)) columns ≡ column_numbers script.shape.regions script.shape.colours
+  pub all : map (λ (c : ColumnReport). (c.region, c.colour)) columns
+      ≡ column_numbers script.shape.regions script.shape.colours
   pub each : All (IsColumnReport log script) columns
 
 -- the report of a begun row
@@ -53,12 +57,17 @@ IsClientIn script region client =
 
 -- all begun rows are there, lawful beside the histories
 pub record AreRows (log : Log) (script : Script) (reports : List RowReport) : Type 0 where
-  pub all : reports ≡ flat_map (λ region. map (row_report region) (log.rows region)) (range_with_len 0 script.shape.regions)
-  pub by_client : (region : ℕ) → region < script.shape.regions → IsNonDecreasing (map (λ (r : BegunRow). r.row.client) (log.rows region))
+  pub all : reports ≡ flat_map (λ region. map (row_report region) (log.rows region))
+      (range_with_len 0 script.shape.regions)
+  pub by_client : (region : ℕ) → region < script.shape.regions
+      → IsNonDecreasing (map (λ (r : BegunRow). r.row.client) (log.rows region))
   -- each row is of a client of its region
-  pub of_clients : (region : ℕ) → region < script.shape.regions → All (λ (r : BegunRow). IsClientIn script region r.row.client) (log.rows region)
-  pub lawful : (region : ℕ) → region < script.shape.regions → AreLawfulRows region script.shape.colours (log.histories region) (log.rows region)
+  pub of_clients : (region : ℕ) → region < script.shape.regions
+      → All (λ (r : BegunRow). IsClientIn script region r.row.client) (log.rows region)
+  pub lawful : (region : ℕ) → region < script.shape.regions
+      → AreLawfulRows region script.shape.colours (log.histories region) (log.rows region)
 
 -- what each region holds of another's chain is a true copy
 abbrev pub AreCopies : Log → Script → Type 0
-AreCopies log script = (colour : ℕ) → colour < script.shape.colours → AreTrueCopies script.shape.regions (λ region. dated region (log.histories region colour))
+AreCopies log script = (colour : ℕ) → colour < script.shape.colours
+    → AreTrueCopies script.shape.regions (λ region. dated region (log.histories region colour))

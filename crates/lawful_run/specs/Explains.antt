@@ -21,8 +21,9 @@ use Rattle.report_text.specs.declared.report.Answer.{Answer}
 use Rattle.report_text.specs.declared.report.Answer.TheVariants as answers
 use Rattle.report_text.specs.declared.report.ReplyLine.{ReplyLine}
 use Rattle.lawful_run.specs.Callers.{Caller, node_of}
-use Rattle.lawful_run.specs.Asks.{kind_of, home_of, colours_of, home_asked, AsksToAppend, colours_synced, Appending, Committing, Dequeuing, Syncing, Getting, Reading, manner_of}
-use Rattle.lawful_run.specs.Appends.{Appends, AppendsUnshown, HasNoStamp, IsFull, Stops}
+use Rattle.lawful_run.specs.Asks.{kind_of, home_of, colours_of, home_asked, AsksToAppend, colours_synced, Appending, Stopping, Committing, Dequeuing, Syncing, Getting, Reading, manner_of}
+use Rattle.lawful_run.specs.Appends.{Appends, AppendsUnshown, HasNoStamp, IsFull}
+use Rattle.lawful_run.specs.Stops.{Stops}
 use Rattle.lawful_run.specs.Reads.{Syncs, ShowsPlayed, greatest_stamp, kept_after_piece, IsTrimmed, ReadsAt, AreRead, ShowsKey}
 use Rattle.lawful_run.specs.Moves.{Pulls, kept_after_pull, Trims}
 use Rattle.lawful_run.specs.Objects.{AreObjectNodes, GetsValue, GetsValues, AreAnswers, Takes, shown_verdict}
@@ -37,7 +38,8 @@ abbrev pub AppendsBy : Caller → Kept → What → (Colours → List ℕ → Ty
 AppendsBy caller kept what Says =
     (colours : Colours) × (text : List ℕ) × AsksToAppend caller kept what colours text × Says colours text
 
--- The answer, with its node lines, to what a client asked: what it says of the log, and what the client keeps afterwards.
+-- The answer, with its node lines, to what a client asked: what it says of the log, and what the client keeps
+-- afterwards.
 abbrev pub Explains : Log → Caller → Kept → What → Answer → List PlacedNode → Kept → Type 0
 Explains log caller kept what answers.NoMemory nodes after = (nodes ≡ []) × FindsNoMemory log caller kept what after
 Explains log caller kept what (answers.Stood stamp row points) nodes after =
@@ -45,7 +47,7 @@ Explains log caller kept what (answers.Stood stamp row points) nodes after =
     × AppendsBy caller kept what (λ colours text.
     Appends log caller kept (node_of caller kept colours text) stamp row points after)
 Explains log caller kept what (answers.StampEnd colour) nodes after =
-    (nodes ≡ []) × IsNoStopAtOnce what
+    (nodes ≡ []) × (manner_of what ≢ Stopping)
     × AppendsBy caller kept what (λ colours text.
     HasNoStamp log caller kept (node_of caller kept colours text) colour after)
 Explains log caller kept what (answers.Full used) nodes after =
@@ -134,7 +136,8 @@ Explains log caller kept what (answers.NotHome home) nodes after =
 
 -- A reply line stands for its command: with the line's number, the command's word, and an answer that the log explains.
 -- Away from its object's home a client is answered so.
-pub record Answers (log : Log) (caller : Caller) (kept : Kept) (command : Command) (reply : ReplyLine) (after : Kept) : Type 0 where
+pub record Answers (log : Log) (caller : Caller) (kept : Kept) (command : Command) (reply : ReplyLine)
+    (after : Kept) : Type 0 where
   pub line : reply.line ≡ command.line
   pub word : reply.word ≡ word_of command.what
   pub answered : Kept
@@ -145,6 +148,7 @@ pub record Answers (log : Log) (caller : Caller) (kept : Kept) (command : Comman
 -- The log explains a client's replies, one for each of its commands in their order, and it then keeps this.
 pub data Explained (log : Log) (caller : Caller) : List Command → List ReplyLine → Kept → Type 0 where
   start : Explained log caller [] [] nothing_kept
-  next : {commands : List Command} {replies : List ReplyLine} {kept after : Kept} (command : Command) (reply : ReplyLine)
+  next : {commands : List Command} {replies : List ReplyLine} {kept after : Kept} (command : Command)
+      (reply : ReplyLine)
       → Explained log caller commands replies kept → Answers log caller kept command reply after
       → Explained log caller (commands ++ command ∷ []) (replies ++ reply ∷ []) after

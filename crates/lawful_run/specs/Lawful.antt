@@ -22,8 +22,8 @@ use Rattle.lawful_run.specs.Appends.{IsStepOf}
 use Rattle.lawful_run.specs.Columns.{AreColumns, AreRows, AreCopies}
 use Rattle.lawful_run.specs.Explains.{Explained}
 
--- A client's replies are explained by the log. Its own steps stand just where its commands made them, in their order, and
--- it appended no nodes and began no rows but those of its commands.
+-- A client's replies are explained by the log. Its own steps stand just where its commands made them, in their order,
+-- and it appended no nodes and began no rows but those of its commands.
 pub record IsClientRun (log : Log) (script : Script) (client : ℕ) (replies : List ReplyLine) : Type 0 where
   pub kept : Kept
   pub explained : Explained log (caller_of script client) (commands_of script client) replies kept
@@ -63,7 +63,8 @@ pub record HasStopped (report : Report) (client : ℕ) : Type 0 where
 -- What is left open in the end is of clients that stopped: ids that are open in a column, and rows without an outcome.
 pub record LeavesOpen (log : Log) (script : Script) (report : Report) : Type 0 where
   pub ids : (region colour : ℕ) → region < script.shape.regions → colour < script.shape.colours
-      → All (λ (e : Standing). IsTrue e.settled ⊎ HasStopped report e.key.id.client) (entries (log.histories region colour))
+      → All (λ (e : Standing). IsTrue e.settled ⊎ HasStopped report e.key.id.client)
+          (entries (log.histories region colour))
   pub rows : (region : ℕ) → region < script.shape.regions
       → All (λ (r : BegunRow). r.last ≡ Open → HasStopped report r.row.client) (log.rows region)
 
@@ -73,7 +74,8 @@ pub record IsComplete (log : Log) (script : Script) (region : ℕ) (r : BegunRow
   pub open_nowhere : (colour : ℕ) → colour < script.shape.colours
       → open_entry r.node.id (entries (log.histories region colour)) ≡ None
 
--- Some log, of which the columns and rows of the report are the histories and rows, explains the replies to each client.
+-- Some log, of which the columns and rows of the report are the histories and rows, explains the replies to each
+-- client.
 pub record LawfulRun (script : Script) (report : Report) : Type 0 where
   pub log : Log
   pub names : map (λ (c : ClientReport). c.name) report.clients ≡ script.clients
@@ -86,7 +88,8 @@ pub record LawfulRun (script : Script) (report : Report) : Type 0 where
       → Contains (log.histories region colour) e → IsHelp e.by e.event
       → HasHelping script e.by × ((caller_of script e.by).own ≡ region)
   -- who helps an append leaves it complete
-  pub helped : (region colour : ℕ) (e : Entry) (r : BegunRow) → region < script.shape.regions → colour < script.shape.colours
+  pub helped : (region colour : ℕ) (e : Entry) (r : BegunRow) → region < script.shape.regions
+      → colour < script.shape.colours
       → Contains (log.histories region colour) e → IsHelp e.by e.event → Contains (log.rows region) r
       → IsStepOf r.node.id e.event → IsComplete log script region r
   pub left_open : LeavesOpen log script report

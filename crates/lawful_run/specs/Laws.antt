@@ -17,11 +17,12 @@ use Rattle.lawful_run.specs.Explains.{Explained}
 -- what a log explains to a client, each later log explains as well
 abbrev pub ExplanationsLast : Type 0
 ExplanationsLast =
-    (old new : Log) → IsLater old new → (caller : Caller) (commands : List Command) (replies : List ReplyLine) (kept : Kept)
+    (old new : Log) → IsLater old new → (caller : Caller) (commands : List Command) (replies : List ReplyLine)
+        (kept : Kept)
     → Explained old caller commands replies kept → Explained new caller commands replies kept
 
--- Where the clock is at a stamp and no open entry up to it is left, no key up to it comes into the line any more: what a
--- stamped read shows is all that the whole histories have up to its stamp.
+-- Where the clock is at a stamp and no open entry up to it is left, no key up to it comes into the line any more: what
+-- a stamped read shows is all that the whole histories have up to its stamp.
 abbrev pub ReadItemsLast : Type 0
 ReadItemsLast = (own regions : ℕ) (history more : List Entry) (stamp : ℕ)
     → IsColumnHistory own regions (dated own (history ++ more)) → stamp ≤ clock history → IsClearUpTo stamp history

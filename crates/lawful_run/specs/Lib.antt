@@ -1,6 +1,7 @@
 pub mod Callers
 pub mod Asks
 pub mod Appends
+pub mod Stops
 pub mod Reads
 pub mod Moves
 pub mod Objects
@@ -9,3 +10,4 @@ pub mod Explains
 pub mod Columns
 pub mod Lawful
 pub mod Laws
+pub mod Readings

@@ -10,7 +10,7 @@ use Rattle.col_core.specs.declared.Event.TheVariants as events
 use Rattle.col_core.specs.History.{line}
 use Rattle.col_core.specs.Cuts.{chain, base}
 use Rattle.col_core.specs.Log.{Log, first}
-use Rattle.col_core.specs.Keeping.{Kept, updated_at, kept_after_event, seen_after}
+use Rattle.col_core.specs.Keeping.{Kept, updated_at, kept_after_event, seen_after, seen_past}
 use Rattle.lawful_run.specs.Callers.{Caller}
 use Rattle.lawful_run.specs.Reads.{kept_after_place}
 
@@ -38,9 +38,10 @@ CarriesAt log caller kept region colour nodes (Event place) =
 CarriesAt log caller kept region colour nodes (Look events) =
     (kept.seen caller.own colour ≤ events) × (events ≤ length (log.histories caller.own colour)) × (nodes ≡ 0)
 
--- A pull: a give at a place that was not seen before, from no lesser number than what the client had seen to be held, or
--- the line's length; then a carry, after which all is held that stood in the line at the give.
-pub record Pulls (log : Log) (caller : Caller) (kept : Kept) (region colour nodes place : ℕ) (carry : At) (too_low : List ℕ) : Type 0 where
+-- A pull: a give at a place that was not seen before, from no lesser number than what the client had seen to be held,
+-- or the line's length; then a carry, after which all is held that stood in the line at the give.
+pub record Pulls (log : Log) (caller : Caller) (kept : Kept) (region colour nodes place : ℕ) (carry : At)
+    (too_low : List ℕ) : Type 0 where
   pub another : region ≢ caller.own
   pub made_again : All (GivesTooLow log caller region colour) too_low
   pub unseen : kept.seen region colour ≤ place
@@ -52,10 +53,12 @@ pub record Pulls (log : Log) (caller : Caller) (kept : Kept) (region colour node
   pub holds : length (line (take place (log.histories region colour)))
       ≤ length (chain caller.own (first log caller.own colour (seen_after carry)) region)
 
--- with events made at these places of a column
+-- with events made, and so seen, at these places of a column
 abbrev pub with_places : Kept → ℕ → ℕ → List ℕ → Kept
-with_places kept region colour places =
-    record kept { made = updated_at kept.made region colour (kept.made region colour ++ places) }
+with_places kept region colour places = record kept {
+  seen = updated_at kept.seen region colour (seen_past (kept.seen region colour) places);
+  made = updated_at kept.made region colour (kept.made region colour ++ places);
+}
 
 -- what a client keeps after a pull
 abbrev pub kept_after_pull : Kept → ℕ → ℕ → ℕ → ℕ → At → List ℕ → Kept

@@ -36,10 +36,12 @@ AreObjectNodes log keys nodes = AllZip (IsObjectNode log) keys nodes
 
 -- the keys of the own line that a sync's snapshot counts
 abbrev pub own_played : Log → Caller → SyncPiece → List Key
-own_played log caller sync = take (at sync.counts caller.own) (line (take sync.events (log.histories caller.own sync.colour)))
+own_played log caller sync = take (at sync.counts caller.own)
+    (line (take sync.events (log.histories caller.own sync.colour)))
 
 -- a map's value of a key, after the own nodes of the snapshot; the map has these colours
-pub record GetsValue (log : Log) (caller : Caller) (colours : List ℕ) (sync : SyncPiece) (key : List ℕ) (value : Value) : Type 0 where
+pub record GetsValue (log : Log) (caller : Caller) (colours : List ℕ) (sync : SyncPiece) (key : List ℕ)
+    (value : Value) : Type 0 where
   pub nodes : List ObjectNode
   pub played : AreObjectNodes log (own_played log caller sync) nodes
   pub value_is : value ≡ shard_value colours sync.colour nodes key
@@ -63,7 +65,8 @@ shown_verdict (Some key) stamp = Conflict key stamp
 -- all places that a snapshot counts
 abbrev pub places_within : Counts → List Place
 places_within snapshot =
-    flat_map (λ region. map (λ position. record { region = region; position = position }) (range_with_len 0 (at snapshot region))) all_regions
+    flat_map (λ region. map (λ position. record { region = region; position = position })
+        (range_with_len 0 (at snapshot region))) all_regions
 
 -- the node at the place, with its needs and its text
 pub record IsChainNode (log : Log) (chains : Chains) (place : Place) (node : ChainNode) : Type 0 where
@@ -75,7 +78,8 @@ pub record IsChainNode (log : Log) (chains : Chains) (place : Place) (node : Cha
   pub text : HasText log head.key.id node.text
 
 -- a causal map's values of a key, over all nodes of the snapshot
-pub record GetsValues (log : Log) (caller : Caller) (sync : SyncPiece) (key : List ℕ) (values : List (List ℕ)) : Type 0 where
+pub record GetsValues (log : Log) (caller : Caller) (sync : SyncPiece) (key : List ℕ)
+    (values : List (List ℕ)) : Type 0 where
   pub nodes : List ChainNode
   pub played : AllZip (IsChainNode log (chain caller.own (first log caller.own sync.colour sync.events)))
       (places_within sync.counts) nodes

@@ -20,8 +20,8 @@ use Rattle.report_text.specs.declared.report.SyncPiece.{SyncPiece}
 use Rattle.report_text.specs.declared.report.RaisePiece.{RaisePiece}
 use Rattle.lawful_run.specs.Callers.{Caller}
 
--- A sync: after a number of events, no fewer than were seen, the snapshot is the greatest vector that can be reached; no
--- node that was not yet played is below the base, and all own nodes that were known to stand are within.
+-- A sync: after a number of events, no fewer than were seen, the snapshot is the greatest vector that can be reached;
+-- no node that was not yet played is below the base, and all own nodes that were known to stand are within.
 pub record Syncs (log : Log) (caller : Caller) (kept : Kept) (colour events : ℕ) (snapshot : Counts) : Type 0 where
   pub unseen : kept.seen caller.own colour ≤ events
   pub there : events ≤ length (log.histories caller.own colour)
@@ -30,14 +30,16 @@ pub record Syncs (log : Log) (caller : Caller) (kept : Kept) (colour events : �
   pub within : kept.known colour ≤ at snapshot caller.own
 
 -- A node line shows the node that stands at the place, by its key, and the text that its node was appended with.
-pub record ShowsNode (log : Log) (caller : Caller) (colour events : ℕ) (place : Place) (item : PlacedNode) : Type 0 where
+pub record ShowsNode (log : Log) (caller : Caller) (colour events : ℕ) (place : Place)
+    (item : PlacedNode) : Type 0 where
   pub head : Head
   pub stands : Stands (chain caller.own (first log caller.own colour events)) place head
   pub key : item.head.key ≡ head.key
   pub text : HasText log head.key.id item.node.text
 
 -- The node lines of a sync show the nodes from the start to the snapshot, each once, in the order of play.
-pub record ShowsPlayed (log : Log) (caller : Caller) (kept : Kept) (colour events : ℕ) (snapshot : Counts) (nodes : List PlacedNode) : Type 0 where
+pub record ShowsPlayed (log : Log) (caller : Caller) (kept : Kept) (colour events : ℕ) (snapshot : Counts)
+    (nodes : List PlacedNode) : Type 0 where
   pub order : List Place
   pub played : IsPlayOrder (chain caller.own (first log caller.own colour events)) (kept.starts colour) snapshot order
   pub lines : AllZip (ShowsNode log caller colour events) order nodes
@@ -72,7 +74,8 @@ abbrev pub RaisesAt : Log → Caller → Kept → ℕ → ℕ → At → Type 0
 RaisesAt log caller kept stamp colour (Event place) =
     (kept.seen caller.own colour ≤ place)
     × (kept.known colour ≤ length (line (take place (log.histories caller.own colour))))
-    × (slice_get (log.histories caller.own colour) place ≡ Some (record { by = caller.client; event = Raise stamp; stamp = 0 }))
+    × (slice_get (log.histories caller.own colour) place
+        ≡ Some (record { by = caller.client; event = Raise stamp; stamp = 0 }))
 RaisesAt log caller kept stamp colour (Look events) =
     (kept.seen caller.own colour ≤ events) × (events ≤ length (log.histories caller.own colour))
     × (kept.known colour ≤ length (line (take events (log.histories caller.own colour))))
@@ -112,6 +115,12 @@ IsReadStamp log caller kept raises stamp =
     × (events : ℕ) × (kept.seen caller.own raise.colour ≤ events) × (events ≤ events_until raise.at)
     × (stamp ≡ clock (take events (log.histories caller.own raise.colour))))
 
+-- the stamp is not below what was seen of the clock of any of the colours
+abbrev pub IsAboveClocks : Log → Caller → Kept → List ℕ → ℕ → Type 0
+IsAboveClocks log caller kept colours stamp =
+    All (λ colour. (kept.seen caller.own colour ≤ length (log.histories caller.own colour))
+    × (clock (take (kept.seen caller.own colour) (log.histories caller.own colour)) ≤ stamp)) colours
+
 -- A stamped read of colours: its stamp is not below the floor and not below what was seen of any clock; each column's
 -- clock is raised to it, and after each sync no open entry up to it is left.
 pub record ReadsAt (log : Log) (caller : Caller) (kept : Kept) (colours : List ℕ) (stamp : ℕ) (raises : List RaisePiece)
@@ -119,8 +128,7 @@ pub record ReadsAt (log : Log) (caller : Caller) (kept : Kept) (colours : List �
   pub raised_colours : map (λ (r : RaisePiece). r.colour) raises ≡ colours
   pub synced_colours : map (λ (s : SyncPiece). s.colour) syncs ≡ colours
   pub above_floor : kept.floor ≤ stamp
-  pub above_clocks : All (λ colour. (kept.seen caller.own colour ≤ length (log.histories caller.own colour))
-      × (clock (take (kept.seen caller.own colour) (log.histories caller.own colour)) ≤ stamp)) colours
+  pub above_clocks : IsAboveClocks log caller kept colours stamp
   pub chosen : IsReadStamp log caller kept raises stamp
   -- what the client keeps after the raises, and then after the syncs
   pub raised : Kept
@@ -142,13 +150,11 @@ AreRead log caller stamp syncs keys = IsRegionOrder (lines_read log caller syncs
 abbrev pub ShowsKey : Log → Key → PlacedNode → Type 0
 ShowsKey log key item = (item.head.key ≡ key) × HasText log key.id item.node.text
 
--- What a sync may have done of which no answer tells: nothing, or it played to the cut after some events from what was
--- seen. The snapshot then, and the greatest stamp that was played.
+-- What a sync may have done of which no answer tells: nothing, or it played as a sync does. The snapshot then, and the
+-- greatest stamp that was played.
 pub data HidesSync (log : Log) (caller : Caller) (kept : Kept) (colour : ℕ) : Counts → ℕ → Type 0 where
   not_played : HidesSync log caller kept colour (kept.starts colour) 0
-  played : (events : ℕ) (snapshot : Counts) → kept.seen caller.own colour ≤ events
-      → events ≤ length (log.histories caller.own colour)
-      → IsGreatestReachable (chain caller.own (first log caller.own colour events)) snapshot
+  played : (events : ℕ) (snapshot : Counts) → Syncs log caller kept colour events snapshot
       → HidesSync log caller kept colour snapshot (played_stamp log caller kept colour events snapshot)
 
 -- the same of several colours, one after another; and what the client then keeps
@@ -160,15 +166,17 @@ HidesSyncs log caller kept (colour ∷ colours) after =
     (record kept { floor = max kept.floor stamp; starts = updated kept.starts colour snapshot }) colours after
 
 -- What a stamped read may have done of which no answer tells: at most one raise of each of its columns to its stamp,
--- syncs, and that the floor rose to the stamp.
+-- which is chosen as that of any read; syncs; and that the floor rose to the stamp.
 pub record HidesRead (log : Log) (caller : Caller) (kept : Kept) (colours : List ℕ) (after : Kept) : Type 0 where
   pub stamp : ℕ
   -- the places of the raises, by colour
   pub places : ℕ → List ℕ
   pub few : (colour : ℕ) → length (places colour) ≤ 1
   pub raises : (colour : ℕ) → All (λ place. Contains colours colour
-      × (slice_get (log.histories caller.own colour) place ≡ Some (record { by = caller.client; event = Raise stamp; stamp = 0 })))
+      × RaisesAt log caller kept stamp colour (Event place))
       (places colour)
+  pub above_floor : kept.floor ≤ stamp
+  pub above_clocks : IsAboveClocks log caller kept colours stamp
   pub chosen : (stamp ≡ kept.floor)
       ⊎ ((colour : ℕ) × Contains colours colour
       × (events : ℕ) × (kept.seen caller.own colour ≤ events) × (events ≤ length (log.histories caller.own colour))
@@ -176,4 +184,5 @@ pub record HidesRead (log : Log) (caller : Caller) (kept : Kept) (colours : List
       × (stamp ≡ clock (take events (log.histories caller.own colour))))
   pub synced : Kept
   pub syncing : HidesSyncs log caller kept colours synced
-  pub after_is : (after ≡ with_made synced caller.own places) ⊎ (after ≡ with_made (with_floor synced stamp) caller.own places)
+  pub after_is : (after ≡ with_made synced caller.own places)
+      ⊎ (after ≡ with_made (with_floor synced stamp) caller.own places)

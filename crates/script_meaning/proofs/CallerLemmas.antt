@@ -9,7 +9,7 @@ use Rattle.script_text.specs.declared.script.Command.{Command}
 use Rattle.script_text.specs.declared.script.Script.{Script}
 use Rattle.script_meaning.specs.States.{State}
 use Rattle.script_meaning.specs.Meaning.{LeadTo, nothing, next}
-use Rattle.script_meaning.proofs.OneExactly.{done_extends}
+use Rattle.script_meaning.proofs.GrantedCommands.{done_extends}
 
 pub lead_reached : (script : Script) {commands : List Command} {state : State} → LeadTo script commands state
     → IsReached state.world

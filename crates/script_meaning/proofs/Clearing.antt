@@ -1,20 +1,19 @@
 -- Helping: what it adds and leaves, and that a cleared column has no open entry below the key.
 use Rattle.std.proofs.Common.{◌≡◌, ℕ, zero, suc, ◌<◌, ◌≤◌, List, [], ◌∷◌, ◌++◌, length, Some, Bool, true, false, refl, subst, ap, sym, ◌∙◌, inl, inr, ◌⊎◌, arith, eq-eqb}
 use Rattle.std.specs.Prelude.{◌==◌, ◌&&◌, ◌≢◌, not, nat_lt, slice_get, slice_index}
-use Rattle.std.specs.List.{fold, filter}
+use Rattle.std.specs.List.{fold}
 use Rattle.std.proofs.lemmas.Bool.{ltb-true, eqb-true, and_from}
 use Rattle.log_node.specs.declared.ids.Id.{Id}
 use Rattle.log_node.specs.declared.ids.Key.{Key}
 use Rattle.log_node.specs.declared.ids.Row.{Row}
+use Rattle.log_node.specs.declared.node.Node.{Node}
 use Rattle.log_node.specs.declared.node.Shape.{Shape}
 use Rattle.log_node.specs.Order.{key_below}
 use Rattle.skeen_core.specs.Standings.{Standing}
 use Rattle.col_core.specs.declared.Entry.{Entry}
 use Rattle.col_core.specs.History.{entries}
 use Rattle.col_core.proofs.Basics.{by_test, both, apart, not_true}
-use Rattle.col_core.proofs.KeyOrder.{key-irrefl}
-use Rattle.col_core.proofs.LawfulPasts.{entries-of}
-use Rattle.col_core.proofs.Members.{In, in_filter, in_filter-back, Rises, rises, rises-filter}
+use Rattle.col_core.proofs.Members.{In, in_filter, in_filter-back}
 use Rattle.col_core.proofs.Pasts.{Waits}
 use Rattle.world_laws.specs.declared.steps.Step.{Step}
 use Rattle.world_laws.specs.Worlds.{World, ClientState, RowState, home_of, home_history, run_steps, is_begun, row_of}
@@ -22,16 +21,19 @@ use Rattle.world_laws.specs.Completing.{complete_steps}
 use Rattle.world_laws.specs.Laws.{IsReached}
 use Rattle.world_laws.proofs.Held.{status_in, Held}
 use Rattle.world_laws.proofs.Marks.{is_waiting}
-use Rattle.world_laws.proofs.Histories.{lawful_past_in}
 use Rattle.world_laws.proofs.RegionRows.{same_number}
+use Rattle.world_laws.proofs.Growing.{run_grows}
 use Rattle.world_laws.proofs.Runs.{run_held, run_steps-append}
 use Rattle.world_laws.proofs.CallerLemmas.{run_reached}
+use Rattle.lawful_run.specs.Appends.{IsStepOf}
 use Rattle.script_meaning.specs.States.{Grants}
 use Rattle.script_meaning.specs.Helping.{Helping, open_below, node_with, helped_row, helped_node, helped_first, helped_times, cleared, all_cleared}
 use Rattle.script_meaning.proofs.Reached.{held_of, told_of, listed_of}
 use Rattle.script_meaning.proofs.Rows.{node_id, IsDone, IsStill, done_still, still_trans}
-use Rattle.script_meaning.proofs.RowSteps.{completed_done, completed_still, complete_steps_on, open_row, open_before}
-use Rattle.script_meaning.proofs.Moves.{Adds, adds_none, adds_trans, adds_map, StepIn, OnRow, on_steps, HelpIn, help_of}
+use Rattle.script_meaning.proofs.Completions.{completed_done, completed_still, complete_steps_on, open_row, open_before}
+use Rattle.script_meaning.proofs.Counting.{fewer_less, below_rises}
+use Rattle.script_meaning.proofs.StaysComplete.{of_done_still}
+use Rattle.script_meaning.proofs.Additions.{Adds, adds_none, adds_trans, adds_map, StepIn, OnRow, on_steps, HelpIn, help_of}
 
 -- the rows that are not done are of clients for which the fact holds
 abbrev pub Finished : (ℕ → Type 0) → World → Type 0
@@ -44,7 +46,7 @@ pub record Helped (by own : ℕ) (w w' : World) : Type 0 where
   pub shape : w'.shape ≡ w.shape
   pub clients : (n : ℕ) → w'.clients n ≡ w.clients n
   pub nodes : (n : ℕ) → w'.nodes n ≡ w.nodes n
-  pub adds : (r c : ℕ) → Adds (HelpIn own by r) (w.histories r c) (w'.histories r c)
+  pub adds : (r c : ℕ) → Adds (HelpIn w' own by r) (w.histories r c) (w'.histories r c)
   pub still : (row : Row) → is_begun w row ≡ true → IsDone w row → IsStill w w' row
   pub opens : (r c : ℕ) (x : Standing) → In x (entries (w'.histories r c)) → x.settled ≡ false
       → In x (entries (w.histories r c))
@@ -56,7 +58,7 @@ helped_none by own w = record {
   shape = refl;
   clients = λ n. refl;
   nodes = λ n. refl;
-  adds = λ r c. adds_none (HelpIn own by r) (w.histories r c);
+  adds = λ r c. adds_none (HelpIn w own by r) (w.histories r c);
   still = λ row b d. record { same = refl; status = λ r c. refl };
   opens = λ r c x i o. i;
 }
@@ -71,8 +73,15 @@ helped_trans by own w v u a b = record {
   shape = b.shape ∙ a.shape;
   clients = λ n. b.clients n ∙ a.clients n;
   nodes = λ n. b.nodes n ∙ a.nodes n;
-  adds = λ r c. adds_trans (HelpIn own by r) (w.histories r c) (v.histories r c) (u.histories r c) (a.adds r c)
-      (b.adds r c);
+  adds = λ r c. adds_trans (HelpIn u own by r) (w.histories r c) (v.histories r c) (u.histories r c)
+      (adds_map (HelpIn v own by r) (HelpIn u own by r) (w.histories r c) (v.histories r c) (λ e i. record {
+        at_home = i.at_home;
+        made = i.made;
+        help = i.help;
+        complete =
+            let k = i.complete in
+            of_done_still v u e.event k (begun_same v u b.clients k.row ∙ k.begun) (b.still k.row k.begun k.done);
+      }) (a.adds r c)) (b.adds r c);
   still = λ row begun d.
       let s = a.still row begun d in
       still_trans w v u row s
@@ -127,11 +136,17 @@ help_row w h by own row grants b ne at undone = record {
     shape = on.shape;
     clients = on.clients;
     nodes = on.nodes;
-    adds = λ r c. adds_map (StepIn own by (node_id w row) row (complete_steps w by row grants) r c) (HelpIn own by r)
+    adds = λ r c. adds_map (StepIn own by (node_id w row) row (complete_steps w by row grants) r c) (HelpIn w' own by r)
         (w.histories r c) (w'.histories r c) (λ e i. record {
           at_home = i.at_home;
           made = i.made;
           help = help_of by (node_id w row) e.event other i.of;
+          complete = record {
+            row = row;
+            begun = begun_same w w' on.clients row ∙ b;
+            of = subst (λ (x : Id). IsStepOf x e.event) (sym (same_node row (ltb-true _ _ b))) i.of;
+            done = done;
+          };
         }) (on.adds r c);
     still = λ row' b' d. completed_still w h by row row' grants b' (λ e. undone (subst (IsDone w) e d));
     opens = λ r c x i o. (kept r c x i o).0;
@@ -142,9 +157,14 @@ help_row w h by own row grants b ne at undone = record {
   w' : World
   w' = run_steps w (complete_steps w by row grants)
 
-  on : OnRow own by (node_id w row) row (complete_steps w by row grants) w (run_steps w (complete_steps w by row grants))
+  on : OnRow own by (node_id w row) row (complete_steps w by row grants) w
+      (run_steps w (complete_steps w by row grants))
   on = on_steps w own by (node_id w row) row (complete_steps w by row grants) b refl at
       (complete_steps_on w by row grants)
+
+  same_node : (x : Row) → x.number < (w.clients x.client).used → node_id w' x ≡ node_id w x
+  same_node x lt =
+      ap (λ (n : Node). n.id) ((run_grows w (complete_steps w by row grants)).rows x.client x.number lt).node
 
   other : (node_id w row).client ≡ by → ⊥
   other e = ne (sym (h.rows row.client row.number (ltb-true _ _ b)).of_client ∙ e)
@@ -228,53 +248,6 @@ help_one S grants by own colour key h reached fin free at e i =
       stopped (inl p) f g = f p
       stopped (inr q) f g = g q
 
--- Counting
-
-Without : Standing → List Standing → Type 0
-Without e ys = (zs : List Standing) × (length ys ≡ suc (length zs))
-    × ((x : Standing) → In x ys → x ≢ e → In x zs)
-
-without : (e : Standing) (ys : List Standing) → In e ys → Without e ys
-unfolding Without
-without e [] i = absurd i
-without e (y ∷ ys) (inl is) = (ys, refl, λ x j ne. turn x j ne) where
-  turn : (x : Standing) → (y ≡ x) ⊎ In x ys → x ≢ e → In x ys
-  turn x (inl f) ne = absurd (ne (sym f ∙ is))
-  turn x (inr j) ne = j
-without e (y ∷ ys) (inr i) =
-    let r = without e ys i in
-    let l = r.1 in
-    (y ∷ r.0, ap suc l, λ x j ne. turn r.0 x j (λ k. r.2 x k ne)) where
-      turn : (zs : List Standing) (x : Standing) → (y ≡ x) ⊎ In x ys → (In x ys → In x zs) → (y ≡ x) ⊎ In x zs
-      turn zs x (inl f) rest = inl f
-      turn zs x (inr j) rest = inr (rest j)
-
--- entries that rise in key are no more than those among which they are
-fewer : (xs ys : List Standing) → Rises xs → ((x : Standing) → In x xs → In x ys) → length xs ≤ length ys
-unfolding Rises Without
-fewer [] ys r sub = omega arith
-fewer (x ∷ xs) ys r sub =
-    let z = without x ys (sub x (inl refl)) in
-    let n = fewer xs z.0 r.1 (λ y i. z.2 y (sub y (inr i)) (λ e. key-irrefl x.key
-    (subst (λ (k : Standing). key_below x.key k.key ≡ true) e (r.0 y i)))) in
-    let l = z.1 in
-    omega (arith, n, l)
-
-fewer_less : (xs ys : List Standing) (e : Standing) → Rises xs → In e ys
-    → ((x : Standing) → In x xs → In x ys × (x ≢ e)) → length xs < length ys
-unfolding Without
-fewer_less xs ys e r i sub =
-    let z = without e ys i in
-    let n = fewer xs z.0 r (λ x j. let s = sub x j in z.2 x s.0 s.1) in
-    let l = z.1 in
-    omega (arith, n, l)
-
-below_rises : (w : World) → Held w → (r c : ℕ) (key : Key) → Rises (open_below key (w.histories r c))
-below_rises w h r c key =
-    subst (λ (es : List Standing). Rises (filter (λ (e : Standing). not e.settled && key_below e.key key) es))
-    (sym (entries-of (w.histories r c)))
-    (rises-filter (λ (e : Standing). not e.settled && key_below e.key key) _ (rises _ (lawful_past_in w h r c)))
-
 -- Clearing
 
 -- the column has no open entry below the key
@@ -292,7 +265,8 @@ empty_is (x ∷ xs) le = absurd (let f : ⊥ = omega (arith, le) in f)
 home_kept : (w w' : World) (by : ℕ) → w'.shape ≡ w.shape → home_of w' by ≡ home_of w by
 home_kept w w' by e = ap (λ (s : Shape). slice_index s.homes by) e
 
-clear_times : (S : ℕ → Type 0) (n : ℕ) (grants : Grants) (by own colour : ℕ) (key : Key) (h : Helping) → IsReached h.world
+clear_times : (S : ℕ → Type 0) (n : ℕ) (grants : Grants) (by own colour : ℕ) (key : Key) (h : Helping)
+    → IsReached h.world
     → Finished S h.world → (S by → ⊥) → home_of h.world by ≡ own
     → length (open_below key (h.world.histories own colour)) ≤ n
     → Clears by own colour key h.world (helped_times n grants by colour key h).world

@@ -1,8 +1,10 @@
 -- What a client keeps beside a world, and what a command does to both.
-use Rattle.std.proofs.Common.{◌≡◌, ℕ, ◌≤◌, List, [], length, refl, subst, ap, sym, ◌∙◌, arith}
+use Rattle.std.proofs.Common.{◌≡◌, ℕ, ◌≤◌, List, [], length, true, refl, subst, ap, sym, ◌∙◌, arith}
 use Rattle.std.specs.Prelude.{◌≢◌, IsTrue, slice_index}
+use Rattle.log_node.specs.declared.ids.Id.{Id}
 use Rattle.log_node.specs.declared.node.Shape.{Shape}
 use Rattle.log_node.specs.Seen.{PlacedNode}
+use Rattle.col_core.specs.declared.Event.{Event}
 use Rattle.col_core.specs.declared.Entry.{Entry}
 use Rattle.col_core.specs.History.{line}
 use Rattle.col_core.specs.Log.{IsLater, places_of}
@@ -17,11 +19,13 @@ use Rattle.report_text.specs.declared.report.Answer.{Answer}
 use Rattle.report_text.specs.declared.report.Answer.TheVariants as answers
 use Rattle.lawful_run.specs.Callers.{Caller}
 use Rattle.lawful_run.specs.Asks.{manner_of, may_help}
+use Rattle.lawful_run.specs.Appends.{IsStepOf}
 use Rattle.lawful_run.specs.Explains.{Explains}
 use Rattle.lawful_run.specs.Lawful.{IsHelp}
 use Rattle.lawful_run.specs.Refusals.{nothing}
 use Rattle.lawful_run.proofs.Prefixes.{prefix_length}
-use Rattle.script_meaning.proofs.Moves.{Adds, adds_none, adds_map, others_places}
+use Rattle.script_meaning.proofs.StaysComplete.{OfDone, own_no_help}
+use Rattle.script_meaning.proofs.Additions.{Adds, adds_none, adds_map, others_places, HelpIn}
 use Rattle.script_meaning.proofs.Reached.{held_of, told_of}
 
 -- a client of a world, and where it calls from
@@ -44,11 +48,31 @@ pub record IsKeptBy (w : World) (client : ℕ) (kept : Kept) : Type 0 where
   pub ids : kept.ids ≡ (w.clients client).count
   pub rows : kept.rows ≡ (w.clients client).used
 
--- the event is the client's, and helps another only in a command that may
-pub record MadeBy (client : ℕ) (what : What) (own region : ℕ) (e : Entry) : Type 0 where
+-- a help by a command: it may help, in its client's region, and the append is complete in the world afterwards
+pub record Helps (what : What) (w : World) (own region : ℕ) (ev : Event) : Type 0 where
+  pub may : IsTrue (may_help (manner_of what))
+  pub home : region ≡ own
+  pub complete : OfDone w ev
+
+-- the event is the client's, and helps another only as a command may
+pub record MadeBy (client : ℕ) (what : What) (w : World) (own region : ℕ) (e : Entry) : Type 0 where
   pub made : e.by ≡ client
-  pub may : IsHelp client e.event → IsTrue (may_help (manner_of what))
-  pub home : IsHelp client e.event → region ≡ own
+  pub help : IsHelp client e.event → Helps what w own region e.event
+
+-- what clears made
+pub made_helping : (client : ℕ) (what : What) (w : World) (own region : ℕ) → may_help (manner_of what) ≡ true
+    → (e : Entry)
+    → HelpIn w own client region e → MadeBy client what w own region e
+made_helping client what w own region may e i = record {
+  made = i.made;
+  help = λ _. record { may = may; home = i.at_home; complete = i.complete };
+}
+
+-- a step of the client's own append
+pub made_own : (client : ℕ) (what : What) (w : World) (own region : ℕ) (id : Id) → id.client ≡ client → (e : Entry)
+    → e.by ≡ client → IsStepOf id e.event → MadeBy client what w own region e
+made_own client what w own region id of_client e made of =
+    record { made = made; help = λ h. absurd (own_no_help client id e.event of_client of h) }
 
 pub record KeptAfter (w : World) (objects : List Object) (client : ℕ) (kept : Kept) (what : What) (answer : Answer)
     (nodes : List PlacedNode) : Type 0 where
@@ -64,7 +88,8 @@ pub record Does (objects : List Object) (client : ℕ) (what : What) (w w' : Wor
   pub run : run_steps w steps ≡ w'
   pub shape : w'.shape ≡ w.shape
   pub others : (n : ℕ) → n ≢ client → w'.clients n ≡ w.clients n
-  pub adds : (r c : ℕ) → Adds (MadeBy client what (home_of w client) r) (w.histories r c) (w'.histories r c)
+  pub adds : (r c : ℕ) → Adds (MadeBy client what w' (home_of w client) r) (w.histories r c)
+      (w'.histories r c)
   pub keeps : (kept : Kept) → IsKeptBy w client kept → KeptAfter w' objects client kept what answer nodes
 
 -- the log after some steps is a later one
@@ -90,7 +115,8 @@ kept_other objects client what w w' answer nodes d r n ne kept k =
           subst (λ (s : ℕ). kept.known c ≤ length (line (w'.histories s c)))
           (sym (ap (λ (s : Shape). slice_index s.homes n) d.shape)) (omega (arith, x, y));
       made = λ a c. others_places n (w.histories a c) (w'.histories a c)
-          (adds_map (MadeBy client what (home_of w client) a) (λ (e : Entry). e.by ≡ n → ⊥) (w.histories a c) (w'.histories a c)
+          (adds_map (MadeBy client what w' (home_of w client) a) (λ (e : Entry). e.by ≡ n → ⊥) (w.histories a c)
+          (w'.histories a c)
           (λ e m same. ne (sym same ∙ m.made)) (d.adds a c)) ∙ k.made a c;
       ids = k.ids ∙ ap (λ (s : ClientState). s.count) (sym (d.others n ne));
       rows = k.rows ∙ ap (λ (s : ClientState). s.used) (sym (d.others n ne));
@@ -104,6 +130,6 @@ did_nothing objects client what w = record {
   run = refl;
   shape = refl;
   others = λ n ne. refl;
-  adds = λ r c. adds_none (MadeBy client what (home_of w client) r) (w.histories r c);
+  adds = λ r c. adds_none (MadeBy client what w (home_of w client) r) (w.histories r c);
   keeps = λ kept k. record { after = kept; keeps = k; explains = (refl, nothing) };
 }

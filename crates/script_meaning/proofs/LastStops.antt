@@ -17,7 +17,7 @@ use Rattle.script_text.specs.Pieces.{lines_of}
 use Rattle.script_text.specs.Grammar.{may_follow, is_lawful_what, Say, kept_lines}
 use Rattle.script_meaning.specs.States.{StopsAreLast}
 use Rattle.script_meaning.specs.Laws.{ScriptsStopLast}
-use Rattle.script_meaning.proofs.First.{in_any}
+use Rattle.script_meaning.proofs.FirstProposal.{in_any}
 
 -- a command that comes after another is of a client that did not stop with it
 abbrev ComesAfter : Command → Command → Type 0

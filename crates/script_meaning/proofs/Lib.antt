@@ -2,12 +2,14 @@ mod WorkedRuns
 mod WorkedMoves
 mod Reached
 pub mod Rows
-pub mod RowSteps
-pub mod Moves
+pub mod Completions
+mod StaysComplete
+pub mod Additions
+mod Counting
 pub mod Clearing
 pub mod Lines
 mod Kept
-mod One
+mod AppendOne
 pub mod Lists
 mod Playing
 mod ChainNodes
@@ -17,23 +19,23 @@ mod Trimming
 mod Carried
 mod Pulling
 mod MoveCases
-mod Moving
-mod Begun
-mod First
-mod Settled
-mod Several
+mod AfterMoves
 mod Points
-mod Final
+mod BeginRow
+mod FirstProposal
+mod Settled
+mod AppendSeveral
+mod AppendFinal
 mod Refusing
-mod Marking
+mod CompletionParts
 mod Stopping
-pub mod Leading
-pub mod Whole
-mod Rowing
-mod Lawfulness
-mod Exactly
-mod OneExactly
-mod Exactness
+pub mod Invariant
+pub mod InvariantHolds
+mod RowsOfClients
+mod LawfulReports
+mod GrantedSteps
+mod GrantedCommands
+mod ExactReports
 mod LastStops
 pub mod CallerLemmas
 mod Sets

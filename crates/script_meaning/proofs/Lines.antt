@@ -22,7 +22,7 @@ use Rattle.world_laws.proofs.Histories.{lawful_past_in}
 use Rattle.world_laws.proofs.Agreement.{entry_shown}
 use Rattle.script_meaning.specs.States.{position_of}
 use Rattle.script_meaning.proofs.Rows.{in_past, standing_as}
-use Rattle.script_meaning.proofs.Moves.{Adds}
+use Rattle.script_meaning.proofs.Additions.{Adds}
 use Rattle.script_meaning.proofs.Clearing.{of_open, IsClear}
 
 -- Positions

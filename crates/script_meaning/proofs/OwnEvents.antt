@@ -17,7 +17,7 @@ use Rattle.world_laws.proofs.Keeps.{at_last}
 use Rattle.lawful_run.proofs.Prefixes.{prefix_length}
 use Rattle.script_meaning.proofs.Clearing.{Finished}
 use Rattle.script_meaning.proofs.Kept.{IsKeptBy}
-use Rattle.script_meaning.proofs.Moves.{places_more}
+use Rattle.script_meaning.proofs.Additions.{places_more}
 use Rattle.script_meaning.proofs.Rows.{IsDone, event_still, done_still}
 
 module _ (w : World) (u region colour : ℕ) (e : Entry) (by : e.by ≡ u) (own : is_own u e.event ≡ true) where

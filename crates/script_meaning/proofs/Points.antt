@@ -1,6 +1,8 @@
--- What a client keeps after the points of an append.
-use Rattle.std.proofs.Common.{◌≡◌, ℕ, ◌+◌, ◌≤◌, List, [], ◌∷◌, refl, subst, sym, inl, inr}
-use Rattle.col_core.specs.Keeping.{Kept, seen_after, kept_after_point}
+-- What a client keeps after the points and the steps of an append.
+use Rattle.std.proofs.Common.{◌≡◌, ℕ, suc, ◌+◌, ◌<◌, ◌≤◌, List, [], ◌∷◌, refl, subst, sym, inl, inr, arith}
+use Rattle.std.specs.Prelude.{max}
+use Rattle.std.specs.List.{All}
+use Rattle.col_core.specs.Keeping.{Kept, seen_after, seen_past, kept_after_point, with_made}
 use Rattle.col_core.proofs.Members.{In}
 use Rattle.world_laws.proofs.Basics.{at_updated, at_updated_at}
 use Rattle.report_text.specs.declared.report.PointPiece.{PointPiece}
@@ -52,3 +54,19 @@ points_kept own seen_max known_max (p ∷ points) kept all seen known =
       seen = rest.seen;
       known = rest.known;
     }
+
+-- what is seen of events at places within a history is within it
+past_within : (n seen : ℕ) (places : List ℕ) → seen ≤ n → All (λ place. place < n) places → seen_past seen places ≤ n
+past_within n seen [] le all = le
+past_within n seen (place ∷ places) le all =
+    let lt = all 0 place (omega arith) in
+    past_within n (max seen (place + 1)) places (omega (arith, le, lt))
+        (λ k d within. all (suc k) d (omega (arith, within)))
+
+pub made_seen : (own : ℕ) (seen_max : ℕ → ℕ → ℕ) (kept : Kept) (places : ℕ → List ℕ)
+    → ((r c : ℕ) → kept.seen r c ≤ seen_max r c) → ((c : ℕ) → All (λ place. place < seen_max own c) (places c))
+    → (r c : ℕ) → (with_made kept own places).seen r c ≤ seen_max r c
+made_seen own seen_max kept places seen there r c =
+    at_updated (λ (f : ℕ → ℕ). f c ≤ seen_max r c) kept.seen own (λ d. seen_past (kept.seen own d) (places d)) r
+    (λ e. subst (λ (n : ℕ). seen_past (kept.seen own c) (places c) ≤ seen_max n c) (sym e)
+    (past_within (seen_max own c) (kept.seen own c) (places c) (seen own c) (there c))) (λ _. seen r c)

@@ -1,6 +1,6 @@
 -- A pull.
 use Rattle.std.proofs.Common.{◌≡◌, ◌≢◌, ℕ, zero, suc, ◌+◌, ◌<◌, ◌≤◌, min, List, [], ◌∷◌, ◌++◌, length, take, drop, Some, Bool, true, false, refl, subst, ap, sym, ◌∙◌, arith, append-nil, length-append}
-use Rattle.std.specs.Prelude.{◌==◌, ◌&&◌, nat_lt, nat_le, slice_get}
+use Rattle.std.specs.Prelude.{◌==◌, ◌&&◌, max, nat_lt, nat_le, slice_get}
 use Rattle.std.specs.List.{All}
 use Rattle.std.proofs.lemmas.Bool.{and_from, and_right, le-leb, lt-ltb, le-ltb, ltb-true, eqb-true}
 use Rattle.std.proofs.lemmas.List.{take_all, take_at}
@@ -33,8 +33,8 @@ use Rattle.script_meaning.specs.Moves.{lacking, with_give, with_carry, next_at}
 use Rattle.script_meaning.proofs.Carried.{first_chain, stretch_length, carried_chain}
 use Rattle.script_meaning.proofs.Clearing.{Finished}
 use Rattle.script_meaning.proofs.Kept.{caller_in, IsKeptBy, MadeBy, Does, later_log}
-use Rattle.script_meaning.proofs.Moves.{Adds, adds_last, adds_trans}
-use Rattle.script_meaning.proofs.OwnEvents.{history_is, other_history, longer, own_kept, seen_here, finished_last}
+use Rattle.script_meaning.proofs.Additions.{Adds, adds_last, adds_trans}
+use Rattle.script_meaning.proofs.OwnEvents.{history_is, other_history, own_kept, seen_here, finished_last}
 use Rattle.script_meaning.proofs.Reached as reached_worlds
 
 module _ (objects : List Object) (w : World) (reached : IsReached w) (u region c : ℕ) (ne : region ≢ home_of w u)
@@ -109,9 +109,9 @@ module _ (objects : List Object) (w : World) (reached : IsReached w) (u region c
   line_there x is = ap (λ (l : List Entry). length (line (take (length theirs) l))) is
       ∙ ap (λ (l : List Entry). length (line l)) (take_at theirs (give ∷ []) (length theirs) refl)
 
-  adds1 : (r d : ℕ) → Adds (MadeBy u (whats.Pull region c) own r) (w.histories r d) (w1.histories r d)
-  adds1 = adds_last (λ r d. MadeBy u (whats.Pull region c) own r) w region c give
-      (record { made = refl; may = λ none. absurd none; home = λ none. absurd none })
+  adds1 : (end : World) (r d : ℕ) → Adds (MadeBy u (whats.Pull region c) end own r) (w.histories r d) (w1.histories r d)
+  adds1 end = adds_last (λ r d. MadeBy u (whats.Pull region c) end own r) w region c give
+      (record { made = refl; help = λ none. absurd none })
 
   module _ (kept : Kept) (k : IsKeptBy w u kept) where
     abbrev kept0 : Kept
@@ -121,7 +121,10 @@ module _ (objects : List Object) (w : World) (reached : IsReached w) (u region c
     k0 = record {
       floor = k.floor;
       starts = k.starts;
-      seen = k.seen;
+      seen = λ r d. at_updated_at (λ (n : ℕ). n ≤ length (w.histories r d)) kept.seen region c (kept.seen region c) r d
+          (λ er ed. subst (λ (n : ℕ). kept.seen region c ≤ length (w.histories n d)) (sym er)
+          (subst (λ (n : ℕ). kept.seen region c ≤ length (w.histories region n)) (sym ed) (k.seen region c)))
+          (λ _. k.seen r d);
       known = k.known;
       made = λ r d. at_updated_at (λ (l : List ℕ). places_of u (w.histories r d) ≡ l) kept.made region c
           (kept.made region c ++ []) r d
@@ -136,12 +139,16 @@ module _ (objects : List Object) (w : World) (reached : IsReached w) (u region c
 
     k1 : IsKeptBy w1 u kept1
     k1 = own_kept w u region c give refl refl later1 kept0 k0
-        (updated_at kept.seen region c (length theirs + 1)) (seen_here w u region c give refl refl kept0 k0)
+        (updated_at kept0.seen region c (length theirs + 1)) (seen_here w u region c give refl refl kept0 k0)
 
     -- where nothing is carried for want of memory
     k_gave : IsKeptBy w1 u (with_places kept0 region c (length theirs ∷ []))
-    k_gave = own_kept w u region c give refl refl later1 kept0 k0 kept.seen
-        (λ r d. let a = k.seen r d in let b = longer w u region c give refl refl r d in omega (arith, a, b))
+    k_gave = own_kept w u region c give refl refl later1 kept0 k0
+        (updated_at kept0.seen region c (max (kept0.seen region c) (length theirs + 1)))
+        (subst (λ (n : ℕ). (r d : ℕ) → updated_at kept0.seen region c n r d ≤ length (w1.histories r d)) past
+        (seen_here w u region c give refl refl kept0 k0)) where
+          past : length theirs + 1 ≡ max (kept0.seen region c) (length theirs + 1)
+          past = let a = k0.seen region c in omega (arith, a)
 
     no_memory : (places : List ℕ) → places ≡ length theirs ∷ []
         → All (λ place. (from : ℕ) × GivesAt (log_of w1) (caller_in w1 objects u) region c place from) places
@@ -160,7 +167,7 @@ module _ (objects : List Object) (w : World) (reached : IsReached w) (u region c
         run = give_is;
         shape = refl;
         others = λ n _. refl;
-        adds = adds1;
+        adds = adds1 w1;
         keeps = λ kept k. record {
           after = with_places (kept0 kept k) region c (length theirs ∷ []);
           keeps = k_gave kept k;
@@ -260,7 +267,7 @@ module _ (objects : List Object) (w : World) (reached : IsReached w) (u region c
           run = give_is;
           shape = refl;
           others = λ n _. refl;
-          adds = adds1;
+          adds = adds1 w1;
           keeps = λ kept k. record {
             after = kept_after_pull kept own region c (length theirs) (Look (length ours)) [];
             keeps = looked kept k;
@@ -357,10 +364,10 @@ module _ (objects : List Object) (w : World) (reached : IsReached w) (u region c
           run = ap (λ (x : World). after x (Carry u region own c have count)) give_is ∙ carry_is;
           shape = refl;
           others = λ n _. refl;
-          adds = λ r d. adds_trans (MadeBy u (whats.Pull region c) own r) (w.histories r d) (w1.histories r d)
+          adds = λ r d. adds_trans (MadeBy u (whats.Pull region c) w2 own r) (w.histories r d) (w1.histories r d)
               (w2.histories r d)
-              (adds1 r d) (adds_last (λ r d. MadeBy u (whats.Pull region c) own r) w1 own c carry
-              (record { made = refl; may = λ none. absurd none; home = λ none. absurd none }) r d);
+              (adds1 w2 r d) (adds_last (λ r d. MadeBy u (whats.Pull region c) w2 own r) w1 own c carry
+              (record { made = refl; help = λ none. absurd none }) r d);
           keeps = λ kept k. record {
             after = kept_after_pull kept own region c (length theirs) (Event (length ours)) [];
             keeps = k2 kept k;

@@ -18,10 +18,11 @@ use Rattle.report_text.specs.declared.report.Answer.{Answer}
 use Rattle.report_text.specs.declared.report.Answer.TheVariants as answers
 use Rattle.lawful_run.specs.Callers.{Caller}
 use Rattle.lawful_run.specs.Asks.{AsksToAppend}
-use Rattle.lawful_run.specs.Appends.{none_for_one, stopped_at_once}
+use Rattle.lawful_run.specs.Appends.{none_for_one}
+use Rattle.lawful_run.specs.Stops.{stopped_at_once}
 use Rattle.lawful_run.specs.Explains.{Explains, IsNoStopAtOnce}
 use Rattle.script_meaning.specs.Appends.{is_full}
-use Rattle.script_meaning.proofs.Moves.{adds_none}
+use Rattle.script_meaning.proofs.Additions.{adds_none}
 use Rattle.script_meaning.proofs.Reached.{told_of}
 use Rattle.script_meaning.proofs.Kept.{caller_in, IsKeptBy, MadeBy, Does}
 
@@ -38,7 +39,7 @@ same_world objects u what w answer explains = record {
   run = refl;
   shape = refl;
   others = λ n ne. refl;
-  adds = λ r c. adds_none (MadeBy u what (home_of w u) r) (w.histories r c);
+  adds = λ r c. adds_none (MadeBy u what w (home_of w u) r) (w.histories r c);
   keeps = λ kept k. record { after = kept; keeps = k; explains = explains kept k };
 }
 
@@ -49,7 +50,7 @@ pub did_end_one : (objects : List Object) (u c : ℕ) (colours : Colours) (text 
 did_end_one objects u c colours text w one client column refused =
     same_world objects u (whats.Append colours text) w (answers.StampEnd c) (λ kept k. (
       refl,
-      (λ a b e. absurd (let x : ⊥ = cc in x)),
+      (λ e. absurd (let x : ⊥ = cc in x)),
       (
         colours,
         text,

@@ -72,15 +72,15 @@ other_id w h row other b c ne = not_same (node_id w row) (node_id w other) (λ e
     let p = same_number w h row.client row.number other.client other.number (ltb-true _ _ b) (ltb-true _ _ c) e in
     ne (row_is row other p.0 p.1))
 
-still : (w : World) (row : Row) → IsStill w w row
+pub still : (w : World) (row : Row) → IsStill w w row
 still w row = record { same = refl; status = λ r c. refl }
 
-row_put : (w : World) (other : Row) (x : RowState) (row : Row) → (row ≡ other → ⊥)
+pub row_put : (w : World) (other : Row) (x : RowState) (row : Row) → (row ≡ other → ⊥)
     → row_of (with_row w other x) row ≡ row_of w row
 row_put w other x row ne =
     updated_at-not w.rows other.client other.number x row.client row.number (λ e f. ne (row_is row other e f))
 
-propose_still : (w : World) → Held w → (by : ℕ) (other : Row) (c : ℕ) (row : Row) → is_begun w row ≡ true
+pub propose_still : (w : World) → Held w → (by : ℕ) (other : Row) (c : ℕ) (row : Row) → is_begun w row ≡ true
     → (row ≡ other → ⊥) → may_propose w other c ≡ true → IsStill w (after_propose w by other c) row
 propose_still w h by other c row b ne ok =
     let id = node_id w row in
@@ -92,7 +92,7 @@ propose_still w h by other c row b ne ok =
           (other_id w h row other b begun ne));
     }
 
-settle_still : (w : World) → Held w → (by : ℕ) (other : Row) (c : ℕ) (row : Row) → is_begun w row ≡ true
+pub settle_still : (w : World) → Held w → (by : ℕ) (other : Row) (c : ℕ) (row : Row) → is_begun w row ≡ true
     → (row ≡ other → ⊥) → may_settle w other c ≡ true → IsStill w (after_settle w by other c) row
 settle_still w h by other c row b ne ok =
     let id = node_id w row in

@@ -28,7 +28,7 @@ use Rattle.world_laws.proofs.Marks.{is_waiting}
 use Rattle.lawful_run.specs.Callers.{Caller}
 use Rattle.lawful_run.specs.Appends.{IsSettledIn}
 use Rattle.script_meaning.proofs.Reached.{held_of, told_of}
-use Rattle.script_meaning.proofs.First.{in_any}
+use Rattle.script_meaning.proofs.FirstProposal.{in_any}
 
 find_none : {A : Type 0} (test : A → Bool) (xs : List A) → ((x : A) → In x xs → test x ≡ false) → find test xs ≡ None
 find_none test [] h = refl
@@ -36,7 +36,7 @@ find_none test (x ∷ xs) h =
     if_false (test x) (Some x) (find test xs) (h x (inl refl)) ∙ find_none test xs (λ y i. h y (inr i))
 
 -- an id that does not wait is not open
-no_open : (w : World) → Held w → (r c : ℕ) (id : Id) → is_waiting (status_in (w.histories r c) id) ≡ false
+pub no_open : (w : World) → Held w → (r c : ℕ) (id : Id) → is_waiting (status_in (w.histories r c) id) ≡ false
     → open_entry id (entries (w.histories r c)) ≡ None
 no_open w h r c id none = find_none (is_open_id id) (entries (w.histories r c)) each where
   each : (x : Standing) → In x (entries (w.histories r c)) → is_open_id id x ≡ false

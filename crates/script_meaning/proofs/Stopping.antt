@@ -33,23 +33,24 @@ use Rattle.script_text.specs.declared.script.Object.{Object}
 use Rattle.script_text.specs.declared.script.What.TheVariants as whats
 use Rattle.report_text.specs.declared.report.Answer.TheVariants as answers
 use Rattle.lawful_run.specs.Callers.{Caller, node_of}
-use Rattle.lawful_run.specs.Appends.{IsMarked, IsDecided, IsSettledIn, IsStepWithin, StopsAfter, Stops, stopped_after}
+use Rattle.lawful_run.specs.Appends.{IsSettledIn}
+use Rattle.lawful_run.specs.Stops.{IsMarked, IsDecided, IsStepWithin, StopsAfter, Stops, stopped_after}
 use Rattle.lawful_run.specs.Explains.{Explains}
 use Rattle.lawful_run.proofs.Prefixes.{get_within}
 use Rattle.script_meaning.specs.States.{Grants}
 use Rattle.script_meaning.proofs.Rows.{node_id}
-use Rattle.script_meaning.proofs.RowSteps.{IsOn, complete_steps_on, settle_at}
-use Rattle.script_meaning.proofs.Moves.{adds_map, StepIn, From}
+use Rattle.script_meaning.proofs.Completions.{IsOn, complete_steps_on, settle_at}
+use Rattle.script_meaning.proofs.Additions.{adds_map, StepIn, From}
 use Rattle.script_meaning.proofs.Reached.{held_of}
 use Rattle.script_meaning.proofs.Clearing.{Finished}
-use Rattle.script_meaning.proofs.Kept.{caller_in, IsKeptBy, MadeBy, Does}
-use Rattle.script_meaning.proofs.One.{caller_same}
-use Rattle.script_meaning.proofs.Begun as begun
+use Rattle.script_meaning.proofs.Kept.{caller_in, IsKeptBy, MadeBy, made_own, Does}
+use Rattle.script_meaning.proofs.AppendOne.{caller_same}
+use Rattle.script_meaning.proofs.BeginRow as begun
 use Rattle.script_meaning.proofs.Settled.{settled_in}
-use Rattle.script_meaning.proofs.Several.{Rising, colours_rise}
+use Rattle.script_meaning.proofs.AppendSeveral.{Rising, colours_rise}
 use Rattle.script_meaning.proofs.Lists.{in_map_back}
 use Rattle.script_meaning.proofs.Playing.{got_at}
-use Rattle.script_meaning.proofs.Marking.{MarksColour, AllMissing, IsMarkList, mark_list, marked_first, taken_at, take_past, one_place}
+use Rattle.script_meaning.proofs.CompletionParts.{MarksColour, AllMissing, IsMarkList, mark_list, marked_first, taken_at, take_past, one_place}
 
 -- Which step stands where
 
@@ -371,8 +372,9 @@ module _ (objects : List Object) (S : ℕ → Type 0) (grants : Grants) (w : Wor
     run = begun.steps_run objects w reached u colours text ok L on;
     shape = shape3;
     others = begun.others3 objects w reached u colours text ok L on;
-    adds = λ r c. adds_map (StepIn own u id row L r c) (MadeBy u (whats.Stop (suc n) colours text) own r) (w.histories r c)
-        (w3.histories r c) (λ e s. record { made = s.made; may = λ _. refl; home = λ _. s.at_home })
+    adds = λ r c. adds_map (StepIn own u id row L r c) (MadeBy u (whats.Stop (suc n) colours text) w3 own r)
+        (w.histories r c) (w3.histories r c)
+        (λ e s. made_own u (whats.Stop (suc n) colours text) w3 own r id refl e s.made s.of)
         ((begun.on3 objects w reached u colours text ok L on).adds r c);
     keeps = λ kept k. record {
       after = with_made (with_row kept) own places;

@@ -34,10 +34,10 @@ use Rattle.report_text.specs.declared.report.Answer.TheVariants as answers
 use Rattle.lawful_run.specs.Reads.{Syncs, ShowsNode, ShowsPlayed, greatest_stamp, IsTrimmed}
 use Rattle.lawful_run.specs.Explains.{Explains}
 use Rattle.script_meaning.specs.Moves.{placed, placed_at, no_head, home_chains, nodes_played}
-use Rattle.script_meaning.proofs.Moves.{adds_none}
+use Rattle.script_meaning.proofs.Additions.{adds_none}
 use Rattle.script_meaning.proofs.Reached.{listed_of}
 use Rattle.script_meaning.proofs.Kept.{caller_in, IsKeptBy, MadeBy, Does}
-use Rattle.script_meaning.proofs.One.{updated-not}
+use Rattle.script_meaning.proofs.AppendOne.{updated-not}
 use Rattle.script_meaning.proofs.Playing.{at_or, beside, stands_of, stamp_of}
 use Rattle.script_meaning.proofs.ChainNodes.{chain_node}
 
@@ -102,7 +102,7 @@ module _ (objects : List Object) (w : World) (reached : IsReached w) (u c : ℕ)
     run = refl;
     shape = refl;
     others = λ n ne. refl;
-    adds = λ r d. adds_none (MadeBy u (whats.Sync c) own r) (w.histories r d);
+    adds = λ r d. adds_none (MadeBy u (whats.Sync c) w own r) (w.histories r d);
     keeps = λ kept k. record {
       after = kept;
       keeps = k;
@@ -231,7 +231,7 @@ module _ (objects : List Object) (w : World) (reached : IsReached w) (u c : ℕ)
           run = if_true (may_play w u c) w' w ok;
           shape = refl;
           others = λ m ne. updated-not w.clients u (played_client w u c) m ne;
-          adds = λ r d. adds_none (MadeBy u (whats.Sync c) own r) (w.histories r d);
+          adds = λ r d. adds_none (MadeBy u (whats.Sync c) w' own r) (w.histories r d);
           keeps = λ kept k. record {
             after = kept' kept k;
             keeps = keeps kept k;

@@ -21,7 +21,7 @@ use Rattle.report_text.specs.declared.report.Answer.TheVariants as answers
 use Rattle.lawful_run.specs.Moves.{Trims}
 use Rattle.script_meaning.proofs.Clearing.{Finished}
 use Rattle.script_meaning.proofs.Kept.{caller_in, IsKeptBy, MadeBy, Does, later_log}
-use Rattle.script_meaning.proofs.Moves.{adds_last}
+use Rattle.script_meaning.proofs.Additions.{adds_last}
 use Rattle.script_meaning.proofs.OwnEvents.{history_is, own_kept, seen_here, finished_last}
 
 module _ (objects : List Object) (w : World) (reached : IsReached w) (u c : ℕ)
@@ -75,7 +75,8 @@ module _ (objects : List Object) (w : World) (reached : IsReached w) (u c : ℕ)
         run = trim_is;
         shape = refl;
         others = λ n ne. refl;
-        adds = adds_last (λ r d. MadeBy u (whats.Trim c) own r) w own c e (record { made = refl; may = λ none. absurd none; home = λ none. absurd none });
+        adds = adds_last (λ r d. MadeBy u (whats.Trim c) w' own r) w own c e
+            (record { made = refl; help = λ none. absurd none });
         keeps = λ kept k. record {
           after = kept_after_event kept own c (length h);
           keeps = own_kept w u own c e refl refl later kept k (updated_at kept.seen own c (length h + 1))

@@ -52,9 +52,8 @@ appended_one grants state command text colour =
 abbrev pub is_full : World → ℕ → Bool
 is_full w client = not (nat_lt (w.clients client).used w.shape.rows)
 
--- the steps of an append to several colours: the row begins, its colours are marked, it is decided, and it is settled
--- in
--- each colour
+-- The steps of an append to several colours: the row begins, its colours are marked, it is decided, and it is settled
+-- in each colour.
 abbrev pub append_steps : Grants → World → ℕ → Colours → List ℕ → List Step
 append_steps grants w client colours text =
     Begin client colours text
@@ -65,9 +64,8 @@ abbrev pub ended_colour : World → Row → List ℕ → ℕ
 ended_colour w row colours =
     slice_index_or (filter (λ colour. is_stamp_end_fence ((row_of w row).marks colour)) colours) 0 0
 
--- The append of a client whose world was the first one, and is the second after the steps, is answered by the outcome
--- of
--- its row: where that is final the client has seen the stamp, and each colour is cleared below the node's key.
+-- An append, after whose steps the world is this one, is answered by the outcome of its row: where that is final the
+-- client has seen the stamp, and each colour is cleared below the node's key.
 abbrev pub appended_by : Grants → State → Command → World → Row → List ℕ → Outcome → State
 appended_by grants state command w row colours Open = answered state command w answers.NoMemory []
 appended_by grants state command w row colours (Gone Memory) = answered state command w answers.NoMemory []

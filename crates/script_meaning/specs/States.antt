@@ -54,8 +54,8 @@ pub record State : Type 0 where
 abbrev pub opening : Script → State
 opening script = record { world = opened script.shape; replies = λ _. [] }
 
--- Which requests for memory are granted to a command: before it does anything, for the proposal of its own node in each colour, for each of
--- its helps, counted from 0, in each colour, and for what a pull carries.
+-- Which requests for memory are granted to a command: before it does anything, for the proposal of its own node in each
+-- colour, for each of its helps, counted from 0, in each colour, and for what a pull carries.
 pub record Grants : Type 0 where
   pub start : Bool
   pub marks : ℕ → Bool

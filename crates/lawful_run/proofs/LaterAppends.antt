@@ -1,0 +1,164 @@
+-- What an append or a stop says of a log, a later log says as well.
+use Rattle.std.proofs.Common.{◌≡◌, ℕ, List, [], ◌∷◌, take, Option, Some, None, sym, subst, ◌∙◌, inl, inr, ◌⊎◌}
+use Rattle.std.specs.Prelude.{IsTrue}
+use Rattle.log_node.specs.declared.node.At.{At}
+use Rattle.log_node.specs.declared.node.At.TheVariants.{Event, Look}
+use Rattle.log_node.specs.declared.node.Node.{Node}
+use Rattle.log_node.specs.Sets.{members}
+use Rattle.skeen_core.specs.declared.marks.Why.{Why}
+use Rattle.skeen_core.specs.declared.marks.Why.TheVariants.{Memory, StampEnd}
+use Rattle.skeen_core.specs.declared.marks.Mark.TheVariants as marks
+use Rattle.skeen_core.specs.Standings.{open_entry}
+use Rattle.skeen_core.specs.declared.marks.Outcome.TheVariants.{Gone}
+use Rattle.col_core.specs.declared.Entry.{Entry}
+use Rattle.col_core.specs.History.{IsAtEnd, entries, has_entered}
+use Rattle.col_core.specs.Log.{Log, IsLater, HasMark}
+use Rattle.col_core.specs.Keeping.{Kept}
+use Rattle.report_text.specs.declared.report.PointPiece.{PointPiece}
+use Rattle.col_core.proofs.Facts.{mark_stays, outcome_stays}
+use Rattle.lawful_run.specs.Callers.{Caller}
+use Rattle.lawful_run.specs.Appends.{AppendsOne, HadNoStamp, AreSteps, BeginsRow, EntersAt, StandsAt, AppendsSeveral, Appends, AppendsUnshown, one_unshown, several_unshown, IsGoneAtEnd, HasNoStamp, none_for_one, none_for_several, IsSettledIn, IsSettled, IsGoneForMemory}
+use Rattle.lawful_run.specs.Stops.{Stops, stopped_at_once, stopped_after}
+use Rattle.lawful_run.proofs.Prefixes.{prefix_get}
+use Rattle.lawful_run.proofs.LaterFacts.{all_of, taken_same, still_there, entry_later, line_later, final_later}
+
+module _ (old new : Log) (later : IsLater old new) (caller : Caller) (kept : Kept) where
+  pub appends_later : (node : Node) (colour stamp place position : ℕ)
+      → AppendsOne old caller kept node colour stamp place position
+          → AppendsOne new caller kept node colour stamp place position
+  appends_later node colour stamp place position a = record {
+    next = prefix_get _ _ _ _ (later.nodes caller.client) a.next;
+    entered = entry_later old new later caller.own colour place _ a.entered;
+    unseen = a.unseen;
+    stands = line_later old new later caller.own colour position _ a.stands;
+    behind = a.behind;
+    above = a.above;
+  }
+
+  pub no_stamp_later : (colour : ℕ) → HadNoStamp old caller kept colour → HadNoStamp new caller kept colour
+  no_stamp_later colour h = record {
+    events = h.events;
+    unseen = h.unseen;
+    there = still_there old new later caller.own colour h.events h.there;
+    ended = subst (λ (events : List Entry). IsAtEnd events kept.floor)
+        (sym (taken_same old new later caller.own colour h.events h.there)) h.ended;
+  }
+
+  pub steps_later : (node : Node) (places : ℕ → List ℕ) → AreSteps old caller node places
+      → AreSteps new caller node places
+  steps_later node places a colour k d lt =
+      let s = a colour k d lt in
+      (s.0, entry_later old new later caller.own colour _ s.0 s.1, s.2, s.3)
+
+  pub begins_later : (node : Node) (places : ℕ → List ℕ) → BeginsRow old caller kept node places
+      → BeginsRow new caller kept node places
+  begins_later node places b = let r = later.rows node.region b.row b.begun.begun in record {
+    several = b.several;
+    next = prefix_get _ _ _ _ (later.nodes caller.client) b.next;
+    room = b.room;
+    row = r.0;
+    begun = record { begun = r.1; of_node = r.2.node ∙ b.begun.of_node };
+    steps = steps_later node places b.steps;
+  }
+
+  pub enters_later : (node : Node) (colour : ℕ) (at : At) → EntersAt old caller kept node colour at
+      → EntersAt new caller kept node colour at
+  enters_later node colour (Event place) e =
+      (e.0, e.1, entry_later old new later caller.own colour place e.1 e.2, e.3, e.4)
+  enters_later node colour (Look events) e =
+      (e.0, still_there old new later caller.own colour events e.1, e.2, e.3, e.4, entry_later old new later caller.own colour e.2 e.4 e.5, e.6, e.7)
+
+  pub stands_later : (node : Node) (stamp : ℕ) (point : PointPiece) → StandsAt old caller kept node stamp point
+      → StandsAt new caller kept node stamp point
+  stands_later node stamp point s = record {
+    entered = enters_later node point.colour point.at s.entered;
+    stands = line_later old new later caller.own point.colour point.position _ s.stands;
+    behind = s.behind;
+  }
+
+  pub several_later : (node : Node) (stamp : ℕ) (points : List PointPiece) (places : ℕ → List ℕ)
+      → AppendsSeveral old caller kept node stamp points places
+          → AppendsSeveral new caller kept node stamp points places
+  several_later node stamp points places s = record {
+    begins = begins_later node places s.begins;
+    outcome = final_later old new later node stamp s.outcome;
+    colours = s.colours;
+    each = all_of (StandsAt old caller kept node stamp) (StandsAt new caller kept node stamp)
+        (stands_later node stamp) points s.each;
+    above = s.above;
+  }
+
+  pub append_later : (node : Node) (stamp : ℕ) (row : Option ℕ) (points : List PointPiece) (after : Kept)
+      → Appends old caller kept node stamp row points after → Appends new caller kept node stamp row points after
+  append_later node stamp None [] after a = absurd a
+  append_later node stamp None (point ∷ []) after a =
+      (a.0, a.1, a.2, appends_later node point.colour stamp a.1 point.position a.3, a.4)
+  append_later node stamp None (point ∷ other ∷ points) after a = absurd a
+  append_later node stamp (Some number) points after a = (a.0, a.1, several_later node stamp points a.1 a.2, a.3)
+
+  pub unshown_later : (node : Node) (stamp : ℕ) (after : Kept) → AppendsUnshown old caller kept node stamp after
+      → AppendsUnshown new caller kept node stamp after
+  unshown_later node stamp after (one_unshown colour place position only a) =
+      one_unshown colour place position only (appends_later node colour stamp place position a)
+  unshown_later node stamp after (several_unshown places begins outcome stand above) =
+      several_unshown places (begins_later node places begins) (final_later old new later node stamp outcome)
+      (λ k d lt. let s = stand k d lt in (s.0, line_later old new later caller.own _ s.0 _ s.1)) above
+
+  pub settled_later : (node : Node) (colour : ℕ) → IsSettledIn old caller node colour
+      → IsSettledIn new caller node colour
+  settled_later node colour s = record {
+    events = s.events;
+    there = still_there old new later caller.own colour s.events s.there;
+    not_open = subst (λ (events : List Entry). open_entry node.id (entries events) ≡ None)
+        (sym (taken_same old new later caller.own colour s.events s.there)) s.not_open;
+    for_good = good s.for_good;
+  } where
+    good : ((why : Why) × HasMark old node colour (marks.Fenced why))
+        ⊎ IsTrue (has_entered node.id (take s.events (old.histories caller.own colour)))
+        → ((why : Why) × HasMark new node colour (marks.Fenced why))
+            ⊎ IsTrue (has_entered node.id (take s.events (new.histories caller.own colour)))
+    good (inl m) = inl (m.0, mark_stays old new later node colour (marks.Fenced m.0) (λ e. absurd cc) m.1)
+    good (inr e) = inr (subst (λ (events : List Entry). IsTrue (has_entered node.id events))
+        (sym (taken_same old new later caller.own colour s.events s.there)) e)
+
+  pub all_settled_later : (node : Node) → IsSettled old caller node → IsSettled new caller node
+  all_settled_later node s = all_of (IsSettledIn old caller node) (IsSettledIn new caller node) (settled_later node)
+      (members node.colours) s
+
+  pub at_end_later : (node : Node) (colour : ℕ) (places : ℕ → List ℕ)
+      → IsGoneAtEnd old caller kept node colour places → IsGoneAtEnd new caller kept node colour places
+  at_end_later node colour places g = record {
+    begins = begins_later node places g.begins;
+    outcome = outcome_stays old new later node (Gone StampEnd) (λ e. absurd cc) g.outcome;
+    fence = mark_stays old new later node colour (marks.Fenced StampEnd) (λ e. absurd cc) g.fence;
+    least = λ k d lt below. let l = g.least k d lt below in
+        (l.0, l.1, l.2, mark_stays old new later node _ l.0 l.1 l.3);
+    settled = all_settled_later node g.settled;
+  }
+
+  pub has_no_stamp_later : (node : Node) (colour : ℕ) (after : Kept) → HasNoStamp old caller kept node colour after
+      → HasNoStamp new caller kept node colour after
+  has_no_stamp_later node colour after (none_for_one only h) = none_for_one only (no_stamp_later colour h)
+  has_no_stamp_later node colour after (none_for_several places g) =
+      none_for_several places (at_end_later node colour places g)
+
+  pub stops_later : (node : Node) (steps : ℕ) (after : Kept) → Stops old caller kept node steps after
+      → Stops new caller kept node steps after
+  stops_later node steps after stopped_at_once = stopped_at_once
+  stops_later node steps after (stopped_after n places s) = stopped_after n places (record {
+    begins = begins_later node places s.begins;
+    marked = λ k colour at within. let m = s.marked k colour at within in
+        (m.0, m.1, mark_stays old new later node colour m.0 m.1 m.2);
+    decided = λ enough. let d = s.decided enough in (d.0, d.1, outcome_stays old new later node d.0 d.1 d.2);
+    settled = λ k colour at within. settled_later node colour (s.settled k colour at within);
+    no_later = λ n colour at k d lt. let t = s.no_later n colour at k d lt in
+        (t.0, entry_later old new later caller.own colour _ t.0 t.1, t.2);
+  })
+
+  pub for_memory_later : (node : Node) (places : ℕ → List ℕ) → IsGoneForMemory old caller kept node places
+      → IsGoneForMemory new caller kept node places
+  for_memory_later node places g = record {
+    begins = begins_later node places g.begins;
+    outcome = outcome_stays old new later node (Gone Memory) (λ e. absurd cc) g.outcome;
+    settled = all_settled_later node g.settled;
+  }

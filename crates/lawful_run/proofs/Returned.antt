@@ -1,0 +1,154 @@
+-- Appends that returned stand in the closing lines.
+use Rattle.std.proofs.Common.{◌≡◌, ℕ, zero, suc, ◌+◌, ◌<◌, List, [], ◌∷◌, length, Option, Some, None, map, slice_get, refl, ap, sym, subst, ◌∙◌, ◌⊎◌, inl, inr, arith}
+use Rattle.std.specs.Prelude.{◌≢◌}
+use Rattle.std.specs.List.{All, Contains}
+use Rattle.std.proofs.lemmas.List.Elements.{All-contains}
+use Rattle.log_node.specs.declared.ids.Id.{Id}
+use Rattle.log_node.specs.declared.ids.Key.{Key}
+use Rattle.log_node.specs.declared.ids.Colours.{Colours}
+use Rattle.log_node.specs.declared.node.Node.{Node}
+use Rattle.log_node.specs.Seen.{PlacedNode}
+use Rattle.log_node.specs.Sets.{members}
+use Rattle.col_core.specs.History.{line, entry_key}
+use Rattle.col_core.specs.Log.{Log}
+use Rattle.col_core.specs.Keeping.{Kept}
+use Rattle.script_text.specs.declared.script.What.{What}
+use Rattle.script_text.specs.declared.script.What.TheVariants as whats
+use Rattle.script_text.specs.declared.script.Script.{Script}
+use Rattle.report_text.specs.declared.report.Answer.{Answer}
+use Rattle.report_text.specs.declared.report.Answer.TheVariants as answers
+use Rattle.report_text.specs.declared.report.PointPiece.{PointPiece}
+use Rattle.report_text.specs.declared.report.ReplyLine.{ReplyLine}
+use Rattle.report_text.specs.declared.report.ClientReport.{ClientReport}
+use Rattle.report_text.specs.declared.report.ColumnReport.{ColumnReport}
+use Rattle.report_text.specs.declared.report.Report.{Report}
+use Rattle.lawful_run.specs.Callers.{Caller, caller_of, node_of}
+use Rattle.lawful_run.specs.Asks.{AsksToAppend}
+use Rattle.lawful_run.specs.Appends.{Appends, AppendsUnshown, one_unshown, several_unshown, StandsUnder, StandsAt}
+use Rattle.lawful_run.specs.Columns.{IsColumnReport}
+use Rattle.lawful_run.specs.Refusals.{kept_before}
+use Rattle.lawful_run.specs.Explains.{Explains}
+use Rattle.lawful_run.specs.Lawful.{LawfulRun}
+use Rattle.lawful_run.specs.Readings.{kept_at, Told, Nowhere, UnderAt, StoodAt, Under, Perhaps, told, IsAppend, StandsAtEnd, StandsAtPoints, StandsAs, ReturnedAppendsStand}
+use Rattle.lawful_run.proofs.Replies.{Step, step_of}
+use Rattle.lawful_run.proofs.Traces.{one_of}
+
+-- what a command asks does not rest on a read that it lets go
+asks_before : (caller : Caller) (what : What) (kept : Kept) (colours : Colours) (text : List ℕ) → AsksToAppend caller (kept_before what kept) what colours text
+    → AsksToAppend caller kept what colours text × ((kept_before what kept).ids ≡ kept.ids)
+asks_before caller (whats.Append asked given) kept colours text a = (a, refl)
+asks_before caller (whats.Stop steps asked given) kept colours text a = (a, refl)
+asks_before caller (whats.Sync colour) kept colours text a = absurd a
+asks_before caller (whats.Scan asked) kept colours text a = absurd a
+asks_before caller (whats.Pull region colour) kept colours text a = absurd a
+asks_before caller (whats.Trim colour) kept colours text a = absurd a
+asks_before caller (whats.Put object key value) kept colours text a = (a, refl)
+asks_before caller (whats.Get object key) kept colours text a = absurd a
+asks_before caller (whats.Del object key) kept colours text a = (a, refl)
+asks_before caller (whats.PutAll object pairs) kept colours text a = (a, refl)
+asks_before caller (whats.GetAll object keys) kept colours text a = absurd a
+asks_before caller (whats.Read object keys) kept colours text a = absurd a
+asks_before caller (whats.Commit object pairs) kept colours text a = (a, refl)
+asks_before caller (whats.Enq object value) kept colours text a = (a, refl)
+asks_before caller (whats.Deq object) kept colours text a = (a, refl)
+
+module _ (script : Script) (report : Report) (run : LawfulRun script report) (client : ℕ) (kept : Kept) where
+  abbrev caller : Caller
+  caller = caller_of script client
+
+  abbrev id : Id
+  id = record { client = client; count = kept.ids }
+
+  -- where a key stands in a line of the log it stands in the closing line
+  closing : (colour position : ℕ) (key : Key) → slice_get (line (run.log.histories caller.own colour)) position ≡ Some key
+      → StandsAtEnd report caller.own colour position key
+  closing colour position key stands column there own same =
+      let c = All-contains (IsColumnReport run.log script) report.columns column run.columns.each there in
+      let shown : column.line ≡ line (run.log.histories caller.own colour) =
+      c.closing.line_shown ∙ (ap line c.history ∙ (ap (λ (r : ℕ). line (run.log.histories r column.colour)) own
+      ∙ ap (λ (d : ℕ). line (run.log.histories caller.own d)) same)) in
+      ap (λ (l : List Key). slice_get l position) shown ∙ stands
+
+  at_points : (colours : Colours) (text : List ℕ) (stamp : ℕ) (row : Option ℕ) (points : List PointPiece) (after : Kept)
+      → Appends run.log caller kept (node_of caller kept colours text) stamp row points after
+      → StandsAtPoints report caller.own id colours stamp points
+  at_points colours text stamp None [] after a = absurd a
+  at_points colours text stamp None (p ∷ []) after a = record {
+    all = sym a.0;
+    each = λ q there. subst (λ (x : PointPiece). StandsAtEnd report caller.own x.colour x.position (entry_key stamp id)) (one_of p q there)
+        (closing p.colour p.position (entry_key stamp id) a.3.stands);
+  }
+  at_points colours text stamp None (p ∷ q ∷ points) after a = absurd a
+  at_points colours text stamp (Some number) points after a = record {
+    all = a.2.colours;
+    each = λ q there. closing q.colour q.position (entry_key stamp id)
+        (All-contains (StandsAt run.log caller kept (node_of caller kept colours text) stamp) points q a.2.each there).stands;
+  }
+
+  unshown : (colours : Colours) (text : List ℕ) (stamp : ℕ) (after : Kept)
+      → AppendsUnshown run.log caller kept (node_of caller kept colours text) stamp after → StandsAs report caller.own id colours (Under stamp)
+  unshown colours text stamp after (one_unshown colour place position only a) c there = (
+    position,
+    subst (λ d. StandsAtEnd report caller.own d position (entry_key stamp id))
+        (one_of colour c (subst (λ (l : List ℕ). Contains l c) only there)) (closing colour position (entry_key stamp id) a.stands),
+  )
+  unshown colours text stamp after (several_unshown places begins outcome stand above) c there =
+      let s = All-contains (λ colour. (position : ℕ) × StandsUnder run.log caller (node_of caller kept colours text) stamp colour position)
+      (members colours) c stand there in
+      (s.0, closing c s.0 (entry_key stamp id) s.1)
+
+  -- an answer that tells of a node
+  returned : (what : What) (answer : Answer) (nodes : List PlacedNode) (after : Kept) → Explains run.log caller kept what answer nodes after
+      → told answer ≢ Nowhere
+      → (colours : Colours) × (text : List ℕ) × AsksToAppend caller kept what colours text × StandsAs report caller.own id colours (told answer)
+  returned what answers.NoMemory nodes after e n = absurd (n refl)
+  returned what (answers.Stood stamp row points) nodes after e n =
+      (e.2.0, e.2.1, e.2.2, at_points e.2.0 e.2.1 stamp row points after e.2.3)
+  returned what (answers.StampEnd colour) nodes after e n = absurd (n refl)
+  returned what (answers.Full used) nodes after e n = absurd (n refl)
+  returned what (answers.Stopped steps) nodes after e n =
+      (e.1, e.2, subst (λ (w : What). AsksToAppend caller kept w e.1 e.2) (sym e.3) (refl, refl), tt)
+  returned what (answers.Synced sync plays) nodes after e n = absurd (n refl)
+  returned what (answers.Scanned stamp count raises syncs) nodes after e n = absurd (n refl)
+  returned what (answers.Pulled count give carry) nodes after e n = absurd (n refl)
+  returned what answers.SameRegion nodes after e n = absurd (n refl)
+  returned what (answers.Based shown base) nodes after e n = absurd (n refl)
+  returned what (answers.Got value sync) nodes after e n = absurd (n refl)
+  returned what (answers.GotMany values sync) nodes after e n = absurd (n refl)
+  returned what (answers.GotKeys stamp shown raises syncs) nodes after e n = absurd (n refl)
+  returned what (answers.Ruled conflict stamp row points read_stamp raises syncs) nodes after e n =
+      let a = e.2 in
+      let s = a.3 in
+      (a.0, a.1, a.2, (s.0, at_points a.0 a.1 s.0 row points s.1 s.2))
+  returned what answers.NoTx nodes after e n = absurd (n refl)
+  returned what (answers.Took value point sync) nodes after e n =
+      let a = e.3 in
+      let s = a.3 in
+      (a.0, a.1, a.2, (s.0, at_points a.0 a.1 s.0 None (point ∷ []) s.1 s.2))
+  returned what (answers.UnreadTrimmed stamp colour base) nodes after e n =
+      let a = e.3 in
+      let s = a.3 in
+      (a.0, a.1, a.2, unshown a.0 a.1 stamp s.0 s.1)
+  returned what (answers.UnreadNoMemory stamp) nodes after e n =
+      let a = e.2 in
+      let s = a.3 in
+      (a.0, a.1, a.2, unshown a.0 a.1 stamp s.0 s.1)
+  returned what (answers.Trimmed colour base) nodes after e n = absurd (n refl)
+  returned what (answers.NotHome home) nodes after e n = absurd (n refl)
+
+pub returned_appends_stand : ReturnedAppendsStand
+returned_appends_stand script report run client k shown reply of_client there n =
+    let s = step_of (run.clients client shown of_client).explained k reply there in
+    let step = s.0 in
+    let is = s.1 in
+    let kept = kept_at (run.clients client shown of_client).explained k in
+    let r = returned script report run client (kept_before step.command.what kept) step.command.what step.reply.answer step.reply.nodes
+    step.answers.answered step.answers.explained (subst (λ (x : ReplyLine). told x.answer ≢ Nowhere) (sym is) n) in
+    let asks = asks_before (caller_of script client) step.command.what kept r.0 r.1 r.2 in (
+      record { client = client; count = kept.ids },
+      r.0,
+      r.1,
+      record { shown = shown; of_client = of_client; replied = there; command = step.command; asked = step.asked; asks = asks.0; id_is = refl },
+      subst (λ (x : ReplyLine). StandsAs report (caller_of script client).own (record { client = client; count = kept.ids }) r.0 (told x.answer)) is
+          (subst (λ (c : ℕ). StandsAs report (caller_of script client).own (record { client = client; count = c }) r.0 (told step.reply.answer)) asks.1 r.3),
+    )

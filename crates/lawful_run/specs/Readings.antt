@@ -1,0 +1,161 @@
+-- What a reader takes from the report of a lawful run.
+use Rattle.std.specs.Prelude.{◌≡◌, ◌≢◌, IsTrue, ℕ, ◌+◌, ◌==◌, ◌<◌, ◌≤◌, List, [], ◌∷◌, length, map, Some, slice_get, if◌then◌else◌}
+use Rattle.std.specs.List.{Contains}
+use Rattle.log_node.specs.declared.ids.Id.{Id}
+use Rattle.log_node.specs.declared.ids.Key.{Key}
+use Rattle.log_node.specs.declared.ids.Colours.{Colours}
+use Rattle.log_node.specs.Order.{key_below}
+use Rattle.log_node.specs.Seen.{PlacedNode}
+use Rattle.log_node.specs.Sets.{members}
+use Rattle.col_core.specs.History.{entry_key}
+use Rattle.col_core.specs.Log.{Log}
+use Rattle.col_core.specs.Keeping.{Kept, nothing_kept}
+use Rattle.script_text.specs.declared.script.Command.{Command}
+use Rattle.script_text.specs.declared.script.Script.{Script}
+use Rattle.script_text.specs.Fitting.{IsFitting}
+use Rattle.report_text.specs.declared.report.Answer.{Answer}
+use Rattle.report_text.specs.declared.report.Answer.TheVariants as answers
+use Rattle.report_text.specs.declared.report.PointPiece.{PointPiece}
+use Rattle.report_text.specs.declared.report.SyncPiece.{SyncPiece}
+use Rattle.report_text.specs.declared.report.ReplyLine.{ReplyLine}
+use Rattle.report_text.specs.declared.report.ClientReport.{ClientReport}
+use Rattle.report_text.specs.declared.report.ColumnReport.{ColumnReport}
+use Rattle.report_text.specs.declared.report.Report.{Report}
+use Rattle.lawful_run.specs.Callers.{Caller, caller_of, commands_of}
+use Rattle.lawful_run.specs.Asks.{AsksToAppend}
+use Rattle.lawful_run.specs.Explains.{Explained, start, next}
+use Rattle.lawful_run.specs.Lawful.{LawfulRun}
+
+-- what a client keeps after so many of its commands
+abbrev pub kept_at : {log : Log} {caller : Caller} {commands : List Command} {replies : List ReplyLine} {kept : Kept}
+    → Explained log caller commands replies kept → ℕ → Kept
+kept_at start k = nothing_kept
+kept_at (next {commands} {replies} {kept} {after} command reply before answers) k =
+    if k == length replies + 1 then after else kept_at before k
+
+-- The client's command number k asks for a node with this id, on these colours and with this text, and has this reply.
+pub record IsAppend {script : Script} {report : Report} (run : LawfulRun script report) (client k : ℕ) (reply : ReplyLine)
+    (id : Id) (colours : Colours) (text : List ℕ) : Type 0 where
+  pub shown : ClientReport
+  pub of_client : slice_get report.clients client ≡ Some shown
+  pub replied : slice_get shown.replies k ≡ Some reply
+  pub command : Command
+  pub asked : slice_get (commands_of script client) k ≡ Some command
+  pub asks : AsksToAppend (caller_of script client) (kept_at (run.clients client shown of_client).explained k) command.what colours text
+  pub id_is : id ≡ record { client = client; count = (kept_at (run.clients client shown of_client).explained k).ids }
+
+-- what an answer tells of a node that its command appended
+pub data Told : Type 0 where
+  -- there is none in any line
+  Nowhere : Told
+  -- it stands under the stamp at these points
+  UnderAt : (stamp : ℕ) → List PointPiece → Told
+  -- it stands at these points
+  StoodAt : List PointPiece → Told
+  -- it stands under the stamp
+  Under : (stamp : ℕ) → Told
+  -- others may complete it
+  Perhaps : Told
+
+abbrev pub told : Answer → Told
+told (answers.Stood stamp row points) = UnderAt stamp points
+told (answers.Ruled conflict stamp row points read_stamp raises syncs) = StoodAt points
+told (answers.Took value point sync) = StoodAt (point ∷ [])
+told (answers.UnreadTrimmed stamp colour base) = Under stamp
+told (answers.UnreadNoMemory stamp) = Under stamp
+told (answers.Stopped steps) = Perhaps
+told answers.NoMemory = Nowhere
+told (answers.StampEnd colour) = Nowhere
+told (answers.Full used) = Nowhere
+told (answers.Synced sync plays) = Nowhere
+told (answers.Scanned stamp nodes raises syncs) = Nowhere
+told (answers.Pulled nodes give carry) = Nowhere
+told answers.SameRegion = Nowhere
+told (answers.Based at base) = Nowhere
+told (answers.Got value sync) = Nowhere
+told (answers.GotMany values sync) = Nowhere
+told (answers.GotKeys stamp keys raises syncs) = Nowhere
+told answers.NoTx = Nowhere
+told (answers.Trimmed colour base) = Nowhere
+told (answers.NotHome home) = Nowhere
+
+-- the closing line of this region and colour has the key at the position
+abbrev pub StandsAtEnd : Report → ℕ → ℕ → ℕ → Key → Type 0
+StandsAtEnd report region colour position key =
+    (column : ColumnReport) → Contains report.columns column → column.region ≡ region → column.colour ≡ colour
+    → slice_get column.line position ≡ Some key
+
+-- the id stands under the stamp at these points, one for each of the colours
+pub record StandsAtPoints (report : Report) (region : ℕ) (id : Id) (colours : Colours) (stamp : ℕ) (points : List PointPiece) : Type 0 where
+  pub all : map (λ (p : PointPiece). p.colour) points ≡ members colours
+  pub each : (point : PointPiece) → Contains points point
+      → StandsAtEnd report region point.colour point.position (entry_key stamp id)
+
+-- the id stands in the region's closing lines of these colours as it was told
+abbrev pub StandsAs : Report → ℕ → Id → Colours → Told → Type 0
+StandsAs report region id colours Nowhere = ⊥
+StandsAs report region id colours (UnderAt stamp points) = StandsAtPoints report region id colours stamp points
+StandsAs report region id colours (StoodAt points) = (stamp : ℕ) × StandsAtPoints report region id colours stamp points
+StandsAs report region id colours (Under stamp) =
+    (colour : ℕ) → Contains (members colours) colour
+    → (position : ℕ) × StandsAtEnd report region colour position (entry_key stamp id)
+StandsAs report region id colours Perhaps = Unit {0}
+
+-- An append that returned stands where its answer says, in the closing lines of all its colours under one stamp.
+abbrev pub ReturnedAppendsStand : Type 0
+ReturnedAppendsStand =
+    (script : Script) (report : Report) (run : LawfulRun script report) (client k : ℕ) (shown : ClientReport) (reply : ReplyLine)
+    → slice_get report.clients client ≡ Some shown → slice_get shown.replies k ≡ Some reply → told reply.answer ≢ Nowhere
+    → (id : Id) × (colours : Colours) × (text : List ℕ) × IsAppend run client k reply id colours text
+    × StandsAs report (caller_of script client).own id colours (told reply.answer)
+
+-- Each closing line rises in key.
+abbrev pub ClosingLinesRise : Type 0
+ClosingLinesRise =
+    (script : Script) (report : Report) → LawfulRun script report → (column : ColumnReport) → Contains report.columns column
+    → (i j : ℕ) (k l : Key) → i < j → slice_get column.line i ≡ Some k → slice_get column.line j ≡ Some l → IsTrue (key_below k l)
+
+-- An id has one key in all closing lines, which are all of one region.
+abbrev pub OneKey : Type 0
+OneKey =
+    (script : Script) (report : Report) → IsFitting script → LawfulRun script report → (a b : ColumnReport) (k l : Key)
+    → Contains report.columns a → Contains report.columns b → Contains a.line k → Contains b.line l → k.id ≡ l.id
+    → (k ≡ l) × (a.region ≡ b.region)
+
+-- So two nodes stand in one order in each line that has both, and each stands there once.
+abbrev pub OneOrder : Type 0
+OneOrder =
+    (script : Script) (report : Report) → IsFitting script → LawfulRun script report → (a b : ColumnReport)
+    → Contains report.columns a → Contains report.columns b → (i j m n : ℕ) (k l p q : Key)
+    → slice_get a.line i ≡ Some k → slice_get a.line j ≡ Some l → slice_get b.line m ≡ Some p → slice_get b.line n ≡ Some q
+    → k.id ≡ p.id → l.id ≡ q.id → i ≤ j → m ≤ n
+
+-- Each key of a closing line is of a command of its client, which asked for this colour, in the column's region, and whose
+-- answer does not say that there is none.
+abbrev pub NothingElseStands : Type 0
+NothingElseStands =
+    (script : Script) (report : Report) → IsFitting script → (run : LawfulRun script report) (column : ColumnReport) (key : Key)
+    → Contains report.columns column → Contains column.line key
+    → (k : ℕ) × (reply : ReplyLine) × (colours : Colours) × (text : List ℕ)
+    × IsAppend run key.id.client k reply key.id colours text × Contains (members colours) column.colour
+    × ((caller_of script key.id.client).own ≡ column.region) × (told reply.answer ≢ Nowhere)
+
+-- A node line shows the text that the command of its id appended.
+abbrev pub ShownAsAppended : Type 0
+ShownAsAppended =
+    (script : Script) (report : Report) → IsFitting script → (run : LawfulRun script report) (client : ℕ) (shown : ClientReport)
+    (reply : ReplyLine) (item : PlacedNode) → slice_get report.clients client ≡ Some shown → Contains shown.replies reply
+    → Contains reply.nodes item
+    → (k : ℕ) × (other : ReplyLine) × (colours : Colours)
+    × IsAppend run item.head.key.id.client k other item.head.key.id colours item.node.text
+
+-- No id is shown twice among the node lines of a client's syncs of one colour.
+abbrev pub ShownOnce : Type 0
+ShownOnce =
+    (script : Script) (report : Report) → IsFitting script → LawfulRun script report → (client : ℕ) (shown : ClientReport)
+    → slice_get report.clients client ≡ Some shown
+    → (i j m n : ℕ) (one other : ReplyLine) (s t : SyncPiece) (plays more : ℕ) (a b : PlacedNode)
+    → slice_get shown.replies i ≡ Some one → slice_get shown.replies j ≡ Some other
+    → one.answer ≡ answers.Synced s plays → other.answer ≡ answers.Synced t more → s.colour ≡ t.colour
+    → slice_get one.nodes m ≡ Some a → slice_get other.nodes n ≡ Some b → a.head.key.id ≡ b.head.key.id
+    → (i ≡ j) × (m ≡ n)

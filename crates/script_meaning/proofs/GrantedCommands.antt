@@ -1,0 +1,318 @@
+-- One command, where it finds memory, does what it does with memory granted everywhere.
+use Rattle.std.proofs.Common.{◌≡◌, ◌≢◌, inl, ℕ, zero, suc, List, [], ◌∷◌, ◌++◌, map, take, Some, None, refl, ap, sym, subst, ◌∙◌}
+use Rattle.std.specs.Prelude.{◌==◌}
+use Rattle.log_node.specs.declared.ids.Row.{Row}
+use Rattle.log_node.specs.declared.ids.Colours.{Colours}
+use Rattle.log_node.specs.Seen.{PlacedNode}
+use Rattle.log_node.specs.Sets.{members}
+use Rattle.skeen_core.specs.declared.marks.Why.TheVariants.{Memory, StampEnd}
+use Rattle.skeen_core.specs.declared.marks.Outcome.{Outcome}
+use Rattle.skeen_core.specs.declared.marks.Outcome.TheVariants.{Open, Gone, Final}
+use Rattle.col_core.specs.History.{entry_key}
+use Rattle.col_core.proofs.Basics.{choice, by_test, if_true, if_false}
+use Rattle.col_core.proofs.Members.{In}
+use Rattle.world_laws.specs.declared.steps.Step.TheVariants.{Begin, Single, Give, Carry, Trim, Play, Seen}
+use Rattle.world_laws.specs.Worlds.{World, home_of, held_of, after, run_steps, row_of, next_id, next_row, may_single, single_stamp, may_play}
+use Rattle.world_laws.proofs.Basics.{at_updated, updated-here, in_left, in_right}
+use Rattle.script_text.specs.declared.script.What.{What}
+use Rattle.script_text.specs.declared.script.What.TheVariants as whats
+use Rattle.script_text.specs.declared.script.Command.{Command}
+use Rattle.report_text.specs.declared.report.Answer.{Answer}
+use Rattle.report_text.specs.declared.report.Answer.TheVariants as answers
+use Rattle.report_text.specs.declared.report.ReplyLine.{ReplyLine}
+use Rattle.script_meaning.specs.States.{State, Grants, all_granted, answered}
+use Rattle.script_meaning.specs.Helping.{all_cleared}
+use Rattle.script_meaning.specs.Appends.{with_single, appended_one, appended_by, appended_several, appended, stopped, is_full, append_steps, ended_colour, point_in}
+use Rattle.script_meaning.specs.Moves.{nodes_played, synced, lacking, with_give, with_carry, pulled_from, pulled, trimmed}
+use Rattle.script_meaning.proofs.MoveCases.{play_answer, trimmed_answer, pull_answer, with_trim, base_answer, played, refused, synced_is, stayed, carried, given, pulled_is, from_is, from_all, trimmed_is}
+use Rattle.script_meaning.specs.Meaning.{done_one, done}
+use Rattle.script_meaning.proofs.GrantedSteps.{IsClean, RunsTo, stays_there, runs_on, clean_from, complete_exact, taken_exact, clears_run, clears_exact}
+use Rattle.script_meaning.proofs.Invariant.{line_of}
+
+-- some steps lead to the state, and replies are kept
+pub record Extends (old new : State) : Type 0 where
+  pub world : RunsTo old.world new.world
+  pub replies : (n : ℕ) (r : ReplyLine) → In r (old.replies n) → In r (new.replies n)
+
+answer_extends : (state : State) (command : Command) (w' : World) (answer : Answer) (nodes : List PlacedNode)
+    → RunsTo state.world w' → Extends state (answered state command w' answer nodes)
+answer_extends state command w' answer nodes r = record {
+  world = r;
+  replies = λ n x i. at_updated (λ (l : List ReplyLine). In x l) state.replies command.client
+      (state.replies command.client ++ line_of command answer nodes ∷ []) n
+      (λ e. in_left x (state.replies command.client) (line_of command answer nodes ∷ [])
+      (subst (λ (k : ℕ). In x (state.replies k)) e i))
+      (λ _. i);
+}
+
+module _ (grants : Grants) (state : State) (command : Command) where
+  abbrev u : ℕ
+  u = command.client
+
+  abbrev w : World
+  w = state.world
+
+  single_runs : (text : List ℕ) (c : ℕ) → RunsTo w (with_single grants w u text c)
+  single_runs text c =
+      runs_on w (after w (Single u c text)) (with_single grants w u text c)
+      (record { steps = Single u c text ∷ []; run = refl })
+      (clears_run grants u (entry_key (single_stamp w u c) (next_id w u)) (c ∷ []) (after w (Single u c text)))
+
+  by_runs : (v : World) (row : Row) (cs : List ℕ) (last : Outcome)
+      → RunsTo v (appended_by grants state command v row cs last).world
+  by_runs v row cs Open = stays_there v
+  by_runs v row cs (Gone Memory) = stays_there v
+  by_runs v row cs (Gone StampEnd) = stays_there v
+  by_runs v row cs (Final f) =
+      runs_on v (after v (Seen u f)) (all_cleared grants u (entry_key f (next_id w u)) cs (after v (Seen u f)))
+      (record { steps = Seen u f ∷ []; run = refl })
+      (clears_run grants u (entry_key f (next_id w u)) cs (after v (Seen u f)))
+
+  by_extends : (v : World) (row : Row) (cs : List ℕ) (last : Outcome) → RunsTo w v
+      → Extends state (appended_by grants state command v row cs last)
+  by_extends v row cs Open r = answer_extends state command v answers.NoMemory [] r
+  by_extends v row cs (Gone Memory) r = answer_extends state command v answers.NoMemory [] r
+  by_extends v row cs (Gone StampEnd) r =
+      answer_extends state command v (answers.StampEnd (ended_colour v row cs)) [] r
+  by_extends v row cs (Final f) r =
+      let v' = all_cleared grants u (entry_key f (next_id w u)) cs (after v (Seen u f)) in
+      answer_extends state command v' (answers.Stood f (Some row.number) (map (point_in w v' u (next_id w u)) cs)) []
+      (runs_on w v v' r (by_runs v row cs (Final f)))
+
+  one_extends : (text : List ℕ) (c : ℕ) → Extends state (appended_one grants state command text c)
+  one_extends text c =
+      let v = with_single grants w u text c in
+      choice (Extends state) (may_single w u c)
+      (answered state command v (answers.Stood (single_stamp w u c) None (point_in w v u (next_id w u) c ∷ [])) [])
+      (answered state command w (answers.StampEnd c) [])
+      (λ _. answer_extends state command v
+      (answers.Stood (single_stamp w u c) None (point_in w v u (next_id w u) c ∷ [])) [] (single_runs text c))
+      (λ _. answer_extends state command w (answers.StampEnd c) [] (stays_there w))
+
+  several_extends : (colours : Colours) (text : List ℕ)
+      → Extends state (appended_several grants state command colours text)
+  several_extends colours text =
+      let v = run_steps w (append_steps grants w u colours text) in
+      choice (Extends state) (is_full w u) (answered state command w (answers.Full (w.clients u).used) [])
+      (appended_by grants state command v (next_row w u) (members colours) (row_of v (next_row w u)).last)
+      (λ _. answer_extends state command w (answers.Full (w.clients u).used) [] (stays_there w))
+      (λ _. by_extends v (next_row w u) (members colours) (row_of v (next_row w u)).last
+      (record { steps = append_steps grants w u colours text; run = refl }))
+
+  append_extends : (colours : Colours) (text ms : List ℕ)
+      → Extends state (appended grants state command colours text ms)
+  append_extends colours text [] = answer_extends state command w answers.NoMemory [] (stays_there w)
+  append_extends colours text (c ∷ []) = one_extends text c
+  append_extends colours text (c ∷ d ∷ ms) = several_extends colours text
+
+  stop_extends : (colours : Colours) (text : List ℕ) (n : ℕ) → Extends state
+      (stopped grants state command colours text n)
+  stop_extends colours text zero = answer_extends state command w (answers.Stopped 0) [] (stays_there w)
+  stop_extends colours text (suc n) =
+      let v = run_steps w (take (suc n) (append_steps grants w u colours text)) in
+      choice (Extends state) (is_full w u) (answered state command w (answers.Full (w.clients u).used) [])
+      (answered state command v (answers.Stopped (suc n)) [])
+      (λ _. answer_extends state command w (answers.Full (w.clients u).used) [] (stays_there w))
+      (λ _. answer_extends state command v (answers.Stopped (suc n)) []
+      (record { steps = take (suc n) (append_steps grants w u colours text); run = refl }))
+
+  sync_extends : (c : ℕ) → Extends state (synced state command c)
+  sync_extends c =
+      subst (Extends state) (sym (synced_is grants state command c))
+      (choice (Extends state) (may_play w u c) (played grants state command c) (refused grants state command c)
+      (λ _. answer_extends state command (after w (Play u c)) (play_answer w u c) (nodes_played w u c)
+      (record { steps = Play u c ∷ []; run = refl }))
+      (λ _. answer_extends state command w (trimmed_answer w u c) [] (stays_there w)))
+
+  pull_extends : (region c : ℕ) → Extends state (pulled grants state command region c)
+  pull_extends region c =
+      let own = home_of w u in
+      let have = held_of w region own c in
+      let give = Give u region own c have in
+      subst (Extends state) (sym (pulled_is grants state command region c))
+      (choice (Extends state) (region == own) (stayed grants state command) (pulled_from grants state command region c)
+      (λ _. answer_extends state command w answers.SameRegion [] (stays_there w))
+      (λ _. subst (Extends state) (sym (from_is grants state command region c))
+      (choice (Extends state) grants.carry (carried grants state command region c) (given grants state command region c)
+      (λ _. answer_extends state command (with_carry w u region c) (pull_answer w u region c) []
+      (record { steps = give ∷ Carry u region own c have (lacking w u region c) ∷ []; run = refl }))
+      (λ _. answer_extends state command (with_give w u region c) answers.NoMemory []
+      (record { steps = give ∷ []; run = refl })))))
+
+  trim_extends : (c : ℕ) → Extends state (trimmed state command c)
+  trim_extends c =
+      subst (Extends state) (sym (trimmed_is grants state command c))
+      (answer_extends state command (with_trim w u c) (base_answer w (with_trim w u c) u c) []
+      (record { steps = Trim u (home_of w u) c ((w.clients u).played c) ∷ []; run = refl }))
+
+  nothing_done : Extends state state
+  nothing_done = record { world = stays_there w; replies = λ n r i. i }
+
+  one_command_extends : (what : What) → Extends state (done_one grants state command what)
+  one_command_extends (whats.Append colours text) = append_extends colours text (members colours)
+  one_command_extends (whats.Stop steps colours text) = stop_extends colours text steps
+  one_command_extends (whats.Sync colour) = sync_extends colour
+  one_command_extends (whats.Scan colours) = nothing_done
+  one_command_extends (whats.Pull region colour) = pull_extends region colour
+  one_command_extends (whats.Trim colour) = trim_extends colour
+  one_command_extends (whats.Put object key value) = nothing_done
+  one_command_extends (whats.Get object key) = nothing_done
+  one_command_extends (whats.Del object key) = nothing_done
+  one_command_extends (whats.PutAll object pairs) = nothing_done
+  one_command_extends (whats.GetAll object keys) = nothing_done
+  one_command_extends (whats.Read object keys) = nothing_done
+  one_command_extends (whats.Commit object pairs) = nothing_done
+  one_command_extends (whats.Enq object value) = nothing_done
+  one_command_extends (whats.Deq object) = nothing_done
+
+  pub done_extends : Extends state (done grants state command)
+  done_extends =
+      choice (Extends state) grants.start (done_one grants state command command.what)
+      (answered state command w answers.NoMemory [])
+      (λ _. one_command_extends command.what)
+      (λ _. answer_extends state command w answers.NoMemory [] (stays_there w))
+
+  -- The same with memory granted everywhere
+
+  single_exact : (text : List ℕ) (c : ℕ) → IsClean (with_single grants w u text c)
+      → with_single grants w u text c ≡ with_single all_granted w u text c
+  single_exact text c clean =
+      clears_exact grants u (entry_key (single_stamp w u c) (next_id w u)) (c ∷ []) (after w (Single u c text)) clean
+
+  one_exact : (text : List ℕ) (c : ℕ) → IsClean (appended_one grants state command text c).world
+      → appended_one grants state command text c ≡ appended_one all_granted state command text c
+  one_exact text c clean =
+      by_test _ (may_single w u c)
+      (λ t. let is : appended_one grants state command text c ≡ of_world (with_single grants w u text c) =
+      if_true (may_single w u c) _ _ t in
+      is ∙ (ap of_world (single_exact text c (subst (λ (s : State). IsClean s.world) is clean))
+      ∙ sym (if_true (may_single w u c) (of_world (with_single all_granted w u text c))
+      (answered state command w (answers.StampEnd c) []) t)))
+      (λ f. if_false (may_single w u c) (of_world (with_single grants w u text c))
+      (answered state command w (answers.StampEnd c) []) f
+      ∙ sym (if_false (may_single w u c) (of_world (with_single all_granted w u text c))
+      (answered state command w (answers.StampEnd c) []) f)) where
+        of_world : World → State
+        of_world x =
+            answered state command x (answers.Stood (single_stamp w u c) None (point_in w x u (next_id w u) c ∷ [])) []
+
+  by_exact : (v : World) (row : Row) (cs : List ℕ) (last : Outcome)
+      → IsClean (appended_by grants state command v row cs last).world
+      → appended_by grants state command v row cs last ≡ appended_by all_granted state command v row cs last
+  by_exact v row cs Open clean = refl
+  by_exact v row cs (Gone Memory) clean = refl
+  by_exact v row cs (Gone StampEnd) clean = refl
+  by_exact v row cs (Final f) clean =
+      ap (λ (x : World). answered state command x
+      (answers.Stood f (Some row.number) (map (point_in w x u (next_id w u)) cs)) [])
+      (clears_exact grants u (entry_key f (next_id w u)) cs (after v (Seen u f)) clean)
+
+  several_exact : (colours : Colours) (text : List ℕ)
+      → IsClean (appended_several grants state command colours text).world
+      → appended_several grants state command colours text ≡ appended_several all_granted state command colours text
+  several_exact colours text clean =
+      let row = next_row w u in
+      let cs = members colours in
+      let full : State = answered state command w (answers.Full (w.clients u).used) [] in
+      let v = run_steps w (append_steps grants w u colours text) in
+      let v' = run_steps w (append_steps all_granted w u colours text) in
+      let rest : State = appended_by grants state command v row cs (row_of v row).last in
+      let rest' : State = appended_by all_granted state command v' row cs (row_of v' row).last in
+      by_test _ (is_full w u)
+      (λ t. if_true (is_full w u) full rest t ∙ sym (if_true (is_full w u) full rest' t))
+      (λ f. let is : appended_several grants state command colours text ≡ rest = if_false (is_full w u) full rest f in
+      let clean' : IsClean rest.world = subst (λ (s : State). IsClean s.world) is clean in
+      let same : v ≡ v' = complete_exact (after w (Begin u colours text)) u row grants.marks
+      (clean_from v rest.world (by_runs v row cs (row_of v row).last) clean') in
+      is ∙ (by_exact v row cs (row_of v row).last clean'
+      ∙ (ap (λ (x : World). appended_by all_granted state command x row cs (row_of x row).last) same
+      ∙ sym (if_false (is_full w u) full rest' f))))
+
+  append_exact : (colours : Colours) (text ms : List ℕ)
+      → IsClean (appended grants state command colours text ms).world
+      → appended grants state command colours text ms ≡ appended all_granted state command colours text ms
+  append_exact colours text [] clean = refl
+  append_exact colours text (c ∷ []) clean = one_exact text c clean
+  append_exact colours text (c ∷ d ∷ ms) clean = several_exact colours text clean
+
+  stop_exact : (colours : Colours) (text : List ℕ) (n : ℕ)
+      → IsClean (stopped grants state command colours text n).world
+      → stopped grants state command colours text n ≡ stopped all_granted state command colours text n
+  stop_exact colours text zero clean = refl
+  stop_exact colours text (suc n) clean =
+      let full : State = answered state command w (answers.Full (w.clients u).used) [] in
+      let v = run_steps w (take (suc n) (append_steps grants w u colours text)) in
+      let v' = run_steps w (take (suc n) (append_steps all_granted w u colours text)) in
+      let rest : State = answered state command v (answers.Stopped (suc n)) [] in
+      let rest' : State = answered state command v' (answers.Stopped (suc n)) [] in
+      by_test _ (is_full w u)
+      (λ t. if_true (is_full w u) full rest t ∙ sym (if_true (is_full w u) full rest' t))
+      (λ f. let is : stopped grants state command colours text (suc n) ≡ rest = if_false (is_full w u) full rest f in
+      is ∙ (ap (λ (x : World). answered state command x (answers.Stopped (suc n)) [])
+      (taken_exact (after w (Begin u colours text)) u (next_row w u) grants.marks n
+      (subst (λ (s : State). IsClean s.world) is clean))
+      ∙ sym (if_false (is_full w u) full rest' f)))
+
+  -- the client is nowhere answered with want of memory
+  abbrev TellsNone : State → Type 0
+  TellsNone s = (r : ReplyLine) → In r (s.replies u) → r.answer ≢ answers.NoMemory
+
+  -- what was answered so tells of it
+  told_so : (v : World) → TellsNone (answered state command v answers.NoMemory []) → ⊥
+  told_so v tells =
+      let line = line_of command answers.NoMemory [] in
+      tells line
+      (subst (λ (l : List ReplyLine). In line l) (sym (updated-here state.replies u (state.replies u ++ line ∷ [])))
+      (in_right line (state.replies u) (line ∷ []) (inl refl))) refl
+
+  pull_exact : (region c : ℕ) → TellsNone (pulled grants state command region c)
+      → pulled grants state command region c ≡ pulled all_granted state command region c
+  pull_exact region c tells =
+      let own = home_of w u in
+      let from = pulled_from grants state command region c in
+      let from_all_found = pulled_from all_granted state command region c in
+      pulled_is grants state command region c
+      ∙ (by_test _ (region == own)
+      (λ t. if_true (region == own) (stayed grants state command) from t
+      ∙ sym (if_true (region == own) (stayed grants state command) from_all_found t))
+      (λ f. if_false (region == own) (stayed grants state command) from f
+      ∙ (by_test _ grants.carry
+      (λ t. from_is grants state command region c
+      ∙ (if_true grants.carry (carried grants state command region c) (given grants state command region c) t
+      ∙ sym (from_all grants state command region c)))
+      (λ g. absurd (told_so (with_give w u region c) (subst TellsNone
+      (pulled_is grants state command region c ∙ (if_false (region == own) (stayed grants state command) from f
+      ∙ (from_is grants state command region c
+      ∙ if_false grants.carry (carried grants state command region c)
+          (given grants state command region c) g))) tells)))
+      ∙ sym (if_false (region == own) (stayed grants state command) from_all_found f)))
+      ∙ sym (pulled_is all_granted state command region c))
+
+  one_command_exact : (what : What) → IsClean (done_one grants state command what).world
+      → TellsNone (done_one grants state command what)
+      → done_one grants state command what ≡ done_one all_granted state command what
+  one_command_exact (whats.Append colours text) clean tells = append_exact colours text (members colours) clean
+  one_command_exact (whats.Stop steps colours text) clean tells = stop_exact colours text steps clean
+  one_command_exact (whats.Sync colour) clean tells = refl
+  one_command_exact (whats.Scan colours) clean tells = refl
+  one_command_exact (whats.Pull region colour) clean tells = pull_exact region colour tells
+  one_command_exact (whats.Trim colour) clean tells = refl
+  one_command_exact (whats.Put object key value) clean tells = refl
+  one_command_exact (whats.Get object key) clean tells = refl
+  one_command_exact (whats.Del object key) clean tells = refl
+  one_command_exact (whats.PutAll object pairs) clean tells = refl
+  one_command_exact (whats.GetAll object keys) clean tells = refl
+  one_command_exact (whats.Read object keys) clean tells = refl
+  one_command_exact (whats.Commit object pairs) clean tells = refl
+  one_command_exact (whats.Enq object value) clean tells = refl
+  one_command_exact (whats.Deq object) clean tells = refl
+
+  pub done_exact : IsClean (done grants state command).world → TellsNone (done grants state command)
+      → done grants state command ≡ done all_granted state command
+  done_exact clean tells =
+      let one : State = done_one grants state command command.what in
+      let refused : State = answered state command w answers.NoMemory [] in
+      by_test _ grants.start
+      (λ t. let is : done grants state command ≡ one = if_true grants.start one refused t in
+      is ∙ one_command_exact command.what (subst (λ (s : State). IsClean s.world) is clean) (subst TellsNone is tells))
+      (λ f. absurd (told_so w (subst TellsNone (if_false grants.start one refused f) tells)))

@@ -1,0 +1,353 @@
+-- What holds of the state after each command.
+use Rattle.std.proofs.Common.{◌≡◌, ◌≢◌, ◌⊎◌, inl, inr, ℕ, ◌<◌, ◌≤◌, List, [], ◌∷◌, ◌++◌, length, None, true, refl, ap, sym, subst, ◌∙◌, arith, eq-eqb}
+use Rattle.std.specs.Prelude.{IsTrue, nat_lt, slice_index, ◌==◌}
+use Rattle.std.proofs.lemmas.Bool.{eqb-true, ltb-true}
+use Rattle.log_node.specs.declared.ids.Row.{Row}
+use Rattle.log_node.specs.declared.node.Shape.{Shape}
+use Rattle.log_node.specs.Seen.{PlacedNode}
+use Rattle.col_core.specs.declared.Entry.{Entry}
+use Rattle.col_core.specs.Log.{Log}
+use Rattle.col_core.specs.Keeping.{Kept, nothing_kept}
+use Rattle.col_core.proofs.Basics.{by_test, apart}
+use Rattle.col_core.proofs.Members.{In}
+use Rattle.world_laws.specs.Worlds.{World, home_of}
+use Rattle.world_laws.specs.Laws.{IsReached, log_of}
+use Rattle.world_laws.proofs.Basics.{at_updated, updated-here, in_append, in_left, in_right}
+use Rattle.world_laws.proofs.CallerLemmas.{opened_reached, run_reached}
+use Rattle.script_text.specs.declared.script.What.{What}
+use Rattle.script_text.specs.declared.script.What.TheVariants as whats
+use Rattle.script_text.specs.declared.script.Command.{Command}
+use Rattle.script_text.specs.declared.script.Script.{Script}
+use Rattle.script_text.specs.Items.{is_stop}
+use Rattle.script_text.specs.Words.{word_of}
+use Rattle.script_text.specs.Fitting.{IsWithin}
+use Rattle.report_text.specs.declared.report.Answer.{Answer}
+use Rattle.report_text.specs.declared.report.Answer.TheVariants as answers
+use Rattle.report_text.specs.declared.report.ReplyLine.{ReplyLine}
+use Rattle.lawful_run.specs.Callers.{Caller, caller_of}
+use Rattle.lawful_run.specs.Asks.{manner_of, may_help, home_asked}
+use Rattle.lawful_run.specs.Refusals.{IsAway, kept_before, kept_behind}
+use Rattle.lawful_run.specs.Explains.{Explains, Answers, Explained, start, next}
+use Rattle.lawful_run.specs.Lawful.{IsHelp}
+use Rattle.lawful_run.proofs.Later.{explained_later}
+use Rattle.script_meaning.specs.States.{State, opening, is_built, answered}
+use Rattle.script_meaning.proofs.Reached.{held_of}
+use Rattle.script_meaning.proofs.Rows.{IsDone}
+use Rattle.script_meaning.proofs.StaysComplete.{OfDone, of_done_stays}
+use Rattle.script_meaning.proofs.Clearing.{Finished}
+use Rattle.script_meaning.proofs.Kept.{caller_in, IsKeptBy, MadeBy, Does, later_log, kept_other}
+use Rattle.script_meaning.proofs.Lists.{asked_by, asked-own, asked-other}
+
+-- Replies
+
+-- no read of an object begins or ends with the command, and no object's home refuses it
+pub record IsPlain (what : What) : Type 0 where
+  pub before : (kept : Kept) → kept_before what kept ≡ kept
+  pub behind : (kept : Kept) → kept_behind what kept ≡ kept
+  pub home : (caller : Caller) → home_asked caller what ≡ None
+
+-- the commands that are built are such
+pub plain : (what : What) → is_built what ≡ true → IsPlain what
+plain (whats.Append colours text) b = record { before = λ k. refl; behind = λ k. refl; home = λ k. refl }
+plain (whats.Stop steps colours text) b = record { before = λ k. refl; behind = λ k. refl; home = λ k. refl }
+plain (whats.Sync colour) b = record { before = λ k. refl; behind = λ k. refl; home = λ k. refl }
+plain (whats.Scan colours) b = absurd (let f : ⊥ = cc in f)
+plain (whats.Pull region colour) b = record { before = λ k. refl; behind = λ k. refl; home = λ k. refl }
+plain (whats.Trim colour) b = record { before = λ k. refl; behind = λ k. refl; home = λ k. refl }
+plain (whats.Put object key value) b = absurd (let f : ⊥ = cc in f)
+plain (whats.Get object key) b = absurd (let f : ⊥ = cc in f)
+plain (whats.Del object key) b = absurd (let f : ⊥ = cc in f)
+plain (whats.PutAll object pairs) b = absurd (let f : ⊥ = cc in f)
+plain (whats.GetAll object keys) b = absurd (let f : ⊥ = cc in f)
+plain (whats.Read object keys) b = absurd (let f : ⊥ = cc in f)
+plain (whats.Commit object pairs) b = absurd (let f : ⊥ = cc in f)
+plain (whats.Enq object value) b = absurd (let f : ⊥ = cc in f)
+plain (whats.Deq object) b = absurd (let f : ⊥ = cc in f)
+
+-- a reply line of a command
+abbrev pub line_of : Command → Answer → List PlacedNode → ReplyLine
+line_of command answer nodes =
+    record { line = command.line; word = word_of command.what; answer = answer; nodes = nodes }
+
+-- the answer to such a command, where the log explains it
+pub answers_plainly : (log : Log) (caller : Caller) (kept : Kept) (command : Command) (answer : Answer)
+    (nodes : List PlacedNode) (after : Kept) → IsPlain command.what
+    → Explains log caller kept command.what answer nodes after
+    → Answers log caller kept command (line_of command answer nodes) after
+answers_plainly log caller kept command answer nodes after is e = record {
+  line = refl;
+  word = refl;
+  answered = after;
+  explained = subst (λ (k : Kept). Explains log caller k command.what answer nodes after) (sym (is.before kept)) e;
+  after_is = sym (is.behind after);
+  away = λ a. absurd (subst (IsAway caller) (is.home caller) a);
+}
+
+-- What holds
+
+-- the client's last command was a stop, which was answered so
+pub record IsStopped (commands : List Command) (replies : ℕ → List ReplyLine) (client : ℕ) : Type 0 where
+  pub command : Command
+  pub there : In command commands
+  pub of_client : command.client ≡ client
+  pub is_stop : IsTrue (is_stop command.what)
+  pub before : List ReplyLine
+  pub reply : ReplyLine
+  pub last : replies client ≡ before ++ reply ∷ []
+  pub steps : ℕ
+  pub stopped : reply.answer ≡ answers.Stopped steps
+
+-- the log explains the client's replies, and the world has what it keeps
+pub record IsExplained (script : Script) (w : World) (client : ℕ) (commands : List Command) (replies : List ReplyLine) :
+    Type 0 where
+  pub kept : Kept
+  pub explained : Explained (log_of w) (caller_of script client) commands replies kept
+  pub keeps : IsKeptBy w client kept
+
+-- a help in a column of the region: its maker is of the region and asked a command that may help, and the append that
+-- it helps is complete
+pub record IsFitHelp (script : Script) (commands : List Command) (w : World) (region : ℕ) (e : Entry) : Type 0 where
+  pub command : Command
+  pub there : In command (asked_by e.by commands)
+  pub may : IsTrue (may_help (manner_of command.what))
+  pub home : slice_index script.shape.homes e.by ≡ region
+  pub complete : OfDone w e.event
+
+-- what holds after the first commands
+pub record Runs (script : Script) (commands : List Command) (state : State) : Type 0 where
+  pub reached : IsReached state.world
+  pub shape : state.world.shape ≡ script.shape
+  pub clients : (n : ℕ) → IsExplained script state.world n (asked_by n commands) (state.replies n)
+  pub makers : (r c : ℕ) (e : Entry) → In e (state.world.histories r c) → e.by < length script.shape.homes
+  pub helpers : (r c : ℕ) (e : Entry) → In e (state.world.histories r c) → IsHelp e.by e.event
+      → IsFitHelp script commands state.world r e
+  pub finished : Finished (IsStopped commands state.replies) state.world
+
+-- a command of a client of the script that has not stopped
+pub record IsFit (script : Script) (commands : List Command) (command : Command) : Type 0 where
+  pub caller : command.client < length script.shape.homes
+  pub home : slice_index script.shape.homes command.client < script.shape.regions
+  pub few : script.shape.regions ≤ 4
+  pub within : IsWithin script.shape.regions script.shape.colours command.what
+  pub built : is_built command.what ≡ true
+  pub going : (c : Command) → In c commands → c.client ≡ command.client → IsTrue (is_stop c.what) → ⊥
+
+pub runs_opening : (script : Script) → Runs script [] (opening script)
+runs_opening script = record {
+  reached = opened_reached script.shape;
+  shape = refl;
+  clients = λ n. record {
+    kept = nothing_kept;
+    explained = start;
+    keeps = record {
+      floor = refl;
+      starts = refl;
+      seen = λ r c. omega arith;
+      known = λ c. omega arith;
+      made = λ r c. refl;
+      ids = refl;
+      rows = refl;
+    };
+  };
+  makers = λ r c e i. absurd i;
+  helpers = λ r c e i h. absurd i;
+  finished = λ row b. absurd (none row.number b);
+} where
+  none : (n : ℕ) → nat_lt n 0 ≡ true → ⊥
+  none n b = let x = ltb-true n 0 b in omega (arith, x)
+
+module _ (script : Script) (commands : List Command) (state : State) (command : Command)
+    (runs : Runs script commands state)
+    (fit : IsFit script commands command) where
+  abbrev u : ℕ
+  u = command.client
+
+  abbrev w : World
+  w = state.world
+
+  -- the client has not stopped
+  pub free : IsStopped commands state.replies u → ⊥
+  free s = fit.going s.command s.there s.of_client s.is_stop
+
+  pub caller_is : (n : ℕ) → caller_in w script.objects n ≡ caller_of script n
+  caller_is n = ap (λ (s : Shape). of_shape s) runs.shape where
+    of_shape : Shape → Caller
+    of_shape s = record {
+      client = n;
+      own = slice_index s.homes n;
+      regions = s.regions;
+      rows = s.rows;
+      objects = script.objects;
+    }
+
+  module _ (w' : World) (answer : Answer) (nodes : List PlacedNode)
+      (does : Does script.objects u command.what w w' answer nodes) where
+    abbrev state' : State
+    state' = answered state command w' answer nodes
+
+    reached' : IsReached w'
+    reached' = subst IsReached does.run (run_reached w does.steps runs.reached)
+
+    abbrev commands' : List Command
+    commands' = commands ++ command ∷ []
+
+    abbrev replies' : List ReplyLine
+    replies' = state.replies u ++ line_of command answer nodes ∷ []
+
+    -- the client's own part
+    own_after : IsExplained script w' u (asked_by u commands') replies'
+    own_after =
+        let c = runs.clients u in
+        let d = does.keeps c.kept c.keeps in
+        let later = later_log w w' does.steps runs.reached does.run in
+        let called : caller_in w' script.objects u ≡ caller_of script u =
+        ap (λ (s : Shape). of_shape s) does.shape ∙ caller_is u in
+        record {
+          kept = d.after;
+          explained = subst (λ (cs : List Command). Explained (log_of w') (caller_of script u) cs replies' d.after)
+              (sym (asked-own u commands command refl))
+              (next command (line_of command answer nodes)
+              (explained_later (log_of w) (log_of w') later (caller_of script u) c.explained)
+              (answers_plainly (log_of w') (caller_of script u) c.kept command answer nodes d.after
+              (plain command.what fit.built)
+              (subst (λ (x : Caller). Explains
+              (log_of w') x c.kept command.what answer nodes d.after) called d.explains)));
+          keeps = d.keeps;
+        } where
+          of_shape : Shape → Caller
+          of_shape s = record {
+            client = u;
+            own = slice_index s.homes u;
+            regions = s.regions;
+            rows = s.rows;
+            objects = script.objects;
+          }
+
+    -- another client's part
+    other_after : (n : ℕ) → n ≢ u → IsExplained script w' n (asked_by n commands') (state.replies n)
+    other_after n ne =
+        let c = runs.clients n in
+        record {
+          kept = c.kept;
+          explained = subst (λ (cs : List Command). Explained (log_of w') (caller_of script n) cs
+              (state.replies n) c.kept)
+              (sym (asked-other n commands command (λ e. ne (sym e))))
+              (explained_later (log_of w) (log_of w') (later_log w w' does.steps runs.reached does.run)
+              (caller_of script n) c.explained);
+          keeps = kept_other script.objects u command.what w w' answer nodes does runs.reached n ne c.kept c.keeps;
+        }
+
+    clients_after : (n : ℕ) → IsExplained script w' n (asked_by n commands') (state'.replies n)
+    clients_after n =
+        at_updated (λ (rs : List ReplyLine). IsExplained script w' n
+        (asked_by n commands') rs) state.replies u replies' n
+        (λ e. subst (λ (k : ℕ). IsExplained script w' k (asked_by k commands') replies') (sym e) own_after)
+        (λ f. other_after n (λ e. apart (n == u) (eq-eqb n u e) f))
+
+    in_history : (r c : ℕ) (e : Entry) → In e (w'.histories r c)
+        → In e (w.histories r c) ⊎ MadeBy u command.what w' (home_of w u) r e
+    in_history r c e i =
+        let a = does.adds r c in
+        turn (in_append e (w.histories r c) a.more (subst (λ (h : List Entry). In e h) a.is i)) where
+          turn : In e (w.histories r c) ⊎ In e (does.adds r c).more
+              → In e (w.histories r c) ⊎ MadeBy u command.what w' (home_of w u) r e
+          turn (inl j) = inl j
+          turn (inr j) = inr ((does.adds r c).each e j)
+
+    makers_after : (r c : ℕ) (e : Entry) → In e (w'.histories r c) → e.by < length script.shape.homes
+    makers_after r c e i = turn (in_history r c e i) where
+      turn : In e (w.histories r c) ⊎ MadeBy u command.what w' (home_of w u) r e → e.by < length script.shape.homes
+      turn (inl j) = runs.makers r c e j
+      turn (inr m) = subst (λ (n : ℕ). n < length script.shape.homes) (sym m.made) fit.caller
+
+    helpers_after : (r c : ℕ) (e : Entry) → In e (w'.histories r c) → IsHelp e.by e.event
+        → IsFitHelp script commands' w' r e
+    helpers_after r c e i h = turn (in_history r c e i) where
+      asked_more : (n : ℕ) (d : Command) → In d (asked_by n commands) → In d (asked_by n commands')
+      asked_more n d j =
+          by_test _ (u == n)
+          (λ t. subst (λ (l : List Command). In d l) (sym (asked-own n commands command (eqb-true u n t)))
+          (in_left d (asked_by n commands) (command ∷ []) j))
+          (λ f. subst (λ (l : List Command). In d l)
+          (sym (asked-other n commands command (λ e. apart (u == n) (eq-eqb u n e) f))) j)
+
+      turn : In e (w.histories r c) ⊎ MadeBy u command.what w' (home_of w u) r e → IsFitHelp script commands' w' r e
+      turn (inl j) =
+          let m = runs.helpers r c e j h in
+          record {
+            command = m.command;
+            there = asked_more e.by m.command m.there;
+            may = m.may;
+            home = m.home;
+            complete = of_done_stays w w' (held_of w runs.reached) does.steps does.run e.event m.complete;
+          }
+      turn (inr m) =
+          let k = m.help (subst (λ (n : ℕ). IsHelp n e.event) m.made h) in
+          record {
+            command = command;
+            there = subst (λ (l : List Command). In command l) (sym (asked-own e.by commands command (sym m.made)))
+                (in_right command (asked_by e.by commands) (command ∷ []) (inl refl));
+            may = k.may;
+            home = ap (slice_index script.shape.homes) m.made
+                ∙ (ap (λ (s : Shape). slice_index s.homes u) (sym runs.shape) ∙ sym k.home);
+            complete = k.complete;
+          }
+
+    -- who stopped before has stopped still
+    stopped_still : (n : ℕ) → IsStopped commands state.replies n → IsStopped commands' state'.replies n
+    stopped_still n s = record {
+      command = s.command;
+      there = in_left s.command commands (command ∷ []) s.there;
+      of_client = s.of_client;
+      is_stop = s.is_stop;
+      before = s.before;
+      reply = s.reply;
+      last = at_updated (λ (rs : List ReplyLine). rs ≡ s.before ++ s.reply ∷ []) state.replies u replies' n
+          (λ e. absurd (fit.going s.command s.there (s.of_client ∙ e) s.is_stop)) (λ _. s.last);
+      steps = s.steps;
+      stopped = s.stopped;
+    }
+
+    finished_still : Finished (IsStopped commands state.replies) w' → Finished (IsStopped commands' state'.replies) w'
+    finished_still f row b = turn (f row b) where
+      turn : IsStopped commands state.replies row.client ⊎ IsDone w' row
+          → IsStopped commands' state'.replies row.client ⊎ IsDone w' row
+      turn (inl s) = inl (stopped_still row.client s)
+      turn (inr d) = inr d
+
+    pub runs_next : Finished (IsStopped commands' state'.replies) w' → Runs script commands' state'
+    runs_next f = record {
+      reached = reached';
+      shape = does.shape ∙ runs.shape;
+      clients = clients_after;
+      makers = makers_after;
+      helpers = helpers_after;
+      finished = f;
+    }
+
+    -- where no row is left open that was done
+    pub runs_done : Finished (IsStopped commands state.replies) w' → Runs script commands' state'
+    runs_done f = runs_next (finished_still f)
+
+    -- where the client stopped, its own rows may be left open
+    pub runs_stopped : (steps : ℕ) → answer ≡ answers.Stopped steps → IsTrue (is_stop command.what)
+        → Finished (λ n. IsStopped commands state.replies n ⊎ (n ≡ u)) w' → Runs script commands' state'
+    runs_stopped steps is stop f = runs_next (λ row b. turn row (f row b)) where
+      now : IsStopped commands' state'.replies u
+      now = record {
+        command = command;
+        there = in_right command commands (command ∷ []) (inl refl);
+        of_client = refl;
+        is_stop = stop;
+        before = state.replies u;
+        reply = line_of command answer nodes;
+        last = updated-here state.replies u replies';
+        steps = steps;
+        stopped = is;
+      }
+
+      turn : (row : Row) → (IsStopped commands state.replies row.client ⊎ (row.client ≡ u)) ⊎ IsDone w' row
+          → IsStopped commands' state'.replies row.client ⊎ IsDone w' row
+      turn row (inl (inl s)) = inl (stopped_still row.client s)
+      turn row (inl (inr e)) = inl (subst (IsStopped commands' state'.replies) (sym e) now)
+      turn row (inr d) = inr d

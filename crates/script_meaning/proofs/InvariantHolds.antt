@@ -1,0 +1,314 @@
+-- Each state to which a fitting script's commands lead keeps what `Runs` says.
+use Rattle.std.proofs.Common.{◌≡◌, ◌⊎◌, inl, inr, ℕ, zero, suc, ◌+◌, ◌^◌, ◌<◌, ◌≤◌, List, [], ◌∷◌, ◌++◌, length, take, Some, None, Bool, true, false, refl, ap, sym, subst, ◌∙◌, arith, append-nil, append_assoc, length-append, map}
+use Rattle.std.specs.Prelude.{IsTrue, not, nat_lt, slice_get, slice_index, slice_index_or}
+use Rattle.std.specs.List.{All, list_all}
+use Rattle.std.proofs.lemmas.Bool.{and_from, ltb-true, lt-ltb, cases_lt}
+use Rattle.log_node.specs.declared.ids.Row.{Row}
+use Rattle.log_node.specs.declared.ids.Colours.{Colours}
+use Rattle.log_node.specs.Sets.{members}
+use Rattle.skeen_core.specs.declared.marks.Why.TheVariants.{Memory, StampEnd}
+use Rattle.skeen_core.specs.declared.marks.Outcome.{Outcome}
+use Rattle.skeen_core.specs.declared.marks.Outcome.TheVariants.{Open, Gone, Final}
+use Rattle.col_core.proofs.Basics.{choice, both, apart, not_true, if_true}
+use Rattle.col_core.proofs.Members.{In}
+use Rattle.world_laws.specs.declared.steps.Step.TheVariants.{Seen}
+use Rattle.world_laws.specs.Worlds.{World, home_of, after, run_steps, row_of, next_row, is_client, is_column, may_begin, may_single, after_begin, single_stamp, next_id}
+use Rattle.world_laws.specs.Completing.{complete_steps}
+use Rattle.world_laws.proofs.Basics.{contains_in, in_slice, in_right}
+use Rattle.script_text.specs.declared.script.What.{What}
+use Rattle.script_text.specs.declared.script.What.TheVariants as whats
+use Rattle.script_text.specs.declared.script.Command.{Command}
+use Rattle.script_text.specs.declared.script.Script.{Script}
+use Rattle.script_text.specs.Items.{is_stop}
+use Rattle.script_text.specs.Fitting.{IsFitting, IsWithin}
+use Rattle.report_text.specs.declared.report.Answer.TheVariants as answers
+use Rattle.col_core.specs.History.{entry_key}
+use Rattle.lawful_run.proofs.Prefixes.{get_within, get-append}
+use Rattle.script_meaning.specs.States.{State, Grants, has_colours, is_built, StopsAreLast, answered}
+use Rattle.script_meaning.specs.Helping.{all_cleared}
+use Rattle.script_meaning.specs.Appends.{appended_one, appended_by, appended_several, appended, stopped, is_full, append_steps, with_single, point_in, ended_colour}
+use Rattle.script_meaning.specs.Meaning.{done_one, done, LeadTo, nothing, next}
+use Rattle.script_meaning.proofs.Clearing.{Finished}
+use Rattle.script_meaning.proofs.Kept.{Does, did_nothing}
+use Rattle.script_meaning.proofs.Sets.{one_is_power}
+use Rattle.script_meaning.proofs.AppendOne as one
+use Rattle.script_meaning.proofs.AfterMoves as moving
+use Rattle.script_meaning.proofs.BeginRow as begun
+use Rattle.script_meaning.proofs.AppendSeveral as several
+use Rattle.script_meaning.proofs.AppendFinal as final
+use Rattle.script_meaning.proofs.Refusing.{did_end_one, did_full, did_stop_at_once}
+use Rattle.script_meaning.proofs.Stopping as stopping
+use Rattle.script_meaning.proofs.Invariant.{IsStopped, Runs, IsFit, runs_opening, runs_done, runs_stopped, free}
+
+pub all_at : {A : Type 0} (P : A → Type 0) (xs : List A) → All P xs → (x : A) → In x xs → P x
+all_at P xs all x i = let c = contains_in xs x i in subst P c.2 (all c.0 x c.1)
+
+at_or : {A : Type 0} (xs : List A) (i : ℕ) (x d : A) → slice_get xs i ≡ Some x → slice_index_or xs i d ≡ x
+at_or [] i x d e = absurd (let f : ⊥ = cc in f)
+at_or (y ∷ xs) zero x d e = cc
+at_or (y ∷ xs) (suc i) x d e = at_or xs i x d e
+
+each_true : (test : ℕ → Bool) (xs : List ℕ) → ((x : ℕ) → In x xs → test x ≡ true) → list_all test xs ≡ true
+each_true test [] h = refl
+each_true test (x ∷ xs) h = and_from (test x) _ (h x (inl refl)) (each_true test xs (λ y i. h y (inr i)))
+
+module _ (script : Script) (commands : List Command) (state : State) (command : Command) (grants : Grants)
+    (runs : Runs script commands state) (fit : IsFit script commands command) where
+  abbrev u : ℕ
+  u = command.client
+
+  abbrev w : World
+  w = state.world
+
+  abbrev S : ℕ → Type 0
+  S = IsStopped commands state.replies
+
+  abbrev commands' : List Command
+  commands' = commands ++ command ∷ []
+
+  going : S u → ⊥
+  going = free script commands state command runs fit
+
+  client_ok : is_client w u ≡ true
+  client_ok = moving.client_ok script commands state command runs fit
+
+  column_ok : (c : ℕ) → c < script.shape.colours → is_column w (home_of w u) c ≡ true
+  column_ok = moving.column_ok script commands state command runs fit
+
+  -- an append to one colour
+  runs_one_colour : (colours : Colours) (text : List ℕ) (c : ℕ) → command.what ≡ whats.Append colours text
+      → members colours ≡ c ∷ [] → colours.0 < 2 ^ 64 → c < script.shape.colours
+      → Runs script commands' (appended_one grants state command text c)
+  runs_one_colour colours text c asked only low lt =
+      choice (Runs script commands') (may_single w u c)
+      (answered state command (with_single grants w u text c)
+      (answers.Stood (single_stamp w u c) None (point_in w (with_single grants w u text c) u (next_id w u) c ∷ [])) [])
+      (answered state command w (answers.StampEnd c) [])
+      (λ ok. runs_done script commands state command runs fit (with_single grants w u text c)
+      (answers.Stood (single_stamp w u c) None (point_in w (with_single grants w u text c) u (next_id w u) c ∷ [])) []
+      (subst (λ (what : What). Does script.objects u what w (with_single grants w u text c)
+      (answers.Stood (single_stamp w u c) None (point_in w (with_single grants w u text c) u (next_id w u) c ∷ [])) [])
+      (sym asked) (one.does script.objects S grants w runs.reached runs.finished u c text going ok colours only
+      (one_is_power colours c only low)))
+      (subst (Finished S) (sym (one.after_is script.objects S grants w runs.reached runs.finished u c text going ok))
+      (one.finished2 script.objects S grants w runs.reached runs.finished u c text going ok)))
+      (λ refused. runs_done script commands state command runs fit w (answers.StampEnd c) []
+      (subst (λ (what : What). Does script.objects u what w w (answers.StampEnd c) []) (sym asked)
+      (did_end_one script.objects u c colours text w only client_ok (column_ok c lt) refused)) runs.finished)
+
+  -- the row of an append to several colours may begin
+  begins : (colours : Colours) → 1 < length (members colours)
+      → ((c : ℕ) → In c (members colours) → c < script.shape.colours) → is_full w u ≡ false → may_begin w u colours
+      ≡ true
+  begins colours many below full =
+      and_from (is_client w u) _ client_ok
+      (and_from (nat_lt (w.clients u).used w.shape.rows) _ (left (nat_lt (w.clients u).used w.shape.rows) full)
+      (and_from (nat_lt 1 (length (members colours))) _ (lt-ltb 1 (length (members colours)) many)
+      (each_true (is_column w (home_of w u)) (members colours) (λ c i. column_ok c (below c i))))) where
+        left : (b : Bool) → not b ≡ false → b ≡ true
+        left true e = refl
+        left false e = absurd (let f : ⊥ = cc in f)
+
+  -- an append to several colours
+  module _ (colours : Colours) (text : List ℕ) (asked : command.what ≡ whats.Append colours text)
+      (many : 1 < length (members colours)) (below : (c : ℕ) → In c (members colours) → c < script.shape.colours) where
+    abbrev row : Row
+    row = next_row w u
+
+    abbrev w3 : World
+    w3 = run_steps (after_begin w u colours text) (complete_steps (after_begin w u colours text) u row grants.marks)
+
+    by_outcome : (ok : may_begin w u colours ≡ true) (last : Outcome) → (row_of w3 row).last ≡ last
+        → Runs script commands' (appended_by grants state command w3 row (members colours) last)
+    by_outcome ok Open e =
+        absurd ((several.done3 script.objects S grants w runs.reached runs.finished u colours text going ok).decided e)
+    by_outcome ok (Gone Memory) e =
+        runs_done script commands state command runs fit w3 answers.NoMemory []
+        (subst (λ (what : What). Does script.objects u what w w3 answers.NoMemory []) (sym asked)
+        (several.does_gone_memory script.objects S grants w runs.reached runs.finished u colours text going ok e))
+        (several.finished3 script.objects S grants w runs.reached runs.finished u colours text going ok)
+    by_outcome ok (Gone StampEnd) e =
+        runs_done script commands state command runs fit w3 (answers.StampEnd
+        (ended_colour w3 row (members colours))) []
+        (subst (λ (what : What). Does script.objects u what w w3
+        (answers.StampEnd (ended_colour w3 row (members colours))) []) (sym asked)
+        (several.does_gone_end script.objects S grants w runs.reached runs.finished u colours text going ok e))
+        (several.finished3 script.objects S grants w runs.reached runs.finished u colours text going ok)
+    by_outcome ok (Final f) e =
+        let after_all = all_cleared grants u (entry_key f (next_id w u)) (members colours) (after w3 (Seen u f)) in
+        let answer = answers.Stood f (Some row.number) (map (point_in w after_all u (next_id w u)) (members colours)) in
+        runs_done script commands state command runs fit after_all answer []
+        (subst (λ (what : What). Does script.objects u what w after_all answer []) (sym asked)
+        (final.does_final script.objects S grants w runs.reached runs.finished u colours text going ok f e))
+        (subst (Finished S) (sym
+        (final.after_is script.objects S grants w runs.reached runs.finished u colours text going ok f e))
+        (final.finished6 script.objects S grants w runs.reached runs.finished u colours text going ok f e))
+
+    stepped_is : (ok : may_begin w u colours ≡ true) → run_steps w (append_steps grants w u colours text) ≡ w3
+    stepped_is ok =
+        ap (λ (x : World). run_steps x (complete_steps x u row grants.marks))
+        (if_true (may_begin w u colours) (after_begin w u colours text) w ok)
+
+    runs_several : Runs script commands' (appended_several grants state command colours text)
+    runs_several =
+        choice (Runs script commands') (is_full w u)
+        (answered state command w (answers.Full (w.clients u).used) [])
+        (appended_by grants state command (run_steps w (append_steps grants w u colours text)) row (members colours)
+        (row_of (run_steps w (append_steps grants w u colours text)) row).last)
+        (λ full. runs_done script commands state command runs fit w (answers.Full (w.clients u).used) []
+        (subst (λ (what : What). Does script.objects u what w w (answers.Full (w.clients u).used) []) (sym asked)
+        (did_full script.objects u (whats.Append colours text) colours text w runs.reached (λ caller kept. (refl, refl))
+        (λ a b e. absurd (let f : ⊥ = cc in f)) many full)) runs.finished)
+        (λ room. let ok = begins colours many below room in
+        subst (λ (x : World). Runs script commands'
+        (appended_by grants state command x row (members colours) (row_of x row).last)) (sym (stepped_is ok))
+        (by_outcome ok (row_of w3 row).last refl))
+
+  -- a stop
+  module _ (colours : Colours) (text : List ℕ) (many : 1 < length (members colours))
+      (below : (c : ℕ) → In c (members colours) → c < script.shape.colours) where
+    stop_done : (n : ℕ) (ok : may_begin w u colours ≡ true) → command.what ≡ whats.Stop (suc n) colours text
+        → Runs script commands' (answered state command
+        (run_steps w (take (suc n) (append_steps grants w u colours text))) (answers.Stopped (suc n)) [])
+    stop_done n ok asked =
+        let w1 = after_begin w u colours text in
+        let w3 = run_steps w1 (take n (complete_steps w1 u (next_row w u) grants.marks)) in
+        let is : run_steps w (take (suc n) (append_steps grants w u colours text)) ≡ w3 =
+        ap (λ (x : World). run_steps x (take n (complete_steps x u (next_row w u) grants.marks)))
+        (if_true (may_begin w u colours) w1 w ok) in
+        subst (λ (x : World). Runs script commands' (answered state command x (answers.Stopped (suc n)) [])) (sym is)
+        (runs_stopped script commands state command runs fit w3 (answers.Stopped (suc n)) []
+        (subst (λ (what : What). Does script.objects u what w w3 (answers.Stopped (suc n)) []) (sym asked)
+        (stopping.does_stop script.objects S grants w runs.reached runs.finished u colours text ok n))
+        (suc n) refl (subst (λ (what : What). IsTrue (is_stop what)) (sym asked) refl)
+        (stopping.finished_stop script.objects S grants w runs.reached runs.finished u colours text ok n))
+
+    runs_stop : (n : ℕ) → command.what ≡ whats.Stop n colours text
+        → Runs script commands' (stopped grants state command colours text n)
+    runs_stop zero asked =
+        runs_done script commands state command runs fit w (answers.Stopped 0) []
+        (subst (λ (what : What). Does script.objects u what w w (answers.Stopped 0) []) (sym asked)
+        (did_stop_at_once script.objects u colours text w)) runs.finished
+    runs_stop (suc n) asked =
+        choice (Runs script commands') (is_full w u)
+        (answered state command w (answers.Full (w.clients u).used) [])
+        (answered state command (run_steps w (take (suc n) (append_steps grants w u colours text)))
+        (answers.Stopped (suc n)) [])
+        (λ full. runs_done script commands state command runs fit w (answers.Full (w.clients u).used) []
+        (subst (λ (what : What). Does script.objects u what w w (answers.Full (w.clients u).used) []) (sym asked)
+        (did_full script.objects u (whats.Stop (suc n) colours text) colours text w runs.reached
+        (λ caller kept. (refl, refl)) (λ a b e. absurd (let f : ⊥ = cc in f)) many full)) runs.finished)
+        (λ room. stop_done n (begins colours many below room) asked)
+
+  -- the command, by what it asks
+  has_low : (count : ℕ) (colours : Colours) → has_colours count colours ≡ true
+      → (count ≤ length (members colours)) × (colours.0 < 2 ^ 64)
+  unfolding has_colours
+  has_low count colours e =
+      let p = both (not (nat_lt (length (members colours)) count)) _ e in
+      (enough (cases_lt (length (members colours)) count) (not_true _ p.0), ltb-true colours.0 (2 ^ 64) p.1) where
+        enough : (length (members colours) < count) ⊎ (count ≤ length (members colours))
+            → nat_lt (length (members colours)) count ≡ false → count ≤ length (members colours)
+        enough (inl lt) f = absurd (apart _ (lt-ltb _ _ lt) f)
+        enough (inr le) f = le
+
+  runs_append : (colours : Colours) (text : List ℕ) (ms : List ℕ) → members colours ≡ ms
+      → command.what ≡ whats.Append colours text → has_colours 1 colours ≡ true
+      → All (λ c. c < script.shape.colours) (members colours)
+      → Runs script commands' (appended grants state command colours text ms)
+  runs_append colours text [] is asked b all =
+      let n = (has_low 1 colours b).0 in
+      let z : length (members colours) ≡ 0 = ap length is in
+      absurd (let f : ⊥ = omega (arith, n, z) in f)
+  runs_append colours text (c ∷ []) is asked b all =
+      runs_one_colour colours text c asked is (has_low 1 colours b).1
+      (all_at (λ d. d < script.shape.colours) (members colours) all c
+      (subst (λ (l : List ℕ). In c l) (sym is) (inl refl)))
+  runs_append colours text (c ∷ d ∷ ms) is asked b all =
+      runs_several colours text asked
+      (let z : length (members colours) ≡ suc (suc (length ms)) = ap length is in omega (arith, z))
+      (λ x i. all_at (λ y. y < script.shape.colours) (members colours) all x i)
+
+  runs_what : (what : What) → command.what ≡ what → is_built what ≡ true
+      → IsWithin script.shape.regions script.shape.colours what
+      → Runs script commands' (done_one grants state command what)
+  runs_what (whats.Append colours text) asked b within =
+      runs_append colours text (members colours) refl asked b within
+  runs_what (whats.Stop steps colours text) asked b within =
+      runs_stop colours text (let n = (has_low 2 colours b).0 in omega (arith, n))
+      (λ x i. all_at (λ y. y < script.shape.colours) (members colours) within x i) steps asked
+  runs_what (whats.Sync colour) asked b within =
+      moving.runs_sync script commands state command runs fit colour asked within
+  runs_what (whats.Scan colours) asked b within = absurd (let f : ⊥ = cc in f)
+  runs_what (whats.Pull region colour) asked b within =
+      moving.runs_pull script commands state command runs fit grants region colour asked within.0 within.1
+  runs_what (whats.Trim colour) asked b within =
+      moving.runs_trim script commands state command runs fit colour asked within
+  runs_what (whats.Put object key value) asked b within = absurd (let f : ⊥ = cc in f)
+  runs_what (whats.Get object key) asked b within = absurd (let f : ⊥ = cc in f)
+  runs_what (whats.Del object key) asked b within = absurd (let f : ⊥ = cc in f)
+  runs_what (whats.PutAll object pairs) asked b within = absurd (let f : ⊥ = cc in f)
+  runs_what (whats.GetAll object keys) asked b within = absurd (let f : ⊥ = cc in f)
+  runs_what (whats.Read object keys) asked b within = absurd (let f : ⊥ = cc in f)
+  runs_what (whats.Commit object pairs) asked b within = absurd (let f : ⊥ = cc in f)
+  runs_what (whats.Enq object value) asked b within = absurd (let f : ⊥ = cc in f)
+  runs_what (whats.Deq object) asked b within = absurd (let f : ⊥ = cc in f)
+
+  pub runs_command : Runs script commands' (done grants state command)
+  runs_command =
+      choice (Runs script commands') grants.start (done_one grants state command command.what)
+      (answered state command w answers.NoMemory [])
+      (λ _. runs_what command.what refl fit.built fit.within)
+      (λ _. runs_done script commands state command runs fit w answers.NoMemory []
+      (did_nothing script.objects u command.what w) runs.finished)
+
+-- The commands of a script
+
+module _ (script : Script) (fits : IsFitting script)
+    (built : All (λ (c : Command). IsTrue (is_built c.what)) script.commands) (last : StopsAreLast script) where
+  fit_at : (commands : List Command) (command : Command) (rest : List Command)
+      → script.commands ≡ commands ++ command ∷ rest → IsFit script commands command
+  fit_at commands command rest is =
+      let there : In command script.commands =
+      subst (λ (l : List Command). In command l) (sym is) (in_right command commands (command ∷ rest) (inl refl)) in
+      record {
+        caller = all_at (λ (c : Command). c.client < length script.shape.homes) script.commands fits.callers command
+            there;
+        home = home_at command.client
+            (all_at (λ (c : Command). c.client < length script.shape.homes) script.commands fits.callers command there);
+        few = fits.shape.few_regions;
+        within = all_at (λ (c : Command). IsWithin script.shape.regions script.shape.colours c.what) script.commands
+            fits.commands command there;
+        built = all_at (λ (c : Command). IsTrue (is_built c.what)) script.commands built command there;
+        going = λ c i same stop.
+            let x = in_slice commands c i in
+            let lt = get_within commands x.0 c x.1 in
+            let total : length script.commands ≡ length commands + suc (length rest) =
+            ap length is ∙ length-append commands (command ∷ rest) in
+            let first : slice_index_or script.commands x.0 command ≡ c =
+            at_or script.commands x.0 c command
+            (ap (λ (l : List Command). slice_get l x.0) is ∙ get-append commands (command ∷ rest) x.0 c x.1) in
+            let z : length commands ≡ length commands + 0 = omega arith in
+            let second : slice_index_or script.commands (length commands) command ≡ command =
+            at_or script.commands (length commands) command command
+            (ap (λ (l : List Command). slice_get l (length commands)) is
+            ∙ (ap (slice_get (commands ++ command ∷ rest)) z ∙ begun.get_behind commands (command ∷ rest) 0)) in
+            let pair = last x.0 (length commands) command lt (omega (arith, total)) in
+            subst (λ (d : Command). d.client ≡ c.client → ⊥) second
+            (subst (λ (d : Command). (slice_index_or script.commands (length commands) command).client ≡ d.client → ⊥)
+            first (pair (subst (λ (d : Command). IsTrue (is_stop d.what)) (sym first) stop)))
+            (sym same);
+      } where
+        home_at : (n : ℕ) → n < length script.shape.homes → slice_index script.shape.homes n < script.shape.regions
+        home_at n lt = fits.shape.homes n 0 lt
+
+  pub runs_lead : {commands : List Command} {state : State} → LeadTo script commands state → (rest : List Command)
+      → script.commands ≡ commands ++ rest → Runs script commands state
+  runs_lead nothing rest is = runs_opening script
+  runs_lead (next {commands} {state} command grants leads) rest is =
+      let whole : script.commands ≡ commands ++ command ∷ rest = is ∙ append_assoc commands (command ∷ []) rest in
+      runs_command script commands state command grants (runs_lead leads (command ∷ rest) whole)
+      (fit_at commands command rest whole)
+
+  pub runs_all : {state : State} → LeadTo script script.commands state → Runs script script.commands state
+  runs_all leads = runs_lead leads [] (sym (append-nil script.commands))
