@@ -8,6 +8,7 @@ pub mod WrongColumns
 pub mod WrongRows
 pub mod WrongSeveral
 pub mod WrongReads
+pub mod WrongEvents
 pub mod WrongMoves
 pub mod WrongObjects
 pub mod WrongHelping

@@ -18,16 +18,17 @@ use Rattle.col_core.specs.Keeping.{Kept, with_made, with_row}
 use Rattle.script_text.specs.declared.script.Command.{Command}
 use Rattle.report_text.specs.declared.report.Answer.TheVariants as answers
 use Rattle.report_text.specs.declared.report.ReplyLine.{ReplyLine}
+use Rattle.report_text.specs.declared.report.SyncPiece.{SyncPiece}
 use Rattle.report_text.specs.declared.report.ClientReport.{ClientReport}
 use Rattle.lawful_run.specs.Callers.{Caller}
 use Rattle.lawful_run.specs.Asks.{manner_of, may_help}
-use Rattle.lawful_run.specs.Appends.{StopsAfter, Stops, stopped_at_once, stopped_after, IsStepWithin}
+use Rattle.lawful_run.specs.Stops.{StopsAfter, Stops, stopped_at_once, stopped_after, IsStepWithin}
 use Rattle.lawful_run.specs.Columns.{IsClientIn}
 use Rattle.lawful_run.specs.Lawful.{LawfulRun, HasStopped, HasHelping}
 use Rattle.wrong_reports.specs.Cases.{Case, IsUnlawful, a, b, x, id, proposes, on_both}
 use Rattle.wrong_reports.specs.Rows.{settles, proposed}
 use Rattle.wrong_reports.specs.Helping.{phantom, a_phantom_of_another_region, a_phantom_of_nobody, a_stopped_append_that_goes_on, a_stop_before_its_steps, a_stop_after_other_steps, left_open_by_one_who_did_not_stop, a_row_left_open, helped_by_b, one_who_only_syncs_helps, one_of_another_region_helps, a_helped_append_left_open}
-use Rattle.wrong_reports.proofs.Tools.{only, column_at}
+use Rattle.wrong_reports.proofs.Tools.{only, column_at, some_same}
 use Rattle.wrong_reports.proofs.BegunRows.{one_row, second_row, only_row, at_row, in_rows}
 
 -- PHANTOMS
@@ -98,19 +99,19 @@ other_steps run =
     let w = (only run.log _ _ _ _ (run.clients 0 _ refl).explained).explained.3 in
     cc (w)
 
--- a client whose one reply is that there was no memory has not stopped
-not_stopped : (case : Case) (shown : ClientReport) (reply : ReplyLine) → slice_get case.report.clients 0 ≡ Some shown
-    → shown.replies ≡ reply ∷ [] → reply.answer ≡ answers.NoMemory → HasStopped case.report 0 → ⊥
-not_stopped case shown reply is one memory s =
-    let same : Some shown ≡ Some s.shown = sym is ∙ s.of_client in
-    let same1 : shown ≡ s.shown = cc (same) in
-    let replies : reply ∷ [] ≡ s.shown.replies = sym one ∙ ap (λ (c : ClientReport). c.replies) same1 in
+-- a client whose second reply is to a sync, and the last, has not stopped
+not_stopped : (case : Case) (shown : ClientReport) (one other : ReplyLine) (sync : SyncPiece) (count : ℕ)
+    → slice_get case.report.clients 0 ≡ Some shown → shown.replies ≡ one ∷ other ∷ [] → other.answer ≡ answers.Synced sync count
+    → HasStopped case.report 0 → ⊥
+not_stopped case shown one other sync count is replies synced s =
+    let same : shown ≡ s.shown = some_same _ _ (sym is ∙ s.of_client) in
+    let lines : one ∷ other ∷ [] ≡ s.shown.replies = sym replies ∙ ap (λ (c : ClientReport). c.replies) same in
     let l = s.last in
-    let len : 1 ≡ length s.shown.replies = ap (λ (rs : List ReplyLine). length rs) replies in
-    let n : s.before ≡ 0 = omega (arith, l, len) in
-    let there : Some reply ≡ Some s.reply = ap (λ (rs : List ReplyLine). slice_get rs 0) replies ∙ subst (λ k. slice_get s.shown.replies k ≡ Some s.reply) n s.there in
-    let r : reply ≡ s.reply = cc (there) in
-    let f : answers.NoMemory ≡ answers.Stopped s.steps = sym memory ∙ ap (λ (r : ReplyLine). r.answer) r ∙ s.stopped in
+    let len : 2 ≡ length s.shown.replies = ap (λ (rs : List ReplyLine). length rs) lines in
+    let n : s.before ≡ 1 = omega (arith, l, len) in
+    let there = ap (λ (rs : List ReplyLine). slice_get rs 1) lines ∙ subst (λ k. slice_get s.shown.replies k ≡ Some s.reply) n s.there in
+    let r : other ≡ s.reply = some_same _ _ there in
+    let f : answers.Synced sync count ≡ answers.Stopped s.steps = sym synced ∙ ap (λ (r : ReplyLine). r.answer) r ∙ s.stopped in
     cc (f)
 
 pub did_not_stop : IsUnlawful left_open_by_one_who_did_not_stop
@@ -120,14 +121,14 @@ did_not_stop run =
     let all = subst (λ (es : List Entry). All P (entries es)) (sym h) (run.left_open.ids 0 0 (lit< tt) (lit< tt)) in
     elim (all 0 (record { key = record { stamp = 1; id = id a 0 }; settled = false }) (lit< tt)) [
       | inl t ↦ cc (t)
-      | inr s ↦ not_stopped left_open_by_one_who_did_not_stop _ _ refl refl refl s
+      | inr s ↦ not_stopped left_open_by_one_who_did_not_stop _ _ _ _ _ refl refl refl s
     ]
 
 pub row_open : IsUnlawful a_row_left_open
 row_open run =
     let one = one_row 0 (run.log.rows 0) _ run.begun.all in
     let P = λ (r : BegunRow). r.last ≡ Open → HasStopped a_row_left_open.report r.row.client in
-    not_stopped a_row_left_open _ _ refl refl refl (at_row P one (run.left_open.rows 0 (lit< tt)) refl)
+    not_stopped a_row_left_open _ _ _ _ _ refl refl refl (at_row P one (run.left_open.rows 0 (lit< tt)) refl)
 
 -- HELPING
 abbrev help : Entry

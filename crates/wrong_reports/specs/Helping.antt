@@ -1,4 +1,5 @@
 -- Reports with phantoms, with appends that stop and go on, and with wrong helpers.
+use Rattle.skeen_core.specs.declared.marks.Mark.{Mark}
 use Rattle.std.specs.Prelude.{ℕ, [], ◌∷◌, codes, None, false}
 use Rattle.skeen_core.specs.declared.marks.Mark.TheVariants as marks
 use Rattle.skeen_core.specs.declared.marks.Outcome.TheVariants.{Open, Final}
@@ -7,7 +8,7 @@ use Rattle.script_text.specs.declared.script.Word.TheVariants as words
 use Rattle.report_text.specs.declared.report.Answer.TheVariants as answers
 use Rattle.report_text.specs.declared.report.ColumnReport.{ColumnReport}
 use Rattle.wrong_reports.specs.Cases.{Case, a, b, e, w, x, y, id, key, counts, on_x, on_y, on_both, together, script, asks, replies, to_both, column, empty, enters, proposes, point, shows}
-use Rattle.wrong_reports.specs.Rows.{row, settles, one_append, proposed}
+use Rattle.wrong_reports.specs.Rows.{row, settles, proposed}
 
 -- PHANTOMS: a row, and a node in both lines, that no command of the script made
 -- 7 append nomemory
@@ -66,26 +67,29 @@ a_stop_after_other_steps = record {
       (row e a 0 (id a 0) (marks.Number 1) marks.None Open ∷ []) (proposed x ∷ empty e y ∷ []);
 }
 
--- 8 append nomemory
+-- after a stop the client syncs y
+abbrev pub goes_on_to_sync : ℕ → Mark → ColumnReport → Case
+goes_on_to_sync steps of_x column_x = record {
+  script = together (asks 8 a (Stop steps on_both (codes "s")) ∷ asks 9 a (Sync y) ∷ []);
+  report = shows (to_both (replies 8 words.Stop (answers.Stopped steps)
+      ∷ replies 9 words.Sync (answers.Synced (record { colour = y; events = 0; counts = counts 0 0 }) 0) ∷ []) [])
+      (row e a 0 (id a 0) of_x marks.None Open ∷ []) (column_x ∷ empty e y ∷ []);
+}
+
+-- 8 stop stopped 2
+-- 9 sync ok y?0/0 plays 0
 -- row e a.0 a.0 x=1 y=- open
 -- column e x
 -- 0 a propose a.0 floor 0 wants 0 stamp 1
 -- = clock 1 line - queue a.0:1? cut 0 base 0
 abbrev pub left_open_by_one_who_did_not_stop : Case
-left_open_by_one_who_did_not_stop = record {
-  script = one_append;
-  report = shows (to_both (replies 8 words.Append answers.NoMemory ∷ []) [])
-      (row e a 0 (id a 0) (marks.Number 1) marks.None Open ∷ []) (proposed x ∷ empty e y ∷ []);
-}
+left_open_by_one_who_did_not_stop = goes_on_to_sync 2 (marks.Number 1) (proposed x)
 
--- 8 append nomemory
+-- 8 stop stopped 1
+-- 9 sync ok y?0/0 plays 0
 -- row e a.0 a.0 x=- y=- open
 abbrev pub a_row_left_open : Case
-a_row_left_open = record {
-  script = one_append;
-  report = shows (to_both (replies 8 words.Append answers.NoMemory ∷ []) [])
-      (row e a 0 (id a 0) marks.None marks.None Open ∷ []) (empty e x ∷ empty e y ∷ []);
-}
+a_row_left_open = goes_on_to_sync 1 marks.None (empty e x)
 
 -- HELPING
 -- a stopped after the proposals in x and y, and b settled the node

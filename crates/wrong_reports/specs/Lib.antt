@@ -6,6 +6,7 @@ pub mod Columns
 pub mod Rows
 pub mod Several
 pub mod Reads
+pub mod Events
 pub mod Moves
 pub mod Objects
 pub mod Helping

@@ -1,4 +1,5 @@
 -- Reports of pulls, trims and syncs over two regions or after a trim that are wrong.
+use Rattle.log_node.specs.declared.ids.Counts.{Counts}
 use Rattle.std.specs.Prelude.{ℕ, List, [], ◌∷◌, codes}
 use Rattle.log_node.specs.declared.node.At.{At}
 use Rattle.log_node.specs.declared.node.At.TheVariants.{Event, Look}
@@ -37,11 +38,11 @@ abbrev pub trimmed_where_nothing_is : Case
 trimmed_where_nothing_is = case (asks 6 a (Sync x) ∷ []) (replies 6 words.Sync (answers.Trimmed x (counts 0 0)) ∷ []) (empty e x)
 
 -- PULLS: a appends in e, and b of w pulls
-abbrev pub pulls : List ReplyLine → List Command → List Entry → List Entry → Case
-pulls lines more given carried = record {
+abbrev pub pulls : List ReplyLine → List Command → List Entry → List Entry → Counts → Case
+pulls lines more given carried cut = record {
   script = apart (asks 8 a (Append on_x (codes "s")) ∷ asks 9 b (whats.Pull e x) ∷ more);
   report = shows (to_both (stood_at 8 1 0 0 ∷ []) lines) []
-      (record one_node { journal = single ∷ given } ∷ record (empty w x) { journal = carried } ∷ []);
+      (record one_node { journal = single ∷ given } ∷ record (empty w x) { journal = carried; cut = cut } ∷ []);
 }
 
 abbrev pub pulled : ℕ → ℕ → ℕ → At → ReplyLine
@@ -55,14 +56,14 @@ carried_one = by b (Carry e 0 (record { key = key 1 (id a 0); needs = counts 0 0
 
 -- 9 pull sameregion
 abbrev pub another_region_taken_for_its_own : Case
-another_region_taken_for_its_own = pulls (replies 9 words.Pull answers.SameRegion ∷ []) [] [] []
+another_region_taken_for_its_own = pulls (replies 9 words.Pull answers.SameRegion ∷ []) [] [] [] (counts 0 0)
 
 -- 9 pull ok 0 give !1 carry ?0
 -- column e x
 -- 0 a single a.0 floor 0 wants 0,0 stamp 1
 -- 1 b give w 0
 abbrev pub a_pull_that_leaves_a_node : Case
-a_pull_that_leaves_a_node = pulls (pulled 9 0 1 (Look 0) ∷ []) [] (given_from 0 ∷ []) []
+a_pull_that_leaves_a_node = pulls (pulled 9 0 1 (Look 0) ∷ []) [] (given_from 0 ∷ []) [] (counts 0 0)
 
 -- 9 pull ok 2 give !1 carry !0
 -- column e x
@@ -71,7 +72,7 @@ a_pull_that_leaves_a_node = pulls (pulled 9 0 1 (Look 0) ∷ []) [] (given_from 
 -- column w x
 -- 0 b carry e 0 a.0:1/0,0
 abbrev pub a_pull_of_more_nodes : Case
-a_pull_of_more_nodes = pulls (pulled 9 2 1 (Event 0) ∷ []) [] (given_from 0 ∷ []) (carried_one ∷ [])
+a_pull_of_more_nodes = pulls (pulled 9 2 1 (Event 0) ∷ []) [] (given_from 0 ∷ []) (carried_one ∷ []) (counts 1 0)
 
 -- 9 pull ok 1 give !1 carry !0
 -- 10 pull ok 0 give !2 carry ?1
@@ -83,7 +84,7 @@ a_pull_of_more_nodes = pulls (pulled 9 2 1 (Event 0) ∷ []) [] (given_from 0 �
 -- 0 b carry e 0 a.0:1/0,0
 abbrev pub a_pull_that_asks_again : Case
 a_pull_that_asks_again = pulls (pulled 9 1 1 (Event 0) ∷ pulled 10 0 2 (Look 1) ∷ []) (asks 10 b (whats.Pull e x) ∷ [])
-    (given_from 0 ∷ given_from 0 ∷ []) (carried_one ∷ [])
+    (given_from 0 ∷ given_from 0 ∷ []) (carried_one ∷ []) (counts 1 0)
 
 -- A SYNC BELOW THE BASE: a and b of the region e; a trims what b did not play
 -- 7 append ok 1 x!0@0

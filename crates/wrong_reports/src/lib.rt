@@ -2,6 +2,7 @@
 #![tactic(auto)]
 
 mod columns;
+mod events;
 mod helping;
 mod moves;
 mod naming;
@@ -13,14 +14,17 @@ mod several;
 mod shown;
 
 pub use columns::{
+    a_missing_column_is_unlawful, another_base_is_unlawful, another_clock_is_unlawful,
+    another_colours_name_is_unlawful, another_cut_is_unlawful, another_line_is_unlawful, another_queue_is_unlawful,
+    another_regions_name_is_unlawful,
+};
+pub use events::{
     a_base_that_forgets_another_region_is_unlawful, a_carry_of_its_own_region_is_unlawful,
     a_carry_of_nothing_is_unlawful, a_carry_of_what_the_origin_lacks_is_unlawful, a_carry_with_a_gap_is_unlawful,
     a_carry_with_other_needs_is_unlawful, a_give_beyond_the_line_is_unlawful, a_give_to_its_own_region_is_unlawful,
-    a_missing_column_is_unlawful, a_raise_to_the_clock_is_unlawful, a_settling_of_what_is_not_open_is_unlawful,
+    a_raise_to_the_clock_is_unlawful, a_settling_of_what_is_not_open_is_unlawful,
     a_stamp_that_is_not_next_is_unlawful, a_trim_with_a_stamp_is_unlawful, an_event_by_nobody_is_unlawful,
-    an_id_that_enters_twice_is_unlawful, another_base_is_unlawful, another_clock_is_unlawful,
-    another_colours_name_is_unlawful, another_cut_is_unlawful, another_line_is_unlawful, another_queue_is_unlawful,
-    another_regions_name_is_unlawful, noted_more_than_is_held_is_unlawful,
+    an_id_that_enters_twice_is_unlawful, noted_more_than_is_held_is_unlawful,
 };
 pub use helping::{
     a_helped_append_left_open_is_unlawful, a_phantom_of_another_region_is_unlawful, a_phantom_of_nobody_is_unlawful,
