@@ -27,7 +27,7 @@ use Rattle.lawful_run.specs.Columns.{IsClientIn}
 use Rattle.lawful_run.specs.Lawful.{LawfulRun, HasStopped, HasHelping}
 use Rattle.wrong_reports.specs.Cases.{Case, IsUnlawful, a, b, x, id, proposes, on_both}
 use Rattle.wrong_reports.specs.Rows.{settles, proposed}
-use Rattle.wrong_reports.specs.Helping.{phantom, a_phantom_of_another_region, a_phantom_of_nobody, a_stopped_append_that_goes_on, a_stop_before_its_steps, a_stop_after_other_steps, left_open_by_one_who_did_not_stop, a_row_left_open, helped_by_b, one_who_only_syncs_helps, one_of_another_region_helps, a_helped_append_left_open}
+use Rattle.wrong_reports.specs.Helping.{a_stop_for_the_stamps_end, phantom, a_phantom_of_another_region, a_phantom_of_nobody, a_stopped_append_that_goes_on, a_stop_before_its_steps, a_stop_after_other_steps, left_open_by_one_who_did_not_stop, a_row_left_open, helped_by_b, one_who_only_syncs_helps, one_of_another_region_helps, a_helped_append_left_open}
 use Rattle.wrong_reports.proofs.Tools.{only, column_at, some_same}
 use Rattle.wrong_reports.proofs.BegunRows.{one_row, second_row, only_row, at_row, in_rows}
 
@@ -158,3 +158,6 @@ left_open run =
     let among = subst (λ (es : List Entry). Contains es proposal) h (1, lit< tt, refl) in
     let one = one_row 0 (run.log.rows 0) _ run.begun.all in
     (run.helped 0 1 proposal _ (lit< tt) (lit< tt) among (λ i. let f : 0 ≡ 1 = i in cc (f)) (in_rows one) (sym one.id_is)).decided refl
+
+pub stamps_end : IsUnlawful a_stop_for_the_stamps_end
+stamps_end run = (only run.log _ _ _ _ (run.clients 0 _ refl).explained).explained.1 refl

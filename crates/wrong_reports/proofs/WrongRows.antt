@@ -1,5 +1,5 @@
 -- Rows that are not as they may be.
-use Rattle.std.proofs.Common.{◌≡◌, ℕ, zero, suc, ◌<◌, List, [], ◌∷◌, length, map, Some, None, refl, ap, sym, subst, ◌∙◌, arith, lit<, lit≤, slice_get}
+use Rattle.std.proofs.Common.{◌≡◌, ℕ, zero, suc, ◌<◌, List, [], ◌∷◌, length, map, Some, None, refl, ap, sym, subst, ◌∙◌, arith, lit<, lit≤, slice_get, ◌≤◌}
 use Rattle.std.specs.List.{All, Contains}
 use Rattle.log_node.specs.declared.ids.Id.{Id}
 use Rattle.log_node.specs.declared.node.Node.{Node}
@@ -13,9 +13,19 @@ use Rattle.col_core.specs.Rows.{BegunRow, AreLawfulRows, FitsRow, FitsRows, IsMa
 use Rattle.report_text.specs.declared.report.RowReport.{RowReport}
 use Rattle.lawful_run.specs.Lawful.{LawfulRun}
 use Rattle.wrong_reports.specs.Cases.{Case, IsUnlawful, a, b, e, w, x, y, id, together}
-use Rattle.wrong_reports.specs.Rows.{row, settles, complete, one_append, has_rows, a_row_out_of_count, a_row_for_anothers_node, a_row_of_one_colour, two_rows_for_one_node, a_mark_that_was_not_proposed, a_proposal_without_a_mark, an_outcome_of_other_marks, a_settling_unlike_the_outcome, a_proposal_without_a_row, rows_out_of_order, full_too_early, two_orders, a_settling_under_a_lesser_stamp}
+use Rattle.wrong_reports.specs.Rows.{a_fence_with_stamps_left, row, settles, complete, one_append, has_rows, a_row_out_of_count, a_row_for_anothers_node, a_row_of_one_colour, two_rows_for_one_node, a_mark_that_was_not_proposed, a_proposal_without_a_mark, an_outcome_of_other_marks, a_settling_unlike_the_outcome, a_proposal_without_a_row, rows_out_of_order, full_too_early, two_orders, a_settling_under_a_lesser_stamp}
+use Rattle.std.specs.Prelude.{max}
+use Rattle.skeen_core.specs.declared.marks.Why.TheVariants.{StampEnd}
+use Rattle.log_node.specs.declared.ids.Colours.{Colours}
+use Rattle.log_node.specs.Sets.{members}
+use Rattle.col_core.specs.History.{clock, last_stamp}
+use Rattle.col_core.specs.Log.{Log}
+use Rattle.col_core.specs.Keeping.{Kept}
+use Rattle.lawful_run.specs.Callers.{Caller}
+use Rattle.lawful_run.specs.Appends.{HasNoStamp, none_for_one, none_for_several, IsGoneAtEnd}
+use Rattle.wrong_reports.specs.Cases.{empty}
 use Rattle.wrong_reports.proofs.Tools.{only, column_at}
-use Rattle.wrong_reports.proofs.BegunRows.{begun, OneRow, one_row, two_rows, no_row, at_row}
+use Rattle.wrong_reports.proofs.BegunRows.{begun, OneRow, one_row, two_rows, no_row, at_row, only_row}
 
 -- the rows of the one region
 module _ (rows : List RowReport) (run : LawfulRun one_append (has_rows rows).report) where
@@ -134,3 +144,25 @@ orders run =
 
 pub lesser_stamp : IsUnlawful a_settling_under_a_lesser_stamp
 lesser_stamp run = let s = ((column_at a_settling_under_a_lesser_stamp run 0 _ refl).legal 2 _ refl).1.0 in omega (arith, s)
+
+-- a row that is gone for the stamps' end
+gone_at_end : (log : Log) (caller : Caller) (kept after : Kept) (node : Node) → 2 ≤ length (members node.colours)
+    → HasNoStamp log caller kept node 0 after → (places : ℕ → List ℕ) × IsGoneAtEnd log caller kept node 0 places
+gone_at_end log caller kept after node two (none_for_one is had) =
+    absurd (let l = ap (λ (cs : List ℕ). length cs) is in omega (arith, l, two))
+gone_at_end log caller kept after node two (none_for_several places gone) = (places, gone)
+
+pub fence : IsUnlawful a_fence_with_stamps_left
+fence run =
+    let said = (only run.log _ _ _ _ (run.clients 0 _ refl).explained).explained.2 in
+    let two : 2 ≤ length (members said.0) = subst (λ (cs : Colours). 2 ≤ length (members cs)) (sym said.2.0) (lit≤ tt) in
+    let gone = (gone_at_end run.log _ _ _ _ two said.3).1 in
+    let one = one_row 0 (run.log.rows 0) _ run.begun.all in
+    let r = only_row _ gone.begins.row (subst (λ (rows : List BegunRow). Contains rows gone.begins.row) one.rows_are gone.begins.begun.begun) in
+    let floor : one.node.floor ≡ 0 = ap (λ (r : BegunRow). r.node.floor) r ∙ ap (λ (n : Node). n.floor) gone.begins.begun.of_node in
+    let P = λ (r : BegunRow). All (λ (m : ColourMark). IsMarkOf (run.log.histories 0 m.colour) r.node m.mark) r.marks in
+    let ended = (at_row P one (run.begun.lawful 0 (lit< tt)).marks 0 (record { colour = 0; mark = marks.Fenced StampEnd }) (lit< tt)).1 in
+    let h = (column_at a_fence_with_stamps_left run 0 (empty e x) refl).history in
+    let none : max (clock []) one.node.floor ≡ last_stamp = subst (λ (es : List Entry). max (clock es) one.node.floor ≡ last_stamp) (sym h) ended in
+    let f : 0 ≡ last_stamp = ap (λ n. max 0 n) (sym floor) ∙ none in
+    omega (arith, f)

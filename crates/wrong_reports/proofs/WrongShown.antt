@@ -1,4 +1,5 @@
 -- Syncs that show other nodes than they play.
+use Rattle.log_node.specs.declared.ids.Counts.{Counts}
 use Rattle.std.proofs.Common.{◌≡◌, inl, ℕ, zero, suc, ◌+◌, List, [], ◌∷◌, take, Some, refl, ap, sym, subst, ◌∙◌, arith, codes, slice_get, ne_eqb}
 use Rattle.std.specs.Prelude.{slice_index}
 use Rattle.std.specs.List.{AllZip, count_by}
@@ -16,10 +17,12 @@ use Rattle.col_core.specs.Keeping.{Kept}
 use Rattle.lawful_run.specs.Callers.{caller_of}
 use Rattle.lawful_run.specs.Reads.{ShowsNode, ShowsPlayed}
 use Rattle.lawful_run.specs.Lawful.{LawfulRun}
-use Rattle.wrong_reports.specs.Cases.{IsUnlawful, a, x, id, key, counts, asks}
+use Rattle.wrong_reports.specs.Cases.{IsUnlawful, a, x, id, key, counts, asks, enters}
 use Rattle.script_text.specs.declared.script.What.TheVariants.{Sync}
+use Rattle.col_core.specs.declared.Event.TheVariants.{Single}
+use Rattle.log_node.specs.Vectors.{at}
 use Rattle.wrong_reports.specs.Naming.{append, stood_at, one_node}
-use Rattle.wrong_reports.specs.Shown.{shown, plays_nodes, two_entries, a_node_with_another_text, a_node_that_is_not_shown, a_node_under_another_stamp, a_node_shown_twice, nodes_in_another_order, two_plays}
+use Rattle.wrong_reports.specs.Shown.{a_node_that_wants_too_little, one_play, shown, plays_nodes, two_entries, a_node_with_another_text, a_node_that_is_not_shown, a_node_under_another_stamp, a_node_shown_twice, nodes_in_another_order, two_plays}
 use Rattle.wrong_reports.proofs.Tools.{ends_with, column_at, some_same, none_there, EndsWith}
 use Rattle.wrong_reports.proofs.Told.{two, stood_says}
 
@@ -184,3 +187,20 @@ another_order run = by said.order said.lines (subst (λ c. IsPlayOrder c (last.k
       let before = played.after_needed 1 0 q p (head_of 1) refl refl there (inl (l.0 ∙ sym m.0, next)) in
       omega (arith, before)
   by (p ∷ q ∷ r ∷ order) z played = z.1.1
+
+single_wants : (i j : Id) (floor other : ℕ) (wants more : Counts) → Single i floor wants ≡ Single j other more → wants ≡ more
+single_wants i j floor other wants more e = cc (e)
+
+pub wants_less : IsUnlawful a_node_that_wants_too_little
+wants_less run =
+    let script = a_node_that_wants_too_little.script in
+    let last = ends_with run.log (caller_of script 0) (append 6 ∷ asks 7 a (Sync x) ∷ []) (stood_at 6 1 0 0 ∷ one_play ∷ []) (append 8) (stood_at 8 2 1 1)
+        _ (run.clients 0 _ refl).explained in
+    let second = ends_with run.log (caller_of script 0) (append 6 ∷ []) (stood_at 6 1 0 0 ∷ []) (asks 7 a (Sync x)) one_play _ last.before in
+    let starts : last.kept.starts 0 ≡ counts 1 0 = ap (λ (k : Kept). k.starts 0) (second.last.after_is ∙ second.last.explained.4) in
+    let entered = (stood_says run.log _ _ _ _ _ _ _ _ _ _ _ last.last).0.entered in
+    let h = (column_at a_node_that_wants_too_little run 0 _ refl).history in
+    let same = some_same (enters a (id a 1) 1 2) _ (ap (λ (es : List Entry). slice_get es 1) h ∙ entered) in
+    let wants = single_wants _ _ _ _ _ _ (ap (λ (en : Entry). en.event) same) in
+    let f : 0 ≡ 1 = ap (λ (v : Counts). at v 0) (wants ∙ starts) in
+    omega (arith, f)

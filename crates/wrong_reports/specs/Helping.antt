@@ -67,6 +67,13 @@ a_stop_after_other_steps = record {
       (row e a 0 (id a 0) (marks.Number 1) marks.None Open ∷ []) (proposed x ∷ empty e y ∷ []);
 }
 
+-- 8 stop stampend x
+abbrev pub a_stop_for_the_stamps_end : Case
+a_stop_for_the_stamps_end = record {
+  script = together (asks 8 a (Stop 0 on_both (codes "s")) ∷ []);
+  report = shows (to_both (replies 8 words.Stop (answers.StampEnd x) ∷ []) []) [] (empty e x ∷ empty e y ∷ []);
+}
+
 -- after a stop the client syncs y
 abbrev pub goes_on_to_sync : ℕ → Mark → ColumnReport → Case
 goes_on_to_sync steps of_x column_x = record {

@@ -1,4 +1,5 @@
 -- Replies to an append to several colours that are unlike its row.
+use Rattle.log_node.specs.declared.node.At.TheVariants.{Look}
 use Rattle.std.specs.Prelude.{List, [], ◌∷◌, codes, Some, None}
 use Rattle.skeen_core.specs.declared.marks.Mark.TheVariants as marks
 use Rattle.skeen_core.specs.declared.marks.Outcome.{Outcome}
@@ -63,3 +64,22 @@ an_append_to_several_that_leaves_the_floor = record {
       (column e x (proposes a (id a 0) 0 1 ∷ settles a (id a 0) 1 ∷ enters a (id a 1) 0 2 ∷ []) 2
       (key 1 (id a 0) ∷ key 2 (id a 1) ∷ []) [] (counts 2 0) (counts 0 0) ∷ complete y ∷ []);
 }
+
+-- 8 append ok 1 row 0 x!0@0 y!0@0
+-- 9 sync ok x?1/0 plays 0
+abbrev pub a_look_before_its_own_settling : Case
+a_look_before_its_own_settling = record {
+  script = together (asks 8 a (Append on_both (codes "s")) ∷ asks 9 a (Sync x) ∷ []);
+  report = shows (to_both (stood ∷ replies 9 words.Sync (answers.Synced (look x 1 (counts 0 0)) 0) ∷ []) [])
+      (row e a 0 (id a 0) (marks.Number 1) (marks.Number 1) (Final 1) ∷ []) (complete x ∷ complete y ∷ []);
+}
+
+-- 8 append ok 1 row 0 x?1@0 y!0@0
+abbrev pub its_own_proposal_told_as_a_look : Case
+its_own_proposal_told_as_a_look =
+    answered (answers.Stood 1 (Some 0) (record { colour = x; at = Look 1; position = 0 } ∷ point y 0 0 ∷ [])) (Final 1) (complete x ∷ complete y ∷ [])
+
+-- 8 append nomemory
+-- row e a.0 a.0 x=1 y=1 final 1
+abbrev pub no_memory_for_what_stands : Case
+no_memory_for_what_stands = answered answers.NoMemory (Final 1) (complete x ∷ complete y ∷ [])

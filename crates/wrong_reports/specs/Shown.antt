@@ -89,3 +89,19 @@ nodes_in_another_order = case (append 6 ∷ append 7 ∷ asks 8 a (Sync x) ∷ [
 -- = clock 1 line a.0:1 queue - cut 1 base 0
 abbrev pub a_node_shown_twice : Case
 a_node_shown_twice = plays_nodes (shown 1 (codes "s") ∷ shown 1 (codes "s") ∷ []) 2
+
+abbrev pub one_play : ReplyLine
+one_play = record { line = 7; word = words.Sync; answer = answers.Synced (look x 1 (counts 1 0)) 1; nodes = shown 1 (codes "s") ∷ [] }
+
+-- 6 append ok 1 x!0@0
+-- 7 sync ok x?1/1 plays 1
+-- + a.0 1 s
+-- 8 append ok 2 x!1@1
+-- column e x
+-- 0 a single a.0 floor 0 wants 0 stamp 1
+-- 1 a single a.1 floor 1 wants 0 stamp 2
+-- = clock 2 line a.0:1,a.1:2 queue - cut 2 base 0
+abbrev pub a_node_that_wants_too_little : Case
+a_node_that_wants_too_little = case (append 6 ∷ asks 7 a (Sync x) ∷ append 8 ∷ [])
+    (stood_at 6 1 0 0 ∷ one_play ∷ stood_at 8 2 1 1 ∷ [])
+    (column e x two_entries 2 (key 1 (id a 0) ∷ key 2 (id a 1) ∷ []) [] (counts 2 0) (counts 0 0))

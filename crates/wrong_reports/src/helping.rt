@@ -1,9 +1,9 @@
 // Phantoms, appends that stop and go on, and wrong helpers.
 ghost use Rattle.wrong_reports.specs.Cases.{IsUnlawful};
 ghost use Rattle.wrong_reports.specs.Helping.{a_phantom_of_another_region, a_phantom_of_nobody, a_stopped_append_that_goes_on};
-ghost use Rattle.wrong_reports.specs.Helping.{a_stop_before_its_steps, a_stop_after_other_steps, left_open_by_one_who_did_not_stop};
-ghost use Rattle.wrong_reports.specs.Helping.{a_row_left_open, one_who_only_syncs_helps, one_of_another_region_helps};
-ghost use Rattle.wrong_reports.specs.Helping.{a_helped_append_left_open};
+ghost use Rattle.wrong_reports.specs.Helping.{a_stop_before_its_steps, a_stop_after_other_steps, a_stop_for_the_stamps_end};
+ghost use Rattle.wrong_reports.specs.Helping.{left_open_by_one_who_did_not_stop, a_row_left_open, one_who_only_syncs_helps};
+ghost use Rattle.wrong_reports.specs.Helping.{one_of_another_region_helps, a_helped_append_left_open};
 
 /// A row is of a client of its region.
 #[tactic(auto, using(crate::proofs::WrongHelping::other_region))]
@@ -33,6 +33,12 @@ pub fn a_stop_before_its_steps_is_unlawful()
 #[tactic(auto, using(crate::proofs::WrongHelping::other_steps))]
 pub fn a_stop_after_other_steps_is_unlawful()
     ensures { IsUnlawful a_stop_after_other_steps }
+{}
+
+/// A stop does not answer for the stamps' end.
+#[tactic(auto, using(crate::proofs::WrongHelping::stamps_end))]
+pub fn a_stop_for_the_stamps_end_is_unlawful()
+    ensures { IsUnlawful a_stop_for_the_stamps_end }
 {}
 
 /// An open entry is of a client that stopped.

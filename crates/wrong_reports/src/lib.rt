@@ -29,8 +29,9 @@ pub use events::{
 pub use helping::{
     a_helped_append_left_open_is_unlawful, a_phantom_of_another_region_is_unlawful, a_phantom_of_nobody_is_unlawful,
     a_row_left_open_is_unlawful, a_stop_after_other_steps_is_unlawful, a_stop_before_its_steps_is_unlawful,
-    a_stopped_append_that_goes_on_is_unlawful, left_open_by_one_who_did_not_stop_is_unlawful,
-    one_of_another_region_helps_is_unlawful, one_who_only_syncs_helps_is_unlawful,
+    a_stop_for_the_stamps_end_is_unlawful, a_stopped_append_that_goes_on_is_unlawful,
+    left_open_by_one_who_did_not_stop_is_unlawful, one_of_another_region_helps_is_unlawful,
+    one_who_only_syncs_helps_is_unlawful,
 };
 pub use moves::{
     a_base_that_is_not_there_is_unlawful, a_pull_of_more_nodes_is_unlawful, a_pull_that_asks_again_is_unlawful,
@@ -67,18 +68,22 @@ pub use replies::{
     a_wrong_word_is_unlawful, another_commands_answer_is_unlawful, more_plays_than_nodes_is_unlawful,
 };
 pub use rows::{
-    a_mark_that_was_not_proposed_is_unlawful, a_proposal_without_a_mark_is_unlawful,
-    a_proposal_without_a_row_is_unlawful, a_row_for_anothers_node_is_unlawful, a_row_of_one_colour_is_unlawful,
-    a_row_out_of_count_is_unlawful, a_settling_under_a_lesser_stamp_is_unlawful,
-    a_settling_unlike_the_outcome_is_unlawful, an_outcome_of_other_marks_is_unlawful, full_too_early_is_unlawful,
-    rows_out_of_order_is_unlawful, two_orders_is_unlawful, two_rows_for_one_node_is_unlawful,
+    a_fence_with_stamps_left_is_unlawful, a_mark_that_was_not_proposed_is_unlawful,
+    a_proposal_without_a_mark_is_unlawful, a_proposal_without_a_row_is_unlawful,
+    a_row_for_anothers_node_is_unlawful, a_row_of_one_colour_is_unlawful, a_row_out_of_count_is_unlawful,
+    a_settling_under_a_lesser_stamp_is_unlawful, a_settling_unlike_the_outcome_is_unlawful,
+    an_outcome_of_other_marks_is_unlawful, full_too_early_is_unlawful, rows_out_of_order_is_unlawful,
+    two_orders_is_unlawful, two_rows_for_one_node_is_unlawful,
 };
 pub use several::{
-    a_colour_without_a_point_is_unlawful, a_row_that_no_command_began_is_unlawful,
-    an_append_to_several_that_leaves_the_floor_is_unlawful, another_rows_number_is_unlawful,
-    stood_before_it_is_decided_is_unlawful, stood_before_it_is_settled_is_unlawful,
+    a_colour_without_a_point_is_unlawful, a_look_before_its_own_settling_is_unlawful,
+    a_row_that_no_command_began_is_unlawful, an_append_to_several_that_leaves_the_floor_is_unlawful,
+    another_rows_number_is_unlawful, its_own_proposal_told_as_a_look_is_unlawful,
+    no_memory_for_what_stands_is_unlawful, stood_before_it_is_decided_is_unlawful,
+    stood_before_it_is_settled_is_unlawful,
 };
 pub use shown::{
-    a_node_shown_twice_is_unlawful, a_node_that_is_not_shown_is_unlawful, a_node_under_another_stamp_is_unlawful,
-    a_node_with_another_text_is_unlawful, nodes_in_another_order_is_unlawful,
+    a_node_shown_twice_is_unlawful, a_node_that_is_not_shown_is_unlawful, a_node_that_wants_too_little_is_unlawful,
+    a_node_under_another_stamp_is_unlawful, a_node_with_another_text_is_unlawful,
+    nodes_in_another_order_is_unlawful,
 };

@@ -4,7 +4,7 @@ ghost use Rattle.wrong_reports.specs.Rows.{a_row_out_of_count, a_row_for_another
 ghost use Rattle.wrong_reports.specs.Rows.{two_rows_for_one_node, rows_out_of_order, a_mark_that_was_not_proposed};
 ghost use Rattle.wrong_reports.specs.Rows.{a_proposal_without_a_mark, a_proposal_without_a_row, an_outcome_of_other_marks};
 ghost use Rattle.wrong_reports.specs.Rows.{a_settling_unlike_the_outcome, a_settling_under_a_lesser_stamp, two_orders};
-ghost use Rattle.wrong_reports.specs.Rows.{full_too_early};
+ghost use Rattle.wrong_reports.specs.Rows.{full_too_early, a_fence_with_stamps_left};
 
 /// A client's rows are counted from 0.
 #[tactic(auto, using(crate::proofs::WrongRows::out_of_count))]
@@ -82,4 +82,10 @@ pub fn two_orders_is_unlawful()
 #[tactic(auto, using(crate::proofs::WrongRows::full_early))]
 pub fn full_too_early_is_unlawful()
     ensures { IsUnlawful full_too_early }
+{}
+
+/// A fence for the stamps' end stands only where no stamp is left.
+#[tactic(auto, using(crate::proofs::WrongRows::fence))]
+pub fn a_fence_with_stamps_left_is_unlawful()
+    ensures { IsUnlawful a_fence_with_stamps_left }
 {}
