@@ -27,14 +27,16 @@ pub no_row : (region : ℕ) (rows : List BegunRow) → [] ≡ map (row_report re
 no_row region [] h = refl
 no_row region (r ∷ rs) h = absurd (let f : ⊥ = cc (h) in f)
 
-pub one_row : (region : ℕ) (rows : List BegunRow) (shown : RowReport) → shown ∷ [] ≡ map (row_report region) rows ++ [] → OneRow rows shown
+pub one_row : (region : ℕ) (rows : List BegunRow) (shown : RowReport)
+    → shown ∷ [] ≡ map (row_report region) rows ++ [] → OneRow rows shown
 one_row region [] shown h = absurd (let f : ⊥ = cc (h) in f)
 one_row region (r ∷ []) shown h =
     let s : row_report region r ≡ shown = cc (h) in
     subst (OneRow (r ∷ [])) s (record { node = r.node; rows_are = refl; id_is = refl })
 one_row region (r ∷ s ∷ rs) shown h = absurd (let f : ⊥ = cc (h) in f)
 
-pub two_rows : (region : ℕ) (rows : List BegunRow) (one other : RowReport) → one ∷ other ∷ [] ≡ map (row_report region) rows ++ []
+pub two_rows : (region : ℕ) (rows : List BegunRow) (one other : RowReport)
+    → one ∷ other ∷ [] ≡ map (row_report region) rows ++ []
     → TwoRows rows one other
 two_rows region [] one other h = absurd (let f : ⊥ = cc (h) in f)
 two_rows region (r ∷ []) one other h = absurd (let f : ⊥ = cc (h) in f)
@@ -50,14 +52,18 @@ pub second_row : (first second : List BegunRow) (shown : RowReport) → shown.re
     → shown ∷ [] ≡ map (row_report 0) first ++ (map (row_report 1) second ++ []) → OneRow second shown
 second_row [] second shown is h = one_row 1 second shown h
 second_row (r ∷ rs) second shown is h =
-    absurd (let s : row_report 0 r ≡ shown = cc (h) in let f : 0 ≡ shown.region = ap (λ (t : RowReport). t.region) s in omega (arith, f, is))
+    absurd (let s : row_report 0 r ≡ shown = cc (h) in let f : 0 ≡ shown.region =
+        ap (λ (t : RowReport). t.region) s in omega (arith, f, is))
 
 -- what holds of all rows holds of the one
-pub at_row : {rows : List BegunRow} {shown : RowReport} (P : BegunRow → Type 0) (one : OneRow rows shown) → All P rows → P (begun shown one.node)
+pub at_row : {rows : List BegunRow} {shown : RowReport} (P : BegunRow → Type 0) (one : OneRow rows shown)
+    → All P rows → P (begun shown one.node)
 at_row {rows} {shown} P one all = subst (All P) one.rows_are all 0 (begun shown one.node) (lit< tt)
 
-pub in_rows : {rows : List BegunRow} {shown : RowReport} (one : OneRow rows shown) → Contains rows (begun shown one.node)
-in_rows {rows} {shown} one = subst (λ (rows : List BegunRow). Contains rows (begun shown one.node)) (sym one.rows_are) (0, lit< tt, refl)
+pub in_rows : {rows : List BegunRow} {shown : RowReport} (one : OneRow rows shown)
+    → Contains rows (begun shown one.node)
+in_rows {rows} {shown} one =
+    subst (λ (rows : List BegunRow). Contains rows (begun shown one.node)) (sym one.rows_are) (0, lit< tt, refl)
 
 -- the row among one
 pub only_row : (r s : BegunRow) → Contains (r ∷ []) s → r ≡ s

@@ -29,7 +29,8 @@ same_end (v ∷ vs) (z ∷ zs) x y e =
     (cc (h, s0), s.1)
 
 -- what the last reply says, after the replies before
-pub record EndsWith (log : Log) (caller : Caller) (commands : List Command) (replies : List ReplyLine) (command : Command)
+pub record EndsWith (log : Log) (caller : Caller) (commands : List Command) (replies : List ReplyLine)
+    (command : Command)
     (reply : ReplyLine) (after : Kept) : Type 0 where
   pub kept : Kept
   pub before : Explained log caller commands replies kept
@@ -43,7 +44,8 @@ module _ (log : Log) (caller : Caller) where
       × (cs ≡ commands ++ command ∷ []) × (rs ≡ replies ++ reply ∷ [])
       × EndsWith log caller commands replies command reply after)
 
-  splits : {cs : List Command} {rs : List ReplyLine} {after : Kept} → Explained log caller cs rs after → Splits cs rs after
+  splits : {cs : List Command} {rs : List ReplyLine} {after : Kept} → Explained log caller cs rs after
+      → Splits cs rs after
   splits start = inl (refl, refl, refl)
   splits (next {commands} {replies} {kept} command reply before last) =
       inr (commands, replies, command, reply, refl, refl, record { kept = kept; before = before; last = last })
@@ -59,10 +61,10 @@ module _ (log : Log) (caller : Caller) where
   ends_with cs rs c r after e = elim (splits e) [
     | inl s ↦ absurd (no_end cs c (sym s.0))
     | inr s ↦
-      let p = same_end cs s.0 c s.2 s.4 in
-      let q = same_end rs s.1 r s.3 s.5 in
-      let p0 = p.0 in let p1 = p.1 in let q0 = q.0 in let q1 = q.1 in
-      rw (p0, p1, q0, q1) s.6
+        let p = same_end cs s.0 c s.2 s.4 in
+        let q = same_end rs s.1 r s.3 s.5 in
+        let p0 = p.0 in let p1 = p.1 in let q0 = q.0 in let q1 = q.1 in
+        rw (p0, p1, q0, q1) s.6
   ]
 
   pub no_fewer : (cs : List Command) (c : Command) (after : Kept) → Explained log caller (cs ++ c ∷ []) [] after → ⊥
@@ -88,7 +90,8 @@ none_there x e = cc (e)
 
 pub all_at : {A : Type 0} (P : A → Type 0) (xs : List A) (k : ℕ) (x : A) → slice_get xs k ≡ Some x → All P xs → P x
 all_at P [] k x e a = absurd (let f : ⊥ = cc (e) in f)
-all_at P (z ∷ zs) zero x e a = let h : z ≡ x = cc (e) in subst P h (a 0 z (let l : 0 < length (z ∷ zs) = omega arith in l))
+all_at P (z ∷ zs) zero x e a = let h : z ≡ x = cc (e) in subst P h (a 0 z (let l : 0 < length (z
+    ∷ zs) = omega arith in l))
 all_at P (z ∷ zs) (suc k) x e a =
     all_at P zs k x e (λ n d lt. a (suc n) d (let l : suc n < suc (length zs) = omega (arith, lt) in l))
 

@@ -25,7 +25,8 @@ pub base_not_there : IsUnlawful a_base_that_is_not_there
 base_not_there run =
     let t = (trim_says run.log _ _ _ _ _ _ _ _ (only run.log _ _ _ _ (run.clients 0 _ refl).explained)).0.is_base in
     let h = (column_at a_base_that_is_not_there run 0 (trimmed (trim ∷ [])) refl).history in
-    let f : 1 ≡ 0 = ap (λ (v : Counts). at v 0) (t ∙ ap (λ (es : List Entry). base 0 1 (dated 0 (take 1 es))) (sym h)) in
+    let f : 1 ≡ 0 = ap (λ (v : Counts). at v 0) (t
+        ∙ ap (λ (es : List Entry). base 0 1 (dated 0 (take 1 es))) (sym h)) in
     omega (arith, f)
 
 trim_counts : (one other : Counts) → made.Trim one ≡ made.Trim other → one ≡ other
@@ -35,7 +36,8 @@ pub beyond_snapshot : IsUnlawful a_trim_beyond_the_snapshot
 beyond_snapshot run =
     let t = (trim_says run.log _ _ _ _ _ _ _ _ (only run.log _ _ _ _ (run.clients 0 _ refl).explained)).0.trimmed in
     let h = (column_at a_trim_beyond_the_snapshot run 0 _ refl).history in
-    let same = some_same (record { by = 0; event = made.Trim (counts 1 0); stamp = 0 }) _ (ap (λ (es : List Entry). slice_get es 0) h ∙ t) in
+    let same = some_same (record { by = 0; event = made.Trim (counts 1 0); stamp =
+        0 }) _ (ap (λ (es : List Entry). slice_get es 0) h ∙ t) in
     let c = trim_counts _ _ (ap (λ (en : Entry). en.event) same) in
     let f : 1 ≡ 0 = ap (λ (v : Counts). at v 0) c in
     omega (arith, f)
@@ -79,20 +81,22 @@ pub leaves_a_node : IsUnlawful a_pull_that_leaves_a_node
 leaves_a_node run =
     let p = (pull_says run.log _ _ _ _ _ _ _ _ (only run.log _ _ _ _ (run.clients 1 _ refl).explained)).says.holds in
     let h = (column_at a_pull_that_leaves_a_node run 0 _ refl).history in
-    let n : 1 ≡ length (line (take 1 (run.log.histories 0 0))) = ap (λ (es : List Entry). length (line (take 1 es))) h in
+    let n : 1 ≡ length (line (take 1 (run.log.histories 0 0))) =
+        ap (λ (es : List Entry). length (line (take 1 es))) h in
     omega (arith, p, n)
 
 pub more_carried : IsUnlawful a_pull_of_more_nodes
 more_carried run =
-    let c = (pull_says run.log _ _ _ _ _ _ _ _ (only run.log _ _ _ _ (run.clients 1 _ refl).explained)).says.carries in
+    let c = (pull_says run.log _ _ _ _ _ _ _ _ (only run.log _ _ _ _
+        (run.clients 1 _ refl).explained)).says.carries in
     let h = (column_at a_pull_of_more_nodes run 1 _ refl).history in
     let same = some_same carried_one _ (ap (λ (es : List Entry). slice_get es 0) h ∙ c.3) in
     let heads = carried_heads _ _ _ _ _ _ (ap (λ (en : Entry). en.event) same) in
     let f : 1 ≡ length c.2 = ap (λ (hs : List Head). length hs) heads in
     let g = c.4 in
     omega (arith, f, g) where
-  carried_heads : (r s i j : ℕ) (hs gs : List Head) → made.Carry r i hs ≡ made.Carry s j gs → hs ≡ gs
-  carried_heads r s i j hs gs e = cc (e)
+      carried_heads : (r s i j : ℕ) (hs gs : List Head) → made.Carry r i hs ≡ made.Carry s j gs → hs ≡ gs
+      carried_heads r s i j hs gs e = cc (e)
 
 given_number : (r s from other : ℕ) → made.Give r from ≡ made.Give s other → from ≡ other
 given_number r s from other e = cc (e)
@@ -106,10 +110,11 @@ asks_again run =
     let of_w = (column_at a_pull_that_asks_again run 1 _ refl).history in
     let same = some_same (given_from 0) _ (ap (λ (es : List Entry). slice_get es 2) of_e ∙ p.gives) in
     let from : 0 ≡ p.from = given_number _ _ _ _ (ap (λ (en : Entry). en.event) same) in
-    let l : 1 ≡ length (line (take 2 (run.log.histories 0 0))) = ap (λ (es : List Entry). length (line (take 2 es))) of_e in
+    let l : 1 ≡ length (line (take 2 (run.log.histories 0 0))) =
+        ap (λ (es : List Entry). length (line (take 2 es))) of_e in
     let m : length (chain 1 (first run.log 1 0 (t.kept.seen 1 0)) 0) ≡ 1 =
-        ap (λ n. length (chain 1 (first run.log 1 0 n) 0)) k
-        ∙ ap (λ (es : List Entry). length (chain 1 (dated 1 (take 1 es)) 0)) (sym of_w) in
+    ap (λ n. length (chain 1 (first run.log 1 0 n) 0)) k
+    ∙ ap (λ (es : List Entry). length (chain 1 (dated 1 (take 1 es)) 0)) (sym of_w) in
     let n = p.asks_on in
     omega (arith, from, l, m, n)
 

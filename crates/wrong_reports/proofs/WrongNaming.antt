@@ -77,7 +77,8 @@ not_there run =
 single_id : (i j : Id) (floor other : ℕ) (wants more : Counts) → Single i floor wants ≡ Single j other more → i ≡ j
 single_id i j floor other wants more e = cc (e)
 
-single_floor : (i j : Id) (floor other : ℕ) (wants more : Counts) → Single i floor wants ≡ Single j other more → floor ≡ other
+single_floor : (i j : Id) (floor other : ℕ) (wants more : Counts)
+    → Single i floor wants ≡ Single j other more → floor ≡ other
 single_floor i j floor other wants more e = cc (e)
 
 pub another_position : IsUnlawful an_append_at_another_position
@@ -107,7 +108,8 @@ pub of_nobody : IsUnlawful a_single_of_nobody
 of_nobody run =
     let s = only run.log _ _ _ _ (run.clients 0 _ refl).explained in
     let t = (stood_says run.log _ _ _ _ _ _ _ _ _ _ _ s).0.entered in
-    let h = history_is _ _ (column e x (enters a (id a 1) 0 1 ∷ []) 1 (key 1 (id a 1) ∷ []) [] (counts 1 0) (counts 0 0)) run in
+    let h = history_is _ _ (column e x (enters a (id a 1) 0 1 ∷ []) 1 (key 1 (id a 1)
+        ∷ []) [] (counts 1 0) (counts 0 0)) run in
     let same = some_same (enters a (id a 1) 0 1) _ (ap (λ (es : List Entry). slice_get es 0) h ∙ t) in
     let i = single_id _ _ _ _ _ _ (ap (λ (en : Entry). en.event) same) in
     let f : 1 ≡ 0 = ap (λ (i : Id). i.count) i in
@@ -147,15 +149,18 @@ forgotten run =
     omega (arith, f)
 
 -- what no reply names
-unnamed : (journal : List Entry) (column : ColumnReport) → column.journal ≡ journal → column.region ≡ 0 → column.colour ≡ 0
+unnamed : (journal : List Entry) (column : ColumnReport) → column.journal ≡ journal → column.region ≡ 0
+    → column.colour ≡ 0
     → places_of 0 journal ≡ 0 ∷ []
-    → LawfulRun (alone (asks 6 a (Sync x) ∷ [])) (case (asks 6 a (Sync x) ∷ []) (synced_at 6 0 ∷ []) column).report → ⊥
+    → LawfulRun (alone (asks 6 a (Sync x) ∷ [])) (case (asks 6 a (Sync x) ∷ []) (synced_at 6 0
+        ∷ []) column).report → ⊥
 unnamed journal column is region colour places run =
     let client = run.clients 0 _ refl in
     let s = only run.log _ _ _ _ client.explained in
     let h : journal ≡ run.log.histories 0 0 = (let g = history_is _ _ column run in cc (is, region, colour, g)) in
     let m = client.made 0 0 (lit< tt) (lit< tt) in
-    let both : 0 ∷ [] ≡ [] = sym places ∙ ap (places_of 0) h ∙ m ∙ ap (λ (kept : Kept). kept.made 0 0) (s.after_is ∙ s.explained.4) in
+    let both : 0 ∷ [] ≡ [] = sym places ∙ ap (places_of 0) h ∙ m
+        ∙ ap (λ (kept : Kept). kept.made 0 0) (s.after_is ∙ s.explained.4) in
     cc (both)
 
 pub raise_unnamed : IsUnlawful a_raise_that_no_reply_names

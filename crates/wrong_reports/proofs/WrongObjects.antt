@@ -27,7 +27,8 @@ at_home run =
 
 pub away : IsUnlawful answered_away_from_home
 away run =
-    let s = (only run.log _ _ _ _ (run.clients 1 _ refl).explained).away (λ f. let g : 1 ≡ 0 = f in omega (arith, g)) in
+    let s = (only run.log _ _ _ _ (run.clients 1 _ refl).explained).away (λ f. let g : 1 ≡ 0 =
+        f in omega (arith, g)) in
     elim s [
       | inl f ↦ cc (f)
       | inr f ↦ let g = f.1 in cc (g)
@@ -54,15 +55,16 @@ value_of_nothing run =
     let f : Some (codes "v") ≡ None = s.9.value_is ∙ ap (λ ns. shard_value s.5 0 ns s.2) nodes ∙ no_value s.5 0 s.2 in
     cc (f)
 
-same_asked : (object other : ℕ) (keys more : List (List ℕ)) → whats.GetAll object keys ≡ whats.GetAll other more → keys ≡ more
+same_asked : (object other : ℕ) (keys more : List (List ℕ))
+    → whats.GetAll object keys ≡ whats.GetAll other more → keys ≡ more
 same_asked object other keys more e = cc (e)
 
 pub another_key : IsUnlawful a_value_of_another_key
 another_key run = elim (only run.log _ _ _ _ (run.clients 0 _ refl).explained).explained.7 [
   | inl f ↦
-    let g = f.3.keys_are ∙ sym (same_asked _ _ _ _ f.2) in
-    let h : 106 ≡ 107 = ap (λ (keys : List (List ℕ)). slice_index (slice_index_or keys 0 []) 0) g in
-    omega (arith, h)
+      let g = f.3.keys_are ∙ sym (same_asked _ _ _ _ f.2) in
+      let h : 106 ≡ 107 = ap (λ (keys : List (List ℕ)). slice_index (slice_index_or keys 0 []) 0) g in
+      omega (arith, h)
   | inr f ↦ let w = f.2 in cc (w)
 ]
 
@@ -99,10 +101,11 @@ forgotten run =
     elim t.first.explained.7 [
       | inl f ↦ let w = f.2 in cc (w)
       | inr f ↦
-        let p : f.0 ≡ 0 = (let w = f.2 in cc (w)) in
-        let k = ap (λ (k : Kept). k.reads 0) (t.first.after_is ∙ f.4 ∙ ap (λ o. with_read t.first.explained.1 o (Some (versions_after t.first.explained.5 f.1))) p) in
-        let g : None ≡ Some _ = sym n ∙ k in
-        cc (g)
+          let p : f.0 ≡ 0 = (let w = f.2 in cc (w)) in
+          let k = ap (λ (k : Kept). k.reads 0) (t.first.after_is ∙ f.4
+              ∙ ap (λ o. with_read t.first.explained.1 o (Some (versions_after t.first.explained.5 f.1))) p) in
+          let g : None ≡ Some _ = sym n ∙ k in
+          cc (g)
     ]
 
 pub keeps_read : IsUnlawful a_commit_that_keeps_its_read

@@ -34,9 +34,11 @@ record Scans (log : Log) (caller : Caller) (kept : Kept) (colours : Colours) (st
 same_colours : (one other : Colours) → Scan one ≡ Scan other → one ≡ other
 same_colours one other e = cc (e)
 
-scan_says : (log : Log) (caller : Caller) (kept after : Kept) (line client : ℕ) (colours : Colours) (stamp : ℕ) (raises : List RaisePiece)
+scan_says : (log : Log) (caller : Caller) (kept after : Kept) (line client : ℕ) (colours : Colours)
+    (stamp : ℕ) (raises : List RaisePiece)
     (syncs : List SyncPiece) (count : ℕ) (nodes : List PlacedNode)
-    → (a : Answers log caller kept (asks line client (Scan colours)) (scanned line stamp raises syncs count nodes) after)
+    → (a : Answers log caller kept (asks line client (Scan colours))
+        (scanned line stamp raises syncs count nodes) after)
     → Scans log caller kept colours stamp raises syncs nodes a.answered
 scan_says log caller kept after line client colours stamp raises syncs count nodes a =
     let said = a.explained in
@@ -53,22 +55,27 @@ more_nodes run = let c = (only run.log _ _ _ _ (run.clients 0 _ refl).explained)
 
 pub without_raise : IsUnlawful a_scan_without_a_raise
 without_raise run =
-    let c = (scan_says run.log _ _ _ _ _ _ _ _ _ _ _ (only run.log _ _ _ _ (run.clients 0 _ refl).explained)).reads.raised_colours in
+    let c = (scan_says run.log _ _ _ _ _ _ _ _ _ _ _ (only run.log _ _ _ _
+        (run.clients 0 _ refl).explained)).reads.raised_colours in
     cc (c)
 
 pub without_sync : IsUnlawful a_scan_without_a_sync
 without_sync run =
-    let c = (scan_says run.log _ _ _ _ _ _ _ _ _ _ _ (only run.log _ _ _ _ (run.clients 0 _ refl).explained)).reads.synced_colours in
+    let c = (scan_says run.log _ _ _ _ _ _ _ _ _ _ _ (only run.log _ _ _ _
+        (run.clients 0 _ refl).explained)).reads.synced_colours in
     cc (c)
 
 pub of_nothing : IsUnlawful a_read_stamp_of_nothing
-of_nothing run = by (scan_says run.log _ _ _ _ _ _ _ _ _ _ _ (only run.log _ _ _ _ (run.clients 0 _ refl).explained)).reads.chosen where
-  by : ((◌≡◌ {A = ℕ} 5 0) ⊎ ((r : RaisePiece) × Contains (raise x (Rattle.log_node.specs.declared.node.At.TheVariants.Event 0) ∷ []) r
+of_nothing run = by (scan_says run.log _ _ _ _ _ _ _ _ _ _ _ (only run.log _ _ _ _
+    (run.clients 0 _ refl).explained)).reads.chosen where
+  by : ((◌≡◌ {A = ℕ} 5 0) ⊎ ((r : RaisePiece)
+      × Contains (raise x (Rattle.log_node.specs.declared.node.At.TheVariants.Event 0) ∷ []) r
       × (events : ℕ) × (0 ≤ events) × (events ≤ Rattle.lawful_run.specs.Reads.events_until r.at)
       × (◌≡◌ {A = ℕ} 5 (clock (take events (run.log.histories 0 r.colour)))))) → ⊥
   by (inl f) = omega (arith, f)
   by (inr (r, (zero, lt, same), events, le, before, is)) =
-      let e : events ≤ 0 = subst (λ (r : RaisePiece). events ≤ Rattle.lawful_run.specs.Reads.events_until r.at) (sym same) before in
+      let e : events ≤ 0 = subst (λ
+          (r : RaisePiece). events ≤ Rattle.lawful_run.specs.Reads.events_until r.at) (sym same) before in
       let z : events ≡ 0 = omega (arith, e) in
       let f : 5 ≡ 0 = is ∙ ap (λ n. clock (take n (run.log.histories 0 r.colour))) z in
       omega (arith, f)
@@ -85,15 +92,19 @@ pub leaves_out : IsUnlawful a_scan_that_leaves_a_node_out
 leaves_out run =
     let t = two run.log _ _ _ _ _ _ (run.clients 0 _ refl).explained in
     let said = scan_says run.log _ _ _ _ _ _ _ _ _ _ _ t.second in
-    let h : one_node.journal ≡ run.log.histories 0 0 = (column_at a_scan_that_leaves_a_node_out run 0 one_node refl).history in
-    let order = subst (λ (es : List Entry). IsRegionOrder (line (take 1 es) ∷ []) 1 said.keys) (sym h) said.are_read in
+    let h : one_node.journal ≡ run.log.histories 0 0 =
+        (column_at a_scan_that_leaves_a_node_out run 0 one_node refl).history in
+    let order = subst (λ (es : List Entry). IsRegionOrder (line (take 1 es)
+        ∷ []) 1 said.keys) (sym h) said.are_read in
     by said.keys order said.lines where
-  by : (keys : List Key) → IsRegionOrder (line (take 1 one_node.journal) ∷ []) 1 keys → AllZip (ShowsKey run.log) keys [] → ⊥
-  by [] order z =
-      let c = order.all (line one_node.journal) (key 1 (id a 0)) (0, lit< tt, refl) (0, lit< tt, refl) (lit≤ tt) in
-      let l = c.1 in
-      omega (arith, l)
-  by (k ∷ keys) order z = z
+      by : (keys : List Key) → IsRegionOrder (line (take 1 one_node.journal) ∷ []) 1 keys
+          → AllZip (ShowsKey run.log) keys [] → ⊥
+      by [] order z =
+          let c = order.all (line one_node.journal) (key 1 (id a 0)) (0, lit< tt, refl) (0, lit< tt, refl)
+              (lit≤ tt) in
+          let l = c.1 in
+          omega (arith, l)
+      by (k ∷ keys) order z = z
 
 pub does_not_reach : IsUnlawful a_raise_that_does_not_reach
 does_not_reach run =
@@ -107,7 +118,8 @@ before_nodes run =
     let k = ap (λ (k : Kept). k.known 0) (several_says run.log _ _ _ _ _ _ _ _ _ _ t.first).3 in
     let r = (scan_says run.log _ _ _ _ _ _ _ _ _ _ _ t.second).reads.raising.0.2 in
     let h = (column_at a_raise_before_its_clients_nodes run 0 (complete x) refl).history in
-    let l : 0 ≡ length (line (take 1 (run.log.histories 0 0))) = ap (λ (es : List Entry). length (line (take 1 es))) h in
+    let l : 0 ≡ length (line (take 1 (run.log.histories 0 0))) =
+        ap (λ (es : List Entry). length (line (take 1 es))) h in
     omega (arith, k, r, l)
 
 pub over_open : IsUnlawful a_read_over_an_open_entry
@@ -126,7 +138,7 @@ below_clock run =
     let c = (scan_says run.log _ _ _ _ _ _ _ _ _ _ _ t.second).reads.above_clocks 0 0 (lit< tt) in
     let h = (column_at a_read_below_a_clock_that_was_seen run 0 opened refl).history in
     let d : clock (take (t.kept.seen 0 0) (run.log.histories 0 0)) ≡ 1 =
-        ap (λ n. clock (take n (run.log.histories 0 0))) k ∙ ap (λ (es : List Entry). clock (take 1 es)) (sym h) in
+    ap (λ n. clock (take n (run.log.histories 0 0))) k ∙ ap (λ (es : List Entry). clock (take 1 es)) (sym h) in
     let l = c.1 in
     omega (arith, d, l)
 

@@ -22,7 +22,8 @@ use Rattle.wrong_reports.specs.Columns.{one_append, stood, shows_columns, single
 
 -- EVENTS THAT MAY NOT COME: one event more, and the closing line after it
 abbrev pub also : Entry → ℕ → List Key → Case
-also entry clock line = shows_columns (record one_node { journal = single ∷ entry ∷ []; clock = clock; line = line } ∷ [])
+also entry clock line = shows_columns (record one_node { journal = single ∷ entry
+    ∷ []; clock = clock; line = line } ∷ [])
 
 -- 0 a single a.0 floor 0 wants 0 stamp 2
 -- = clock 2 line a.0:2 queue - cut 1 base 0
@@ -110,7 +111,8 @@ a_carry_with_a_gap = carries pulled_one (by b (Give w 0) 0 ∷ []) (carry e 1 (i
 -- 0 b carry w 0 a.0:1/0,0
 -- = clock 0 line - queue - cut 0,0 base 0,0
 abbrev pub a_carry_of_its_own_region : Case
-a_carry_of_its_own_region = carries pulled_one (by b (Give w 0) 0 ∷ []) (carry w 0 (id a 0) (counts 0 0) ∷ []) (counts 0 0)
+a_carry_of_its_own_region = carries pulled_one (by b (Give w 0) 0 ∷ []) (carry w 0 (id a 0) (counts 0 0)
+    ∷ []) (counts 0 0)
 
 -- 0 b carry e 0 a.1:1/0,0
 -- = clock 0 line - queue - cut 1,0 base 0,0
@@ -121,7 +123,8 @@ a_carry_of_what_the_origin_lacks =
 -- 0 b carry e 0 a.0:1/1,0
 -- = clock 0 line - queue - cut 0,0 base 0,0
 abbrev pub a_carry_with_other_needs : Case
-a_carry_with_other_needs = carries pulled_one (by b (Give w 0) 0 ∷ []) (carry e 0 (id a 0) (counts 1 0) ∷ []) (counts 0 0)
+a_carry_with_other_needs = carries pulled_one (by b (Give w 0) 0 ∷ []) (carry e 0 (id a 0) (counts 1 0)
+    ∷ []) (counts 0 0)
 
 -- 9 pull nomemory
 -- column e x
@@ -159,7 +162,8 @@ abbrev pub a_base_that_forgets_another_region : Case
 a_base_that_forgets_another_region = record {
   script = apart (asks 8 a (Append on_x (codes "s")) ∷ asks 9 a (Sync x) ∷ asks 10 a (whats.Trim x) ∷ []);
   report = shows (to_both (record stood { line = 8 }
-      ∷ record { line = 9; word = words.Sync; answer = answers.Synced (look x 1 (counts 1 0)) 1; nodes = shown 1 (codes "s") ∷ [] }
+      ∷ record { line = 9; word = words.Sync; answer = answers.Synced (look x 1 (counts 1 0)) 1; nodes =
+          shown 1 (codes "s") ∷ [] }
       ∷ replies 10 words.Trim (answers.Based (Event 1) (counts 0 0)) ∷ []) []) []
       (record one_node { journal = single ∷ by a (Trim (counts 1 0)) 0 ∷ []; base = counts 1 0 } ∷ empty w x ∷ []);
 }

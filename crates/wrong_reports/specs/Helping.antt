@@ -101,7 +101,8 @@ a_row_left_open = goes_on_to_sync 1 marks.None (empty e x)
 -- HELPING
 -- a stopped after the proposals in x and y, and b settled the node
 abbrev pub helped_by_b : ℕ → ColumnReport
-helped_by_b colour = column e colour (proposes a (id a 0) 0 1 ∷ settles b (id a 0) 1 ∷ []) 1 (key 1 (id a 0) ∷ []) [] (counts 1 0) (counts 0 0)
+helped_by_b colour = column e colour (proposes a (id a 0) 0 1 ∷ settles b (id a 0) 1 ∷ []) 1 (key 1 (id a 0)
+    ∷ []) [] (counts 1 0) (counts 0 0)
 
 -- 8 stop stopped 3
 -- 9 sync ok x?0/0 plays 0
@@ -121,8 +122,10 @@ one_who_only_syncs_helps = record {
 -- the same by a client of the region w, who appends there
 abbrev pub one_of_another_region_helps : Case
 one_of_another_region_helps = record {
-  script = script 2 2 (e ∷ w ∷ []) [] (asks 8 a (Stop 3 on_both (codes "s")) ∷ asks 9 b (Append on_x (codes "t")) ∷ []);
-  report = shows (to_both (replies 8 words.Stop (answers.Stopped 3) ∷ []) (replies 9 words.Append answers.NoMemory ∷ []))
+  script = script 2 2 (e ∷ w ∷ []) [] (asks 8 a (Stop 3 on_both (codes "s"))
+      ∷ asks 9 b (Append on_x (codes "t")) ∷ []);
+  report = shows (to_both (replies 8 words.Stop (answers.Stopped 3)
+      ∷ []) (replies 9 words.Append answers.NoMemory ∷ []))
       (row e a 0 (id a 0) (marks.Number 1) (marks.Number 1) (Final 1) ∷ [])
       (helped_by_b x ∷ helped_by_b y ∷ empty w x ∷ empty w y ∷ []);
 }

@@ -22,7 +22,8 @@ use Rattle.wrong_reports.specs.Shown.{shown}
 -- = clock 0 line - queue - cut 0 base 0
 abbrev pub a_base_that_is_not_there : Case
 a_base_that_is_not_there =
-    case (asks 6 a (whats.Trim x) ∷ []) (replies 6 words.Trim (answers.Based (Event 0) (counts 1 0)) ∷ []) (trimmed (trim ∷ []))
+    case (asks 6 a (whats.Trim x) ∷ []) (replies 6 words.Trim (answers.Based (Event 0) (counts 1 0))
+        ∷ []) (trimmed (trim ∷ []))
 
 -- 6 trim ok !0 base 0
 -- column e x
@@ -35,7 +36,8 @@ a_trim_beyond_the_snapshot =
 
 -- 6 sync trimmed x 0
 abbrev pub trimmed_where_nothing_is : Case
-trimmed_where_nothing_is = case (asks 6 a (Sync x) ∷ []) (replies 6 words.Sync (answers.Trimmed x (counts 0 0)) ∷ []) (empty e x)
+trimmed_where_nothing_is = case (asks 6 a (Sync x)
+    ∷ []) (replies 6 words.Sync (answers.Trimmed x (counts 0 0)) ∷ []) (empty e x)
 
 -- PULLS: a appends in e, and b of w pulls
 abbrev pub pulls : List ReplyLine → List Command → List Entry → List Entry → Counts → Case
@@ -83,7 +85,8 @@ a_pull_of_more_nodes = pulls (pulled 9 2 1 (Event 0) ∷ []) [] (given_from 0 �
 -- column w x
 -- 0 b carry e 0 a.0:1/0,0
 abbrev pub a_pull_that_asks_again : Case
-a_pull_that_asks_again = pulls (pulled 9 1 1 (Event 0) ∷ pulled 10 0 2 (Look 1) ∷ []) (asks 10 b (whats.Pull e x) ∷ [])
+a_pull_that_asks_again = pulls (pulled 9 1 1 (Event 0) ∷ pulled 10 0 2 (Look 1)
+    ∷ []) (asks 10 b (whats.Pull e x) ∷ [])
     (given_from 0 ∷ given_from 0 ∷ []) (carried_one ∷ []) (counts 1 0)
 
 -- A SYNC BELOW THE BASE: a and b of the region e; a trims what b did not play
@@ -99,11 +102,14 @@ a_pull_that_asks_again = pulls (pulled 9 1 1 (Event 0) ∷ pulled 10 0 2 (Look 1
 -- = clock 1 line a.0:1 queue - cut 1 base 1
 abbrev pub a_sync_of_what_was_trimmed : Case
 a_sync_of_what_was_trimmed = record {
-  script = script 1 1 (e ∷ e ∷ []) [] (append 7 ∷ asks 8 a (Sync x) ∷ asks 9 a (whats.Trim x) ∷ asks 10 b (Sync x) ∷ []);
+  script = script 1 1 (e ∷ e ∷ []) [] (append 7 ∷ asks 8 a (Sync x) ∷ asks 9 a (whats.Trim x)
+      ∷ asks 10 b (Sync x) ∷ []);
   report = shows
       (to_both (stood_at 7 1 0 0
-      ∷ record { line = 8; word = words.Sync; answer = answers.Synced (look x 1 (counts 1 0)) 1; nodes = shown 1 (codes "s") ∷ [] }
+      ∷ record { line = 8; word = words.Sync; answer = answers.Synced (look x 1 (counts 1 0)) 1; nodes =
+          shown 1 (codes "s") ∷ [] }
       ∷ replies 9 words.Trim (answers.Based (Event 1) (counts 1 0)) ∷ [])
-      (record { line = 10; word = words.Sync; answer = answers.Synced (look x 2 (counts 1 0)) 1; nodes = shown 1 (codes "s") ∷ [] } ∷ []))
+      (record { line = 10; word = words.Sync; answer = answers.Synced (look x 2 (counts 1 0)) 1; nodes =
+          shown 1 (codes "s") ∷ [] } ∷ []))
       [] (record one_node { journal = single ∷ by a (Trim (counts 1 0)) 0 ∷ []; base = counts 1 0 } ∷ []);
 }

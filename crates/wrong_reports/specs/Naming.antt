@@ -52,7 +52,8 @@ an_event_named_twice =
 -- = clock 0 line - queue - cut 0 base 0
 abbrev pub events_named_out_of_order : Case
 events_named_out_of_order =
-    case (asks 6 a (Trim x) ∷ asks 7 a (Trim x) ∷ []) (trimmed_at 6 1 ∷ trimmed_at 7 0 ∷ []) (trimmed (trim ∷ trim ∷ []))
+    case (asks 6 a (Trim x) ∷ asks 7 a (Trim x) ∷ []) (trimmed_at 6 1 ∷ trimmed_at 7 0 ∷ []) (trimmed (trim
+        ∷ trim ∷ []))
 
 -- 6 sync ok x?1/0 plays 0
 -- 7 trim ok !0 base 0
@@ -83,7 +84,8 @@ abbrev pub append : ℕ → Command
 append line = asks line a (Append on_x (codes "s"))
 
 abbrev pub stood_at : ℕ → ℕ → ℕ → ℕ → ReplyLine
-stood_at line stamp place position = replies line words.Append (answers.Stood stamp None (point x place position ∷ []))
+stood_at line stamp place position =
+    replies line words.Append (answers.Stood stamp None (point x place position ∷ []))
 
 -- 0 a single a.0 floor 0 wants 0 stamp 1
 -- = clock 1 line a.0:1 queue - cut 1 base 0
@@ -140,7 +142,8 @@ a_full_that_needs_no_row = case (append 6 ∷ []) (replies 6 words.Append (answe
 -- = clock 2 line a.0:1,a.1:2 queue - cut 2 base 0
 abbrev pub a_floor_that_is_forgotten : Case
 a_floor_that_is_forgotten = case (append 6 ∷ append 7 ∷ []) (stood_at 6 1 0 0 ∷ stood_at 7 2 1 1 ∷ [])
-    (column e x (enters a (id a 0) 0 1 ∷ enters a (id a 1) 0 2 ∷ []) 2 (key 1 (id a 0) ∷ key 2 (id a 1) ∷ []) [] (counts 2 0) (counts 0 0))
+    (column e x (enters a (id a 0) 0 1 ∷ enters a (id a 1) 0 2 ∷ []) 2 (key 1 (id a 0) ∷ key 2 (id a 1)
+        ∷ []) [] (counts 2 0) (counts 0 0))
 
 -- EVENTS THAT NO REPLY NAMES
 -- 6 sync ok x?0/0 plays 0

@@ -35,12 +35,14 @@ queue = kinds.Queue e x
 -- 7 put nothome e
 abbrev pub refused_at_home : Case
 refused_at_home =
-    over map (asks 7 a (whats.Put 0 (codes "k") (codes "v")) ∷ []) (replies 7 words.Put (answers.NotHome e) ∷ []) (empty e x)
+    over map (asks 7 a (whats.Put 0 (codes "k") (codes "v")) ∷ []) (replies 7 words.Put (answers.NotHome e)
+        ∷ []) (empty e x)
 
 -- map o e x, and the client b of the region w
 abbrev pub away : Answer → List ColumnReport → Case
 away answer columns = record {
-  script = script 2 1 (e ∷ w ∷ []) (record { name = codes "o"; kind = map } ∷ []) (asks 8 b (whats.Put 0 (codes "k") (codes "v")) ∷ []);
+  script = script 2 1 (e ∷ w ∷ []) (record { name = codes "o"; kind = map }
+      ∷ []) (asks 8 b (whats.Put 0 (codes "k") (codes "v")) ∷ []);
   report = shows (to_both [] (replies 8 words.Put answer ∷ [])) [] columns;
 }
 
@@ -82,7 +84,8 @@ a_causal_value_of_nothing =
 -- 7 deq ok 1 x!0@0
 abbrev pub a_dequeue_answered_as_an_append : Case
 a_dequeue_answered_as_an_append =
-    over queue (asks 7 a (whats.Deq 0) ∷ []) (replies 7 words.Deq (answers.Stood 1 None (point x 0 0 ∷ [])) ∷ []) one_node
+    over queue (asks 7 a (whats.Deq 0) ∷ []) (replies 7 words.Deq (answers.Stood 1 None (point x 0 0 ∷ []))
+        ∷ []) one_node
 
 -- 7 deq ok v x!0@0 x?1/1
 abbrev pub a_dequeue_of_nothing : Case
@@ -94,7 +97,8 @@ abbrev pub one_pair : List Pair
 one_pair = record { key = codes "k"; value = codes "v" } ∷ []
 
 abbrev pub read_at : ℕ → ReplyLine
-read_at line = replies line words.Read (answers.GotKeys 0 (record { key = codes "k"; value = None } ∷ []) (raise x (Look 0) ∷ [])
+read_at line = replies line words.Read (answers.GotKeys 0 (record { key = codes "k"; value = None }
+    ∷ []) (raise x (Look 0) ∷ [])
     (look x 0 (counts 0 0) ∷ []))
 
 -- tx o e x
@@ -116,5 +120,7 @@ a_read_that_is_forgotten =
 -- 9 commit unread 1 nomemory
 abbrev pub a_commit_that_keeps_its_read : Case
 a_commit_that_keeps_its_read =
-    over tx (asks 7 a (whats.Read 0 (codes "k" ∷ [])) ∷ asks 8 a (whats.Commit 0 one_pair) ∷ asks 9 a (whats.Commit 0 one_pair) ∷ [])
-    (read_at 7 ∷ replies 8 words.Commit answers.NoMemory ∷ replies 9 words.Commit (answers.UnreadNoMemory 1) ∷ []) (empty e x)
+    over tx (asks 7 a (whats.Read 0 (codes "k" ∷ [])) ∷ asks 8 a (whats.Commit 0 one_pair)
+        ∷ asks 9 a (whats.Commit 0 one_pair) ∷ [])
+    (read_at 7 ∷ replies 8 words.Commit answers.NoMemory ∷ replies 9 words.Commit (answers.UnreadNoMemory 1)
+        ∷ []) (empty e x)

@@ -88,7 +88,8 @@ a_raise_before_its_clients_nodes = record {
 }
 
 abbrev pub opened : ColumnReport
-opened = column e x (proposes b (id b 0) 0 1 ∷ []) 1 [] (record { key = key 1 (id b 0); settled = false } ∷ []) (counts 0 0) (counts 0 0)
+opened = column e x (proposes b (id b 0) 0 1 ∷ []) 1 [] (record { key = key 1 (id b 0); settled = false }
+    ∷ []) (counts 0 0) (counts 0 0)
 
 -- b stopped after its proposal in x
 abbrev pub over_an_open_entry : List Command → List ReplyLine → Case

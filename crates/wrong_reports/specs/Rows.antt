@@ -34,7 +34,8 @@ settles client node stamp = by client (Settle node (Final stamp)) 0
 -- 1 a settle a.0 final 1
 -- = clock 1 line a.0:1 queue - cut 1 base 0
 abbrev pub complete : ℕ → ColumnReport
-complete colour = column e colour (proposes a (id a 0) 0 1 ∷ settles a (id a 0) 1 ∷ []) 1 (key 1 (id a 0) ∷ []) [] (counts 1 0) (counts 0 0)
+complete colour = column e colour (proposes a (id a 0) 0 1 ∷ settles a (id a 0) 1 ∷ []) 1 (key 1 (id a 0)
+    ∷ []) [] (counts 1 0) (counts 0 0)
 
 -- 8 a append x,y s
 abbrev pub one_append : Script
@@ -140,9 +141,11 @@ two_orders = record {
       (to_both (stood ∷ []) (replies 9 words.Append (answers.Stood 2 (Some 0) (point x 2 1 ∷ point y 1 0 ∷ [])) ∷ []))
       (row e a 0 (id a 0) (marks.Number 1) (marks.Number 1) (Final 1)
       ∷ row e b 0 (id b 0) (marks.Number 2) (marks.Number 2) (Final 2) ∷ [])
-      (column e x (proposes a (id a 0) 0 1 ∷ settles a (id a 0) 1 ∷ proposes b (id b 0) 0 2 ∷ settles b (id b 0) 2 ∷ [])
+      (column e x (proposes a (id a 0) 0 1 ∷ settles a (id a 0) 1 ∷ proposes b (id b 0) 0 2
+          ∷ settles b (id b 0) 2 ∷ [])
       2 (key 1 (id a 0) ∷ key 2 (id b 0) ∷ []) [] (counts 2 0) (counts 0 0)
-      ∷ column e y (proposes a (id a 0) 0 1 ∷ proposes b (id b 0) 0 2 ∷ settles b (id b 0) 2 ∷ settles a (id a 0) 3 ∷ [])
+      ∷ column e y (proposes a (id a 0) 0 1 ∷ proposes b (id b 0) 0 2 ∷ settles b (id b 0) 2
+          ∷ settles a (id a 0) 3 ∷ [])
       3 (key 2 (id b 0) ∷ key 3 (id a 0) ∷ []) [] (counts 2 0) (counts 0 0) ∷ []);
 }
 
@@ -167,4 +170,5 @@ a_settling_under_a_lesser_stamp = record {
 
 -- = clock 1 line - queue a.0:1? cut 0 base 0
 abbrev pub proposed : ℕ → ColumnReport
-proposed colour = column e colour (proposes a (id a 0) 0 1 ∷ []) 1 [] (record { key = key 1 (id a 0); settled = false } ∷ []) (counts 0 0) (counts 0 0)
+proposed colour = column e colour (proposes a (id a 0) 0 1
+    ∷ []) 1 [] (record { key = key 1 (id a 0); settled = false } ∷ []) (counts 0 0) (counts 0 0)

@@ -21,11 +21,13 @@ answered answer last columns = record {
 
 -- 8 append ok 1 row 1 x!0@0 y!0@0
 abbrev pub another_rows_number : Case
-another_rows_number = answered (answers.Stood 1 (Some 1) (point x 0 0 ∷ point y 0 0 ∷ [])) (Final 1) (complete x ∷ complete y ∷ [])
+another_rows_number = answered (answers.Stood 1 (Some 1) (point x 0 0 ∷ point y 0 0
+    ∷ [])) (Final 1) (complete x ∷ complete y ∷ [])
 
 -- 8 append ok 1 row 0 x!0@0
 abbrev pub a_colour_without_a_point : Case
-a_colour_without_a_point = answered (answers.Stood 1 (Some 0) (point x 0 0 ∷ [])) (Final 1) (complete x ∷ complete y ∷ [])
+a_colour_without_a_point = answered (answers.Stood 1 (Some 0) (point x 0 0 ∷ [])) (Final 1) (complete x
+    ∷ complete y ∷ [])
 
 -- 8 append ok 1 row 0 x!0@0 y!0@0
 -- row e a.0 a.0 x=1 y=1 final 1
@@ -33,12 +35,14 @@ a_colour_without_a_point = answered (answers.Stood 1 (Some 0) (point x 0 0 ∷ [
 -- 0 a propose a.0 floor 0 wants 0 stamp 1
 -- = clock 1 line - queue a.0:1? cut 0 base 0
 abbrev pub stood_before_it_is_settled : Case
-stood_before_it_is_settled = answered (answers.Stood 1 (Some 0) (point x 0 0 ∷ point y 0 0 ∷ [])) (Final 1) (proposed x ∷ proposed y ∷ [])
+stood_before_it_is_settled = answered (answers.Stood 1 (Some 0) (point x 0 0 ∷ point y 0 0
+    ∷ [])) (Final 1) (proposed x ∷ proposed y ∷ [])
 
 -- 8 append ok 1 row 0 x!0@0 y!0@0
 -- row e a.0 a.0 x=1 y=1 open
 abbrev pub stood_before_it_is_decided : Case
-stood_before_it_is_decided = answered (answers.Stood 1 (Some 0) (point x 0 0 ∷ point y 0 0 ∷ [])) Open (complete x ∷ complete y ∷ [])
+stood_before_it_is_decided = answered (answers.Stood 1 (Some 0) (point x 0 0 ∷ point y 0 0
+    ∷ [])) Open (complete x ∷ complete y ∷ [])
 
 -- 8 sync ok x?0/0 plays 0
 -- row e a.0 a.0 x=- y=- open
@@ -77,7 +81,8 @@ a_look_before_its_own_settling = record {
 -- 8 append ok 1 row 0 x?1@0 y!0@0
 abbrev pub its_own_proposal_told_as_a_look : Case
 its_own_proposal_told_as_a_look =
-    answered (answers.Stood 1 (Some 0) (record { colour = x; at = Look 1; position = 0 } ∷ point y 0 0 ∷ [])) (Final 1) (complete x ∷ complete y ∷ [])
+    answered (answers.Stood 1 (Some 0) (record { colour = x; at = Look 1; position = 0 } ∷ point y 0 0
+        ∷ [])) (Final 1) (complete x ∷ complete y ∷ [])
 
 -- 8 append nomemory
 -- row e a.0 a.0 x=1 y=1 final 1
