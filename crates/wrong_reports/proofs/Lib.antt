@@ -1,0 +1,14 @@
+pub mod Tools
+pub mod Told
+pub mod BegunRows
+pub mod WrongReplies
+pub mod WrongNaming
+pub mod WrongShown
+pub mod WrongColumns
+pub mod WrongRows
+pub mod WrongSeveral
+pub mod WrongReads
+pub mod WrongEvents
+pub mod WrongMoves
+pub mod WrongObjects
+pub mod WrongHelping

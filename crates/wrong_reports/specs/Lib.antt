@@ -1,0 +1,12 @@
+pub mod Cases
+pub mod Replies
+pub mod Naming
+pub mod Shown
+pub mod Columns
+pub mod Rows
+pub mod Several
+pub mod Reads
+pub mod Events
+pub mod Moves
+pub mod Objects
+pub mod Helping
