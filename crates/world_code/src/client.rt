@@ -109,14 +109,6 @@ impl Client {
         self.begun.get(number as usize)
     }
 
-    /// Its node of a count; `None` exactly where it has appended no more than `count` nodes.
-    pub fn node(&self, count: u64) -> Option<&Arc<Node>>
-        ensures some { IfSome result (λ node. slice_get self.now.nodes count ≡ Some node.now.value) }
-        ensures none { result ≡ None → slice_get self.now.nodes count ≡ None }
-    {
-        self.nodes.get(count as usize)
-    }
-
     /// Takes the memory for one node and one row more, unless it is there.
     pub fn room(&mut self) -> Result<(), AllocError>
         ensures ok { OnOk result (self.new ≡ with_spare self.old) }

@@ -6,6 +6,7 @@ ghost use Rattle.world_laws.specs.Completing.{mark_steps, settle_steps, colours_
 ghost use Rattle.world_code.specs.WorldView.{world_of};
 ghost use Rattle.world_code.specs.Completed.{done_count, IsMarkStep, AreTaken, IsPartCompleted, IsCompleted};
 
+use crate::replies::{decided_reply, marked_reply, place_reply, placed_reply};
 use crate::world::World;
 use log_node::{Colours, MAX_COLOURS, Row};
 use skeen_core::{Outcome, Why};
@@ -75,11 +76,11 @@ impl World {
         ensures { IsMarkStep (world_of self.old) by row colour (world_of self.new) result }
     {
         if self.is_row_at_end(row, colour) {
-            return self.fence(row, colour, Why::StampEnd);
+            return marked_reply(self.fence(row, colour, Why::StampEnd));
         }
         match self.propose(by, row, colour) {
-            Ok(reply) => reply,
-            Err(_) => self.fence(row, colour, Why::Memory),
+            Ok(placed) => placed_reply(placed),
+            Err(_) => marked_reply(self.fence(row, colour, Why::Memory)),
         }
     }
 
@@ -125,7 +126,7 @@ impl World {
         if limit == 0 {
             return Taken { done: 0, left: 0 };
         }
-        let reply = self.decide(row);
+        let reply = decided_reply(self.decide(row));
         Taken {
             done: done_count(&reply),
             left: limit - 1,
@@ -147,7 +148,7 @@ impl World {
         };
         for colour in 0..MAX_COLOURS {
             if taken.left > 0 && colours.has(colour) {
-                let reply = self.settle(by, row, colour);
+                let reply = place_reply(self.settle(by, row, colour));
                 taken.done += done_count(&reply);
                 taken.left -= 1;
             }
