@@ -212,11 +212,6 @@ ends_several command colours text row id completed places w w1 w2 new answer b d
 
 -- How an append to several colours ends
 
-pub ends_gone : (w : World) (row : Row) (id : Id) (colours : List ℕ) (places : List PointPiece)
-    → EndsAs w row id colours (Gone Memory) places w answers.NoMemory
-ends_gone w row id colours places =
-    record { finds = []; is = λ grants f before e p command mine replies. refl }
-
 pub ends_stamps : (w : World) (row : Row) (id : Id) (colours : List ℕ) (places : List PointPiece) (colour : ℕ)
     → colour ≡ ended_colour w row colours
     → EndsAs w row id colours (Gone StampEnd) places w (answers.StampEnd colour)

@@ -115,7 +115,3 @@ pub client_hides : (w : World) (region n : ℕ) (old reports new : List RowRepor
 client_hides w region n old reports new other was is =
     is ∙ (was ∙ ap (λ (l : List RowReport). old ++ l)
     (sym (client_more w region n false other ∙ append-nil (rows_of_first w region n))))
-
-pub clients_all : (w : World) (region n : ℕ) (old reports : List RowReport) → n ≡ length w.shape.homes
-    → reports ≡ old ++ rows_of_first w region n → reports ≡ old ++ region_rows_shown w region
-clients_all w region n old reports e is = is ∙ ap (λ (k : ℕ). old ++ rows_of_first w region k) e
