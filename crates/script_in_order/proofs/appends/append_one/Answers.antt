@@ -4,7 +4,7 @@ use Rattle.log_node.specs.declared.node.Shape.{Shape}
 use Rattle.report_text.specs.declared.report.Answer.TheVariants as answers
 use Rattle.world_laws.specs.declared.steps.Step.TheVariants.{Single}
 use Rattle.world_laws.specs.Laws.{Always, LogGrows, IsFinal}
-use Rattle.world_laws.specs.Worlds.{World, may_single, single_stamp, home_history, next_id, after, reply}
+use Rattle.world_laws.specs.Worlds.{World, home_history, next_id, after, reply}
 use Rattle.world_laws.specs.declared.steps.Reply.TheVariants.{Event}
 use Rattle.log_node.specs.declared.node.At.TheVariants as ats
 use Rattle.report_text.specs.declared.report.PointPiece.{PointPiece}

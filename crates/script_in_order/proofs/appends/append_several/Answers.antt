@@ -10,7 +10,7 @@ use Rattle.report_text.specs.declared.report.Answer.TheVariants as answers
 use Rattle.world_laws.specs.declared.steps.Step.TheVariants.{Begin}
 use Rattle.world_laws.specs.Laws.{IsBounded, CanComplete, RowsStay, IsReached}
 use Rattle.world_laws.specs.Completing.{complete_steps}
-use Rattle.world_laws.specs.Worlds.{World, may_begin, next_row, next_id, run_steps}
+use Rattle.world_laws.specs.Worlds.{World, run_steps}
 use Rattle.world_laws.proofs.CallerLemmas.{of_reached, after_reached}
 use Rattle.world_code.specs.declared.completing.Completed.{Completed}
 use Rattle.world_code.specs.Completed.{IsCompleted}

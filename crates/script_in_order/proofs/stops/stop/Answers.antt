@@ -1,7 +1,7 @@
 use Rattle.std.proofs.Common.{◌≡◌, ◌∙◌, ◌-◌, [], List, ap, sym, subst, ℕ, suc, refl, arith}
 use Rattle.log_node.specs.declared.node.Shape.{Shape}
 use Rattle.world_laws.specs.Laws.{IsBounded}
-use Rattle.world_laws.specs.Worlds.{World, may_begin, next_row, next_id}
+use Rattle.world_laws.specs.Worlds.{World}
 use Rattle.world_laws.proofs.CallerLemmas.{of_reached}
 use Rattle.world_code.specs.Replies.{begun_reply}
 use Rattle.world_code.specs.WorldView.{world_of}
