@@ -13,7 +13,7 @@ use Rattle.log_node.specs.declared.node.Node.{Node}
 use Rattle.log_node.specs.Seen.{PlacedNode}
 use Rattle.log_node.specs.Sets.{has}
 use Rattle.log_node.specs.Vectors.{at, zeros}
-use Rattle.skeen_core.specs.declared.stamps.TheConstants.{MAX_STAMP}
+use Rattle.log_node.specs.declared.limits.TheConstants.{MAX_STAMP}
 use Rattle.skeen_core.specs.declared.marks.Outcome.{Outcome}
 use Rattle.skeen_core.specs.declared.marks.Outcome.TheVariants.{Open, Gone, Final}
 use Rattle.skeen_core.specs.Outcomes as outcomes
