@@ -15,7 +15,7 @@ use skeen_core::Waiting;
 fn is_below(entry: &Waiting<Entered>, key: Key) -> bool
     ensures { result ≡ key_below entry.now.key key }
 {
-    entry.key < key
+    entry.key.is_below(key)
 }
 
 // The entries with a key below, where keys rise.
