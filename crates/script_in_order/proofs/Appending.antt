@@ -78,7 +78,7 @@ stops_within command colours text steps n limit done row id w w1 new e l b part 
           ∙ ap (λ (x : World). answered state command x (answers.Stopped (suc n)) []) (sym world);
     }) where
       grants : Grants
-      grants = found_with part.grants []
+      grants = found_with part.found []
 
       first : World
       first = after w (Begin command.client colours text)
@@ -86,10 +86,10 @@ stops_within command colours text steps n limit done row id w w1 new e l b part 
       world : new ≡ run_steps w (take (suc n) (append_steps grants w command.client colours text))
       world =
           part.world
-          ∙ (ap (λ (k : ℕ). run_steps w1 (take k (complete_steps w1 command.client row part.grants))) l
-          ∙ (ap (λ (r : Row). run_steps w1 (take n (complete_steps w1 command.client r part.grants))) b.row_is
+          ∙ (ap (λ (k : ℕ). run_steps w1 (take k (complete_steps w1 command.client row part.found))) l
+          ∙ (ap (λ (r : Row). run_steps w1 (take n (complete_steps w1 command.client r part.found))) b.row_is
           ∙ ap (λ (x : World). run_steps x (take n (complete_steps x command.client (next_row w command.client)
-          part.grants)))
+          part.found)))
           b.world))
 
 -- Appends to one colour
@@ -195,19 +195,19 @@ ends_several command colours text row id completed places w w1 w2 new answer b d
       (row_of x (next_row w client)).last) (sym world)
       ∙ (ap (λ (r : Row). appended_by grants state command w2 r (members colours) (row_of w2 r).last) (sym b.row_is)
       ∙ (ap (appended_by grants state command w2 row (members colours)) (sym done.outcome)
-      ∙ ends.is grants (finds_all done.grants ends.finds) w
+      ∙ ends.is grants (finds_all done.found ends.finds) w
       (ap (next_id w) (sym mine) ∙ sym b.id_is) (all ∙ ap (λ (n : ℕ). places_in w n (members colours)) mine) command
       mine
       replies)));
 } where
   grants : Grants
-  grants = found_with done.grants ends.finds
+  grants = found_with done.found ends.finds
 
   world : w2 ≡ run_steps w (append_steps grants w command.client colours text)
   world =
       done.world
-      ∙ (ap (λ (r : Row). run_steps w1 (complete_steps w1 command.client r done.grants)) b.row_is
-      ∙ ap (λ (x : World). run_steps x (complete_steps x command.client (next_row w command.client) done.grants))
+      ∙ (ap (λ (r : Row). run_steps w1 (complete_steps w1 command.client r done.found)) b.row_is
+      ∙ ap (λ (x : World). run_steps x (complete_steps x command.client (next_row w command.client) done.found))
       b.world)
 
 -- How an append to several colours ends

@@ -88,7 +88,7 @@ pub several_final : (w w1 w2 : World) (client : ℕ) (colours : Colours) (text :
     (completed : Completed) → CanComplete w1 → Begins w client colours text row id w1
     → IsCompleted w1 client row w2 completed → AreFinal w2 row.client id (members colours) completed.outcome
 several_final w w1 w2 client colours text row id completed law b done =
-    let can = law client row done.grants b.begun in
+    let can = law client row done.found b.begun in
     let stands = subst (λ (x : World). StandsAsDecided x row (row_of x row).last) (sym done.world) can.stands in
     let same = ap (λ (x : World). (row_of x row).node) done.world ∙ (can.same ∙ b.node) in
     subst (λ (i : Id). AreFinal w2 row.client i (members colours) completed.outcome) (sym b.id_is)
@@ -98,7 +98,7 @@ several_final w w1 w2 client colours text row id completed law b done =
 pub several_begun : (w1 w2 : World) (client : ℕ) (row : Row) (completed : Completed) → RowsStay w1
     → is_begun w1 row ≡ true → IsCompleted w1 client row w2 completed → is_begun w2 row ≡ true
 several_begun w1 w2 client row completed law b done =
-    subst (λ (x : World). is_begun x row ≡ true) (sym done.world) (law (complete_steps w1 client row done.grants) row
+    subst (λ (x : World). is_begun x row ≡ true) (sym done.world) (law (complete_steps w1 client row done.found) row
     b).0
 
 pub run_shape : (w new : World) (steps : List Step) → run_steps w steps ≡ new → new.shape ≡ w.shape

@@ -66,7 +66,7 @@ pub first_helped : (old new : World) (by home colour : ℕ) (key : Key) (row : R
     ≡ helped_first grants by (helping old count) (open_below key (old.histories home colour)))
     → Helps meaning old new
 first_helped old new by home colour key row completed first done meaning is = record {
-  finds = done.grants ∷ [];
+  finds = done.found ∷ [];
   is = λ grants count t.
       is grants count
       ∙ (ap (helped_first grants by (helping old count)) first.is_first
@@ -74,7 +74,7 @@ first_helped old new by home colour key row completed first done meaning is = re
       ∙ (ap (helped_row grants by (helping old count)) first.named
       ∙ ap (λ (w : World). helping w (count + 1))
       (ap (λ (g : ℕ → Bool). run_steps old (complete_steps old by row g)) t.0 ∙ sym done.world))));
-  steps = complete_steps old by row done.grants;
+  steps = complete_steps old by row done.found;
   run = sym done.world;
 }
 

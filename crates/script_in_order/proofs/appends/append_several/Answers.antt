@@ -28,8 +28,8 @@ shape_then : (w w1 w2 : World) (client : ℕ) (colours : Colours) (text : List �
     (completed : Completed)
     → Begins w client colours text row id w1 → IsCompleted w1 client row w2 completed → w2.shape ≡ w.shape
 shape_then w w1 w2 client colours text row id completed b done =
-    run_shape w w2 (Begin client colours text ∷ complete_steps w1 client row done.grants)
-    (ap (λ (x : World). run_steps x (complete_steps w1 client row done.grants)) (sym b.world) ∙ sym done.world)
+    run_shape w w2 (Begin client colours text ∷ complete_steps w1 client row done.found)
+    (ap (λ (x : World). run_steps x (complete_steps w1 client row done.found)) (sym b.world) ∙ sym done.world)
 
 pub unreachable-requires : goal.unreachable-requires
 unreachable-requires c =

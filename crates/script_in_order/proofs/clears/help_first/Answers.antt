@@ -20,7 +20,7 @@ pub returns-in-Some-clause-shape : goal.returns-in-Some-clause-shape
 returns-in-Some-clause-shape c =
     let w = world_of c.args.world.now in
     let done = c.complete.ensures in
-    ap (λ (x : World). x.shape) done.world ∙ (run_grows w (complete_steps w c.args.by c.in-Some.row done.grants)).shape
+    ap (λ (x : World). x.shape) done.world ∙ (run_grows w (complete_steps w c.args.by c.in-Some.row done.found)).shape
 
 pub returns-in_default-clause-helps : goal.returns-in_default-clause-helps
 returns-in_default-clause-helps c =

@@ -27,11 +27,11 @@ old_of c =
 
 -- what the code read
 read : (c : goal.After-push_reserved) → HasRead (old_of c) c.args.node.value c.deref.result.now c.deref-2.result.now
-    c.wants_of-wants.result c.args.cut c.least-needs.result c.propose-stamp.result c.of.result
+    c.wants_for-wants.result c.args.cut c.least-needs.result c.propose-stamp.result c.of.result
 read c = record {
   id_of = c.deref.ensures;
   floor_of = c.deref-2.ensures;
-  wants_is = c.wants_of-wants.ensures ∙ ap (λ (n : Node). node_wants n c.self.inside.colour) c.deref-3.ensures;
+  wants_is = c.wants_for-wants.ensures ∙ ap (λ (n : Node). node_wants n c.self.inside.colour) c.deref-3.ensures;
   cut_is = c.requires.cut ∙ sym (ap cut_of c.self.view_is);
   needs_is = c.least-needs.ensures;
   thing_is = c.of.ensures;
