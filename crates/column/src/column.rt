@@ -61,7 +61,7 @@ impl Column {
     {
         Ok(Column {
             contents: Contents::open(alloc, region, colour, shape)?,
-            cut: Counts::zeros(),
+            cut: Counts([0; 4]),
         })
     }
 

@@ -87,9 +87,9 @@ impl Contents {
             journal: Vec::new(alloc),
             queue: Queue::open(alloc),
             copies: Copies::open(alloc)?,
-            carried: Counts::zeros(),
-            notes: Counts::zeros(),
-            base: Counts::zeros(),
+            carried: Counts([0; 4]),
+            notes: Counts([0; 4]),
+            base: Counts([0; 4]),
             opens: 0,
             spare: 0,
         })

@@ -22,6 +22,6 @@ pub(crate) fn wants_for(node: &Node, colour: u8) -> Counts
 {
     match node.wants.get(rank(node.colours, colour)) {
         Some(wants) => *wants,
-        None => Counts::zeros(),
+        None => Counts([0; 4]),
     }
 }

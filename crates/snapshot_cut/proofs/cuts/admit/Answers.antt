@@ -1,6 +1,6 @@
 use Rattle.std.proofs.Common.{◌<◌, sym, subst}
 use Rattle.log_node.specs.declared.ids.Counts.{Counts}
-use Rattle.log_node.specs.Vectors.{IsWithin}
+use Rattle.log_node.specs.Vectors.{IsWithin, one_more}
 use Rattle.col_core.specs.Cuts.{Reachable}
 use Rattle.snapshot_cut.specs.Stuck.{left}
 use Rattle.log_node.proofs.CallerLemmas.{within-trans, within-one_more}
@@ -15,7 +15,7 @@ loop-region-preserved g c =
       subst (λ (v : Counts). Reachable chains v) (sym c.one_more-cut.ensures)
           (more_reached chains c.loop-region.cut c.in-Some.region old.0 c.in-Some.ensures),
       subst (λ (v : Counts). IsWithin bases v) (sym c.one_more-cut.ensures)
-          (within-trans bases c.loop-region.cut _ old.1 (within-one_more c.loop-region.cut c.in-Some.region)),
+          (within-trans bases c.loop-region.cut (one_more c.loop-region.cut c.in-Some.region) old.1 (within-one_more c.loop-region.cut c.in-Some.region)),
     )
 
 pub loop-region-smaller : goal.loop-region-smaller
