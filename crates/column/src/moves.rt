@@ -16,7 +16,7 @@ use std::alloc::{AllocError, Global};
 fn shared(alloc: Global, items: &[Item]) -> Result<Vec<Item>, AllocError>
     ensures { IfOk result (λ copies. copies.items ≡ items.now) }
 {
-    let mut copies = Vec::new(alloc);
+    let mut copies = Vec::with_capacity(alloc, items.len())?;
     for item in items {
         copies.push(item.share()?)?;
     }
@@ -40,7 +40,7 @@ fn shared_from(alloc: Global, held: u64, given: &Given) -> Result<Vec<Item>, All
 fn heads_of(alloc: Global, items: &[Item]) -> Result<Heads, AllocError>
     ensures { IfOk result (λ heads. heads ≡ map (λ i. i.head) items.now) }
 {
-    let mut heads = Heads::new(alloc);
+    let mut heads = Heads::with_capacity(alloc, items.len())?;
     for item in items {
         heads.push(item.head)?;
     }

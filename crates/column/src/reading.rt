@@ -28,7 +28,7 @@ use std::alloc::{AllocError, Global};
 fn shared(alloc: Global, items: &[Item]) -> Result<Items, AllocError>
     ensures { IfOk result (λ copies. copies ≡ items.now) }
 {
-    let mut copies = ListOf::new(alloc);
+    let mut copies = ListOf::with_capacity(alloc, items.len())?;
     for item in items {
         copies.push(item.share()?)?;
     }
