@@ -71,3 +71,9 @@ module _ (keys : List Key) (key : Key) (rising : AreRising keys) where
                 subst (λ (n : ℕ). same_key (get_or keys n d) key ≡ false) e (here (omega (arith, lt, e))).1
           ]
         ]
+
+  -- a key that is there stands where it is
+  pub place-there : (p : ℕ) (d : Key) → p < length keys → same_key (get_or keys p d) key ≡ true → position is_it keys ≡ Some p
+  place-there p d lt same =
+      place-found p d lt (λ k under. subst (λ (l : Key). key_below (get_or keys k d) l ≡ true)
+      (same_key-is (get_or keys p d) key same) (at_rising k p d under lt)) same
