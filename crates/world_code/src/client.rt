@@ -6,7 +6,7 @@ ghost use Rattle.log_node.specs.Sets.{members};
 ghost use Rattle.world_code.specs.Clients.{fresh_client, with_spare, with_next_node, with_next_row, next_single};
 ghost use Rattle.world_code.specs.Clients.{next_begun, played_of};
 
-use log_node::{Colours, Counts, Id, ListOf, MAX_COLOURS, Node, Row, Text};
+use log_node::{Colours, Counts, Id, ListOf, MAX_COLOURS, Node, Row, Text, Wants};
 use std::alloc::{AllocError, Global};
 use std::marker::Model;
 use std::sync::Arc;
@@ -145,12 +145,12 @@ impl Client {
     }
 
     // What it has played of these colours.
-    fn played_of(&self, alloc: Global, colours: Colours) -> Result<ListOf<Counts>, AllocError>
+    fn played_of(&self, alloc: Global, colours: Colours) -> Result<Wants, AllocError>
         requires { length self.now.played ≡ MAX_COLOURS }
         ensures { IfOk result (λ wants. wants ≡ played_of self.now (members colours)) }
     {
         let _bits = colours.0;
-        let mut wants = ListOf::new(alloc);
+        let mut wants = Wants::new(alloc);
         for colour in 0..MAX_COLOURS {
             if colours.has(colour) {
                 let played = self.played(colour);
@@ -202,7 +202,7 @@ impl Client {
         requires colour { colour < MAX_COLOURS }
         ensures { IfOk result (λ node. node ≡ next_single self.now client home colour text) }
     {
-        let mut wants = ListOf::new(alloc);
+        let mut wants = Wants::new(alloc);
         wants.push(self.played(colour))?;
         Ok(Node {
             id: Id {

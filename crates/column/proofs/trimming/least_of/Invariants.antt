@@ -1,6 +1,6 @@
 use Rattle.std.proofs.Common.{◌≡◌}
 use Rattle.column.specs.Inside.{least_noted}
-use Rattle.column.proofs.counts.least_of.Given as goal
+use Rattle.column.proofs.trimming.least_of.Given as goal
 
 -- the least so far
 abbrev pub invariant-loop-region : goal.invariant-loop-region

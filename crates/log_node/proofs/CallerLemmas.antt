@@ -1,11 +1,15 @@
--- The order of keys, and when two ids are one.
-use Rattle.std.proofs.Common.{◌≡◌, ℕ, ◌<◌, ◌≤◌, true, false, refl, ap, subst, sym, ◌∙◌, inl, inr, ◌⊎◌, arith}
+-- What callers may use of ids, keys and vectors: the order of keys, when two are one, and vectors region by region.
+use Rattle.std.proofs.Common.{◌≡◌, ◌≢◌, ℕ, zero, suc, ◌+◌, ◌<◌, ◌≤◌, List, [], ◌∷◌, Bool, true, false, cond, min, max}
+use Rattle.std.proofs.Common.{refl, ap, subst, sym, ◌∙◌, inl, inr, ◌⊎◌, arith, lit<, eq-eqb, ne_eqb}
 use Rattle.std.specs.Prelude.{◌==◌, ◌&&◌, nat_lt}
-use Rattle.std.proofs.lemmas.Bool.{and_parts, or_cases, cases_order, lt-ltb, eq-eqb, ltb-true, eqb-true, or_left}
-use Rattle.std.proofs.lemmas.Bool.{or_right, and_from, false_from_ne_true, false≢true}
+use Rattle.std.proofs.lemmas.Bool.{and_parts, or_cases, cases_order, lt-ltb, ltb-true, eqb-true, or_left, or_right}
+use Rattle.std.proofs.lemmas.Bool.{and_from, false_from_ne_true, false≢true, leb-true, le-leb, cond-true, cond-false}
+use Rattle.std.proofs.lemmas.Bool.{cond_both}
 use Rattle.log_node.specs.declared.ids.Id.{Id}
 use Rattle.log_node.specs.declared.ids.Key.{Key}
-use Rattle.log_node.specs.Order.{same_id, key_below, id_below}
+use Rattle.log_node.specs.declared.ids.Counts.{Counts}
+use Rattle.log_node.specs.Order.{same_id, same_key, key_below, id_below}
+use Rattle.log_node.specs.Vectors.{at, vector, zeros, IsWithin, least, one_more}
 
 -- the order of keys as a fact
 abbrev pub IsBelow : Key → Key → Type 0
@@ -104,3 +108,88 @@ same_id-refl a = and_from (a.client == a.client) _ (eq-eqb _ _ refl) (eq-eqb _ _
 pub same_id-sym : (a b : Id) → same_id a b ≡ false → same_id b a ≡ false
 same_id-sym a b e = false_from_ne_true _ (λ t. false≢true
     (sym e ∙ (subst (λ (x : Id). same_id x b ≡ true) (same_id-is b a t) (same_id-refl b))))
+
+pub same_key-is : (a b : Key) → same_key a b ≡ true → a ≡ b
+same_key-is a b e =
+    let p = and_parts (a.stamp == b.stamp) (same_id a.id b.id) e in
+    ap (λ (s : ℕ). key_of s a.id) (eqb-true a.stamp b.stamp p.0)
+    ∙ ap (λ (i : Id). key_of b.stamp i) (same_id-is a.id b.id p.1) where
+      key_of : ℕ → Id → Key
+      key_of s i = record { stamp = s; id = i }
+
+-- a fact of each region is one of the four
+pub each_region : (P : ℕ → Type 0) → P 0 → P 1 → P 2 → P 3 → (r : ℕ) → r < 4 → P r
+each_region P a b c d zero h = a
+each_region P a b c d (suc zero) h = b
+each_region P a b c d (suc (suc zero)) h = c
+each_region P a b c d (suc (suc (suc zero))) h = d
+each_region P a b c d (suc (suc (suc (suc r)))) h = absurd (let f : ⊥ = omega (arith, h) in f)
+
+-- a vector's number for a region
+pub at-vector : (f : ℕ → ℕ) (r : ℕ) → r < 4 → at (vector f) r ≡ f r
+at-vector f = each_region (λ r. at (vector f) r ≡ f r) refl refl refl refl
+
+pub at-zeros : (r : ℕ) → r < 4 → at zeros r ≡ 0
+at-zeros = at-vector (λ _. 0)
+
+pub at-one_more : (v : Counts) (region r : ℕ) → r < 4
+    → at (one_more v region) r ≡ cond (r == region) (at v r + 1) (at v r)
+at-one_more v region = at-vector (λ r. cond (r == region) (at v r + 1) (at v r))
+
+-- vectors of equal numbers are equal
+pub same_vectors : (f g : ℕ → ℕ) → ((r : ℕ) → r < 4 → f r ≡ g r) → vector f ≡ vector g
+same_vectors f g h =
+    ap (λ (n : ℕ). four n (f 1) (f 2) (f 3)) (h 0 (lit< tt))
+    ∙ (ap (λ (n : ℕ). four (g 0) n (f 2) (f 3)) (h 1 (lit< tt))
+    ∙ (ap (λ (n : ℕ). four (g 0) (g 1) n (f 3)) (h 2 (lit< tt))
+    ∙ ap (λ (n : ℕ). four (g 0) (g 1) (g 2) n) (h 3 (lit< tt)))) where
+      four : ℕ → ℕ → ℕ → ℕ → Counts
+      four a b c d = record { 0 = a ∷ b ∷ c ∷ d ∷ [] }
+
+-- a choice by the region
+pub if_own : {A : Type 0} (r own : ℕ) (x y : A) → r ≡ own → cond (r == own) x y ≡ x
+if_own r own x y e = cond-true (r == own) x y (eq-eqb r own e)
+
+pub if_other : {A : Type 0} (r own : ℕ) (x y : A) → r ≢ own → cond (r == own) x y ≡ y
+if_other r own x y ne = cond-false (r == own) x y (ne_eqb r own ne)
+
+-- within is region by region
+pub within : (v w : Counts) → ((r : ℕ) → r < 4 → at v r ≤ at w r) → IsWithin v w
+within v w h =
+    and_from _ _ (le-leb _ _ (h 0 (lit< tt))) (and_from _ _ (le-leb _ _ (h 1 (lit< tt)))
+    (and_from _ _ (le-leb _ _ (h 2 (lit< tt))) (and_from _ _ (le-leb _ _ (h 3 (lit< tt))) refl)))
+
+pub within-at : (v w : Counts) → IsWithin v w → (r : ℕ) → r < 4 → at v r ≤ at w r
+within-at v w h =
+    let p = and_parts _ _ h in
+    let q = and_parts _ _ p.1 in
+    let s = and_parts _ _ q.1 in
+    let t = and_parts _ _ s.1 in
+    each_region (λ r. at v r ≤ at w r) (leb-true _ _ p.0) (leb-true _ _ q.0) (leb-true _ _ s.0) (leb-true _ _ t.0)
+
+pub within-refl : (v : Counts) → IsWithin v v
+within-refl v = within v v (λ r h. omega arith)
+
+pub within-trans : (u v w : Counts) → IsWithin u v → IsWithin v w → IsWithin u w
+within-trans u v w g h =
+    within u w (λ r lt. let a = within-at u v g r lt in let b = within-at v w h r lt in omega (arith, a, b))
+
+-- zero lies within all
+pub within-zeros : (v : Counts) → IsWithin zeros v
+within-zeros v = within zeros v (λ r h. let e = at-zeros r h in omega (arith, e))
+
+-- the least of two vectors lies within both
+pub least-within : (v w : Counts) → IsWithin (least v w) v
+least-within v w =
+    within (least v w) v (λ r h. let e = at-vector (λ region. min (at v region) (at w region)) r h in omega (arith, e))
+
+pub least-within-second : (v w : Counts) → IsWithin (least v w) w
+least-within-second v w =
+    within (least v w) w (λ r h. let e = at-vector (λ region. min (at v region) (at w region)) r h in omega (arith, e))
+
+-- one more leaves no number less
+pub within-one_more : (v : Counts) (region : ℕ) → IsWithin v (one_more v region)
+within-one_more v region =
+    within v (one_more v region) (λ r lt. cond_both (r == region) (at v r + 1) (at v r)
+    (λ n. at (one_more v region) r ≡ n → at v r ≤ at (one_more v region) r) (λ _ is. omega (arith, is))
+    (λ _ is. omega (arith, is)) (at-one_more v region r lt))

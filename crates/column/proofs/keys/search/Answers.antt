@@ -3,7 +3,7 @@ use Rattle.std.proofs.lemmas.Fn.{always_returns_same}
 use Rattle.log_node.specs.declared.ids.Key.{Key}
 use Rattle.log_node.specs.Order.{same_key, key_below}
 use Rattle.column.proofs.Places.{parted, place-found, place-none}
-use Rattle.column.proofs.keys.place_of.Goals as goal
+use Rattle.column.proofs.keys.search.Goals as goal
 
 pub returns-in_err-found : goal.returns-in_err-found
 returns-in_err-found c =

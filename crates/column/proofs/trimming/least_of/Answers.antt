@@ -2,7 +2,7 @@ use Rattle.std.proofs.Common.{ℕ, min, ◌∙◌, sym, ap}
 use Rattle.std.specs.Prelude.{◌==◌, if◌then◌else◌}
 use Rattle.log_node.specs.Vectors.{at}
 use Rattle.column.proofs.Leasts.{least_more}
-use Rattle.column.proofs.counts.least_of.Goals as goal
+use Rattle.column.proofs.trimming.least_of.Goals as goal
 
 pub loop-region-preserved : goal.loop-region-preserved
 loop-region-preserved c =
