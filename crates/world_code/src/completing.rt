@@ -78,8 +78,8 @@ impl World {
         if self.is_row_at_end(row, colour) {
             return marked_reply(self.fence(row, colour, Why::StampEnd));
         }
-        match self.propose(by, row, colour) {
-            Ok(placed) => placed_reply(placed),
+        match self.propose_next(by, row, colour) {
+            Ok(placed) => placed_reply(Some(placed)),
             Err(_) => marked_reply(self.fence(row, colour, Why::Memory)),
         }
     }
@@ -103,13 +103,14 @@ impl World {
             (world_of self.new) result }
         ensures few { result.done + result.left ≤ limit }
     {
-        let _bits = self.row_colours(row).0;
+        let colours = self.row_colours(row);
+        let _bits = colours.0;
         let mut taken = Taken {
             done: 0,
             left: limit,
         };
         for colour in 0..MAX_COLOURS {
-            if taken.left > 0 && self.may_mark(row, colour) {
+            if taken.left > 0 && self.lacks_mark(row, colours, colour) {
                 let reply = self.mark_colour(by, row, colour);
                 taken.done += done_count(&reply);
                 taken.left -= 1;

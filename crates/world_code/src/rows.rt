@@ -12,7 +12,7 @@ ghost use Rattle.world_code.specs.Replies.{placed_reply, place_reply, marked_rep
 use crate::replies::{Placed, event_at, kept_outcome};
 use crate::world::World;
 use column::ColumnFault;
-use log_node::{Id, Node, Row};
+use log_node::{Colours, Id, MAX_COLOURS, Node, Row};
 use skeen_core::{MAX_STAMP, Mark, Outcome, Why};
 use std::alloc::AllocError;
 use std::sync::Arc;
@@ -83,6 +83,18 @@ impl World {
         self.board.read(row.client, row, colour)
     }
 
+    // Whether the mark of a begun row's colour may be set; these are the colours of its node.
+    pub(crate) fn lacks_mark(&self, row: Row, colours: Colours, colour: u8) -> bool
+        requires colours { colours ≡ (row_of (world_of self.now) row).node.colours }
+        requires colour { colour < MAX_COLOURS }
+        ensures { result ≡ may_mark (world_of self.now) row colour }
+    {
+        if !colours.has(colour) {
+            return false;
+        }
+        self.may_mark(row, colour)
+    }
+
     // Whether no stamp is left in the colour's column for the row's node.
     pub(crate) fn is_row_at_end(&self, row: Row, colour: u8) -> bool
         requires { may_mark (world_of self.now) row colour ≡ true }
@@ -107,17 +119,35 @@ impl World {
         if !self.may_mark(row, colour) || self.is_row_at_end(row, colour) {
             return Ok(None);
         }
+        let placed = self.propose_next(by, row, colour)?;
+        Ok(Some(placed))
+    }
+
+    // Proposes the row's node, which may be proposed.
+    pub(crate) fn propose_next(
+        &mut self,
+        by: u8,
+        row: Row,
+        colour: u8,
+    ) -> Result<Placed, AllocError>
+        requires may { may_mark (world_of self.old) row colour ≡ true }
+        requires stamp { is_row_at_end (world_of self.old) row colour ≡ false }
+        ensures ok { OnOk result (world_of self.new ≡ after (world_of self.old) (Step.Propose by row colour)) }
+        ensures reply { IfOk result (λ placed.
+            placed_reply (Some placed) ≡ reply (world_of self.old) (Step.Propose by row colour)) }
+        ensures err { OnErr result (self.new ≡ self.old) }
+    {
         let Some(node) = self.row_node(row) else {
             unreachable!()
         };
         let node = node.clone()?;
         match self.add_propose(by, row, colour, node) {
-            Ok(placed) => Ok(Some(placed)),
+            Ok(placed) => Ok(placed),
             Err(_) => Err(AllocError),
         }
     }
 
-    // Proposes the row's node, which may be proposed.
+    // The node, which is the row's, enters the column, and its stamp is the mark.
     fn add_propose(
         &mut self,
         by: u8,
