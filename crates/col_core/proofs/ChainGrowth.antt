@@ -13,6 +13,7 @@ use Rattle.log_node.specs.declared.node.Head.{Head}
 use Rattle.log_node.specs.Vectors.{at, vector, IsWithin, one_more}
 use Rattle.log_node.specs.Order.{key_below}
 use Rattle.skeen_core.specs.Standings.{Standing, is_delivered, line_of}
+use Rattle.log_node.proofs.CallerLemmas.{each_region}
 use Rattle.col_core.specs.declared.Entry.{Entry}
 use Rattle.col_core.specs.History as History
 use Rattle.col_core.specs.History.{line, enters, has_entered}
@@ -107,14 +108,6 @@ reachable_grows chains chains' g v r = go r where
 
 pub cut_grows : (own regions : ℕ) (ds more : List Dated) → IsColumnHistory own regions (ds ++ more) → IsWithin (cut own ds) (cut own (ds ++ more))
 cut_grows own regions ds more h = (cut-is_greatest own (ds ++ more)).greatest (cut own ds) (reachable_grows (chain own ds) (chain own (ds ++ more)) (chains_grow own regions ds more h) (cut own ds) (cut-is_greatest own ds).reached)
-
--- a fact of each region is one of the four
-each_region : (P : ℕ → Type 0) → P 0 → P 1 → P 2 → P 3 → (r : ℕ) → r < 4 → P r
-each_region P a b c d zero h = a
-each_region P a b c d (suc zero) h = b
-each_region P a b c d (suc (suc zero)) h = c
-each_region P a b c d (suc (suc (suc zero))) h = d
-each_region P a b c d (suc (suc (suc (suc r)))) h = absurd (let f : ⊥ = omega (arith, h) in f)
 
 vector_grows : (f g : ℕ → ℕ) → ((r : ℕ) → f r ≤ g r) → IsWithin (vector f) (vector g)
 vector_grows f g le = within (vector f) (vector g) (each_region (λ r. at (vector f) r ≤ at (vector g) r) (le 0) (le 1) (le 2) (le 3))

@@ -15,7 +15,7 @@ use Rattle.col_core.specs.declared.Entry.{Entry}
 use Rattle.col_core.specs.History.{entries}
 use Rattle.col_core.specs.Computed.{dated}
 use Rattle.col_core.specs.Legal.{IsColumnHistory}
-use Rattle.col_core.proofs.KeyOrder.{key-trans}
+use Rattle.log_node.proofs.CallerLemmas.{key-trans}
 use Rattle.col_core.proofs.Members.{In}
 use Rattle.col_core.proofs.Members as members
 use Rattle.column.specs.Entering.{EnteredNode}

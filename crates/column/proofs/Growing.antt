@@ -18,9 +18,10 @@ use Rattle.col_core.specs.Computed.{cut, dated}
 use Rattle.col_core.specs.Legal.{IsColumnHistory}
 use Rattle.col_core.proofs.Appending.{dated-append}
 use Rattle.col_core.proofs.ChainGrowth.{chains_grow, reachable_grows, cut_grows}
-use Rattle.col_core.proofs.CutLaws.{cut-is_greatest, within, within-at}
+use Rattle.col_core.proofs.CutLaws.{cut-is_greatest}
 use Rattle.col_core.proofs.Uniqueness.{cut_unique}
-use Rattle.column.proofs.Vectors.{at-vector, same_vectors, own_or_other, within_both}
+use Rattle.log_node.proofs.CallerLemmas.{within, within-at, within-trans, at-vector, same_vectors}
+use Rattle.column.proofs.Vectors.{own_or_other}
 use Rattle.column.proofs.Histories.{same_entries, own_chain-length, other_chain-append, whole_prefix, base_from-append}
 
 -- the least of a bound and other numbers is no more than the bound
@@ -101,7 +102,7 @@ module _ (own regions : ℕ) (journal : List Entry) (e : Entry)
 
   pub base_below_now : IsWithin (base own regions (dated own journal)) (cut own (dated own journal))
       → IsWithin (base own regions (dated own later)) (cut own (dated own later))
-  base_below_now old = within_both (base own regions (dated own later)) (cut own (dated own journal))
+  base_below_now old = within-trans (base own regions (dated own later)) (cut own (dated own journal))
       (cut own (dated own later)) (base_below old) cut_more
 
   -- another region's chain

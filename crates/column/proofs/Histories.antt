@@ -16,7 +16,7 @@ use Rattle.col_core.specs.Cuts.{Dated, entries_of, needs_in, needs_of, carried, 
 use Rattle.col_core.specs.Cuts.{noted_from, noted}
 use Rattle.col_core.specs.Computed.{dated}
 use Rattle.col_core.proofs.DatedLaws.{dated-is_dated}
-use Rattle.column.proofs.Vectors.{if_own, if_other}
+use Rattle.log_node.proofs.CallerLemmas.{if_own, if_other}
 
 -- the events of a dated history
 pub same_entries : (own : ℕ) (journal : List Entry) → entries_of (dated own journal) ≡ journal

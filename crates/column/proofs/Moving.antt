@@ -18,12 +18,13 @@ use Rattle.col_core.specs.Cuts.{Dated, entries_of, carried, noted_from, noted, t
 use Rattle.col_core.specs.Computed.{cut, dated}
 use Rattle.col_core.specs.Legal.{IsLawfulEvent}
 use Rattle.col_core.proofs.Appending.{entries-append, clock-append, dated-append}
-use Rattle.col_core.proofs.CutLaws.{cut-is_greatest, within-at, reached_within}
+use Rattle.col_core.proofs.CutLaws.{cut-is_greatest, reached_within}
 use Rattle.column.specs.Entering.{EnteredNode}
 use Rattle.column.specs.Columns.{ColumnState, history_of, chains_of, held_of, copy_of, cut_of, base_of, kept_copy}
 use Rattle.column.specs.Columns.{base_after, after_give, after_trim, with_items}
 use Rattle.column.specs.Inside.{IsColumn, IsEntered, AreCopies, AreNumbers, least_noted, trimmed_base}
-use Rattle.column.proofs.Vectors.{each_region, at-vector, same_vectors, own_or_other, if_own, if_other}
+use Rattle.log_node.proofs.CallerLemmas.{within-at, each_region, at-vector, same_vectors, if_own, if_other}
+use Rattle.column.proofs.Vectors.{own_or_other}
 use Rattle.column.proofs.Histories.{same_entries, own_chain-length, noted-append}
 use Rattle.column.proofs.Growing.{base_now, base_below, other_chain, other_stays}
 use Rattle.column.proofs.Lists.{drop_behind, drop_twice, map_drop, set_there, set_elsewhere, set-length}

@@ -11,16 +11,8 @@ use Rattle.log_node.specs.declared.ids.Id.{Id}
 use Rattle.log_node.specs.declared.ids.Key.{Key}
 use Rattle.log_node.specs.Order.{same_key, key_below, same_id}
 use Rattle.col_core.proofs.Basics.{by_test, apart, same_id-true}
-use Rattle.col_core.proofs.KeyOrder.{key-trans, key-irrefl}
+use Rattle.log_node.proofs.CallerLemmas.{key-trans, key-irrefl, same_key-is}
 use Rattle.column.specs.Columns.{AreRising}
-
-same_key-is : (a b : Key) → same_key a b ≡ true → a ≡ b
-same_key-is a b e =
-    let p = and_parts (a.stamp == b.stamp) (same_id a.id b.id) e in
-    ap (λ (s : ℕ). key_of s a.id) (eqb-true a.stamp b.stamp p.0)
-    ∙ ap (λ (i : Id). key_of b.stamp i) (same_id-true a.id b.id p.1) where
-      key_of : ℕ → Id → Key
-      key_of s i = record { stamp = s; id = i }
 
 below_differs : (a b : Key) → key_below a b ≡ true → same_key a b ≡ false
 below_differs a b below =
@@ -79,3 +71,9 @@ module _ (keys : List Key) (key : Key) (rising : AreRising keys) where
                 subst (λ (n : ℕ). same_key (get_or keys n d) key ≡ false) e (here (omega (arith, lt, e))).1
           ]
         ]
+
+  -- a key that is there stands where it is
+  pub place-there : (p : ℕ) (d : Key) → p < length keys → same_key (get_or keys p d) key ≡ true → position is_it keys ≡ Some p
+  place-there p d lt same =
+      place-found p d lt (λ k under. subst (λ (l : Key). key_below (get_or keys k d) l ≡ true)
+      (same_key-is (get_or keys p d) key same) (at_rising k p d under lt)) same

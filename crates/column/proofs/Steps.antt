@@ -13,7 +13,7 @@ use Rattle.log_node.specs.declared.node.Node.{Node}
 use Rattle.log_node.specs.Seen.{PlacedNode}
 use Rattle.log_node.specs.Sets.{has}
 use Rattle.log_node.specs.Vectors.{at, zeros}
-use Rattle.skeen_core.specs.declared.stamps.TheConstants.{MAX_STAMP}
+use Rattle.log_node.specs.declared.limits.TheConstants.{MAX_STAMP}
 use Rattle.skeen_core.specs.declared.marks.Outcome.{Outcome}
 use Rattle.skeen_core.specs.declared.marks.Outcome.TheVariants.{Open, Gone, Final}
 use Rattle.skeen_core.specs.Outcomes as outcomes
@@ -35,7 +35,7 @@ use Rattle.column.specs.Columns.{ColumnState, new_column, history_of, chains_of,
 use Rattle.column.specs.Columns.{stamp_for, entered_node, single_event, propose_event, after_single, after_propose}
 use Rattle.column.specs.Columns.{after_settle, after_raise}
 use Rattle.column.specs.Inside.{IsColumn, IsEntered, AreCopies, AreNumbers, IsStillReached}
-use Rattle.column.proofs.Vectors.{at-vector, same_vectors, zero_within}
+use Rattle.log_node.proofs.CallerLemmas.{at-vector, same_vectors, within-zeros}
 use Rattle.column.proofs.Histories.{same_entries, noted-append}
 use Rattle.column.proofs.Growing.{base_now, base_below, base_below_now, cut_reached, other_stays, cut_same}
 use Rattle.column.proofs.Storing.{all-more, entered-new, all-settled}
@@ -88,7 +88,7 @@ new_is region colour regions in_range in_colours few = record {
   entries_are = refl;
   dropped = sym (at-vector (λ r. base_from region regions r [] []) region in_range);
   lawful = λ n d is. absurd (none-some d is);
-  base_within = zero_within (cut region []);
+  base_within = within-zeros (cut region []);
   things = tt;
   copies = record { of_each = refl; heads = each };
 } where

@@ -8,6 +8,7 @@ use Rattle.log_node.specs.declared.ids.Counts.{Counts}
 use Rattle.log_node.specs.declared.node.Node.{Node}
 use Rattle.log_node.specs.Order.{key_below}
 use Rattle.log_node.specs.Vectors.{at, vector, least, all_regions}
+pub use Rattle.log_node.specs.Vectors.{greater}
 use Rattle.log_node.specs.Seen.{PlacedNode, BegunAppend}
 use Rattle.skeen_core.specs.declared.marks.Outcome.{Outcome}
 use Rattle.skeen_core.specs.declared.waiting.Waiting.{Waiting}
@@ -231,10 +232,6 @@ pub record IsGiven (column : ColumnState) (from : ℕ) (given : Given) : Type 0 
   pub start : given.start
       ≡ max (min from (length (line column.journal))) (at (base_of column) column.region)
   pub items : AreItems column column.region given.start (length (line column.journal)) given.items
-
--- for each region the greater number
-abbrev pub greater : Counts → Counts → Counts
-greater v w = vector (λ region. max (at v region) (at w region))
 
 -- every key is above those before it
 abbrev pub AreRising : List Key → Type 0

@@ -13,12 +13,11 @@ ghost use Rattle.column.specs.Columns.{after_give, after_carry, after_trim, new_
 ghost use Rattle.column.specs.Columns.{stamp_for, HasEnterCause, AreItems, IsGiven};
 ghost use Rattle.col_core.specs.Cuts.{Reachable};
 
-use crate::contents::{Contents, MAX_REGIONS};
-use crate::counts::of_region;
+use crate::contents::Contents;
 use crate::faults::ColumnFault;
 use crate::given::Given;
-use log_node::{At, Counts, Id, Items, MAX_COLOURS, Node, Shape};
-use skeen_core::{MAX_STAMP, Outcome};
+use log_node::{At, Counts, Id, Items, MAX_COLOURS, MAX_REGIONS, MAX_STAMP, Node, Shape};
+use skeen_core::Outcome;
 use snapshot_cut::admit;
 use std::alloc::{AllocError, Global};
 use std::marker::Model;
@@ -179,7 +178,7 @@ impl Column {
         self.contents.agrees();
         let own = self.contents.own_region();
         let end = self.contents.line().len() as u64;
-        let start = from.min(end).max(of_region(self.contents.base(), own));
+        let start = from.min(end).max(self.contents.base().of_region(own));
         let items = self.contents.stretch(alloc, own, start, end)?;
         let at = self.contents.note(by, region, from)?;
         Ok((at, Given { start, items }))

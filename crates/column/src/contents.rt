@@ -9,19 +9,15 @@ ghost use Rattle.column.specs.Columns.{cut_of, stamp_for, HasEnterCause};
 ghost use Rattle.column.specs.Inside.{IsStillReached};
 
 use crate::copies::Copies;
-use crate::counts::least;
 use crate::entered::Entered;
 use crate::faults::ColumnFault;
 use crate::wants::wants_for;
 use col_core::{Entry, Event};
-use log_node::{At, Counts, Id, MAX_COLOURS, Node, Shape};
-use skeen_core::{MAX_STAMP, Outcome, Queue};
+use log_node::{At, Counts, Id, MAX_COLOURS, MAX_REGIONS, MAX_STAMP, Node, Shape};
+use skeen_core::{Outcome, Queue};
 use std::alloc::{AllocError, Global};
 use std::marker::Model;
 use std::sync::Arc;
-
-/// How many regions a shape may have.
-pub const MAX_REGIONS: u8 = 4;
 
 /// The journal of a column's events, its entries with their nodes, and for each other region the carried nodes.
 #[derive(Drop)]
@@ -142,7 +138,7 @@ impl Contents {
         let place = self.journal.len() as u64;
         let (id, floor) = (node.id, node.floor);
         let wants = wants_for(&node, self.colour);
-        let needs = least(wants, cut);
+        let needs = wants.least(cut);
         let stamp = self.queue.enter(id, floor, Entered::of(needs, node));
         self.spare -= 1;
         self.journal.push_reserved(Entry {
@@ -172,7 +168,7 @@ impl Contents {
         let place = self.journal.len() as u64;
         let (id, floor) = (node.id, node.floor);
         let wants = wants_for(&node, self.colour);
-        let needs = least(wants, cut);
+        let needs = wants.least(cut);
         let stamp = self.queue.propose(id, floor, Entered::of(needs, node));
         self.spare -= 1;
         self.opens += 1;

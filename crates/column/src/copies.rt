@@ -3,7 +3,6 @@ ghost use Rattle.std.specs.Prelude.{◌≡◌, ◌<◌, ◌-◌, [], ◌∷◌, 
 ghost use Rattle.std.specs.Prelude.{slice_index_or, slice_set};
 ghost use Rattle.log_node.specs.Vectors.{at, all_regions};
 
-use crate::counts::of_region;
 use log_node::{Counts, Item};
 use std::alloc::{AllocError, Global};
 use std::marker::Model;
@@ -117,9 +116,9 @@ impl Copies {
         ensures { self.new ≡ map (λ region. drop (at base region - at old region) (slice_index_or self.old region []))
             all_regions }
     {
-        self.drop_front(0, of_region(base, 0).saturating_sub(of_region(old, 0)));
-        self.drop_front(1, of_region(base, 1).saturating_sub(of_region(old, 1)));
-        self.drop_front(2, of_region(base, 2).saturating_sub(of_region(old, 2)));
-        self.drop_front(3, of_region(base, 3).saturating_sub(of_region(old, 3)));
+        self.drop_front(0, base.of_region(0).saturating_sub(old.of_region(0)));
+        self.drop_front(1, base.of_region(1).saturating_sub(old.of_region(1)));
+        self.drop_front(2, base.of_region(2).saturating_sub(old.of_region(2)));
+        self.drop_front(3, base.of_region(3).saturating_sub(old.of_region(3)));
     }
 }

@@ -27,7 +27,7 @@ pub(crate) fn items_of(alloc: Global, keys: &[Key], nodes: &[Entered]) -> Result
     requires { length keys.now ≡ length nodes.now }
     ensures { IfOk result (λ items. items ≡ items_under keys.now nodes.now) }
 {
-    let mut items = ListOf::new(alloc);
+    let mut items = ListOf::with_capacity(alloc, keys.len())?;
     for at in 0..keys.len() {
         items.push(nodes[at].item(keys[at])?)?;
     }

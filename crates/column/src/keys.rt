@@ -1,33 +1,44 @@
 // Keys of a line, which rise.
-ghost use Rattle.std.specs.Prelude.{◌≡◌, ℕ, ◌<◌, IsTrue, Some, slice_get};
+ghost use Rattle.std.specs.Prelude.{◌≡◌, IfSome, Some};
 ghost use Rattle.std.specs.List.{position};
-ghost use Rattle.log_node.specs.Order.{same_key, key_below};
+ghost use Rattle.log_node.specs.Order.{same_key};
 ghost use Rattle.column.specs.Columns.{AreRising};
 
 use log_node::Key;
 
-// Whether a key comes before another.
-fn is_below(a: Key, b: Key) -> bool
-    ensures { result ≡ key_below a b }
+// The position of a key that is the last one.
+fn last_place(keys: &[Key], key: Key) -> Option<u64>
+    requires { AreRising keys.now }
+    ensures { IfSome result (λ place. position (λ k. same_key k key) keys.now ≡ Some place) }
 {
-    a < b
+    let place = keys.len().checked_sub(1)?;
+    let last = keys.get(place)?;
+    if last.is_same(key) {
+        Some(place as u64)
+    } else {
+        None
+    }
 }
 
-// Whether two keys are one.
-fn is_same(a: Key, b: Key) -> bool
-    ensures { result ≡ same_key a b }
-{
-    a == b
-}
-
-/// The position of a key among keys that rise.
+/// The position of a key among keys that rise, which is mostly the last one.
 pub(crate) fn place_of(keys: &[Key], key: Key) -> Option<u64>
     requires { AreRising keys.now }
     ensures { result ≡ position (λ k. same_key k key) keys.now }
 {
-    let place = keys.partition_point(|k| is_below(*k, key));
+    match last_place(keys, key) {
+        Some(place) => Some(place),
+        None => search(keys, key),
+    }
+}
+
+// The position of a key among keys that rise, by halves.
+fn search(keys: &[Key], key: Key) -> Option<u64>
+    requires { AreRising keys.now }
+    ensures { result ≡ position (λ k. same_key k key) keys.now }
+{
+    let place = keys.partition_point(|k| k.is_below(key));
     let found = keys.get(place)?;
-    if is_same(*found, key) {
+    if found.is_same(key) {
         Some(place as u64)
     } else {
         None

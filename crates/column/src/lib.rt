@@ -4,7 +4,6 @@
 mod column;
 mod contents;
 mod copies;
-mod counts;
 mod entered;
 mod faults;
 mod given;
@@ -12,12 +11,12 @@ mod keys;
 mod moves;
 mod questions;
 mod reading;
+mod trimming;
 mod views;
 mod waits;
 mod wants;
 
 pub use column::Column;
-pub use contents::MAX_REGIONS;
 pub use entered::Entered;
 pub use faults::ColumnFault;
 pub use given::Given;

@@ -6,7 +6,7 @@ ghost use Rattle.column.specs.Columns.{cut_of, base_of};
 ghost use Rattle.column.specs.Inside.{IsStillReached};
 
 use crate::contents::Contents;
-use crate::counts::{Trimming, of_region, with_number};
+use crate::trimming::Trimming;
 use crate::given::Given;
 use col_core::{Entry, Event, Heads};
 use log_node::{At, Counts, Item};
@@ -16,7 +16,7 @@ use std::alloc::{AllocError, Global};
 fn shared(alloc: Global, items: &[Item]) -> Result<Vec<Item>, AllocError>
     ensures { IfOk result (λ copies. copies.items ≡ items.now) }
 {
-    let mut copies = Vec::new(alloc);
+    let mut copies = Vec::with_capacity(alloc, items.len())?;
     for item in items {
         copies.push(item.share()?)?;
     }
@@ -40,7 +40,7 @@ fn shared_from(alloc: Global, held: u64, given: &Given) -> Result<Vec<Item>, All
 fn heads_of(alloc: Global, items: &[Item]) -> Result<Heads, AllocError>
     ensures { IfOk result (λ heads. heads ≡ map (λ i. i.head) items.now) }
 {
-    let mut heads = Heads::new(alloc);
+    let mut heads = Heads::with_capacity(alloc, items.len())?;
     for item in items {
         heads.push(item.head)?;
     }
@@ -62,7 +62,7 @@ impl Contents {
         let from = from.min(self.queue.line().len() as u64);
         self.journal
             .reserve(self.opens + self.spare + self.spare + 1)?;
-        self.notes = with_number(self.notes, region, of_region(self.notes, region).max(from));
+        self.notes = self.notes.with_number(region, self.notes.of_region(region).max(from));
         self.journal.push_reserved(Entry {
             by,
             event: Event::Give { region, from },
@@ -91,7 +91,7 @@ impl Contents {
         ensures err { OnErr result (self.new ≡ self.old) }
     {
         let place = self.journal.len() as u64;
-        let held = of_region(self.carried, region);
+        let held = self.carried.of_region(region);
         let items = shared_from(alloc, held, given)?;
         let count = items.len() as u64;
         if count == 0 {
@@ -116,7 +116,7 @@ impl Contents {
         ensures cut { OnOk result (IsStillReached self.old self.new) }
         ensures err { OnErr result (self.new ≡ self.old) }
     {
-        let start = of_region(self.carried, region);
+        let start = self.carried.of_region(region);
         let Some(end) = start.checked_add(items.len() as u64) else {
             return Err(AllocError);
         };
@@ -124,7 +124,7 @@ impl Contents {
         self.journal
             .reserve(self.opens + self.spare + self.spare + 1)?;
         self.copies.append(region, items)?;
-        self.carried = with_number(self.carried, region, end);
+        self.carried = self.carried.with_number(region, end);
         self.journal.push_reserved(Entry {
             by,
             event: Event::Carry {
@@ -163,7 +163,7 @@ impl Contents {
             regions: self.regions,
         };
         let base = trimming.base_after();
-        self.queue.drop_to(of_region(base, self.region));
+        self.queue.drop_to(base.of_region(self.region));
         self.copies.drop_to(self.base, base);
         self.base = base;
         self.journal.push_reserved(Entry {

@@ -12,11 +12,9 @@ ghost use Rattle.column.specs.Inside.{IsColumn};
 ghost use Rattle.column.specs.Views.{IsView, IsBelow};
 
 use crate::column::Column;
-use crate::contents::MAX_REGIONS;
-use crate::counts::{greater, of_region};
 use crate::views::Below;
 use col_core::{Chains, Entries, Entry, View};
-use log_node::{Counts, Item, Items, Key};
+use log_node::{Counts, Item, Items, Key, MAX_REGIONS};
 use std::alloc::{AllocError, Global};
 
 impl Column {
@@ -25,7 +23,7 @@ impl Column {
         ensures { IfOk result (λ view. IsView self.now from view) }
     {
         let base = self.contents.base();
-        let start = greater(from, base);
+        let start = from.greater(base);
         let items = self.chains(alloc, start)?;
         Ok(View {
             region: self.contents.own_region(),
@@ -48,7 +46,7 @@ impl Column {
     {
         let mut items = Chains::new(alloc);
         for region in 0..MAX_REGIONS {
-            items.push(self.items(alloc, region, of_region(from, region))?)?;
+            items.push(self.items(alloc, region, from.of_region(region))?)?;
         }
         Ok(items)
     }
@@ -61,7 +59,7 @@ impl Column {
     {
         self.contents.agrees();
         self.contents
-            .stretch(alloc, region, from, of_region(self.cut, region))
+            .stretch(alloc, region, from, self.cut.of_region(region))
     }
 
     /// The carried nodes of another region's chain that are kept: those from the base on.

@@ -15,7 +15,6 @@ ghost use Rattle.column.specs.Inside.{IsColumn};
 ghost use Rattle.column.specs.Views.{IsBelow};
 
 use crate::contents::Contents;
-use crate::counts::{of_region, with_number};
 use crate::entered::{Entered, items_of};
 use crate::keys::place_of;
 use crate::views::Below;
@@ -29,7 +28,7 @@ use std::alloc::{AllocError, Global};
 fn shared(alloc: Global, items: &[Item]) -> Result<Items, AllocError>
     ensures { IfOk result (λ copies. copies ≡ items.now) }
 {
-    let mut copies = ListOf::new(alloc);
+    let mut copies = ListOf::with_capacity(alloc, items.len())?;
     for item in items {
         copies.push(item.share()?)?;
     }
@@ -134,7 +133,7 @@ impl Contents {
         requires held { to ≤ held_of self.now region }
         ensures { IfOk result (λ items. AreItems self.now region from to items) }
     {
-        let base = of_region(self.base, region);
+        let base = self.base.of_region(region);
         let items = shared_between(alloc, self.copies.of(region), from - base, to - base)?;
         Ok(items)
     }
@@ -222,7 +221,7 @@ impl Contents {
         ensures { result ≡ held self.now.region (history_of self.now) }
     {
         let own = self.queue.line().len() as u64;
-        with_number(self.carried, self.region, own)
+        self.carried.with_number(self.region, own)
     }
 
     /// Below these counts nodes are dropped.
@@ -258,7 +257,7 @@ impl Contents {
         requires held { position < held_of self.now region }
         ensures { (head : Head) → slice_get (chains_of self.now region) position ≡ Some head → result ≡ head.needs }
     {
-        let base = of_region(self.base, region);
+        let base = self.base.of_region(region);
         item_needs(self.copies.of(region), position - base)
     }
 }
@@ -269,14 +268,14 @@ impl NeedsView for Contents {
     ghost bases = { base_of };
 
     fn base(&self, region: u8) -> u64 {
-        of_region(self.base, region)
+        self.base.of_region(region)
     }
 
     fn count(&self, region: u8) -> u64 {
         if region == self.region {
             self.queue.line().len() as u64
         } else {
-            of_region(self.carried, region)
+            self.carried.of_region(region)
         }
     }
 

@@ -15,7 +15,7 @@ use skeen_core::Waiting;
 fn is_below(entry: &Waiting<Entered>, key: Key) -> bool
     ensures { result ≡ key_below entry.now.key key }
 {
-    entry.key < key
+    entry.key.is_below(key)
 }
 
 // The entries with a key below, where keys rise.
@@ -28,14 +28,14 @@ fn all_below(waiting: &[Waiting<Entered>], key: Key) -> &[Waiting<Entered>]
 }
 
 // How many entries are open.
-fn open_in(waiting: &[Waiting<Entered>]) -> usize
+fn open_in<T>(waiting: &[Waiting<T>]) -> usize
     ensures { result ≡ length (filter (λ w. not w.settled) waiting.now) }
 {
     waiting.iter().filter(|entry| !entry.settled).count()
 }
 
 // The first open entry.
-fn first_open(waiting: &[Waiting<Entered>]) -> Option<&Waiting<Entered>>
+fn first_open<T>(waiting: &[Waiting<T>]) -> Option<&Waiting<T>>
     ensures { option_copied result ≡ find (λ w. not w.settled) waiting.now }
 {
     waiting.iter().find(|entry| !entry.settled)

@@ -1,7 +1,7 @@
 // Rows that were worked out by hand.
 use super::*;
 use log_node::{
-    ColourList, Colours, Counts, Head, Id, Item, Key, Keys, ListOf, Node, Text, Versions,
+    ColourList, Colours, Counts, Head, Id, Item, Key, Keys, ListOf, Node, Text, Versions, Wants,
 };
 use std::alloc::{AllocError, Global};
 use std::process::Abort;
@@ -53,7 +53,7 @@ fn item(alloc: Global, stamp: u64, colours: u16, text: &[u8]) -> Result<Item, Al
         colours: Colours(colours),
         text: Text::copied(alloc, text)?,
         floor: 0,
-        wants: ListOf::new(alloc),
+        wants: Wants::new(alloc),
         row: None,
     };
     Ok(Item {

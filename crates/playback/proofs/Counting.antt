@@ -5,6 +5,7 @@ use Rattle.std.specs.Prelude.{slice_get, ◌==◌}
 use Rattle.std.proofs.lemmas.Bool.{eq-eqb, ne_eqb, cases_eq, cond-true, cond-false}
 use Rattle.log_node.specs.declared.ids.Counts.{Counts}
 use Rattle.log_node.specs.Vectors.{at, zeros, one_more}
+use Rattle.log_node.proofs.CallerLemmas.{at-one_more}
 use Rattle.col_core.specs.PlayOrder.{Place}
 
 -- one more at a region, and the same at the others
@@ -12,18 +13,11 @@ use Rattle.col_core.specs.PlayOrder.{Place}
 abbrev More : Counts → ℕ → Counts → Type 0
 More v region w = (r : ℕ) → r < 4 → at w r ≡ cond (r == region) (at v r + 1) (at v r)
 
-one_more-at : (v : Counts) (region r : ℕ) → r < 4 → at (one_more v region) r ≡ cond (r == region) (at v r + 1) (at v r)
-one_more-at v region zero h = refl
-one_more-at v region (suc zero) h = refl
-one_more-at v region (suc (suc zero)) h = refl
-one_more-at v region (suc (suc (suc zero))) h = refl
-one_more-at v region (suc (suc (suc (suc r)))) h = absurd (let f : ⊥ = omega (arith, h) in f)
-
 pub more_here : (v : Counts) (region : ℕ) → region < 4 → at (one_more v region) region ≡ at v region + 1
-more_here v region lt = one_more-at v region region lt ∙ cond-true (region == region) _ _ (eq-eqb region region refl)
+more_here v region lt = at-one_more v region region lt ∙ cond-true (region == region) _ _ (eq-eqb region region refl)
 
 pub more_there : (v : Counts) (region r : ℕ) → r < 4 → (r ≡ region → ⊥) → at (one_more v region) r ≡ at v r
-more_there v region r lt ne = one_more-at v region r lt ∙ cond-false (r == region) _ _ (ne_eqb r region ne)
+more_there v region r lt ne = at-one_more v region r lt ∙ cond-false (r == region) _ _ (ne_eqb r region ne)
 
 pub no_less : (v : Counts) (region r : ℕ) → r < 4 → at v r ≤ at (one_more v region) r
 no_less v region r lt = pick (cases_eq r region) where

@@ -9,15 +9,7 @@ use Rattle.log_node.specs.declared.node.Head.{Head}
 use Rattle.log_node.specs.Order.{same_id, same_key, key_below}
 use Rattle.col_core.specs.PlayOrder.{Place, goes_first}
 use Rattle.col_core.proofs.Basics.{same_id-true}
-use Rattle.col_core.proofs.KeyOrder.{key-trans, key-irrefl}
-
-same_key-is : (a b : Key) → same_key a b ≡ true → a ≡ b
-same_key-is a b e =
-    let p = and_parts (a.stamp == b.stamp) (same_id a.id b.id) e in
-    ap (λ s. key_of s a.id) (eqb-true a.stamp b.stamp p.0) ∙ ap (λ i. key_of b.stamp i) (same_id-true a.id b.id p.1)
-  where
-    key_of : ℕ → Id → Key
-    key_of s i = record { stamp = s; id = i }
+use Rattle.log_node.proofs.CallerLemmas.{key-trans, key-irrefl, same_key-is}
 
 -- why the one goes first
 abbrev First : Head → Place → Head → Place → Type 0

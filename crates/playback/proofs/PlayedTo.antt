@@ -12,7 +12,7 @@ use Rattle.log_node.specs.declared.node.Head.{Head}
 use Rattle.log_node.specs.Vectors.{at, IsWithin, one_more}
 use Rattle.col_core.specs.Cuts.{Chains}
 use Rattle.col_core.specs.PlayOrder.{Place, same_place, Stands, is_between, WaitsFor, goes_first}
-use Rattle.col_core.proofs.CutLaws.{within, within-at}
+use Rattle.log_node.proofs.CallerLemmas.{within, within-at}
 use Rattle.col_core.proofs.Basics.{by_test}
 use Rattle.col_core.proofs.Orders.{Between, between_is, is_in_between, same_place-is, same_place-itself}
 use Rattle.playback.specs.Orders.{next_place}

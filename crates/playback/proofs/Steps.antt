@@ -10,7 +10,7 @@ use Rattle.log_node.specs.Vectors.{at, vector, IsWithin, one_more, all_regions}
 use Rattle.col_core.specs.declared.view.View.{View}
 use Rattle.col_core.specs.Cuts.{Chains, Reachable}
 use Rattle.col_core.specs.PlayOrder.{Place}
-use Rattle.col_core.proofs.CutLaws.{within, within-at}
+use Rattle.log_node.proofs.CallerLemmas.{within, within-at}
 use Rattle.playback.specs.Orders.{next_place, next_region, order_of, play_order}
 use Rattle.playback.specs.Playing.{IsLookedFrom, ShowsChains, item_at, head_at, ArePlayed}
 use Rattle.playback.specs.Inside.{GoesNext, IsNextRegion, AreInOrder}

@@ -5,7 +5,6 @@ ghost use Rattle.playback.specs.Orders.{next_place};
 ghost use Rattle.playback.specs.Playing.{item_at};
 ghost use Rattle.playback.specs.Inside.{free_in, first_of, free_before, GoesNext, IsNextRegion};
 
-use crate::vectors::within;
 use col_core::View;
 use log_node::{Counts, Item, Key};
 
@@ -29,7 +28,7 @@ fn free_in(view: &View, played: Counts, region: u8) -> Option<Free>
     }
     let items = view.items.get(number)?;
     let item = items.get((position - view.from.0[number]) as usize)?;
-    if within(item.head.needs, played) {
+    if item.head.needs.is_within(played) {
         Some(Free {
             region,
             key: item.head.key,
@@ -43,7 +42,7 @@ fn free_in(view: &View, played: Counts, region: u8) -> Option<Free>
 fn is_before(a: Free, b: Free) -> bool
     ensures { result ≡ free_before a b }
 {
-    a.key < b.key || (a.key == b.key && a.region < b.region)
+    a.key.is_below(b.key) || (a.key.is_same(b.key) && a.region < b.region)
 }
 
 // Of two that may be free the one that goes first.

@@ -5,7 +5,6 @@ mod faults;
 mod free;
 mod laws;
 mod player;
-mod vectors;
 
 pub use faults::PlayFault;
 pub use laws::play_order_is_lawful;

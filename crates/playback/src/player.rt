@@ -1,15 +1,14 @@
 // What a client plays of a colour of its region.
-ghost use Rattle.std.specs.Prelude.{◌≡◌, IfOk, IfErr, OnOk, OnErr};
-ghost use Rattle.log_node.specs.Vectors.{IsWithin};
+ghost use Rattle.std.specs.Prelude.{◌≡◌, ◌<◌, IfOk, IfErr, OnOk, OnErr};
+ghost use Rattle.log_node.specs.Vectors.{at, IsWithin, one_more};
 ghost use Rattle.col_core.specs.Cuts.{Chains, Reachable};
 ghost use Rattle.playback.specs.Playing.{IsLookedFrom, ShowsChains, ArePlayed, HasPlayCause};
 ghost use Rattle.playback.specs.Inside.{AreInOrder};
 
 use crate::faults::PlayFault;
 use crate::free::{next_item, next_region};
-use crate::vectors::{more, within};
 use col_core::View;
-use log_node::{Counts, Items, ListOf};
+use log_node::{Counts, Items, ListOf, MAX_REGIONS};
 use std::alloc::{AllocError, Global};
 
 /// How many nodes of each region's chain of a colour a client has played.
@@ -35,17 +34,33 @@ pub struct Played {
     pub items: Items,
 }
 
+// How many nodes the view shows: for so many there is room before they are played.
+fn shown_count(view: &View) -> usize {
+    let chains = view.items.as_slice().iter();
+    chains.fold(0, |count: usize, chain| count.saturating_add(chain.len()))
+}
+
+// The counts with one more node of a region, which has one more up to the cut.
+fn next_counts(played: Counts, region: u8, cut: Counts) -> Counts
+    requires region { region < MAX_REGIONS }
+    requires room { at played region < at cut region }
+    ensures { result ≡ one_more played region }
+{
+    let _last = cut.of_region(region);
+    played.one_more(region)
+}
+
 // The nodes from these counts up to the view's cut, in the order of play.
 fn items_in_order(alloc: Global, view: &View, from: Counts) -> Result<Items, AllocError>
     requires from { IsWithin view.now.from from }
     requires cut { IsWithin from view.now.cut }
     ensures { IfOk result (AreInOrder view.now from) }
 {
-    let mut items = Vec::new(alloc);
+    let mut items = Vec::with_capacity(alloc, shown_count(view))?;
     let mut played = from;
     while let Some(region) = next_region(view, played) {
         items.push(next_item(view, played, region).share()?)?;
-        played = more(played, region as usize, view.cut);
+        played = next_counts(played, region, view.cut);
     }
     Ok(ListOf::from(items))
 }
@@ -69,7 +84,7 @@ pub fn play(alloc: Global, view: &View, player: &mut Player) -> Result<Played, P
     ensures cause { IfErr result (HasPlayCause view.now player.old.played) }
     ensures err { OnErr result (player.new ≡ player.old) }
 {
-    if !within(view.base, player.played) {
+    if !view.base.is_within(player.played) {
         return Err(PlayFault::Trimmed { base: view.base });
     }
     let items = items_in_order(alloc, view, player.played)?;

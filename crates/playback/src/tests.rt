@@ -4,7 +4,7 @@ ghost use Rattle.playback.specs.Playing.{IsLookedFrom};
 
 use super::*;
 use col_core::{Chains, View};
-use log_node::{Colours, Counts, Head, Id, Item, Items, Key, ListOf, Node, Text};
+use log_node::{Colours, Counts, Head, Id, Item, Items, Key, ListOf, Node, Text, Wants};
 use std::alloc::{AllocError, Global};
 use std::sync::Arc;
 use std::test::Fail;
@@ -24,7 +24,7 @@ fn item(
         colours: Colours(1),
         text: Text::copied(alloc, b"p")?,
         floor: 0,
-        wants: ListOf::new(alloc),
+        wants: Wants::new(alloc),
         row: None,
     };
     let head = Head {

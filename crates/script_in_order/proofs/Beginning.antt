@@ -9,7 +9,6 @@ use Rattle.log_node.specs.declared.ids.Row.{Row}
 use Rattle.log_node.specs.declared.ids.Colours.{Colours}
 use Rattle.log_node.specs.Sets.{members}
 use Rattle.world_laws.specs.declared.steps.Step.TheVariants.{Begin, Single}
-use Rattle.world_laws.specs.declared.steps.Reply.{Reply}
 use Rattle.world_laws.specs.declared.steps.Reply.TheVariants as replies
 use Rattle.skeen_core.specs.declared.marks.Mark.TheVariants as marks
 use Rattle.skeen_core.specs.declared.marks.Outcome.TheVariants.{Open}
@@ -33,12 +32,6 @@ pub no_reply : (b : Bool) (row : Row) (id : Id)
     → (if b then replies.Begun row id else replies.Nothing) ≡ replies.Nothing → b ≡ false
 no_reply true row id e = absurd (let f : ⊥ = cc in f)
 no_reply false row id e = refl
-
-pub no_other : (b : Bool) (x : Reply) (row : Row) (id : Id)
-    → x ≡ (if b then replies.Begun row id else replies.Nothing) → (x ≡ replies.Nothing → ⊥)
-    → ((r : Row) (i : Id) → x ≡ replies.Begun r i → ⊥) → ⊥
-no_other true x row id e none begun = begun row id e
-no_other false x row id e none begun = none e
 
 -- the world and the row of an append that began
 pub record Begins (w : World) (client : ℕ) (colours : Colours) (text : List ℕ) (row : Row) (id : Id) (w1 : World) :
@@ -175,12 +168,6 @@ not_entered w w1 client colour text e is =
     let b = refused_reply (may_single w client colour) (length (home_history w client colour))
     (single_stamp w client colour) (sym e) in
     (b, is ∙ ap (λ (x : Bool). if x then after_single w client colour text else w) b)
-
-pub no_other_entry : (b : Bool) (x : Reply) (place stamp : ℕ)
-    → x ≡ (if b then replies.Event place stamp else replies.Nothing) → (x ≡ replies.Nothing → ⊥)
-    → ((p s : ℕ) → x ≡ replies.Event p s → ⊥) → ⊥
-no_other_entry true x place stamp e none event = event place stamp e
-no_other_entry false x place stamp e none event = none e
 
 -- a set has so many colours
 pub at_least : (count : ℕ) (colours : Colours) → has_colours count colours ≡ true → count ≤ length (members colours)

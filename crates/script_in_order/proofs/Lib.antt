@@ -13,3 +13,4 @@ mod Nexts
 mod Shown
 mod RowsShown
 mod ColumnsShown
+pub mod Guards

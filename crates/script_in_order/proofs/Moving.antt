@@ -45,24 +45,24 @@ pulls_other command w new region colour answer other d = record {
 }
 
 -- it carries all that the region lacks
-pub pulls_all : (command : Command) (w given new : World) (region own colour held count give : ℕ) (carry : At)
+pub pulls_all : (command : Command) (w given new : World) (region own colour held count : ℕ) (give carry : At)
     → own ≡ home_of w command.client → held ≡ held_of w region own colour
     → count ≡ length (line (w.histories region colour)) - held
-    → give ≡ length (w.histories region colour) → carry ≡ next_at (w.histories own colour) (nat_lt 0 count)
+    → give ≡ ats.Event (length (w.histories region colour)) → carry ≡ next_at (w.histories own colour) (nat_lt 0 count)
     → given ≡ after w (Give command.client region own colour held)
     → new ≡ after given (Carry command.client region own colour held count)
     → DoneBy (λ grants state. pulled_from grants state command region colour) command w new
-    (answers.Pulled count (ats.Event give) carry) []
+    (answers.Pulled count give carry) []
 pulls_all command w given new region own colour held count give carry mine has lacks gives carries is_given is_new =
     record {
       grants = all_granted;
       begun = refl;
       is = λ replies.
-          let shown : World → ℕ → ℕ → At → State =
-          λ x n g a. answered (with_replies w replies) command x (answers.Pulled n (ats.Event g) a) [] in
-          ap (λ (x : World). shown x lack (length (w.histories region colour)) at_home) (sym worlds)
-          ∙ (ap (λ (n : ℕ). shown new n (length (w.histories region colour)) at_home) (sym counts)
-          ∙ (ap (λ (g : ℕ). shown new count g at_home) (sym gives)
+          let shown : World → ℕ → At → At → State =
+          λ x n g a. answered (with_replies w replies) command x (answers.Pulled n g a) [] in
+          ap (λ (x : World). shown x lack (ats.Event (length (w.histories region colour))) at_home) (sym worlds)
+          ∙ (ap (λ (n : ℕ). shown new n (ats.Event (length (w.histories region colour))) at_home) (sym counts)
+          ∙ (ap (λ (g : At). shown new count g at_home) (sym gives)
           ∙ ap (λ (a : At). shown new count give a) (sym carried)));
     } where
       client : ℕ
@@ -122,23 +122,23 @@ pulls_none command w given new region own colour held mine has is_given same = r
       (has ∙ ap (λ (o : ℕ). held_of w region o colour) mine)))
 
 -- a trim up to what the client has played
-pub trims : (command : Command) (w new : World) (own colour events : ℕ) (played base : Counts)
-    → own ≡ home_of w command.client → events ≡ length (w.histories own colour)
+pub trims : (command : Command) (w new : World) (own colour : ℕ) (at : At) (played base : Counts)
+    → own ≡ home_of w command.client → at ≡ ats.Event (length (w.histories own colour))
     → played ≡ (w.clients command.client).played colour
     → new ≡ after w (Trim command.client own colour played)
     → base ≡ base_after new.shape.regions own (new.histories own colour)
-    → DoneBy (λ _ state. trimmed state command colour) command w new (answers.Based (ats.Event events) base) []
-trims command w new own colour events played base mine many upto is_new is_base = record {
+    → DoneBy (λ _ state. trimmed state command colour) command w new (answers.Based at base) []
+trims command w new own colour at played base mine many upto is_new is_base = record {
   grants = all_granted;
   begun = refl;
   is = λ replies.
-      let shown : World → ℕ → Counts → State =
-      λ x n v. answered (with_replies w replies) command x (answers.Based (ats.Event n) v) [] in
-      ap (λ (x : World). shown x (length (home_history w client colour))
+      let shown : World → At → Counts → State =
+      λ x a v. answered (with_replies w replies) command x (answers.Based a v) [] in
+      ap (λ (x : World). shown x (ats.Event (length (home_history w client colour)))
       (base_after w.shape.regions home (home_history x client colour))) (sym worlds)
-      ∙ (ap (λ (n : ℕ). shown new n (base_after w.shape.regions home (home_history new client colour)))
-      (sym (many ∙ ap (λ (o : ℕ). length (w.histories o colour)) mine))
-      ∙ ap (λ (v : Counts). shown new events v) (sym bases));
+      ∙ (ap (λ (a : At). shown new a (base_after w.shape.regions home (home_history new client colour)))
+      (sym (many ∙ ap (λ (o : ℕ). ats.Event (length (w.histories o colour))) mine))
+      ∙ ap (λ (v : Counts). shown new at v) (sym bases));
 } where
   client : ℕ
   client = command.client

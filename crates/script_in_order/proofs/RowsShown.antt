@@ -1,6 +1,6 @@
 -- The rows of a client and of a region, shown one after another.
 use Rattle.std.proofs.Common.{◌≡◌, ◌∙◌, refl, ap, sym, ℕ, ◌+◌, ◌<◌, ◌≤◌, Bool, true, false, cond, List, [], ◌∷◌, ◌++◌}
-use Rattle.std.proofs.Common.{length, map, arith, zero-add, append-nil}
+use Rattle.std.proofs.Common.{map, arith, zero-add, append-nil}
 use Rattle.std.specs.Prelude.{◌==◌, slice_get, Some}
 use Rattle.std.specs.List.{flat_map, range_with_len}
 use Rattle.std.proofs.lemmas.Bool.{ltb-false, ltb-true}
@@ -18,7 +18,7 @@ use Rattle.world_code.specs.WorldView.{WorldView, world_of, client_at, IsWhole}
 use Rattle.report_text.specs.declared.report.RowReport.{RowReport}
 use Rattle.lawful_run.specs.Columns.{row_report}
 use Rattle.col_core.specs.Rows.{BegunRow}
-use Rattle.script_in_order.specs.Reports.{client_rows_shown, region_rows_shown}
+use Rattle.script_in_order.specs.Reports.{client_rows_shown}
 use Rattle.script_in_order.proofs.Shown.{range_more, flat_map_range_more}
 
 -- The rows of a client
@@ -115,7 +115,3 @@ pub client_hides : (w : World) (region n : ℕ) (old reports new : List RowRepor
 client_hides w region n old reports new other was is =
     is ∙ (was ∙ ap (λ (l : List RowReport). old ++ l)
     (sym (client_more w region n false other ∙ append-nil (rows_of_first w region n))))
-
-pub clients_all : (w : World) (region n : ℕ) (old reports : List RowReport) → n ≡ length w.shape.homes
-    → reports ≡ old ++ rows_of_first w region n → reports ≡ old ++ region_rows_shown w region
-clients_all w region n old reports e is = is ∙ ap (λ (k : ℕ). old ++ rows_of_first w region k) e

@@ -1,9 +1,10 @@
 -- Where the nodes of appends stand, and how an append to several colours ends.
-use Rattle.std.specs.Prelude.{◌≡◌, ℕ, Bool, List, [], map, length}
+use Rattle.std.specs.Prelude.{◌≡◌, ℕ, Bool, Option, None, Some, List, [], map, length}
 use Rattle.std.specs.List.{Contains}
 use Rattle.log_node.specs.declared.ids.Id.{Id}
 use Rattle.log_node.specs.declared.ids.Row.{Row}
-use Rattle.log_node.specs.declared.node.At.TheVariants.{Event}
+use Rattle.log_node.specs.declared.node.At.{At}
+use Rattle.log_node.specs.declared.node.At.TheVariants.{Event, Look}
 use Rattle.skeen_core.specs.declared.marks.Outcome.{Outcome}
 use Rattle.skeen_core.specs.declared.marks.Outcome.TheVariants.{Open, Gone, Final}
 use Rattle.col_core.specs.History.{line}
@@ -17,6 +18,11 @@ use Rattle.script_meaning.specs.States.{Grants, answered, position_of}
 use Rattle.script_meaning.specs.Appends.{appended_by}
 use Rattle.script_in_order.specs.Doing.{with_replies}
 use Rattle.script_in_order.specs.Helps.{FindsNext}
+
+-- the event at this place, if a step has added one, and else the look after so many events
+abbrev pub event_or_look : Option ℕ → ℕ → At
+event_or_look None events = Look events
+event_or_look (Some place) events = Event place
 
 -- where a colour's next event will stand in the client's region
 abbrev pub place_in : World → ℕ → ℕ → PointPiece

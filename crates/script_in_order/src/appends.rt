@@ -19,7 +19,7 @@ use script_text::Command;
 use skeen_core::{Mark, Outcome, Why};
 use std::alloc::{AllocError, Global};
 use world_code::World;
-use world_laws::{Reply, can_complete, is_lawful, log_only_grows};
+use world_laws::{can_complete, is_lawful, log_only_grows};
 
 /// An append to the members of a set.
 pub fn append(
@@ -66,23 +66,26 @@ fn append_one(
     // The memory for the answer is taken before the first step.
     let mut points = Vec::with_capacity(alloc, 1)?;
     let text = Text::copied(alloc, text.as_bytes())?;
-    match world.single(alloc, client, colour, text)? {
-        Reply::Event { place, stamp } => {
-            let key = Key { stamp, id };
+    let entered = world.single(alloc, client, colour, text)?;
+    match entered {
+        Some(placed) => {
+            let key = Key {
+                stamp: placed.stamp,
+                id,
+            };
             clear(world, client, key, colour);
             points.push_reserved(PointPiece {
                 colour,
-                at: At::Event(place),
+                at: At::Event(placed.place),
                 position: position(world, client, key, colour),
             });
             Ok(Answer::Stood {
-                stamp,
+                stamp: placed.stamp,
                 row: None,
                 points: ListOf::from(points),
             })
         }
-        Reply::Nothing => Ok(Answer::StampEnd { colour }),
-        _ => unreachable!(),
+        None => Ok(Answer::StampEnd { colour }),
     }
 }
 
@@ -121,15 +124,22 @@ fn append_several(
     // The memory for the answer is taken before the first step.
     let places = places(alloc, world, client, colours)?;
     let text = Text::copied(alloc, text.as_bytes())?;
-    match world.begin(alloc, client, colours, text)? {
-        Reply::Begun { row, id } => {
-            let completed = world.complete(client, row);
-            Ok(end(world, row, id, completed.outcome, colours, places))
+    let new = world.begin(alloc, client, colours, text)?;
+    match new {
+        Some(begun) => {
+            let completed = world.complete(client, begun.row);
+            Ok(end(
+                world,
+                begun.row,
+                begun.id,
+                completed.outcome,
+                colours,
+                places,
+            ))
         }
-        Reply::Nothing => Ok(Answer::Full {
+        None => Ok(Answer::Full {
             used: world.shape().rows,
         }),
-        _ => unreachable!(),
     }
 }
 
@@ -160,7 +170,7 @@ fn end(
             colour: ended_colour(world, row, colours),
         },
         Outcome::Final(stamp) => {
-            let _seen = world.see(row.client, stamp);
+            world.see(row.client, stamp);
             let key = Key { stamp, id };
             clear_all(world, row.client, key, colours);
             Answer::Stood {

@@ -1,10 +1,11 @@
 // Pulls and trims.
-ghost use Rattle.std.specs.Prelude.{◌≡◌, ◌<◌, ◌-◌, [], IfOk, OnErr, length, if◌then◌else◌};
+ghost use Rattle.std.specs.Prelude.{◌≡◌, ◌≢◌, ◌<◌, ◌-◌, [], IfOk, OnErr, length};
 ghost use Rattle.col_core.specs.History.{line};
 ghost use Rattle.world_laws.specs.Worlds.{held_of, base_after, home_of};
 ghost use Rattle.world_code.specs.WorldView.{world_of};
 ghost use Rattle.script_meaning.specs.Moves.{pulled, pulled_from, trimmed};
 ghost use Rattle.script_in_order.specs.Doing.{DoneBy};
+ghost use Rattle.script_in_order.specs.Points.{event_or_look};
 
 use crate::clears::home;
 use log_node::{At, Counts};
@@ -12,6 +13,7 @@ use report_text::Answer;
 use script_text::Command;
 use std::alloc::{AllocError, Global};
 use world_code::World;
+use world_laws::copies_are_true;
 
 /// Gives the client's region the nodes of another region's line that it lacks, and carries them; refused from the
 /// client's own region. Where there is no memory for what is carried, the other region has given alone.
@@ -36,7 +38,7 @@ pub fn pull(
     pull_from(alloc, command, region, own, colour, world)
 }
 
-// The same from a region that is another one.
+// A pull from another region.
 fn pull_from(
     alloc: Global,
     command: &Command,
@@ -49,22 +51,25 @@ fn pull_from(
     requires region { region < world.old.shape.regions }
     requires own { own < world.old.shape.regions }
     requires home { own ≡ home_of (world_of world.old) command.now.client }
+    requires other { region ≢ own }
     requires within { colour < world.old.shape.colours }
     ensures ok { IfOk result (λ answer. DoneBy (λ grants state. pulled_from grants state command.now region colour)
         command.now (world_of world.old) (world_of world.new) answer []) }
     ensures err { OnErr result (world_of world.new ≡ world_of world.old) }
 {
+    copies_are_true();
+    world.is_whole();
     let client = command.client;
     let held = held(world, region, own, colour);
     let count = lacking(world, region, held, colour);
-    let give = At::Event(events(world, region, colour));
-    let carry = next_at(events(world, own, colour), 0 < count);
-    let _given = world.give(client, region, own, colour, held)?;
+    let theirs = events(world, region, colour);
+    let ours = events(world, own, colour);
+    let given = world.give(client, region, own, colour, held)?;
     match world.carry(alloc, client, region, own, colour, held, count) {
-        Ok(_) => Ok(Answer::Pulled {
+        Ok(carried) => Ok(Answer::Pulled {
             nodes: count,
-            give,
-            carry,
+            give: event_or_look(given, theirs),
+            carry: event_or_look(carried, ours),
         }),
         Err(_) => Ok(Answer::NoMemory),
     }
@@ -100,14 +105,13 @@ fn events(world: &World, region: u8, colour: u8) -> u64
     world.column(region, colour).journal().len() as u64
 }
 
-// Where the next event stands, if there is one, else after how many events that was seen.
-fn next_at(events: u64, is_event: bool) -> At
-    ensures { result ≡ (if is_event then At.Event events else At.Look events) }
+// The event at this place, if a step has added one, and else the look after so many events.
+fn event_or_look(place: Option<u64>, events: u64) -> At
+    ensures { result ≡ event_or_look place events }
 {
-    if is_event {
-        At::Event(events)
-    } else {
-        At::Look(events)
+    match place {
+        Some(place) => At::Event(place),
+        None => At::Look(events),
     }
 }
 
@@ -121,11 +125,11 @@ pub fn trim(command: &Command, colour: u8, world: &mut World) -> Result<Answer, 
 {
     let client = command.client;
     let own = home(world, client);
-    let at = At::Event(events(world, own, colour));
+    let ours = events(world, own, colour);
     let played = played(world, client, colour);
-    let _trimmed = world.trim(client, own, colour, played)?;
+    let trimmed = world.trim(client, own, colour, played)?;
     Ok(Answer::Based {
-        at,
+        at: event_or_look(trimmed, ours),
         base: base(world, own, colour),
     })
 }

@@ -11,7 +11,7 @@ use report_text::Answer;
 use script_text::Command;
 use std::alloc::{AllocError, Global};
 use world_code::World;
-use world_laws::{Reply, is_lawful};
+use world_laws::is_lawful;
 
 /// Takes the first so many steps of an append to several colours.
 pub fn stop(
@@ -36,14 +36,14 @@ pub fn stop(
     is_lawful();
     world.is_whole();
     let text = Text::copied(alloc, text.as_bytes())?;
-    match world.begin(alloc, command.client, colours, text)? {
-        Reply::Begun { row, .. } => {
-            world.complete_first(command.client, row, steps - 1);
+    let new = world.begin(alloc, command.client, colours, text)?;
+    match new {
+        Some(begun) => {
+            world.complete_first(command.client, begun.row, steps - 1);
             Ok(Answer::Stopped { steps })
         }
-        Reply::Nothing => Ok(Answer::Full {
+        None => Ok(Answer::Full {
             used: world.shape().rows,
         }),
-        _ => unreachable!(),
     }
 }

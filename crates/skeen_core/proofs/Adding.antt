@@ -6,14 +6,14 @@ use Rattle.std.specs.List.{AllByRecursion}
 use Rattle.std.proofs.lemmas.List.{map-append, length_push}
 use Rattle.log_node.specs.declared.ids.Key.{Key}
 use Rattle.log_node.specs.Order.{same_id, key_below}
-use Rattle.skeen_core.specs.declared.stamps.TheConstants.{MAX_STAMP}
+use Rattle.log_node.specs.declared.limits.TheConstants.{MAX_STAMP}
 use Rattle.skeen_core.specs.declared.waiting.Waiting.{Waiting}
 use Rattle.skeen_core.specs.Standings.{Standing, with_entry, line_of}
 use Rattle.skeen_core.specs.Queues.{Queued, standing_of, has_id, entered_queue}
 use Rattle.skeen_core.specs.Inside.{final_at, all_entries, all_stored, with_things, queued, AreEntries, StartsOpen}
 use Rattle.skeen_core.specs.Inside.{IsQueue, ready_keys, ready_things, left}
 use Rattle.skeen_core.proofs.Lists.{each-weaker, each-list_any}
-use Rattle.skeen_core.proofs.Order.{stamp-key}
+use Rattle.log_node.proofs.CallerLemmas.{stamp-key}
 use Rattle.skeen_core.proofs.Delivery.{line-is}
 use Rattle.skeen_core.proofs.Stored.{line-queued}
 use Rattle.skeen_core.proofs.Delivering.{queued-delivered, queue-delivered}

@@ -7,7 +7,7 @@ use Rattle.std.specs.List.{AllByRecursion, prefix_len}
 use Rattle.std.proofs.lemmas.Bool.{cond_both, cond-false}
 use Rattle.std.proofs.lemmas.List.{map-append, drop-append-le, length-map}
 use Rattle.log_node.specs.declared.ids.Key.{Key}
-use Rattle.skeen_core.specs.declared.stamps.TheConstants.{MAX_STAMP}
+use Rattle.log_node.specs.declared.limits.TheConstants.{MAX_STAMP}
 use Rattle.skeen_core.specs.declared.waiting.Waiting.{Waiting}
 use Rattle.skeen_core.specs.Standings.{Standing, line_of}
 use Rattle.skeen_core.specs.Queues.{Queued, standing_of, IsContinued}

@@ -16,7 +16,7 @@ use Rattle.skeen_core.specs.Queues.{standing_of}
 use Rattle.skeen_core.specs.Inside.{final_at, all_entries, all_stored, with_things, StartsOpen, IsRising, AreEntries}
 use Rattle.skeen_core.proofs.Lists.{each-weaker, each-append, each-map, each-of_map, filter-all, filter-none}
 use Rattle.skeen_core.proofs.Lists.{list_all-each}
-use Rattle.skeen_core.proofs.Order.{key-asym, key-irrefl}
+use Rattle.log_node.proofs.CallerLemmas.{key-asym, key-irrefl}
 use Rattle.skeen_core.proofs.Entries.{rising-across, rising-right}
 
 always : (ks : List Key) → AllByRecursion (λ (j : Key). true ≡ true) ks

@@ -10,7 +10,7 @@ use Rattle.skeen_core.specs.Standings.{Standing, with_entry, without_id}
 use Rattle.skeen_core.specs.Inside.{IsRising, AreApart, AreEntries}
 use Rattle.skeen_core.proofs.Lists.{each-weaker, each-append, each-left, each-right, each-both, each-filter}
 use Rattle.skeen_core.proofs.Lists.{each-filtered}
-use Rattle.skeen_core.proofs.Order.{key-trans, key-asym, key-total, same_id-sym}
+use Rattle.log_node.proofs.CallerLemmas.{key-trans, key-asym, key-total, same_id-sym}
 
 -- every entry of the list has a key below this one
 abbrev pub AllBelow : Standing → List Standing → Type 0

@@ -14,7 +14,7 @@ use Rattle.skeen_core.specs.Standings.{Standing}
 use Rattle.skeen_core.specs.Queues.{standing_of, with_stored}
 use Rattle.skeen_core.specs.Inside.{IsRising, IsRisingStored}
 use Rattle.skeen_core.proofs.Lists.{each-at, each-map, each-left, each-right}
-use Rattle.skeen_core.proofs.Order.{key-trans}
+use Rattle.log_node.proofs.CallerLemmas.{key-trans}
 
 module _ {T : Type 0} where
   -- an entry is put before the first whose key is above its own

@@ -8,7 +8,7 @@ use Rattle.std.proofs.lemmas.List.Elements.{filter-append}
 use Rattle.log_node.specs.declared.ids.Id.{Id}
 use Rattle.log_node.specs.declared.ids.Key.{Key}
 use Rattle.log_node.specs.Order.{same_id, key_below}
-use Rattle.skeen_core.specs.declared.stamps.TheConstants.{MAX_STAMP}
+use Rattle.log_node.specs.declared.limits.TheConstants.{MAX_STAMP}
 use Rattle.skeen_core.specs.declared.marks.Outcome.{Outcome}
 use Rattle.skeen_core.specs.declared.marks.Outcome.TheVariants.{Open, Gone, Final}
 use Rattle.skeen_core.specs.declared.waiting.Waiting.{Waiting}
@@ -20,7 +20,7 @@ use Rattle.skeen_core.specs.Inside.{final_at, all_entries, all_stored, with_thin
 use Rattle.skeen_core.specs.Inside.{ready_keys, ready_things, left}
 use Rattle.skeen_core.proofs.Lists.{each-weaker, each-both, each-map, each-of_map, each-drop, filter-all}
 use Rattle.skeen_core.proofs.Lists.{filter-map, find-skip, find-some, find-map, cond-map}
-use Rattle.skeen_core.proofs.Order.{key-asym, key-raise, same_id-sym}
+use Rattle.log_node.proofs.CallerLemmas.{key-asym, key-raise, same_id-sym}
 use Rattle.skeen_core.proofs.Entries.{AllBelow, HasOwnId, LacksId, with_entry-front, entries-filter, entries-with}
 use Rattle.skeen_core.proofs.Entries.{entries-clock, lacks-without, below-over, apart-over}
 use Rattle.skeen_core.proofs.Delivering.{queue-delivered, queued-delivered}

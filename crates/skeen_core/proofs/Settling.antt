@@ -23,7 +23,7 @@ use Rattle.skeen_core.specs.Inside.{IsRising}
 use Rattle.skeen_core.proofs.Lists.{each-weaker, each-both, each-at, each-map, each-of_map, each-drop, filter-all}
 use Rattle.skeen_core.proofs.Lists.{filter-map, find-skip, find-at, find-some, find-map, list_any-none}
 use Rattle.skeen_core.proofs.Lists.{list_any-map, cond-map}
-use Rattle.skeen_core.proofs.Order.{key-asym, key-raise, same_id-is, same_id-refl, same_id-sym}
+use Rattle.log_node.proofs.CallerLemmas.{key-asym, key-raise, same_id-is, same_id-refl, same_id-sym}
 use Rattle.skeen_core.proofs.Entries.{AllBelow, LacksId, with_entry-front, entries-filter, entries-with}
 use Rattle.skeen_core.proofs.Entries.{entries-clock, lacks-without, below-over, apart-over}
 

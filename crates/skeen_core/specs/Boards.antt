@@ -13,7 +13,7 @@ use Rattle.skeen_core.specs.declared.marks.Marked.{Marked}
 use Rattle.skeen_core.specs.declared.marks.Marked.TheVariants.{Set, Already}
 use Rattle.skeen_core.specs.declared.marks.Outcome.{Outcome}
 use Rattle.skeen_core.specs.declared.marks.Outcome.TheVariants.{Open, Gone, Final}
-use Rattle.skeen_core.specs.declared.board_row.TheConstants.{MAX_COLOURS}
+use Rattle.log_node.specs.declared.limits.TheConstants.{MAX_COLOURS}
 use Rattle.skeen_core.specs.declared.board_row.BoardRow.{BoardRow}
 use Rattle.skeen_core.specs.Outcomes.{outcome_of, is_missing}
 

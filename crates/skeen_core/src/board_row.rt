@@ -1,17 +1,16 @@
 // A begun row: its marks, one after another, and the outcome that they have.
 ghost use Rattle.std.specs.Prelude.{◌≡◌, ◌+◌, ◌-◌, ◌<◌, ◌≤◌, ◌||◌, ◌==◌, map, length};
 ghost use Rattle.std.specs.List.{list_any};
-ghost use Rattle.log_node.specs.Sets.{has};
 ghost use Rattle.skeen_core.specs.Outcomes.{outcome_of, is_missing, is_stamp_end_fence, is_memory_fence};
 ghost use Rattle.skeen_core.specs.Outcomes.{number_of, greatest};
 ghost use Rattle.skeen_core.specs.Boards.{row_marks, marks_above};
 
 use crate::marks::{Mark, Outcome};
 use crate::outcomes::{Tally, outcome_of_tally, with_mark};
-use log_node::{Colours, Id};
+use log_node::{Colours, Id, MAX_COLOURS};
 
-/// The most colours that a board may have.
-pub const MAX_COLOURS: usize = 16;
+// A mark for every colour that there may be.
+pub(crate) const MARKS: usize = MAX_COLOURS as usize;
 
 /// A begun row: the id and the colours of its node, the mark of each colour, and the outcome that is kept for it.
 #[derive(Clone, Copy, Debug, PartialEq, Eq)]
@@ -19,17 +18,9 @@ pub struct BoardRow {
     pub id: Id,
     pub colours: Colours,
     /// By colour. `None` for a colour that the node lacks, too.
-    pub marks: [Mark; MAX_COLOURS],
+    pub marks: [Mark; MARKS],
     /// `Open` as long as none is kept.
     pub last: Outcome,
-}
-
-// Whether the set has the colour.
-fn has_colour(colours: Colours, colour: u8) -> bool
-    requires { colour < MAX_COLOURS }
-    ensures { result ≡ has colours colour }
-{
-    (colours.0 >> colour) % 2 == 1
 }
 
 // What the marks of the row's colours have among them, from a colour on.
@@ -41,11 +32,11 @@ fn tally_from(row: &BoardRow, colour: u8) -> Tally
     ensures memory { result.memory ≡ list_any is_memory_fence (marks_above row.now colour) }
     ensures greatest { result.greatest ≡ greatest (map number_of (marks_above row.now colour)) }
 {
-    if colour as usize == MAX_COLOURS {
+    if colour == MAX_COLOURS {
         return Tally::NOTHING;
     }
     let rest = tally_from(row, colour + 1);
-    if has_colour(row.colours, colour) {
+    if row.colours.has(colour) {
         with_mark(rest, row.marks[colour as usize])
     } else {
         rest

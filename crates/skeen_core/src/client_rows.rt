@@ -3,13 +3,11 @@ ghost use Rattle.std.specs.Prelude.{◌≡◌, ◌+◌, ◌<◌, ◌≤◌, ◌+
 ghost use Rattle.std.specs.Option.{option_copied};
 ghost use Rattle.skeen_core.specs.Boards.{changed_at, mark_in, with_mark, decided, outcome_in};
 
-use crate::board_row::{BoardRow, MAX_COLOURS, outcome_of_row};
+use crate::board_row::{BoardRow, outcome_of_row};
 use crate::marks::{Mark, Outcome};
+use log_node::{MAX_COLOURS, MAX_ROWS};
 use std::alloc::{AllocError, Global};
 use std::marker::Model;
-
-/// The most rows that a client may begin.
-pub const MAX_ROWS: u32 = 4096;
 
 #[derive(Drop)]
 pub(crate) struct ClientRows {
@@ -20,7 +18,7 @@ pub(crate) struct ClientRows {
 impl Model for ClientRows {
     ghost use Rattle.std.specs.Prelude.{◌≤◌, length, vec_capacity};
     ghost use Rattle.skeen_core.specs.Boards.{RowsOfClient};
-    ghost use Rattle.skeen_core.specs.declared.client_rows.TheConstants.{MAX_ROWS};
+    ghost use Rattle.log_node.specs.declared.limits.TheConstants.{MAX_ROWS};
 
     ghost Value = { RowsOfClient };
 
@@ -54,10 +52,7 @@ impl ClientRows {
         requires { length self.old.begun < self.old.rows }
         ensures { self.new ≡ record self.old { begun = self.old.begun ++ row ∷ [] } }
     {
-        match self.begun.push(row) {
-            Ok(()) => {}
-            Err(_) => unreachable!(),
-        }
+        self.begun.push_reserved(row);
     }
 
     // The row that is begun under a number.

@@ -11,9 +11,9 @@ ghost use Rattle.skeen_core.specs.Inside.{ready_keys, ready_things, left};
 
 use crate::marks::Outcome;
 use crate::outcomes::final_number;
-use crate::stamps::{MAX_STAMP, StampEnd};
+use crate::stamps::StampEnd;
 use crate::waiting::{Waiting, final_front, put, settle_entry};
-use log_node::{Id, Key};
+use log_node::{Id, Key, MAX_STAMP};
 use std::alloc::{AllocError, Global};
 use std::marker::Model;
 

@@ -5,16 +5,13 @@ ghost use Rattle.skeen_core.specs.Boards.{Board, begun_at, next_of, HasRow, IsFu
 ghost use Rattle.skeen_core.specs.Boards.{mark_in, outcome_in, last_in, first_mark, marked};
 ghost use Rattle.skeen_core.specs.Boards.{with_mark, decided, with_changed, with_begun, fresh_row_of, empty_board};
 
-use crate::board_row::{BoardRow, MAX_COLOURS};
-use crate::client_rows::{ClientRows, MAX_ROWS};
+use crate::board_row::{BoardRow, MARKS};
+use crate::client_rows::ClientRows;
 use crate::marks::{Full, Mark, Marked, Outcome, Why};
-use log_node::{Node, Row};
+use log_node::{MAX_CLIENTS, MAX_COLOURS, MAX_ROWS, Node, Row};
 use std::alloc::{AllocError, Global};
 use std::marker::Model;
 use std::sync::Arc;
-
-/// The most clients that a board may have.
-pub const MAX_CLIENTS: u8 = 16;
 
 /// A stamp board for one thread.
 #[derive(Drop)]
@@ -27,7 +24,7 @@ pub struct Rows {
 impl Model for Rows {
     ghost use Rattle.std.specs.Prelude.{◌≤◌, map};
     ghost use Rattle.skeen_core.specs.Boards.{Board, HaveRows};
-    ghost use Rattle.skeen_core.specs.declared.board_row.TheConstants.{MAX_COLOURS};
+    ghost use Rattle.log_node.specs.declared.limits.TheConstants.{MAX_COLOURS};
 
     ghost Value = { Board };
 
@@ -85,7 +82,7 @@ impl Rows {
         let begun = BoardRow {
             id: node.id,
             colours: node.colours,
-            marks: [Mark::None; MAX_COLOURS],
+            marks: [Mark::None; MARKS],
             last: Outcome::Open,
         };
         self.clients[client as usize].begin(begun);

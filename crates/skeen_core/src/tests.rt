@@ -3,7 +3,7 @@ ghost use Rattle.std.specs.Prelude.{◌≡◌, ◌∷◌, [], IfOk, Some};
 ghost use Rattle.skeen_core.specs.Boards.{fresh_row};
 
 use super::*;
-use log_node::{Colours, Id, Key, ListOf, Node, Row, Text};
+use log_node::{Colours, Id, Key, Node, Row, Text, Wants};
 use std::alloc::{AllocError, Global};
 use std::sync::Arc;
 use std::test::Fail;
@@ -118,7 +118,7 @@ fn node(alloc: Global) -> Result<Arc<Node, Global>, AllocError>
         colours: Colours(3),
         text: Text::copied(alloc, b"p")?,
         floor: 0,
-        wants: ListOf::new(alloc),
+        wants: Wants::new(alloc),
         row: Some(ROW),
     };
     Ok(Arc::new(alloc, node)?)

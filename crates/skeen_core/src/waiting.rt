@@ -2,7 +2,6 @@
 ghost use Rattle.std.specs.Prelude.{◌≡◌, ◌<◌, ◌≤◌, ◌&&◌, ◌++◌, ◌∷◌, []};
 ghost use Rattle.std.specs.Prelude.{if◌then◌else◌, map, length, slice_index_or, vec_len, vec_capacity};
 ghost use Rattle.std.specs.List.{list_any, position, remove};
-ghost use Rattle.log_node.specs.Order.{key_below};
 ghost use Rattle.skeen_core.specs.Standings.{is_open_id};
 ghost use Rattle.skeen_core.specs.Queues.{standing_of, final_entry, with_stored, settled_stored, is_decided};
 ghost use Rattle.skeen_core.specs.Inside.{IsRisingStored, AreApart, ready};
@@ -25,13 +24,6 @@ fn is_open<T>(entry: &Waiting<T>, id: Id) -> bool
     ensures { result ≡ is_open_id id (standing_of entry.now) }
 {
     !entry.settled && entry.key.id == id
-}
-
-// Whether a key comes before another.
-fn is_below(a: Key, b: Key) -> bool
-    ensures { result ≡ key_below a b }
-{
-    a < b
 }
 
 // The place of the open entry with this id.
@@ -74,7 +66,7 @@ fn final_under<T: Drop>(waiting: &mut Vec<Waiting<T>>, at: usize, stamp: u64)
     entry.key.stamp = stamp;
     entry.settled = true;
     let key = entry.key;
-    let place = waiting.partition_point(|other| !is_below(key, other.key));
+    let place = waiting.partition_point(|other| !key.is_below(other.key));
     match waiting.insert(place, entry) {
         Ok(()) => {}
         Err(_) => unreachable!(),

@@ -9,32 +9,8 @@ use Rattle.log_node.specs.declared.node.Head.{Head}
 use Rattle.log_node.specs.Vectors.{at, IsWithin, one_more}
 use Rattle.col_core.specs.Cuts.{Chains, Reachable, nothing, next, IsGreatestReachable}
 use Rattle.col_core.specs.Computed.{is_covered}
-use Rattle.col_core.proofs.CutLaws.{within, within-at}
+use Rattle.log_node.proofs.CallerLemmas.{within, within-at, each_region, at-one_more}
 use Rattle.snapshot_cut.specs.Stuck.{IsStuck, IsFree, left}
-
--- a fact of each region is one of the four
-pub each_region : (P : ℕ → Type 0) → P 0 → P 1 → P 2 → P 3 → (r : ℕ) → r < 4 → P r
-each_region P a b c d zero h = a
-each_region P a b c d (suc zero) h = b
-each_region P a b c d (suc (suc zero)) h = c
-each_region P a b c d (suc (suc (suc zero))) h = d
-each_region P a b c d (suc (suc (suc (suc r)))) h = absurd (let f : ⊥ = omega (arith, h) in f)
-
-at-one_more : (v : Counts) (region r : ℕ) → r < 4 → at (one_more v region) r ≡ cond (r == region) (at v r + 1) (at v r)
-at-one_more v region = each_region (λ r. at (one_more v region) r ≡ cond (r == region) (at v r + 1) (at v r)) refl refl refl
-    refl
-
--- no number falls
-pub no_less : (v : Counts) (region r : ℕ) → r < 4 → at v r ≤ at (one_more v region) r
-no_less v region r lt =
-    let e = at-one_more v region r lt in
-    cond_both (r == region) (at v r + 1) (at v r) (λ n. at (one_more v region) r ≡ n → at v r ≤ at (one_more v region) r)
-    (λ _ is. omega (arith, is)) (λ _ is. omega (arith, is)) e
-
-pub still_within : (bases v : Counts) (region : ℕ) → IsWithin bases v → IsWithin bases (one_more v region)
-still_within bases v region h =
-    within bases (one_more v region) (λ r lt. let a = within-at bases v h r lt in let b = no_less v region r lt in
-    omega (arith, a, b))
 
 -- what is covered is a node whose needs the vector covers
 covered : (v : Counts) (o : Option Head) → is_covered v o ≡ true → (head : Head) × (o ≡ Some head) × IsWithin head.needs v

@@ -7,7 +7,6 @@ ghost use Rattle.col_core.specs.Computed.{is_covered};
 ghost use Rattle.snapshot_cut.specs.Stuck.{IsStuck, IsFree};
 
 use crate::needs_view::NeedsView;
-use crate::vectors::{more, of_region, within};
 use log_node::Counts;
 
 // Whether the next node of a region's chain needs no more than the vector.
@@ -17,8 +16,8 @@ fn is_free<V: NeedsView>(view: &V, v: Counts, region: u8) -> bool
     ensures value { result ≡ is_covered v (slice_get (V.chains view.now region) (at v region)) }
     ensures room { IsTrue result → at v region + 1 < 2 ^ 64 }
 {
-    let position = of_region(v, region);
-    position < view.count(region) && within(view.needs(region, position), v)
+    let position = v.of_region(region);
+    position < view.count(region) && view.needs(region, position).is_within(v)
 }
 
 // The first region whose next node can be added.
@@ -43,7 +42,7 @@ pub fn admit<V: NeedsView>(view: &V, from: Counts) -> Counts
 {
     let mut cut = from;
     while let Some(region) = free_region(view, cut) {
-        cut = more(cut, region);
+        cut = cut.one_more(region);
     }
     cut
 }

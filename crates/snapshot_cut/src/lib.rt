@@ -3,7 +3,6 @@
 
 mod cuts;
 mod needs_view;
-mod vectors;
 
 pub use cuts::admit;
 pub use needs_view::NeedsView;

@@ -8,7 +8,7 @@ ghost use Rattle.stamp_board.specs.Seats.{IsFreshClient, IsFreshColumn, AreFresh
 ghost use Rattle.stamp_board.specs.declared.view.Size.{Size};
 
 use crate::{Board, ClosedRows, ColumnSeat, ColumnSeats, Seat, Seats};
-use log_node::{Colours, Id, ListOf, Node, Row, Text};
+use log_node::{Colours, Id, ListOf, Node, Row, Text, Wants};
 use skeen_core::{ColourMark, Full, Mark, Marked, Outcome, Why};
 use std::alloc::{AllocError, Global};
 use std::sync::Arc;
@@ -40,7 +40,7 @@ fn node(alloc: Global) -> Result<Arc<Node, Global>, AllocError>
         colours: Colours(3),
         text: Text::copied(alloc, b"p")?,
         floor: 0,
-        wants: ListOf::new(alloc),
+        wants: Wants::new(alloc),
         row: Some(Row {
             client: 0,
             number: 0,

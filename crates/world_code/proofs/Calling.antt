@@ -1,18 +1,14 @@
 -- What the code asks of a column and of a client for a single, and what the two make of the kept world.
-use Rattle.std.proofs.Common.{◌≡◌, Result, Ok, Err, ℕ, ◌<◌, ◌≤◌, true, false, List, [], length, get_or, set, refl, ap}
+use Rattle.std.proofs.Common.{◌≡◌, ℕ, ◌<◌, ◌≤◌, true, false, List, [], length, get_or, set, refl, ap}
 use Rattle.std.proofs.Common.{sym, subst, ◌∙◌, arith, get_or-set_same}
-use Rattle.std.specs.Prelude.{OnErr}
-use Rattle.std.proofs.lemmas.List.{set-get_or}
-use Rattle.log_node.specs.declared.node.At.{At}
-use Rattle.log_node.specs.declared.node.At.TheVariants as ats
+use Rattle.std.specs.Prelude.{Some}
 use Rattle.log_node.specs.declared.node.Node.{Node}
 use Rattle.log_node.specs.Sets.{has}
 use Rattle.col_core.specs.History.{last_stamp, has_entered}
 use Rattle.column.specs.Columns.{ColumnState, with_room, stamp_for}
 use Rattle.column.specs.Columns as columns
-use Rattle.world_laws.specs.declared.steps.Reply.{Reply}
 use Rattle.world_laws.specs.declared.steps.Reply.TheVariants as replies
-use Rattle.world_laws.specs.Worlds.{home_of, next_id, event_reply, single_stamp}
+use Rattle.world_laws.specs.Worlds.{home_of, next_id, may_single, after_single, event_reply, single_stamp}
 use Rattle.world_laws.proofs.Held.{Held}
 use Rattle.world_laws.proofs.Histories.{not_entered}
 use Rattle.world_laws.proofs.Keeps.{next_absent}
@@ -23,15 +19,30 @@ use Rattle.world_code.specs.WorldView.{WorldView, no_column, column_at, client_a
 use Rattle.world_code.proofs.Changing.{client_shown, whole_same}
 use Rattle.world_code.proofs.Placing.{default_free}
 use Rattle.world_code.proofs.Singles as singles
-use Rattle.world_code.proofs.Singles.{MaySingle, has_alone, client_in, home_in, colour_in}
+use Rattle.world_code.proofs.Singles.{MaySingle, may_single_is, has_alone, client_in, home_in, colour_in}
+use Rattle.world_code.proofs.Singles.{single_world, single_whole}
+use Rattle.world_code.specs.declared.replies.Placed.{Placed}
+use Rattle.world_code.specs.Replies.{placed_reply}
 
 pub is_held : (kept : WorldView) → IsWhole kept → Held (world_of kept)
 is_held kept w = of_reached Held held (world_of kept) w.reached
 
-module _ (kept : WorldView) (w : IsWhole kept) (client colour : ℕ) (may : MaySingle kept client colour) (home : ℕ)
-    (home_is : home_of (world_of kept) client ≡ home) (row : List ColumnState)
-    (row_is : row ≡ get_or kept.columns home row)
-    (node : Node) (node_is : node ≡ next_single (client_at kept client) client home colour node.text) where
+-- A column is called for a single, which may be done, with what the code has read: the region, its columns and the node.
+pub record SingleCall (kept : WorldView) (client colour home : ℕ) (row : List ColumnState) (node : Node) : Type 0 where
+  pub whole : IsWhole kept
+  pub guard : may_single (world_of kept) client colour ≡ true
+  pub home_is : home_of (world_of kept) client ≡ home
+  pub row_is : row ≡ get_or kept.columns home row
+  pub node_is : node ≡ next_single (client_at kept client) client home colour node.text
+
+module _ {kept : WorldView} {client colour home : ℕ} {row : List ColumnState} {node : Node}
+    (call : SingleCall kept client colour home row node) where
+  abbrev w : IsWhole kept
+  w = call.whole
+
+  abbrev may : MaySingle kept client colour
+  may = may_single_is kept client colour call.guard
+
   abbrev region : ℕ
   region = home_of (world_of kept) client
 
@@ -42,11 +53,11 @@ module _ (kept : WorldView) (w : IsWhole kept) (client colour : ℕ) (may : MayS
   its = next_single (client_at kept client) client region colour node.text
 
   node_same : node ≡ its
-  node_same = node_is ∙ ap (λ (h : ℕ). next_single (client_at kept client) client h colour node.text) (sym home_is)
+  node_same = call.node_is ∙ ap (λ (h : ℕ). next_single (client_at kept client) client h colour node.text) (sym call.home_is)
 
   row_same : row ≡ get_or kept.columns region []
   row_same =
-      row_is ∙ (ap (λ (h : ℕ). get_or kept.columns h row) (sym home_is)
+      call.row_is ∙ (ap (λ (h : ℕ). get_or kept.columns h row) (sym call.home_is)
       ∙ default_free kept.columns region row [] (home_in kept w client colour node.text may))
 
   column_same : get_or row colour no_column ≡ old
@@ -57,7 +68,7 @@ module _ (kept : WorldView) (w : IsWhole kept) (client colour : ℕ) (may : MayS
       omega (arith, n, lt)
 
   pub call_home : home < length kept.columns
-  call_home = let lt = home_in kept w client colour node.text may in omega (arith, home_is, lt)
+  call_home = let lt = home_in kept w client colour node.text may in omega (arith, lt, call.home_is)
 
   pub call_client : client < length kept.clients
   call_client = client_in kept w client colour node.text may
@@ -91,15 +102,14 @@ module _ (kept : WorldView) (w : IsWhole kept) (client colour : ℕ) (may : MayS
       ∙ ap (λ (c : ColumnState). stamp_for c its) column_same
 
   -- both together
-  pub kept_after : (new_row : List ColumnState) (old_client new_client : ClientView) (stamp : ℕ) (shared : Node)
+  pub kept_after : {new_row : List ColumnState} {old_client new_client : ClientView} {stamp : ℕ} {shared : Node}
       → new_row ≡ set row colour (columns.after_single (with_room (get_or row colour no_column)) client node)
-      → old_client ≡ get_or kept.clients client old_client → shared ≡ node → stamp
-      ≡ stamp_for (get_or row colour no_column) node
-      → new_client ≡ with_next_node old_client shared stamp
+      → old_client ≡ get_or kept.clients client old_client → shared ≡ node
+      → stamp ≡ stamp_for (get_or row colour no_column) node → new_client ≡ with_next_node old_client shared stamp
       → ◌≡◌ {A = WorldView}
       (record kept { clients = set kept.clients client new_client; columns = set kept.columns home new_row })
       (singles.new_kept kept w client colour node.text may)
-  kept_after new_row old_client new_client stamp shared row_new client_is shared_is stamp_is client_new =
+  kept_after {new_row} {old_client} {new_client} {stamp} {shared} row_new client_is shared_is stamp_is client_new =
       ap (λ (c : ClientView). let k : WorldView =
       record kept { clients = set kept.clients client c; columns = set kept.columns home new_row } in k)
       (client_new
@@ -113,7 +123,7 @@ module _ (kept : WorldView) (w : IsWhole kept) (client colour : ℕ) (may : MayS
             set kept.clients client (with_next_node (client_at kept client) its (stamp_for old its));
         columns = cs;
       } in k)
-      (ap (λ (h : ℕ). set kept.columns h new_row) (sym home_is)
+      (ap (λ (h : ℕ). set kept.columns h new_row) (sym call.home_is)
       ∙ ap (λ (l : List ColumnState). set kept.columns region l)
       (row_new
       ∙ (ap (λ (l : List ColumnState). set l colour
@@ -121,30 +131,24 @@ module _ (kept : WorldView) (w : IsWhole kept) (client colour : ℕ) (may : MayS
       ∙ ap (λ (n : Node). set (get_or kept.columns region []) colour (columns.after_single (with_room old) client n))
       node_same)))
 
-  -- and so is the reply
-  pub reply_same : (at : At) (place stamp : ℕ) → at ≡ ats.Event place → at
-      ≡ ats.Event (length (get_or row colour no_column).journal)
-      → stamp ≡ stamp_for (get_or row colour no_column) node
-      → ◌≡◌ {A = Reply} (replies.Event place stamp)
-      (event_reply (world_of kept) home colour (single_stamp (world_of kept) client colour))
-  reply_same at place stamp is there stamp_is =
-      let e : ats.Event place ≡ ats.Event (length (get_or row colour no_column).journal) = sym is ∙ there in
-      let p : place ≡ length (get_or row colour no_column).journal = cc in
-      ap (λ (n : ℕ). replies.Event n stamp)
-      (p ∙ (ap (λ (c : ColumnState). length c.journal) column_same
-      ∙ ap (λ (h : ℕ). length (column_at kept.columns h colour).journal) home_is))
-      ∙ ap (λ (n : ℕ). replies.Event (length (column_at kept.columns home colour).journal) n) (stamp_is ∙ stamp_same)
+  pub kept_whole : IsWhole (singles.new_kept kept w client colour node.text may)
+  kept_whole = single_whole kept w client colour node.text may call.guard
 
--- a column that refused is as it was
-pub refused : (columns : List (List ColumnState)) (home : ℕ) (row new_row : List ColumnState) → row
-    ≡ get_or columns home row
-    → new_row ≡ row → set columns home new_row ≡ columns
-refused columns home row new_row is same =
-    ap (λ (l : List ColumnState). set columns home l) (same ∙ is) ∙ set-get_or columns home row
+  pub kept_world : world_of (singles.new_kept kept w client colour node.text may)
+      ≡ after_single (world_of kept) client colour node.text
+  kept_world = single_world kept w client colour node.text may
 
-pub on_err : {R E : Type 0} (r : Result R E) (P : Type 0) → P → OnErr r P
-on_err (Ok x) P p = tt
-on_err (Err e) P p = p
+  -- and so is what is answered
+  pub placed_same : {placed : Placed} → placed ≡ record {
+    place = length (get_or row colour no_column).journal;
+    stamp = stamp_for (get_or row colour no_column) node;
+  } → placed_reply (Some placed) ≡ event_reply (world_of kept) home colour (single_stamp (world_of kept) client colour)
+  placed_same is =
+      ap (λ (p : Placed). placed_reply (Some p)) is
+      ∙ (ap (λ (n : ℕ). replies.Event n (stamp_for (get_or row colour no_column) node))
+      (ap (λ (c : ColumnState). length c.journal) column_same
+      ∙ ap (λ (h : ℕ). length (column_at kept.columns h colour).journal) call.home_is)
+      ∙ ap (λ (n : ℕ). replies.Event (length (column_at kept.columns home colour).journal) n) stamp_same)
 
 -- the room that a client took shows nowhere in the world
 pub room_world : (kept : WorldView) (client : ℕ) → IsWhole kept → client < length kept.clients

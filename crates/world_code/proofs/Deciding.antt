@@ -18,7 +18,8 @@ use Rattle.world_laws.specs.Worlds.{World, RowState, row_of, marks_of, is_begun,
 use Rattle.world_laws.specs.Worlds.{with_row}
 use Rattle.world_laws.specs.Laws.{IsBounded}
 use Rattle.world_laws.proofs.Basics.{at_updated_at}
-use Rattle.world_code.specs.WorldView.{WorldView, client_at, world_of, reply_to, IsWhole}
+use Rattle.world_code.specs.WorldView.{WorldView, client_at, world_of, IsWhole}
+use Rattle.world_code.specs.Replies.{decided_reply, kept_outcome}
 use Rattle.world_code.proofs.Changing.{placed_of, whole_after, reached_step}
 use Rattle.world_code.proofs.Marking.{Begun, decided_row, decided_clients, outcome_here, board_world}
 
@@ -100,7 +101,7 @@ module _ (kept : WorldView) (w : IsWhole kept) (row : Row) (b : Begun kept row)
       (guard_is ∙ (ap is_decided (sym outcome_is ∙ sym is) ∙ t)))
 
   pub reply_is : (o : Outcome) → o ≡ outcome_in (begun_at kept.board row)
-      → reply_to o ≡ reply (world_of kept) (steps.Decide row)
+      → decided_reply (kept_outcome o) ≡ reply (world_of kept) (steps.Decide row)
   reply_is Open is = reply_open Open is refl
   reply_is (Gone why) is = reply_decided (Gone why) is refl
   reply_is (Final f) is = reply_decided (Final f) is refl

@@ -22,3 +22,6 @@ pub mod Completion
 pub mod Looking
 pub mod Moving
 pub mod Carrying
+pub mod Views
+pub mod ProposeCalls
+pub mod SettleCalls

@@ -1,9 +1,7 @@
 -- A column has one event more: what that makes of the world, and what gives, carries and trims ask for.
 use Rattle.std.proofs.Common.{◌≡◌, ◌≢◌, ℕ, zero, suc, ◌+◌, ◌<◌, ◌≤◌, true, List, [], ◌∷◌, ◌++◌, length, get_or}
 use Rattle.std.proofs.Common.{set, take, drop, map, refl, ap, sym, subst, ◌∙◌, arith}
-use Rattle.std.proofs.Common.{Result, Ok, Err}
-use Rattle.std.proofs.lemmas.List.{set-get_or}
-use Rattle.std.specs.Prelude.{if◌then◌else◌, ◌-◌, min, nat_lt, slice_get, Some, OnErr}
+use Rattle.std.specs.Prelude.{if◌then◌else◌, ◌-◌, min, nat_lt, slice_get, Some}
 use Rattle.std.specs.List.{AllByRecursion}
 use Rattle.std.proofs.lemmas.Bool.{cond-true, cond-false, and_parts, ltb-true, lt-ltb, false_from_ne_true}
 use Rattle.log_node.specs.declared.ids.Counts.{Counts}
@@ -11,7 +9,6 @@ use Rattle.log_node.specs.declared.node.At.{At}
 use Rattle.log_node.specs.declared.node.At.TheVariants as ats
 use Rattle.log_node.specs.declared.node.Head.{Head}
 use Rattle.log_node.specs.Seen.{PlacedNode}
-use Rattle.log_node.specs.Vectors.{at}
 use Rattle.col_core.specs.declared.Event.TheVariants as events
 use Rattle.col_core.specs.declared.Entry.{Entry}
 use Rattle.col_core.specs.History.{line}
@@ -22,11 +19,12 @@ use Rattle.column.specs.Columns.{ColumnState, AreItems, new_items, with_items, c
 use Rattle.column.specs.Columns as columns
 use Rattle.world_laws.specs.declared.steps.Step.{Step}
 use Rattle.world_laws.specs.declared.steps.Step.TheVariants as steps
-use Rattle.world_laws.specs.Worlds.{World, is_column, held_of, may_give, may_carry, heads_lacking}
-use Rattle.world_laws.specs.Worlds.{carried_entry, chains_after, with_last, after, reply, event_reply}
+use Rattle.world_laws.specs.Worlds.{is_column, held_of, may_give, may_carry, heads_lacking}
+use Rattle.world_laws.specs.Worlds.{carried_entry, chains_after, with_last, after, reply}
 use Rattle.world_laws.proofs.OfColumns.{AreTwo, MayGive, MayCarry, may_give_is, may_carry_is, held_within}
 use Rattle.world_laws.proofs.OfColumns.{lacking_length}
-use Rattle.world_code.specs.WorldView.{WorldView, no_column, column_at, world_of, reply_at, IsPlaced, HasAppended, IsWhole}
+use Rattle.world_code.specs.WorldView.{WorldView, no_column, column_at, world_of, IsPlaced, HasAppended, IsWhole}
+use Rattle.world_code.specs.Replies.{place_reply, event_at}
 use Rattle.world_code.proofs.Appended.{IsSent, appended_carried, appended_trimmed}
 use Rattle.world_code.proofs.Calling.{is_held}
 use Rattle.world_code.proofs.Changing.{with_column, column_world, whole_column}
@@ -81,65 +79,61 @@ module _ (kept : WorldView) (w : IsWhole kept) (region colour : ℕ) (in_regions
           whole = whole_column kept region colour (f old) step w in_regions in_colours is_placed appended world;
         })
 
--- the answer of a call that is always an event
-pub event_answer : (w : World) (region colour : ℕ) (at : At) → at ≡ ats.Event (length (w.histories region colour))
-    → reply_at at ≡ event_reply w region colour 0
-event_answer w region colour at is = ap reply_at is
-
 -- Give
 
-module _ (kept : WorldView) (w : IsWhole kept) (by origin region colour from : ℕ)
-    (may : may_give (world_of kept) origin region colour from ≡ true) where
-  pub give_asks : MayGive (world_of kept) origin region colour from
-  give_asks = may_give_is (world_of kept) origin region colour from may
+-- A column is called for a give, which may be done, with what the code has read: the columns of the origin.
+pub record GiveCall (kept : WorldView) (origin region colour from : ℕ) (cs : List ColumnState) : Type 0 where
+  pub whole : IsWhole kept
+  pub guard : may_give (world_of kept) origin region colour from ≡ true
+  pub columns_are : cs ≡ get_or kept.columns origin cs
+
+module _ {kept : WorldView} {origin region colour from : ℕ} {cs : List ColumnState}
+    (call : GiveCall kept origin region colour from cs) where
+  asks : MayGive (world_of kept) origin region colour from
+  asks = may_give_is (world_of kept) origin region colour from call.guard
 
   two : AreTwo (world_of kept) origin region colour
-  two = give_asks.two
+  two = asks.two
 
-  abbrev giver : ColumnState
-  giver = column_at kept.columns origin colour
+  its_place : IsPlaced (column_at kept.columns origin colour) origin colour kept.shape.regions
+  its_place = places kept call.whole origin colour two.origin_is two.colour_is
+
+  same_giver : get_or cs colour no_column ≡ column_at kept.columns origin colour
+  same_giver = column_same kept call.whole origin colour two.origin_is two.colour_is cs call.columns_are
 
   from_is : min from (length (line (column_at kept.columns origin colour).journal)) ≡ from
   from_is =
-      let a = held_within (world_of kept) (is_held kept w) origin region colour two in
-      let b = give_asks.holds in
+      let a = held_within (world_of kept) (is_held kept call.whole) origin region colour two in
+      let b = asks.holds in
       omega (arith, a, b)
 
-  module _ (giver_row : List ColumnState) (giver_is : giver_row ≡ get_or kept.columns origin giver_row) where
-    same_giver : get_or giver_row colour no_column ≡ giver
-    same_giver = column_same kept w origin colour two.origin_is two.colour_is giver_row giver_is
+  pub give_other : region ≢ (get_or cs colour no_column).region
+  give_other e = two.differ (sym (e ∙ (ap (λ (q : ColumnState). q.region) same_giver ∙ its_place.in_region)))
 
-    pub give_home : origin < length kept.columns
-    give_home = row_in kept w origin colour two.origin_is two.colour_is
+  pub give_region : region < (get_or cs colour no_column).regions
+  give_region =
+      let n = ap (λ (q : ColumnState). q.regions) same_giver ∙ its_place.of_regions in
+      let lt = two.region_is in
+      omega (arith, n, lt)
 
-    pub give_colour : colour < length giver_row
-    give_colour = call_in kept w origin colour two.origin_is two.colour_is giver_row giver_is
+  pub give_place : length (get_or cs colour no_column).journal ≡ length ((world_of kept).histories origin colour)
+  give_place = ap (λ (q : ColumnState). length q.journal) same_giver
 
-    pub give_other : region ≢ (get_or giver_row colour no_column).region
-    give_other e = two.differ (sym (e ∙ (ap (λ (q : ColumnState). q.region) same_giver
-        ∙ (places kept w origin colour two.origin_is two.colour_is).in_region)))
-
-    pub give_region : region < (get_or giver_row colour no_column).regions
-    give_region =
-        let n = ap (λ (q : ColumnState). q.regions) same_giver
-        ∙ (places kept w origin colour two.origin_is two.colour_is).of_regions in
-        let lt = two.region_is in
-        omega (arith, n, lt)
-
-  pub given_moved : (row : List ColumnState) → row ≡ get_or kept.columns origin row → (new : List ColumnState)
-      → new ≡ set row colour (columns.after_give (get_or row colour no_column) by region from)
+  pub given_moved : (by : ℕ) {new : List ColumnState}
+      → new ≡ set cs colour (columns.after_give (get_or cs colour no_column) by region from)
       → Moved kept (steps.Give by origin region colour from) (put_columns kept origin new)
-  given_moved row row_is new new_is =
-      let p = places kept w origin colour two.origin_is two.colour_is in
+  given_moved by {new} new_is =
+      let p = its_place in
       let q = column_at kept.columns origin colour in
-      moved kept w origin colour two.origin_is two.colour_is row row_is
+      let appended = call.whole.appended origin colour in
+      moved kept call.whole origin colour two.origin_is two.colour_is cs call.columns_are
       (λ (c : ColumnState). columns.after_give c by region from)
       (record { by = by; event = events.Give region from; stamp = 0 }) (steps.Give by origin region colour from) new
       new_is
       (record { in_region = p.in_region; of_colour = p.of_colour; of_regions = p.of_regions })
-      (record { stored = (w.appended origin colour).stored; copies = (w.appended origin colour).copies })
+      (record { stored = appended.stored; copies = appended.copies })
       (ap (λ (n : ℕ). q.journal ++ record { by = by; event = events.Give region n; stamp = 0 } ∷ []) from_is)
-      (sym (cond-true (may_give (world_of kept) origin region colour from) _ _ may))
+      (sym (cond-true (may_give (world_of kept) origin region colour from) _ _ call.guard))
 
 -- Trim
 
@@ -231,9 +225,19 @@ each_rest P zero xs h = h
 each_rest P (suc n) [] h = tt
 each_rest P (suc n) (x ∷ xs) h = each_rest P n xs h.1
 
-module _ (kept : WorldView) (w : IsWhole kept) (by origin region colour count : ℕ) (given : Given)
-    (may : may_carry (world_of kept) origin region colour given.start count ≡ true)
-    (items : AreItems (column_at kept.columns origin colour) origin given.start (given.start + count) given.items) where
+-- A column is called for a carry, which may be done, with what the code has read: the stretch and the region's columns.
+pub record CarryCall (kept : WorldView) (origin region colour count : ℕ) (given : Given) (cs : List ColumnState) : Type 0
+  where
+    pub whole : IsWhole kept
+    pub guard : may_carry (world_of kept) origin region colour given.start count ≡ true
+    pub items : AreItems (column_at kept.columns origin colour) origin given.start (given.start + count) given.items
+    pub columns_are : cs ≡ get_or kept.columns region cs
+
+module _ {kept : WorldView} {origin region colour count : ℕ} {given : Given} {cs : List ColumnState}
+    (call : CarryCall kept origin region colour count given cs) where
+  abbrev w : IsWhole kept
+  w = call.whole
+
   abbrev giving : ColumnState
   giving = column_at kept.columns origin colour
 
@@ -241,7 +245,7 @@ module _ (kept : WorldView) (w : IsWhole kept) (by origin region colour count : 
   taking = column_at kept.columns region colour
 
   pub carry_asks : MayCarry (world_of kept) origin region colour given.start count
-  carry_asks = may_carry_is (world_of kept) origin region colour given.start count may
+  carry_asks = may_carry_is (world_of kept) origin region colour given.start count call.guard
 
   both : AreTwo (world_of kept) origin region colour
   both = carry_asks.two
@@ -259,7 +263,7 @@ module _ (kept : WorldView) (w : IsWhole kept) (by origin region colour count : 
       ≡ take (given.start + count - given.start)
       (drop given.start (chains_after origin giving.journal origin))
   heads_are =
-      items.heads
+      call.items.heads
       ∙ ap (λ (r : ℕ). take (given.start + count - given.start)
       (drop given.start (chain r (dated r giving.journal) origin)))
       giving_placed.in_region
@@ -291,42 +295,35 @@ module _ (kept : WorldView) (w : IsWhole kept) (by origin region colour count : 
       let d = carry_asks.ends in
       omega (arith, a, b, c, d)
 
-  module _ (taker_row : List ColumnState) (taker_is : taker_row ≡ get_or kept.columns region taker_row) where
-    same_taker : get_or taker_row colour no_column ≡ taking
-    same_taker = column_same kept w region colour both.region_is both.colour_is taker_row taker_is
+  same_taker : get_or cs colour no_column ≡ taking
+  same_taker = column_same kept w region colour both.region_is both.colour_is cs call.columns_are
 
-    pub carry_home : region < length kept.columns
-    carry_home = row_in kept w region colour both.region_is both.colour_is
+  pub carry_other : origin ≢ (get_or cs colour no_column).region
+  carry_other e = both.differ (e ∙ (ap (λ (q : ColumnState). q.region) same_taker ∙ taking_placed.in_region))
 
-    pub carry_colour : colour < length taker_row
-    carry_colour = call_in kept w region colour both.region_is both.colour_is taker_row taker_is
+  pub carry_region : origin < (get_or cs colour no_column).regions
+  carry_region =
+      let n = ap (λ (q : ColumnState). q.regions) same_taker ∙ taking_placed.of_regions in
+      let lt = both.origin_is in
+      omega (arith, n, lt)
 
-    pub carry_other : origin ≢ (get_or taker_row colour no_column).region
-    carry_other e = both.differ (e ∙ (ap (λ (q : ColumnState). q.region) same_taker ∙ taking_placed.in_region))
+  abbrev answer_of : ColumnState → At
+  answer_of q = if nat_lt 0 (length (new_items q origin given)) then ats.Event (length q.journal)
+      else ats.Look (length q.journal)
 
-    pub carry_region : origin < (get_or taker_row colour no_column).regions
-    carry_region =
-        let n = ap (λ (q : ColumnState). q.regions) same_taker ∙ taking_placed.of_regions in
-        let lt = both.origin_is in
-        omega (arith, n, lt)
+  pub carry_reply : (by : ℕ) {at : At} → at ≡ answer_of (get_or cs colour no_column)
+      → place_reply (event_at at) ≡ reply (world_of kept) (steps.Carry by origin region colour given.start count)
+  carry_reply by is =
+      ap (λ (a : At). place_reply (event_at a))
+      (is ∙ (ap answer_of same_taker
+      ∙ cond-true (nat_lt 0 (length (new_items taking origin given))) _ _ (lt-ltb 0 _ new_some)))
+      ∙ sym (cond-true (may_carry (world_of kept) origin region colour given.start count) _ _ call.guard)
 
-    abbrev answer_of : ColumnState → At
-    answer_of q = if nat_lt 0 (length (new_items q origin given)) then ats.Event (length q.journal)
-        else ats.Look (length q.journal)
-
-    pub carry_reply : (at : At) → at ≡ answer_of (get_or taker_row colour no_column)
-        → reply_at at ≡ reply (world_of kept) (steps.Carry by origin region colour given.start count)
-    carry_reply at is =
-        ap reply_at
-        (is ∙ (ap answer_of same_taker
-        ∙ cond-true (nat_lt 0 (length (new_items taking origin given))) _ _ (lt-ltb 0 _ new_some)))
-        ∙ sym (cond-true (may_carry (world_of kept) origin region colour given.start count) _ _ may)
-
-  pub carry_moved : (row : List ColumnState) → row ≡ get_or kept.columns region row → (new : List ColumnState)
-      → new ≡ set row colour (columns.after_carry (get_or row colour no_column) by origin given)
+  pub carry_moved : (by : ℕ) {new : List ColumnState}
+      → new ≡ set cs colour (columns.after_carry (get_or cs colour no_column) by origin given)
       → Moved kept (steps.Carry by origin region colour given.start count) (put_columns kept region new)
-  carry_moved row row_is new is =
-      moved kept w region colour both.region_is both.colour_is row row_is
+  carry_moved by {new} is =
+      moved kept w region colour both.region_is both.colour_is cs call.columns_are
       (λ (c : ColumnState). columns.after_carry c by origin given)
       (carried_entry (world_of kept) by origin region colour (given.start + count))
       (steps.Carry by origin region colour given.start count) new is
@@ -338,7 +335,7 @@ module _ (kept : WorldView) (w : IsWhole kept) (by origin region colour count : 
       (each_of (IsSent kept.clients) given.items
       (items_appended kept.clients giving (w.appended origin colour) origin given.start (given.start + count)
       given.items
-      items)))))
+      call.items)))))
       (with_items_journal taking by origin (new_items taking origin given) new_some
       ∙ (ap (λ (n : ℕ). taking.journal ++ record {
         by = by;
@@ -348,15 +345,12 @@ module _ (kept : WorldView) (w : IsWhole kept) (by origin region colour count : 
       } ∷ []) held_same
       ∙ ap (λ (l : List Head). taking.journal ++ record { by = by; event = events.Carry origin held l; stamp = 0 } ∷ [])
       new_heads))
-      (sym (cond-true (may_carry (world_of kept) origin region colour given.start count) _ _ may))
+      (sym (cond-true (may_carry (world_of kept) origin region colour given.start count) _ _ call.guard))
 
--- where a call failed, nothing changed
-pub on_err : {R E : Type 0} (r : Result R E) (P : Type 0) → P → OnErr r P
-on_err (Ok x) P p = tt
-on_err (Err e) P p = p
-
-pub unmoved : (kept : WorldView) (region : ℕ) (row new : List ColumnState) → new ≡ row
-    → row ≡ get_or kept.columns region row → put_columns kept region new ≡ kept
-unmoved kept region row new same is =
-    ap (λ (cs : List (List ColumnState)). let k : WorldView = record kept { columns = cs } in k)
-    (ap (set kept.columns region) (same ∙ is) ∙ set-get_or kept.columns region row)
+-- a trim's place
+pub trim_place : (kept : WorldView) → IsWhole kept → (region colour : ℕ) → is_column (world_of kept) region colour ≡ true
+    → (cs : List ColumnState) → cs ≡ get_or kept.columns region cs
+    → length (get_or cs colour no_column).journal ≡ length ((world_of kept).histories region colour)
+trim_place kept w region colour ok cs is =
+    let there = is_column_of kept region colour ok in
+    ap (λ (q : ColumnState). length q.journal) (column_same kept w region colour there.0 there.1 cs is)

@@ -1,7 +1,8 @@
 -- What the code reads of a column in its place, and what a raise makes of the world.
-use Rattle.std.proofs.Common.{◌≡◌, ℕ, zero, suc, ◌<◌, ◌≤◌, true, List, [], ◌∷◌, length, get_or, refl, ap, sym, ◌∙◌}
-use Rattle.std.proofs.Common.{arith}
-use Rattle.std.specs.Prelude.{nat_lt}
+use Rattle.std.proofs.Common.{◌≡◌, ℕ, zero, suc, ◌<◌, ◌≤◌, true, List, [], ◌∷◌, length, get_or, set, refl, ap, sym, ◌∙◌}
+use Rattle.std.proofs.Common.{Result, Ok, Err, arith}
+use Rattle.std.specs.Prelude.{nat_lt, OnErr}
+use Rattle.std.proofs.lemmas.List.{set-get_or}
 use Rattle.std.proofs.lemmas.Bool.{and_parts, ltb-true, leb-true, cond-true}
 use Rattle.col_core.specs.declared.Event.TheVariants as events
 use Rattle.col_core.specs.History.{clock, last_stamp}
@@ -17,6 +18,29 @@ pub default_free : {A : Type 0} (xs : List A) (i : ℕ) (d e : A) → i < length
 default_free [] i d e lt = absurd (let f : ⊥ = omega (arith, lt) in f)
 default_free (x ∷ xs) zero d e lt = refl
 default_free (x ∷ xs) (suc i) d e lt = default_free xs i d e (omega (arith, lt))
+
+-- a place within a list is one within an equal list
+pub list_there : {A : Type 0} (xs ys : List A) (i : ℕ) → xs ≡ ys → i < length ys → i < length xs
+list_there xs ys i e lt = let n = ap length e in omega (arith, n, lt)
+
+-- an item is changed in its place, as a function of it says
+pub put_there : {A : Type 0} (f : A → A) {items now : List A} (i : ℕ) {old new : A} (d : A) → items ≡ now → i < length now
+    → old ≡ get_or items i old → new ≡ f old → set items i new ≡ set now i (f (get_or now i d))
+put_there {A} f {items} {now} i {old} {new} d same lt old_is new_is =
+    let there = list_there items now i same lt in
+    ap (set items i) (new_is ∙ ap f (old_is ∙ default_free items i old d there))
+    ∙ ap (λ (l : List A). set l i (f (get_or l i d))) same
+
+-- an item that stayed as it was leaves its list so
+pub put_back : {A : Type 0} {items now : List A} (i : ℕ) {old new : A} → items ≡ now → old ≡ get_or items i old
+    → new ≡ old → set items i new ≡ now
+put_back {A} {items} {now} i {old} same old_is new_is =
+    ap (set items i) (new_is ∙ old_is) ∙ (set-get_or items i old ∙ same)
+
+-- where a call failed, nothing changed
+pub on_err : {R E : Type 0} (r : Result R E) (P : Type 0) → P → OnErr r P
+on_err (Ok x) P p = tt
+on_err (Err e) P p = p
 
 -- what a raise asks for
 pub record MayRaise (kept : WorldView) (region colour to : ℕ) : Type 0 where
@@ -68,7 +92,3 @@ module _ (kept : WorldView) (w : IsWhole kept) (by region colour to : ℕ)
       (record { in_region = p.in_region; of_colour = p.of_colour; of_regions = p.of_regions })
       (record { stored = (w.appended region colour).stored; copies = (w.appended region colour).copies })
       (raised_world ∙ sym (cond-true (may_raise (world_of kept) region colour to) _ _ may))
-
--- a place within a list is one within an equal list
-pub list_there : {A : Type 0} (xs ys : List A) (i : ℕ) → xs ≡ ys → i < length ys → i < length xs
-list_there xs ys i e lt = let n = ap length e in omega (arith, n, lt)

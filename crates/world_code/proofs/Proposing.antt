@@ -1,14 +1,10 @@
 -- A colour's mark is set, by a proposal or by a fence: what the code reads, and what it makes of the world.
-use Rattle.std.proofs.Common.{◌≡◌, ℕ, ◌<◌, ◌≤◌, true, false, List, [], ◌∷◌, ◌++◌, length, get_or, set, Some, None}
+use Rattle.std.proofs.Common.{◌≡◌, ℕ, ◌<◌, true, false, List, [], ◌∷◌, ◌++◌, length, get_or}
 use Rattle.std.proofs.Common.{Option, refl, ap, sym, subst, ◌∙◌, arith}
-use Rattle.std.specs.Prelude.{slice_get}
 use Rattle.std.proofs.lemmas.Bool.{cond-true}
-use Rattle.std.proofs.lemmas.Option.{get_or_from_slice_get}
 use Rattle.log_node.specs.declared.ids.Row.{Row}
 use Rattle.log_node.specs.declared.ids.Colours.{Colours}
 use Rattle.log_node.specs.declared.ids.Counts.{Counts}
-use Rattle.log_node.specs.declared.node.At.{At}
-use Rattle.log_node.specs.declared.node.At.TheVariants as ats
 use Rattle.log_node.specs.declared.node.Node.{Node}
 use Rattle.log_node.specs.Sets.{has}
 use Rattle.skeen_core.specs.declared.board_row.BoardRow.{BoardRow}
@@ -16,28 +12,22 @@ use Rattle.skeen_core.specs.declared.marks.Why.{Why}
 use Rattle.skeen_core.specs.declared.marks.Mark.TheVariants as marks
 use Rattle.skeen_core.specs.Boards.{Board, begun_at, with_changed, has_in}
 use Rattle.skeen_core.specs.Boards as boards
-use Rattle.skeen_core.specs.Marks.{IsStamp}
 use Rattle.col_core.specs.declared.Event.TheVariants as events
 use Rattle.col_core.specs.declared.Entry.{Entry}
-use Rattle.col_core.specs.History.{last_stamp, has_entered}
 use Rattle.col_core.specs.Keeping.{updated_at}
 use Rattle.col_core.specs.Rows.{node_wants}
 use Rattle.column.specs.Columns.{ColumnState, with_room, stamp_for}
 use Rattle.column.specs.Columns as columns
 use Rattle.world_laws.specs.declared.steps.Step.TheVariants as steps
-use Rattle.world_laws.specs.declared.steps.Reply.{Reply}
-use Rattle.world_laws.specs.declared.steps.Reply.TheVariants as replies
-use Rattle.world_laws.specs.Worlds.{RowState, home_of, row_of, row_history, is_member, is_row_at_end}
+use Rattle.world_laws.specs.Worlds.{RowState, home_of, row_of, row_history, is_member}
 use Rattle.world_laws.specs.Worlds.{may_mark, may_propose, may_fence, with_mark, proposed_stamp, proposed_entry}
-use Rattle.world_laws.specs.Worlds.{after_propose, event_reply}
-use Rattle.world_laws.proofs.Histories.{not_entered, lawful_past_in, stamp_within}
-use Rattle.world_laws.proofs.OfRows.{MayMark, may_mark_is, marked_absent}
-use Rattle.world_code.specs.WorldView.{WorldView, no_column, column_at, client_at, world_of, IsRowNode, IsWhole}
+use Rattle.world_laws.specs.Worlds.{after_propose}
+use Rattle.world_laws.proofs.OfRows.{MayMark, may_mark_is}
+use Rattle.world_code.specs.WorldView.{WorldView, column_at, world_of, IsRowNode, IsWhole}
 use Rattle.world_code.proofs.Worlds.{worlds}
 use Rattle.world_code.proofs.Changing.{with_column, histories_changed, columns_placed, placed_of, whole_after}
 use Rattle.world_code.proofs.Changing.{reached_step, columns_appended}
 use Rattle.world_code.proofs.Appended.{appended_entered, row_appended}
-use Rattle.world_code.proofs.Placing.{default_free}
 use Rattle.world_code.proofs.Calling.{is_held}
 use Rattle.world_code.proofs.Sets.{member_is}
 use Rattle.world_code.proofs.Marking.{Begun, begun_from, node_here, colours_here, rows_changed, marked_row}
@@ -85,10 +75,10 @@ module _ (kept : WorldView) (w : IsWhole kept) (row : Row) (colour : ℕ)
   pub small : colour < 16
   small = let n = w.few_colours in let lt = colour_there in omega (arith, n, lt)
 
-  has_it : has its_node.colours colour ≡ true
+  pub has_it : has its_node.colours colour ≡ true
   has_it = sym (member_is its_node.colours colour (let lt = small in omega (arith, lt))) ∙ g.has
 
-  in_columns : colour < length (get_or kept.columns home [])
+  pub in_columns : colour < length (get_or kept.columns home [])
   in_columns = let n = its_columns kept w row its_row in let lt = colour_there in omega (arith, n, lt)
 
   -- what the board asks for
@@ -161,106 +151,3 @@ module _ (kept : WorldView) (w : IsWhole kept) (row : Row) (colour : ℕ)
         (row_appended kept w row g.begun ((is_held kept w).rows row.client row.number g.begun).of_client)))
         (reached_step kept (world_of proposed_kept) (steps.Propose by row colour) w
         (propose_world ∙ sym (cond-true (may_propose (world_of kept) row colour) _ _ t)))
-
-  -- what the code reads of the columns and of the client
-  module _ (at_home : ℕ) (home_is : home ≡ at_home) (row_columns : List ColumnState)
-      (columns_is : row_columns ≡ get_or kept.columns at_home row_columns) (node : Node)
-      (node_is : slice_get (client_at kept row.client).begun row.number ≡ Some node) where
-    columns_same : row_columns ≡ get_or kept.columns home []
-    columns_same =
-        columns_is
-        ∙ (ap (λ (h : ℕ). get_or kept.columns h row_columns) (sym home_is)
-        ∙ default_free kept.columns home row_columns [] (columns_there kept w row its_row))
-
-    column_same : get_or row_columns colour no_column ≡ old
-    column_same = ap (λ (l : List ColumnState). get_or l colour no_column) columns_same
-
-    node_same : node ≡ its_node
-    node_same = sym (get_or_from_slice_get (client_at kept row.client).begun row.number node _ node_is)
-
-    pub call_home : at_home < length kept.columns
-    call_home = let lt = columns_there kept w row its_row in omega (arith, home_is, lt)
-
-    pub call_colour : colour < length row_columns
-    call_colour = let n = ap length columns_same in let lt = in_columns in omega (arith, n, lt)
-
-    pub call_fresh : has_entered node.id (get_or row_columns colour no_column).journal ≡ false
-    call_fresh =
-        ap (λ (n : Node). has_entered n.id (get_or row_columns colour no_column).journal) node_same
-        ∙ (ap (λ (c : ColumnState). has_entered its_node.id c.journal) column_same
-        ∙ not_entered old.journal its_node.id
-        (marked_absent (world_of kept) (is_held kept w) row colour g))
-
-    pub call_region : node.region ≡ (get_or row_columns colour no_column).region
-    call_region =
-        ap (λ (n : Node). n.region) (node_same ∙ node_here kept w row its_row)
-        ∙ ((row_node kept w row its_row).in_region
-        ∙ sym (ap (λ (c : ColumnState). c.region) column_same
-        ∙ (w.placed home colour (home_there kept w row its_row) colour_there).in_region))
-
-    pub call_of_colour : has node.colours (get_or row_columns colour no_column).colour ≡ true
-    call_of_colour =
-        ap (λ (n : Node). has n.colours (get_or row_columns colour no_column).colour) node_same
-        ∙ (ap (λ (c : ColumnState). has its_node.colours c.colour) column_same
-        ∙ (ap (has its_node.colours) (w.placed home colour (home_there kept w row its_row) colour_there).of_colour
-        ∙ has_it))
-
-    pub call_floor : node.floor ≤ last_stamp
-    call_floor =
-        subst (λ (n : Node). n.floor ≤ last_stamp) (sym node_same)
-        ((is_held kept w).rows row.client row.number g.begun).floor
-
-    pub call_row : node.row ≡ None → ⊥
-    call_row none =
-        let some = ap (λ (n : Node). n.row) (node_same ∙ node_here kept w row its_row)
-        ∙ (row_node kept w row its_row).row in
-        let two : ◌≡◌ {A = Option Row} None (Some (record { client = row.client; number = row.number })) = sym none
-        ∙ some in
-        cc
-
-    stamp_same : stamp_for (get_or row_columns colour no_column) node ≡ proposed_stamp (world_of kept) row colour
-    stamp_same =
-        ap (λ (n : Node). stamp_for (get_or row_columns colour no_column) n) node_same
-        ∙ ap (λ (c : ColumnState). stamp_for c its_node) column_same
-
-    pub call_stamp : is_row_at_end (world_of kept) row colour ≡ false → (stamp : ℕ)
-        → stamp ≡ stamp_for (get_or row_columns colour no_column) node → IsStamp stamp
-    call_stamp not_end stamp is =
-        let h = is_held kept w in
-        let same = is ∙ stamp_same in
-        let le = stamp_within old.journal its_node.floor (lawful_past_in (world_of kept) h home colour)
-        (h.rows row.client row.number g.begun).floor not_end in
-        (omega (arith, same), omega (arith, same, le))
-
-    pub code_kept : (by stamp : ℕ) (new_columns : List ColumnState) (board : Board)
-        → new_columns
-        ≡ set row_columns colour (columns.after_propose (with_room (get_or row_columns colour no_column)) by node)
-        → stamp ≡ stamp_for (get_or row_columns colour no_column) node
-        → board ≡ with_changed kept.board row (boards.with_mark colour (marks.Number stamp))
-        → ◌≡◌ {A = WorldView} (record kept { board = board; columns = set kept.columns at_home new_columns })
-        (proposed_kept by)
-    code_kept by stamp new_columns board new_is stamp_is board_is =
-        ap (λ (bd : Board). let k : WorldView =
-        record kept { board = bd; columns = set kept.columns at_home new_columns } in k)
-        (board_is ∙ ap (λ (s : ℕ). with_changed kept.board row (boards.with_mark colour (marks.Number s)))
-        (stamp_is ∙ stamp_same))
-        ∙ ap (λ (cs : List (List ColumnState)). let k : WorldView =
-        record kept { board = (proposed_kept by).board; columns = cs } in k)
-        (ap (λ (h : ℕ). set kept.columns h new_columns) (sym home_is)
-        ∙ ap (λ (l : List ColumnState). set kept.columns home l)
-        (new_is
-        ∙ (ap (λ (l : List ColumnState). set l colour
-        (columns.after_propose (with_room (get_or l colour no_column)) by node)) columns_same
-        ∙ ap (λ (n : Node). set (get_or kept.columns home []) colour (columns.after_propose (with_room old) by n))
-        node_same)))
-
-    pub code_reply : (at : At) (place stamp : ℕ) → at ≡ ats.Event place
-        → at ≡ ats.Event (length (get_or row_columns colour no_column).journal)
-        → stamp ≡ stamp_for (get_or row_columns colour no_column) node
-        → ◌≡◌ {A = Reply} (replies.Event place stamp)
-        (event_reply (world_of kept) home colour (proposed_stamp (world_of kept) row colour))
-    code_reply at place stamp is there stamp_is =
-        let e : ats.Event place ≡ ats.Event (length (get_or row_columns colour no_column).journal) = sym is ∙ there in
-        let p : place ≡ length (get_or row_columns colour no_column).journal = cc in
-        ap (λ (n : ℕ). replies.Event n stamp) (p ∙ ap (λ (c : ColumnState). length c.journal) column_same)
-        ∙ ap (λ (n : ℕ). replies.Event (length old.journal) n) (stamp_is ∙ stamp_same)

@@ -7,8 +7,6 @@ use Rattle.std.proofs.lemmas.Bool.{and_from, cond-true, cond-false, lt-ltb, or_l
 use Rattle.std.proofs.lemmas.List.{set-get_or}
 use Rattle.log_node.specs.declared.ids.Id.{Id}
 use Rattle.log_node.specs.declared.ids.Row.{Row}
-use Rattle.log_node.specs.declared.node.At.{At}
-use Rattle.log_node.specs.declared.node.At.TheVariants as ats
 use Rattle.log_node.specs.Sets.{members}
 use Rattle.skeen_core.specs.declared.marks.Mark.TheVariants as marks
 use Rattle.skeen_core.specs.declared.marks.Outcome.{Outcome}
@@ -23,18 +21,17 @@ use Rattle.column.specs.Columns.{ColumnState}
 use Rattle.column.specs.Columns as columns
 use Rattle.world_laws.specs.declared.steps.Step.TheVariants as steps
 use Rattle.world_laws.specs.Worlds.{World, home_of, row_of, is_begun, may_settle, after_settle, after}
-use Rattle.world_laws.specs.Worlds.{marks_of, settled_entry, reply}
+use Rattle.world_laws.specs.Worlds.{marks_of, settled_entry}
 use Rattle.skeen_core.specs.Outcomes.{outcome_of}
 use Rattle.world_laws.proofs.Held.{Held}
 use Rattle.world_laws.proofs.Marks.{has_colour, final_is, number_within, greatest_within, agrees-settled}
 use Rattle.world_laws.proofs.Histories.{lawful_past_in, may_settle_open}
 use Rattle.world_laws.proofs.Keeps.{row_agrees}
 use Rattle.world_laws.proofs.OfRows.{may_settle_is, mark-at_home}
-use Rattle.world_code.specs.WorldView.{WorldView, no_column, column_at, client_at, world_of, reply_at, IsPlaced, HasAppended}
+use Rattle.world_code.specs.WorldView.{WorldView, no_column, column_at, client_at, world_of, IsPlaced, HasAppended}
 use Rattle.world_code.specs.WorldView.{IsWhole}
 use Rattle.world_code.proofs.Appended.{appended_settled}
 use Rattle.world_code.proofs.Changing.{with_column, column_world, whole_column}
-use Rattle.world_code.proofs.Placing.{default_free}
 use Rattle.world_code.proofs.Calling.{is_held}
 use Rattle.world_code.proofs.Marking.{Begun}
 use Rattle.world_code.proofs.Proposing.{home_there, columns_there, its_columns}
@@ -88,7 +85,7 @@ module _ (kept : WorldView) (w : IsWhole kept) (row : Row) (b : Begun kept row) 
   abbrev old : ColumnState
   old = column_at kept.columns home colour
 
-  in_columns : colour < length (get_or kept.columns home [])
+  pub in_columns : colour < length (get_or kept.columns home [])
   in_columns = let n = its_columns kept w row b in omega (arith, n, in_colours)
 
   may_true : is_decided last ≡ true → has_open id (entries old.journal) ≡ true
@@ -98,7 +95,7 @@ module _ (kept : WorldView) (w : IsWhole kept) (row : Row) (b : Begun kept row) 
       (and_from (is_decided last) _ decided opens)
 
   -- what the column asks for
-  its_settling : MaySettle id last (entries old.journal) last_stamp
+  pub its_settling : MaySettle id last (entries old.journal) last_stamp
   its_settling = settling_of last id (entries old.journal) (λ decided e is.
       let v = world_of kept in
       let h = is_held kept w in
@@ -115,7 +112,7 @@ module _ (kept : WorldView) (w : IsWhole kept) (row : Row) (b : Begun kept row) 
   abbrev pub settles : Bool
   settles = has_open id (entries old.journal) && is_decided last
 
-  settles_is : settles ≡ may_settle (world_of kept) row colour
+  pub settles_is : settles ≡ may_settle (world_of kept) row colour
   settles_is = swapped (is_begun (world_of kept) row) (has_open id (entries old.journal)) (is_decided last)
       (lt-ltb row.number (length (client_at kept row.client).begun) b.used) where
         swapped : (x y z : Bool) → x ≡ true → (y && z) ≡ (x && (z && y))
@@ -164,78 +161,3 @@ module _ (kept : WorldView) (w : IsWhole kept) (row : Row) (b : Begun kept row) 
       (choice (HasAppended kept.clients) settles (settled by) old
       (λ _. appended_settled kept.clients old by id last (w.appended home colour)) (λ _. w.appended home colour))
       (settled_world by)
-
-  -- what the code reads
-  module _ (at_home : ℕ) (home_is : home ≡ at_home) (row_columns : List ColumnState)
-      (columns_is : row_columns ≡ get_or kept.columns at_home row_columns) where
-    columns_same : row_columns ≡ get_or kept.columns home []
-    columns_same =
-        columns_is
-        ∙ (ap (λ (h : ℕ). get_or kept.columns h row_columns) (sym home_is)
-        ∙ default_free kept.columns home row_columns [] (columns_there kept w row b))
-
-    column_same : get_or row_columns colour no_column ≡ old
-    column_same = ap (λ (l : List ColumnState). get_or l colour no_column) columns_same
-
-    pub call_home : at_home < length kept.columns
-    call_home = let lt = columns_there kept w row b in omega (arith, home_is, lt)
-
-    pub call_colour : colour < length row_columns
-    call_colour = let n = ap length columns_same in let lt = in_columns in omega (arith, n, lt)
-
-    module _ (called : Id) (called_is : called ≡ id) (outcome : Outcome) (outcome_is : outcome ≡ last) where
-      pub call_settles : MaySettle called outcome (entries (get_or row_columns colour no_column).journal) last_stamp
-      call_settles =
-          subst (λ (c : ColumnState). MaySettle called outcome (entries c.journal) last_stamp) (sym column_same)
-          (subst (λ (i : Id). MaySettle i outcome (entries old.journal) last_stamp) (sym called_is)
-          (subst (λ (o : Outcome). MaySettle id o (entries old.journal) last_stamp) (sym outcome_is) its_settling))
-
-      abbrev called_settles : ColumnState → Bool
-      called_settles q = has_open called (entries q.journal) && is_decided outcome
-
-      test_same : called_settles (get_or row_columns colour no_column) ≡ settles
-      test_same =
-          ap called_settles column_same
-          ∙ (ap (λ (i : Id). has_open i (entries old.journal) && is_decided outcome) called_is
-          ∙ ap (λ (o : Outcome). has_open id (entries old.journal) && is_decided o) outcome_is)
-
-      pub code_columns : (by : ℕ) (new_columns : List ColumnState)
-          → new_columns ≡ set row_columns colour (if called_settles (get_or row_columns colour no_column)
-          then columns.after_settle (get_or row_columns colour no_column) by called outcome
-          else get_or row_columns colour no_column)
-          → set kept.columns at_home new_columns ≡ settled_columns by
-      code_columns by new_columns new_is =
-          ap (λ (h : ℕ). set kept.columns h new_columns) (sym home_is)
-          ∙ ap (λ (l : List ColumnState). set kept.columns home l)
-          (new_is
-          ∙ (ap (λ (l : List ColumnState). set l colour (if called_settles (get_or l colour no_column)
-          then columns.after_settle (get_or l colour no_column) by called outcome else get_or l colour no_column))
-          columns_same
-          ∙ (ap (λ (i : Id). set (get_or kept.columns home []) colour
-          (if has_open i (entries old.journal) && is_decided outcome then columns.after_settle old by i outcome else
-          old))
-          called_is
-          ∙ ap (λ (o : Outcome). set (get_or kept.columns home []) colour
-          (if has_open id (entries old.journal) && is_decided o then columns.after_settle old by id o else old))
-          outcome_is)))
-
-      at_is : (at : At) → at ≡ (if called_settles (get_or row_columns colour no_column)
-          then ats.Event (length (get_or row_columns colour no_column).journal)
-          else ats.Look (length (get_or row_columns colour no_column).journal))
-          → at ≡ (if settles then ats.Event (length old.journal) else ats.Look (length old.journal))
-      at_is at is =
-          is
-          ∙ (ap (λ (b : Bool). if b then ats.Event (length (get_or row_columns colour no_column).journal)
-          else ats.Look (length (get_or row_columns colour no_column).journal)) test_same
-          ∙ ap (λ (q : ColumnState). if settles then ats.Event (length q.journal) else ats.Look (length q.journal))
-          column_same)
-
-      pub code_reply : (by : ℕ) (at : At) → at ≡ (if called_settles (get_or row_columns colour no_column)
-          then ats.Event (length (get_or row_columns colour no_column).journal)
-          else ats.Look (length (get_or row_columns colour no_column).journal))
-          → reply_at at ≡ reply (world_of kept) (steps.Settle by row colour)
-      code_reply by at is = by_test _ settles
-          (λ t. ap reply_at (at_is at is ∙ cond-true settles _ _ t)
-          ∙ sym (cond-true (may_settle (world_of kept) row colour) _ _ (sym settles_is ∙ t)))
-          (λ f. ap reply_at (at_is at is ∙ cond-false settles _ _ f)
-          ∙ sym (cond-false (may_settle (world_of kept) row colour) _ _ (sym settles_is ∙ f)))

@@ -1,4 +1,5 @@
 pub mod Clients
+pub mod Replies
 pub mod WorldView
 pub mod Completed
 pub mod Looks

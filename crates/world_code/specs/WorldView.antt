@@ -3,18 +3,12 @@ use Rattle.std.specs.Prelude.{◌≡◌, ℕ, ◌<◌, ◌≤◌, List, [], leng
 use Rattle.std.specs.Prelude.{slice_index_or, slice_set}
 use Rattle.std.specs.List.{All, AllByRecursion, range_with_len}
 use Rattle.log_node.specs.declared.ids.Id.{Id}
-use Rattle.log_node.specs.declared.node.At.{At}
-use Rattle.log_node.specs.declared.node.At.TheVariants as ats
 use Rattle.log_node.specs.declared.node.Node.{Node}
 use Rattle.log_node.specs.declared.node.Shape.{Shape}
 use Rattle.log_node.specs.Vectors.{zeros}
 use Rattle.skeen_core.specs.declared.board_row.BoardRow.{BoardRow}
-use Rattle.skeen_core.specs.declared.marks.Outcome.{Outcome}
-use Rattle.skeen_core.specs.declared.marks.Outcome.TheVariants.{Open, Gone, Final}
 use Rattle.skeen_core.specs.Boards.{Board, rows_of, mark_in, last_in}
 use Rattle.column.specs.Columns.{ColumnState, new_column, copy_of}
-use Rattle.world_laws.specs.declared.steps.Reply.{Reply}
-use Rattle.world_laws.specs.declared.steps.Reply.TheVariants as replies
 use Rattle.world_laws.specs.Worlds.{World, ClientState, RowState, no_row, is_member}
 use Rattle.world_laws.specs.Laws.{IsReached}
 use Rattle.world_code.specs.Clients.{ClientView, fresh_client, with_spare}
@@ -34,12 +28,19 @@ no_column = new_column 0 0 0
 abbrev pub fresh_columns : ℕ → Shape → List ColumnState
 fresh_columns region shape = map (λ colour. new_column region colour shape.regions) (range_with_len 0 shape.colours)
 
+-- a region's column of a colour
+abbrev pub column_in : List ColumnState → ℕ → ColumnState
+column_in columns colour = slice_index_or columns colour no_column
+
+-- the client of a number
 abbrev pub client_at : WorldView → ℕ → ClientView
 client_at kept client = slice_index_or kept.clients client fresh_client
 
+-- the column of a region and a colour
 abbrev pub column_at : List (List ColumnState) → ℕ → ℕ → ColumnState
 column_at columns region colour = slice_index_or (slice_index_or columns region []) colour no_column
 
+-- what a client has used, seen and played
 abbrev pub client_of : ClientView → ClientState
 client_of c = record {
   count = c.count;
@@ -71,18 +72,7 @@ abbrev pub with_client_room : WorldView → ℕ → WorldView
 with_client_room kept client =
     record kept { clients = slice_set kept.clients client (with_spare (client_at kept client)) }
 
--- the reply of a step that adds an event without a stamp, or none
-abbrev pub reply_at : At → Reply
-reply_at (ats.Event place) = replies.Event place 0
-reply_at (ats.Look place) = replies.Nothing
-
--- the reply of a step that decides a row, by the outcome of its marks
-abbrev pub reply_to : Outcome → Reply
-reply_to Open = replies.Nothing
-reply_to (Gone why) = replies.Decided (Gone why)
-reply_to (Final stamp) = replies.Decided (Final stamp)
-
--- the column of a region and a colour
+-- the column is that of a region and a colour
 pub record IsPlaced (column : ColumnState) (region colour regions : ℕ) : Type 0 where
   pub in_region : column.region ≡ region
   pub of_colour : column.colour ≡ colour

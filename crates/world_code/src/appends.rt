@@ -8,10 +8,12 @@ ghost use Rattle.world_laws.specs.Worlds.{may_single, after_single};
 ghost use Rattle.world_laws.specs.Worlds.{single_stamp, may_begin, after_begin};
 ghost use Rattle.world_code.specs.WorldView.{world_of, client_at, with_client_room};
 ghost use Rattle.world_code.specs.Clients.{next_single, next_begun};
+ghost use Rattle.world_code.specs.Replies.{placed_reply, begun_reply};
 
+use crate::replies::{NewRow, Placed};
 use crate::world::World;
 use column::ColumnFault;
-use log_node::{At, Colours, MAX_COLOURS, Node, Row, Text};
+use log_node::{Colours, MAX_COLOURS, Node, Row, Text};
 use skeen_core::MAX_STAMP;
 use std::alloc::{AllocError, Global};
 use std::sync::Arc;
@@ -25,14 +27,15 @@ impl World {
         client: u8,
         colour: u8,
         text: Text,
-    ) -> Result<Reply, AllocError>
+    ) -> Result<Option<Placed>, AllocError>
         ensures ok { OnOk result (world_of self.new ≡ after (world_of self.old) (Step.Single client colour text)) }
-        ensures reply { IfOk result (λ r. r ≡ reply (world_of self.old) (Step.Single client colour text)) }
+        ensures reply { IfOk result (λ placed.
+            placed_reply placed ≡ reply (world_of self.old) (Step.Single client colour text)) }
         ensures err { OnErr result (world_of self.new ≡ world_of self.old) }
     {
         let _whole = &self.shape;
         let Some(home) = self.single_home(client, colour) else {
-            return Ok(Reply::Nothing);
+            return Ok(None);
         };
         let node = self
             .client(client)
@@ -41,7 +44,7 @@ impl World {
         let shared = node.clone()?;
         self.client_room(client)?;
         match self.add_single(client, home, colour, node, shared) {
-            Ok(reply) => Ok(reply),
+            Ok(placed) => Ok(Some(placed)),
             Err(_) => Err(AllocError),
         }
     }
@@ -82,23 +85,20 @@ impl World {
         colour: u8,
         node: Arc<Node>,
         shared: Arc<Node>,
-    ) -> Result<Reply, ColumnFault>
+    ) -> Result<Placed, ColumnFault>
         requires may { may_single (world_of self.old) client colour ≡ true }
         requires home { home_of (world_of self.old) client ≡ home }
         requires node { node.value ≡ next_single (client_at self.old client) client home colour node.value.text }
         requires shared { shared.value ≡ node.value }
         requires room { 0 < (client_at self.old client).spare }
         ensures ok { OnOk result (world_of self.new ≡ after_single (world_of self.old) client colour node.value.text) }
-        ensures reply { IfOk result (λ r. r ≡ event_reply (world_of self.old) home colour
-            (single_stamp (world_of self.old) client colour)) }
+        ensures placed { IfOk result (λ placed. placed_reply (Some placed)
+            ≡ event_reply (world_of self.old) home colour (single_stamp (world_of self.old) client colour)) }
         ensures err { OnErr result (self.new ≡ self.old) }
     {
-        let (at, stamp) = self.regions[home as usize].single(client, colour, node)?;
-        self.clients[client as usize].append(shared, stamp);
-        match at {
-            At::Event(place) => Ok(Reply::Event { place, stamp }),
-            At::Look(_) => unreachable!(),
-        }
+        let placed = self.regions[home as usize].single(client, colour, node)?;
+        self.clients[client as usize].append(shared, placed.stamp);
+        Ok(placed)
     }
 
     /// The client begins its next row, for an append to these colours.
@@ -108,35 +108,36 @@ impl World {
         client: u8,
         colours: Colours,
         text: Text,
-    ) -> Result<Reply, AllocError>
+    ) -> Result<Option<NewRow>, AllocError>
         ensures ok { OnOk result (world_of self.new ≡ after (world_of self.old) (Step.Begin client colours text)) }
-        ensures reply { IfOk result (λ r. r ≡ reply (world_of self.old) (Step.Begin client colours text)) }
+        ensures reply { IfOk result (λ begun.
+            begun_reply begun ≡ reply (world_of self.old) (Step.Begin client colours text)) }
         ensures err { OnErr result (world_of self.new ≡ world_of self.old) }
     {
         let _whole = &self.shape;
         if !self.may_begin(client, colours) {
-            return Ok(Reply::Nothing);
+            return Ok(None);
         }
         self.client_room(client)?;
         match self.begin_node(alloc, client, colours, text) {
-            Ok(reply) => Ok(reply),
+            Ok(begun) => Ok(Some(begun)),
             Err(_) => Err(AllocError),
         }
     }
 
-    // The same where the guard holds, and there is memory for one node and one row.
+    // Begins the row, which may be begun, where there is memory for one node and one row of the client.
     fn begin_node(
         &mut self,
         alloc: Global,
         client: u8,
         colours: Colours,
         text: Text,
-    ) -> Result<Reply, AllocError>
+    ) -> Result<NewRow, AllocError>
         requires may { may_begin (world_of self.old) client colours ≡ true }
         requires room { 0 < (client_at self.old client).spare }
         ensures ok { OnOk result (world_of self.new ≡ after_begin (world_of self.old) client colours text) }
-        ensures reply { IfOk result (λ r. r ≡ Reply.Begun (next_row (world_of self.old) client)
-            (next_id (world_of self.old) client)) }
+        ensures begun { IfOk result (λ begun. begun_reply (Some begun)
+            ≡ Reply.Begun (next_row (world_of self.old) client) (next_id (world_of self.old) client)) }
         ensures err { OnErr result (self.new ≡ self.old) }
     {
         let _whole = &self.shape;
@@ -188,7 +189,13 @@ impl World {
     }
 
     // The row is begun, for the client's next node.
-    fn add_begin(&mut self, row: Row, colours: Colours, node: Arc<Node>, shared: Arc<Node>) -> Reply
+    fn add_begin(
+        &mut self,
+        row: Row,
+        colours: Colours,
+        node: Arc<Node>,
+        shared: Arc<Node>,
+    ) -> NewRow
         requires may { may_begin (world_of self.old) row.client colours ≡ true }
         requires row { row ≡ next_row (world_of self.old) row.client }
         requires node { node.value ≡ next_begun (client_at self.old row.client) row.client
@@ -197,13 +204,13 @@ impl World {
         requires room { 0 < (client_at self.old row.client).spare }
         ensures world { world_of self.new
             ≡ after_begin (world_of self.old) row.client colours node.value.text }
-        ensures reply { result ≡ Reply.Begun row (next_id (world_of self.old) row.client) }
+        ensures begun { begun_reply (Some result) ≡ Reply.Begun row (next_id (world_of self.old) row.client) }
     {
         let id = node.id;
         let Ok(_) = self.board.begin(row.client, &node) else {
             unreachable!()
         };
         self.clients[row.client as usize].begin(node, shared);
-        Reply::Begun { row, id }
+        NewRow { row, id }
     }
 }

@@ -1,12 +1,11 @@
 // What stands in the way of a key.
-ghost use Rattle.std.specs.Prelude.{◌≡◌, ◌<◌, [], Some, None, IfSome, slice_get};
+ghost use Rattle.std.specs.Prelude.{◌≡◌, ◌<◌, [], None, IfSome};
 ghost use Rattle.std.specs.Option.{option_map};
-ghost use Rattle.world_code.specs.WorldView.{client_at, world_of};
+ghost use Rattle.world_code.specs.WorldView.{world_of};
 ghost use Rattle.world_code.specs.Looks.{open_below, IsFirstBelow};
 
 use crate::world::World;
-use log_node::{Begun, Id, Key, Node, Row};
-use std::sync::Arc;
+use log_node::{Begun, Key, Row};
 
 // The row of a begun append, if there is one.
 fn row_of(first: Option<Begun>) -> Option<Row>
@@ -16,16 +15,6 @@ fn row_of(first: Option<Begun>) -> Option<Row>
 }
 
 impl World {
-    /// The node that was appended under an id; `None` exactly where none was.
-    pub fn node(&self, id: Id) -> Option<&Arc<Node>>
-        ensures some { IfSome result (λ node. slice_get ((world_of self.now).nodes id.client) id.count
-            ≡ Some node.now.value) }
-        ensures none { result ≡ None → slice_get ((world_of self.now).nodes id.client) id.count ≡ None }
-    {
-        let client = self.clients.get(id.client as usize)?;
-        client.node(id.count)
-    }
-
     /// The row of the least open entry below a key of a region's column; `None` exactly where there is no such entry.
     pub fn open_row_below(&self, region: u8, colour: u8, key: Key) -> Option<Row>
         requires region { region < self.now.shape.regions }

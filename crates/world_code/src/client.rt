@@ -6,7 +6,7 @@ ghost use Rattle.log_node.specs.Sets.{members};
 ghost use Rattle.world_code.specs.Clients.{fresh_client, with_spare, with_next_node, with_next_row, next_single};
 ghost use Rattle.world_code.specs.Clients.{next_begun, played_of};
 
-use log_node::{Colours, Counts, Id, ListOf, MAX_COLOURS, Node, Row, Text};
+use log_node::{Colours, Counts, Id, ListOf, MAX_COLOURS, Node, Row, Text, Wants};
 use std::alloc::{AllocError, Global};
 use std::marker::Model;
 use std::sync::Arc;
@@ -109,14 +109,6 @@ impl Client {
         self.begun.get(number as usize)
     }
 
-    /// Its node of a count; `None` exactly where it has appended no more than `count` nodes.
-    pub fn node(&self, count: u64) -> Option<&Arc<Node>>
-        ensures some { IfSome result (λ node. slice_get self.now.nodes count ≡ Some node.now.value) }
-        ensures none { result ≡ None → slice_get self.now.nodes count ≡ None }
-    {
-        self.nodes.get(count as usize)
-    }
-
     /// Takes the memory for one node and one row more, unless it is there.
     pub fn room(&mut self) -> Result<(), AllocError>
         ensures ok { OnOk result (self.new ≡ with_spare self.old) }
@@ -153,12 +145,12 @@ impl Client {
     }
 
     // What it has played of these colours.
-    fn played_of(&self, alloc: Global, colours: Colours) -> Result<ListOf<Counts>, AllocError>
+    fn played_of(&self, alloc: Global, colours: Colours) -> Result<Wants, AllocError>
         requires { length self.now.played ≡ MAX_COLOURS }
         ensures { IfOk result (λ wants. wants ≡ played_of self.now (members colours)) }
     {
         let _bits = colours.0;
-        let mut wants = ListOf::new(alloc);
+        let mut wants = Wants::new(alloc);
         for colour in 0..MAX_COLOURS {
             if colours.has(colour) {
                 let played = self.played(colour);
@@ -210,7 +202,7 @@ impl Client {
         requires colour { colour < MAX_COLOURS }
         ensures { IfOk result (λ node. node ≡ next_single self.now client home colour text) }
     {
-        let mut wants = ListOf::new(alloc);
+        let mut wants = Wants::new(alloc);
         wants.push(self.played(colour))?;
         Ok(Node {
             id: Id {

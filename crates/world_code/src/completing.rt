@@ -6,6 +6,7 @@ ghost use Rattle.world_laws.specs.Completing.{mark_steps, settle_steps, colours_
 ghost use Rattle.world_code.specs.WorldView.{world_of};
 ghost use Rattle.world_code.specs.Completed.{done_count, IsMarkStep, AreTaken, IsPartCompleted, IsCompleted};
 
+use crate::replies::{decided_reply, marked_reply, place_reply, placed_reply};
 use crate::world::World;
 use log_node::{Colours, MAX_COLOURS, Row};
 use skeen_core::{Outcome, Why};
@@ -75,11 +76,11 @@ impl World {
         ensures { IsMarkStep (world_of self.old) by row colour (world_of self.new) result }
     {
         if self.is_row_at_end(row, colour) {
-            return self.fence(row, colour, Why::StampEnd);
+            return marked_reply(self.fence(row, colour, Why::StampEnd));
         }
-        match self.propose(by, row, colour) {
-            Ok(reply) => reply,
-            Err(_) => self.fence(row, colour, Why::Memory),
+        match self.propose_next(by, row, colour) {
+            Ok(placed) => placed_reply(Some(placed)),
+            Err(_) => marked_reply(self.fence(row, colour, Why::Memory)),
         }
     }
 
@@ -102,13 +103,14 @@ impl World {
             (world_of self.new) result }
         ensures few { result.done + result.left ≤ limit }
     {
-        let _bits = self.row_colours(row).0;
+        let colours = self.row_colours(row);
+        let _bits = colours.0;
         let mut taken = Taken {
             done: 0,
             left: limit,
         };
         for colour in 0..MAX_COLOURS {
-            if taken.left > 0 && self.may_mark(row, colour) {
+            if taken.left > 0 && self.lacks_mark(row, colours, colour) {
                 let reply = self.mark_colour(by, row, colour);
                 taken.done += done_count(&reply);
                 taken.left -= 1;
@@ -125,7 +127,7 @@ impl World {
         if limit == 0 {
             return Taken { done: 0, left: 0 };
         }
-        let reply = self.decide(row);
+        let reply = decided_reply(self.decide(row));
         Taken {
             done: done_count(&reply),
             left: limit - 1,
@@ -147,7 +149,7 @@ impl World {
         };
         for colour in 0..MAX_COLOURS {
             if taken.left > 0 && colours.has(colour) {
-                let reply = self.settle(by, row, colour);
+                let reply = place_reply(self.settle(by, row, colour));
                 taken.done += done_count(&reply);
                 taken.left -= 1;
             }

@@ -8,6 +8,7 @@ mod completing;
 mod moves;
 mod reading;
 mod region;
+mod replies;
 mod rows;
 mod unplayed;
 mod whole;
@@ -16,6 +17,7 @@ mod world;
 pub use client::Client;
 pub use completing::Completed;
 pub use region::RegionColumns;
+pub use replies::{NewRow, Placed};
 pub use world::World;
 
 #[cfg(test)]

@@ -1,16 +1,17 @@
 // Nodes pass between the columns of a colour, and are trimmed.
 ghost use Rattle.std.specs.Prelude.{◌≡◌, ◌+◌, ◌<◌, ◌&&◌, nat_le, nat_lt, true, false, length, IfOk, OnOk, OnErr};
-ghost use Rattle.world_laws.specs.Worlds.{after, reply, event_reply, are_two_columns, held_of, is_column};
+ghost use Rattle.world_laws.specs.Worlds.{after, reply, are_two_columns, held_of, is_column};
 ghost use Rattle.world_laws.specs.Worlds.{may_give, may_carry};
 ghost use Rattle.column.specs.Columns.{AreItems};
 ghost use Rattle.world_code.specs.WorldView.{world_of, column_at};
+ghost use Rattle.world_code.specs.Replies.{place_reply};
 
-use crate::rows::reply_at;
+use crate::replies::event_at;
 use crate::world::World;
 use column::Given;
 use log_node::Counts;
 use std::alloc::{AllocError, Global};
-use world_laws::{Reply, Step};
+use world_laws::Step;
 
 impl World {
     /// The origin's column notes that the region's column holds all nodes of its line below a number, where it does.
@@ -21,16 +22,18 @@ impl World {
         region: u8,
         colour: u8,
         from: u64,
-    ) -> Result<Reply, AllocError>
+    ) -> Result<Option<u64>, AllocError>
         ensures ok { OnOk result
             (world_of self.new ≡ after (world_of self.old) (Step.Give by origin region colour from)) }
-        ensures reply { IfOk result (λ r. r ≡ reply (world_of self.old) (Step.Give by origin region colour from)) }
+        ensures reply { IfOk result (λ place.
+            place_reply place ≡ reply (world_of self.old) (Step.Give by origin region colour from)) }
         ensures err { OnErr result (self.new ≡ self.old) }
     {
         if !self.may_give(origin, region, colour, from) {
-            return Ok(Reply::Nothing);
+            return Ok(None);
         }
-        self.add_give(by, origin, region, colour, from)
+        let place = self.add_give(by, origin, region, colour, from)?;
+        Ok(Some(place))
     }
 
     // Whether these are two columns of a colour, of different regions.
@@ -60,7 +63,7 @@ impl World {
         from <= self.held_of(origin, region, colour)
     }
 
-    // The same where the guard holds.
+    // Adds the give, which may be done.
     fn add_give(
         &mut self,
         by: u8,
@@ -68,15 +71,15 @@ impl World {
         region: u8,
         colour: u8,
         from: u64,
-    ) -> Result<Reply, AllocError>
+    ) -> Result<u64, AllocError>
         requires { may_give (world_of self.old) origin region colour from ≡ true }
         ensures ok { OnOk result
             (world_of self.new ≡ after (world_of self.old) (Step.Give by origin region colour from)) }
-        ensures reply { IfOk result (λ r. r ≡ reply (world_of self.old) (Step.Give by origin region colour from)) }
+        ensures place { IfOk result (λ place. place ≡ length ((world_of self.old).histories origin colour)) }
         ensures err { OnErr result (self.new ≡ self.old) }
     {
-        let at = self.regions[origin as usize].note(by, colour, region, from)?;
-        Ok(reply_at(at))
+        let place = self.regions[origin as usize].note(by, colour, region, from)?;
+        Ok(place)
     }
 
     /// The region's column carries what it lacks of so many nodes of the origin's line, from a position on, where
@@ -90,15 +93,15 @@ impl World {
         colour: u8,
         start: u64,
         count: u64,
-    ) -> Result<Reply, AllocError>
+    ) -> Result<Option<u64>, AllocError>
         ensures ok { OnOk result
             (world_of self.new ≡ after (world_of self.old) (Step.Carry by origin region colour start count)) }
-        ensures reply { IfOk result
-            (λ r. r ≡ reply (world_of self.old) (Step.Carry by origin region colour start count)) }
+        ensures reply { IfOk result (λ place.
+            place_reply place ≡ reply (world_of self.old) (Step.Carry by origin region colour start count)) }
         ensures err { OnErr result (self.new ≡ self.old) }
     {
         if !self.may_carry(origin, region, colour, start, count) {
-            return Ok(Reply::Nothing);
+            return Ok(None);
         }
         let _whole = &self.shape;
         let items = self.column(origin, colour).stretch(alloc, start, count)?;
@@ -149,19 +152,19 @@ impl World {
         colour: u8,
         count: u64,
         given: &Given,
-    ) -> Result<Reply, AllocError>
+    ) -> Result<Option<u64>, AllocError>
         requires may { may_carry (world_of self.old) origin region colour given.now.start count ≡ true }
         requires given { AreItems (column_at self.old.columns origin colour) origin given.now.start
             (given.now.start + count) given.now.items }
         ensures ok { OnOk result
             (world_of self.new ≡ after (world_of self.old) (Step.Carry by origin region colour given.now.start count)) }
-        ensures reply { IfOk result
-            (λ r. r ≡ reply (world_of self.old) (Step.Carry by origin region colour given.now.start count)) }
+        ensures reply { IfOk result (λ place.
+            place_reply place ≡ reply (world_of self.old) (Step.Carry by origin region colour given.now.start count)) }
         ensures err { OnErr result (self.new ≡ self.old) }
     {
         let _count = count;
         let at = self.regions[region as usize].carry(alloc, by, colour, origin, given)?;
-        Ok(reply_at(at))
+        Ok(event_at(at))
     }
 
     /// A column is trimmed up to these counts, as far as that may be.
@@ -171,31 +174,33 @@ impl World {
         region: u8,
         colour: u8,
         counts: Counts,
-    ) -> Result<Reply, AllocError>
+    ) -> Result<Option<u64>, AllocError>
         ensures ok { OnOk result (world_of self.new ≡ after (world_of self.old) (Step.Trim by region colour counts)) }
-        ensures reply { IfOk result (λ r. r ≡ reply (world_of self.old) (Step.Trim by region colour counts)) }
+        ensures reply { IfOk result (λ place.
+            place_reply place ≡ reply (world_of self.old) (Step.Trim by region colour counts)) }
         ensures err { OnErr result (self.new ≡ self.old) }
     {
         if region >= self.shape.regions || colour >= self.shape.colours {
-            return Ok(Reply::Nothing);
+            return Ok(None);
         }
-        self.add_trim(by, region, colour, counts)
+        let place = self.add_trim(by, region, colour, counts)?;
+        Ok(Some(place))
     }
 
-    // The same where there is the column.
+    // Adds the trim to the column, which is there.
     fn add_trim(
         &mut self,
         by: u8,
         region: u8,
         colour: u8,
         counts: Counts,
-    ) -> Result<Reply, AllocError>
+    ) -> Result<u64, AllocError>
         requires { is_column (world_of self.old) region colour ≡ true }
         ensures ok { OnOk result (world_of self.new ≡ after (world_of self.old) (Step.Trim by region colour counts)) }
-        ensures reply { IfOk result (λ r. r ≡ reply (world_of self.old) (Step.Trim by region colour counts)) }
+        ensures place { IfOk result (λ place. place ≡ length ((world_of self.old).histories region colour)) }
         ensures err { OnErr result (self.new ≡ self.old) }
     {
-        let at = self.regions[region as usize].trim(by, colour, counts)?;
-        Ok(reply_at(at))
+        let place = self.regions[region as usize].trim(by, colour, counts)?;
+        Ok(place)
     }
 }

@@ -6,13 +6,14 @@ ghost use Rattle.world_laws.specs.Worlds.{may_see, after_seen};
 ghost use Rattle.world_laws.specs.Worlds.{may_play, after_play, played_cut};
 ghost use Rattle.world_code.specs.WorldView.{world_of};
 ghost use Rattle.world_code.specs.Looks.{IsLook};
+ghost use Rattle.world_code.specs.Replies.{played_reply};
 
 use crate::unplayed::unplayed_stamp;
 use crate::world::World;
 use col_core::View;
 use log_node::Counts;
 use std::alloc::{AllocError, Global};
-use world_laws::{Reply, Step};
+use world_laws::Step;
 
 // Whether no number is above that of the other.
 fn is_within(v: Counts, w: Counts) -> bool
@@ -23,14 +24,12 @@ fn is_within(v: Counts, w: Counts) -> bool
 
 impl World {
     /// The client plays what the cut of a colour's column has, from where it has played.
-    pub fn play(&mut self, client: u8, colour: u8) -> Reply
+    pub fn play(&mut self, client: u8, colour: u8) -> Option<Counts>
         ensures world { world_of self.new ≡ after (world_of self.old) (Step.Play client colour) }
-        ensures reply { result ≡ reply (world_of self.old) (Step.Play client colour) }
+        ensures reply { played_reply result ≡ reply (world_of self.old) (Step.Play client colour) }
     {
-        let Some(home) = self.play_home(client, colour) else {
-            return Reply::Nothing;
-        };
-        self.add_play(client, home, colour)
+        let home = self.play_home(client, colour)?;
+        Some(self.add_play(client, home, colour))
     }
 
     // The client's region, where there is the column, and no node that the client has not played is trimmed.
@@ -58,30 +57,28 @@ impl World {
         is_within(base, self.client(client).played(colour))
     }
 
-    // The same where the guard holds.
-    fn add_play(&mut self, client: u8, home: u8, colour: u8) -> Reply
+    // Plays up to the cut, which may be done.
+    fn add_play(&mut self, client: u8, home: u8, colour: u8) -> Counts
         requires may { may_play (world_of self.old) client colour ≡ true }
         requires home { home_of (world_of self.old) client ≡ home }
         ensures world { world_of self.new ≡ after_play (world_of self.old) client colour }
-        ensures reply { result ≡ Reply.Played (played_cut (world_of self.old) client colour) }
+        ensures cut { result ≡ played_cut (world_of self.old) client colour }
     {
         let played = self.client(client).played(colour);
         let column = self.column(home, colour);
         let cut = column.cut();
         let stamp = unplayed_stamp(column, home, played);
         self.clients[client as usize].play(colour, cut, stamp);
-        Reply::Played { cut }
+        cut
     }
 
     /// The client has seen a stamp of a column of its region, where it is above all that it has seen.
-    pub fn see(&mut self, client: u8, to: u64) -> Reply
-        ensures world { world_of self.new ≡ after (world_of self.old) (Step.Seen client to) }
-        ensures reply { result ≡ Reply.Nothing }
+    pub fn see(&mut self, client: u8, to: u64)
+        ensures { world_of self.new ≡ after (world_of self.old) (Step.Seen client to) }
     {
         if self.may_see(client, to) {
             self.add_seen(client, to);
         }
-        Reply::Nothing
     }
 
     // Whether there is such a column, and the stamp is above what the client has seen.
@@ -95,7 +92,7 @@ impl World {
         self.client(client).floor() < to && self.regions[home as usize].reaches(to)
     }
 
-    // The same where the guard holds.
+    // Sees the stamp, which may be seen.
     fn add_seen(&mut self, client: u8, to: u64)
         requires { may_see (world_of self.old) client to ≡ true }
         ensures { world_of self.new ≡ after_seen (world_of self.old) client to }

@@ -1,5 +1,5 @@
 // The columns of one region.
-ghost use Rattle.std.specs.Prelude.{◌≡◌, ◌≢◌, ◌<◌, ◌≤◌, nat_le, nat_lt, length, slice_index_or, slice_set};
+ghost use Rattle.std.specs.Prelude.{◌≡◌, ◌≢◌, ◌<◌, ◌≤◌, nat_le, nat_lt, length, slice_set};
 ghost use Rattle.std.specs.Prelude.{true, false, None, ◌&&◌, if◌then◌else◌, IfOk, IfErr, OnOk, OnErr};
 ghost use Rattle.std.specs.List.{list_any};
 ghost use Rattle.col_core.specs.History.{clock, has_entered, entries};
@@ -7,8 +7,9 @@ ghost use Rattle.log_node.specs.Sets.{has};
 ghost use Rattle.skeen_core.specs.Queues.{MaySettle, has_open, is_decided};
 ghost use Rattle.column.specs.Columns.{after_raise, after_single, after_propose, after_settle, with_room, stamp_for};
 ghost use Rattle.column.specs.Columns.{after_give, after_carry, after_trim, new_items, HasEnterCause};
-ghost use Rattle.world_code.specs.WorldView.{no_column, fresh_columns};
+ghost use Rattle.world_code.specs.WorldView.{column_in, fresh_columns};
 
+use crate::replies::{Placed, number_of};
 use column::{Column, ColumnFault, Given};
 use log_node::{At, Counts, Id, Node, Shape};
 use skeen_core::{MAX_STAMP, Outcome};
@@ -49,7 +50,7 @@ impl RegionColumns {
     /// The column of a colour.
     pub fn column(&self, colour: u8) -> &Column
         requires { colour < length self.now }
-        ensures { result.now ≡ slice_index_or self.now colour no_column }
+        ensures { result.now ≡ column_in self.now colour }
     {
         &self.items[colour as usize]
     }
@@ -62,31 +63,31 @@ impl RegionColumns {
     }
 
     /// Raises the clock of a colour's column.
-    pub fn raise(&mut self, by: u8, colour: u8, to: u64) -> Result<At, AllocError>
+    pub fn raise(&mut self, by: u8, colour: u8, to: u64) -> Result<u64, AllocError>
         requires colour { colour < length self.old }
-        requires above { clock (slice_index_or self.old colour no_column).journal < to }
+        requires above { clock (column_in self.old colour).journal < to }
         requires within { to ≤ MAX_STAMP }
-        ensures answer { IfOk result (λ at.
-            at ≡ At.Event (length (slice_index_or self.old colour no_column).journal)) }
+        ensures answer { IfOk result (λ place. place ≡ length (column_in self.old colour).journal) }
         ensures ok { OnOk result
-            (self.new ≡ slice_set self.old colour (after_raise (slice_index_or self.old colour no_column) by to)) }
+            (self.new ≡ slice_set self.old colour (after_raise (column_in self.old colour) by to)) }
         ensures err { OnErr result (self.new ≡ self.old) }
     {
-        self.items[colour as usize].raise(by, to)
+        let at = self.items[colour as usize].raise(by, to)?;
+        Ok(number_of(at))
     }
 
     /// A colour's column notes that another region has asked for its line from a number on.
-    pub fn note(&mut self, by: u8, colour: u8, region: u8, from: u64) -> Result<At, AllocError>
+    pub fn note(&mut self, by: u8, colour: u8, region: u8, from: u64) -> Result<u64, AllocError>
         requires colour { colour < length self.old }
-        requires other { region ≢ (slice_index_or self.old colour no_column).region }
-        requires region { region < (slice_index_or self.old colour no_column).regions }
-        ensures answer { IfOk result (λ at.
-            at ≡ At.Event (length (slice_index_or self.old colour no_column).journal)) }
+        requires other { region ≢ (column_in self.old colour).region }
+        requires region { region < (column_in self.old colour).regions }
+        ensures answer { IfOk result (λ place. place ≡ length (column_in self.old colour).journal) }
         ensures ok { OnOk result (self.new ≡ slice_set self.old colour
-            (after_give (slice_index_or self.old colour no_column) by region from)) }
+            (after_give (column_in self.old colour) by region from)) }
         ensures err { OnErr result (self.new ≡ self.old) }
     {
-        self.items[colour as usize].note(by, region, from)
+        let at = self.items[colour as usize].note(by, region, from)?;
+        Ok(number_of(at))
     }
 
     /// A colour's column takes over what is new of a part of another region's line.
@@ -99,14 +100,14 @@ impl RegionColumns {
         given: &Given,
     ) -> Result<At, AllocError>
         requires colour { colour < length self.old }
-        requires other { region ≢ (slice_index_or self.old colour no_column).region }
-        requires region { region < (slice_index_or self.old colour no_column).regions }
-        ensures answer { let column = slice_index_or self.old colour no_column in
+        requires other { region ≢ (column_in self.old colour).region }
+        requires region { region < (column_in self.old colour).regions }
+        ensures answer { let column = column_in self.old colour in
             let place = length column.journal in
-            IfOk result (λ at. at ≡ (if nat_lt 0 (length (new_items column region given.now))
+            IfOk result (λ answer. answer ≡ (if nat_lt 0 (length (new_items column region given.now))
             then At.Event place else At.Look place)) }
         ensures ok { OnOk result (self.new ≡ slice_set self.old colour
-            (after_carry (slice_index_or self.old colour no_column) by region given.now)) }
+            (after_carry (column_in self.old colour) by region given.now)) }
         ensures err { OnErr result (self.new ≡ self.old) }
     {
         let (at, _count) = self.items[colour as usize].carry(alloc, by, region, given)?;
@@ -114,16 +115,15 @@ impl RegionColumns {
     }
 
     /// A colour's column is trimmed up to these counts.
-    pub fn trim(&mut self, by: u8, colour: u8, counts: Counts) -> Result<At, AllocError>
+    pub fn trim(&mut self, by: u8, colour: u8, counts: Counts) -> Result<u64, AllocError>
         requires { colour < length self.old }
-        ensures answer { IfOk result (λ at.
-            at ≡ At.Event (length (slice_index_or self.old colour no_column).journal)) }
+        ensures answer { IfOk result (λ place. place ≡ length (column_in self.old colour).journal) }
         ensures ok { OnOk result (self.new ≡ slice_set self.old colour
-            (after_trim (slice_index_or self.old colour no_column) by counts)) }
+            (after_trim (column_in self.old colour) by counts)) }
         ensures err { OnErr result (self.new ≡ self.old) }
     {
         let (at, _count) = self.items[colour as usize].trim(by, counts)?;
-        Ok(at)
+        Ok(number_of(at))
     }
 
     /// Whether the clock of one of the columns is no less.
@@ -134,53 +134,61 @@ impl RegionColumns {
     }
 
     /// A node enters a colour's column as final.
-    pub fn single(&mut self, by: u8, colour: u8, node: Arc<Node>) -> Result<(At, u64), ColumnFault>
+    pub fn single(&mut self, by: u8, colour: u8, node: Arc<Node>) -> Result<Placed, ColumnFault>
         requires colour { colour < length self.old }
-        requires fresh { has_entered node.value.id (slice_index_or self.old colour no_column).journal ≡ false }
-        requires region { node.value.region ≡ (slice_index_or self.old colour no_column).region }
-        requires of_colour { has node.value.colours (slice_index_or self.old colour no_column).colour ≡ true }
+        requires fresh { has_entered node.value.id (column_in self.old colour).journal ≡ false }
+        requires region { node.value.region ≡ (column_in self.old colour).region }
+        requires of_colour { has node.value.colours (column_in self.old colour).colour ≡ true }
         requires floor { node.value.floor ≤ MAX_STAMP }
-        ensures answer { IfOk result (λ r.
-            (r.0 ≡ At.Event (length (slice_index_or self.old colour no_column).journal))
-            × (r.1 ≡ stamp_for (slice_index_or self.old colour no_column) node.value)) }
+        ensures answer { IfOk result (λ placed. placed ≡ record {
+          place = length (column_in self.old colour).journal;
+          stamp = stamp_for (column_in self.old colour) node.value;
+        }) }
         ensures ok { OnOk result (self.new ≡ slice_set self.old colour
-            (after_single (with_room (slice_index_or self.old colour no_column)) by node.value)) }
-        ensures cause { IfErr result (HasEnterCause (slice_index_or self.old colour no_column) node.value.floor) }
+            (after_single (with_room (column_in self.old colour)) by node.value)) }
+        ensures cause { IfErr result (HasEnterCause (column_in self.old colour) node.value.floor) }
         ensures err { OnErr result (self.new ≡ self.old) }
     {
-        let answer = self.items[colour as usize].single(by, node)?;
-        Ok(answer)
+        let (at, stamp) = self.items[colour as usize].single(by, node)?;
+        Ok(Placed {
+            place: number_of(at),
+            stamp,
+        })
     }
 
     /// A node of several colours enters a colour's column as open.
-    pub fn propose(&mut self, by: u8, colour: u8, node: Arc<Node>) -> Result<(At, u64), ColumnFault>
+    pub fn propose(&mut self, by: u8, colour: u8, node: Arc<Node>) -> Result<Placed, ColumnFault>
         requires colour { colour < length self.old }
-        requires fresh { has_entered node.value.id (slice_index_or self.old colour no_column).journal ≡ false }
-        requires region { node.value.region ≡ (slice_index_or self.old colour no_column).region }
-        requires of_colour { has node.value.colours (slice_index_or self.old colour no_column).colour ≡ true }
+        requires fresh { has_entered node.value.id (column_in self.old colour).journal ≡ false }
+        requires region { node.value.region ≡ (column_in self.old colour).region }
+        requires of_colour { has node.value.colours (column_in self.old colour).colour ≡ true }
         requires floor { node.value.floor ≤ MAX_STAMP }
         requires row { node.value.row ≡ None → ⊥ }
-        ensures answer { IfOk result (λ r.
-            (r.0 ≡ At.Event (length (slice_index_or self.old colour no_column).journal))
-            × (r.1 ≡ stamp_for (slice_index_or self.old colour no_column) node.value)) }
+        ensures answer { IfOk result (λ placed. placed ≡ record {
+          place = length (column_in self.old colour).journal;
+          stamp = stamp_for (column_in self.old colour) node.value;
+        }) }
         ensures ok { OnOk result (self.new ≡ slice_set self.old colour
-            (after_propose (with_room (slice_index_or self.old colour no_column)) by node.value)) }
-        ensures cause { IfErr result (HasEnterCause (slice_index_or self.old colour no_column) node.value.floor) }
+            (after_propose (with_room (column_in self.old colour)) by node.value)) }
+        ensures cause { IfErr result (HasEnterCause (column_in self.old colour) node.value.floor) }
         ensures err { OnErr result (self.new ≡ self.old) }
     {
-        let answer = self.items[colour as usize].propose(by, node)?;
-        Ok(answer)
+        let (at, stamp) = self.items[colour as usize].propose(by, node)?;
+        Ok(Placed {
+            place: number_of(at),
+            stamp,
+        })
     }
 
     /// An id that is open in a colour's column becomes final under its number, or goes.
     pub fn settle(&mut self, by: u8, colour: u8, id: Id, outcome: Outcome) -> At
         requires colour { colour < length self.old }
-        requires settles { MaySettle id outcome (entries (slice_index_or self.old colour no_column).journal) MAX_STAMP }
-        ensures answer { let column = slice_index_or self.old colour no_column in
+        requires settles { MaySettle id outcome (entries (column_in self.old colour).journal) MAX_STAMP }
+        ensures answer { let column = column_in self.old colour in
             let settles = has_open id (entries column.journal) && is_decided outcome in
             let place = length column.journal in
             result ≡ (if settles then At.Event place else At.Look place) }
-        ensures columns { let column = slice_index_or self.old colour no_column in
+        ensures columns { let column = column_in self.old colour in
             let settles = has_open id (entries column.journal) && is_decided outcome in
             self.new ≡ slice_set self.old colour (if settles then after_settle column by id outcome else column) }
     {

@@ -6,16 +6,17 @@ ghost use Rattle.world_laws.specs.Worlds.{is_begun, may_mark, is_row_at_end, aft
 ghost use Rattle.world_laws.specs.Worlds.{may_fence, with_mark};
 ghost use Rattle.skeen_core.specs.Outcomes.{is_missing};
 ghost use Rattle.skeen_core.specs.Queues.{is_decided};
-ghost use Rattle.world_code.specs.WorldView.{world_of, client_at, reply_at};
-ghost use Rattle.world_code.specs.WorldView.{reply_to};
+ghost use Rattle.world_code.specs.WorldView.{world_of, client_at};
+ghost use Rattle.world_code.specs.Replies.{placed_reply, place_reply, marked_reply, decided_reply};
 
+use crate::replies::{Placed, event_at, kept_outcome};
 use crate::world::World;
 use column::ColumnFault;
-use log_node::{At, Id, Node, Row};
+use log_node::{Colours, Id, MAX_COLOURS, Node, Row};
 use skeen_core::{MAX_STAMP, Mark, Outcome, Why};
 use std::alloc::AllocError;
 use std::sync::Arc;
-use world_laws::{Reply, Step, is_lawful};
+use world_laws::{Step, is_lawful};
 
 // Whether the colour has not said anything yet.
 fn is_missing(mark: Mark) -> bool
@@ -39,32 +40,11 @@ fn is_open(outcome: Outcome) -> bool
     }
 }
 
-// The reply of a step that decides a row, by the outcome of its marks.
-fn reply_to(outcome: Outcome) -> Reply
-    ensures { result ≡ reply_to outcome }
-{
-    match outcome {
-        Outcome::Open => Reply::Nothing,
-        Outcome::Gone(_) => Reply::Decided(outcome),
-        Outcome::Final(_) => Reply::Decided(outcome),
-    }
-}
-
 // Whether no stamp is left.
 fn is_at_end(clock: u64, floor: u64) -> bool
     ensures { result ≡ (max clock floor == MAX_STAMP) }
 {
     clock.max(floor) == MAX_STAMP
-}
-
-// The reply of a step that adds an event without a stamp, or none.
-pub(crate) fn reply_at(at: At) -> Reply
-    ensures { result ≡ reply_at at }
-{
-    match at {
-        At::Event(place) => Reply::Event { place, stamp: 0 },
-        At::Look(_) => Reply::Nothing,
-    }
 }
 
 impl World {
@@ -103,6 +83,18 @@ impl World {
         self.board.read(row.client, row, colour)
     }
 
+    // Whether the mark of a begun row's colour may be set; these are the colours of its node.
+    pub(crate) fn lacks_mark(&self, row: Row, colours: Colours, colour: u8) -> bool
+        requires colours { colours ≡ (row_of (world_of self.now) row).node.colours }
+        requires colour { colour < MAX_COLOURS }
+        ensures { result ≡ may_mark (world_of self.now) row colour }
+    {
+        if !colours.has(colour) {
+            return false;
+        }
+        self.may_mark(row, colour)
+    }
+
     // Whether no stamp is left in the colour's column for the row's node.
     pub(crate) fn is_row_at_end(&self, row: Row, colour: u8) -> bool
         requires { may_mark (world_of self.now) row colour ≡ true }
@@ -118,58 +110,75 @@ impl World {
     }
 
     /// The colour's column proposes the row's node: its stamp is the mark.
-    pub fn propose(&mut self, by: u8, row: Row, colour: u8) -> Result<Reply, AllocError>
+    pub fn propose(&mut self, by: u8, row: Row, colour: u8) -> Result<Option<Placed>, AllocError>
         ensures ok { OnOk result (world_of self.new ≡ after (world_of self.old) (Step.Propose by row colour)) }
-        ensures reply { IfOk result (λ r. r ≡ reply (world_of self.old) (Step.Propose by row colour)) }
+        ensures reply { IfOk result (λ placed.
+            placed_reply placed ≡ reply (world_of self.old) (Step.Propose by row colour)) }
         ensures err { OnErr result (self.new ≡ self.old) }
     {
         if !self.may_mark(row, colour) || self.is_row_at_end(row, colour) {
-            return Ok(Reply::Nothing);
+            return Ok(None);
         }
+        let placed = self.propose_next(by, row, colour)?;
+        Ok(Some(placed))
+    }
+
+    // Proposes the row's node, which may be proposed.
+    pub(crate) fn propose_next(
+        &mut self,
+        by: u8,
+        row: Row,
+        colour: u8,
+    ) -> Result<Placed, AllocError>
+        requires may { may_mark (world_of self.old) row colour ≡ true }
+        requires stamp { is_row_at_end (world_of self.old) row colour ≡ false }
+        ensures ok { OnOk result (world_of self.new ≡ after (world_of self.old) (Step.Propose by row colour)) }
+        ensures reply { IfOk result (λ placed.
+            placed_reply (Some placed) ≡ reply (world_of self.old) (Step.Propose by row colour)) }
+        ensures err { OnErr result (self.new ≡ self.old) }
+    {
         let Some(node) = self.row_node(row) else {
             unreachable!()
         };
         let node = node.clone()?;
         match self.add_propose(by, row, colour, node) {
-            Ok(reply) => Ok(reply),
+            Ok(placed) => Ok(placed),
             Err(_) => Err(AllocError),
         }
     }
 
-    // The same where the guard holds.
+    // The node, which is the row's, enters the column, and its stamp is the mark.
     fn add_propose(
         &mut self,
         by: u8,
         row: Row,
         colour: u8,
         node: Arc<Node>,
-    ) -> Result<Reply, ColumnFault>
+    ) -> Result<Placed, ColumnFault>
         requires may { may_mark (world_of self.old) row colour ≡ true }
         requires stamp { is_row_at_end (world_of self.old) row colour ≡ false }
         requires node { slice_get (client_at self.old row.client).begun row.number ≡ Some node.value }
         ensures ok { OnOk result (world_of self.new ≡ after_propose (world_of self.old) by row colour) }
-        ensures reply { IfOk result (λ r. r ≡ event_reply (world_of self.old) (home_of (world_of self.old) row.client)
-            colour (proposed_stamp (world_of self.old) row colour)) }
+        ensures placed { IfOk result (λ placed. placed_reply (Some placed)
+            ≡ event_reply (world_of self.old) (home_of (world_of self.old) row.client) colour
+            (proposed_stamp (world_of self.old) row colour)) }
         ensures err { OnErr result (self.new ≡ self.old) }
     {
         let home = self.home(row.client);
-        let (at, stamp) = self.regions[home as usize].propose(by, colour, node)?;
-        self.board.mark(colour, row, stamp);
-        match at {
-            At::Event(place) => Ok(Reply::Event { place, stamp }),
-            At::Look(_) => unreachable!(),
-        }
+        let placed = self.regions[home as usize].propose(by, colour, node)?;
+        self.board.mark(colour, row, placed.stamp);
+        Ok(placed)
     }
 
     /// The colour's mark is a fence; for the stamps' end only where no stamp is left.
-    pub fn fence(&mut self, row: Row, colour: u8, why: Why) -> Reply
+    pub fn fence(&mut self, row: Row, colour: u8, why: Why) -> Option<Mark>
         ensures world { world_of self.new ≡ after (world_of self.old) (Step.Fence row colour why) }
-        ensures reply { result ≡ reply (world_of self.old) (Step.Fence row colour why) }
+        ensures reply { marked_reply result ≡ reply (world_of self.old) (Step.Fence row colour why) }
     {
         if !self.may_fence(row, colour, why) {
-            return Reply::Nothing;
+            return None;
         }
-        self.add_fence(row, colour, why)
+        Some(self.add_fence(row, colour, why))
     }
 
     // Whether the row may be fenced in the colour.
@@ -185,25 +194,25 @@ impl World {
         }
     }
 
-    // The same where the guard holds.
-    fn add_fence(&mut self, row: Row, colour: u8, why: Why) -> Reply
+    // Fences the colour, which may be fenced.
+    fn add_fence(&mut self, row: Row, colour: u8, why: Why) -> Mark
         requires { may_fence (world_of self.old) row colour why ≡ true }
         ensures world { world_of self.new ≡ with_mark (world_of self.old) row colour (Mark.Fenced why) }
-        ensures reply { result ≡ Reply.Marked (Mark.Fenced why) }
+        ensures mark { result ≡ Mark.Fenced why }
     {
-        Reply::Marked(self.board.fence(colour, row, why))
+        self.board.fence(colour, row, why)
     }
 
     /// The row keeps the outcome of its marks, where none is missing and it keeps none yet.
-    pub fn decide(&mut self, row: Row) -> Reply
+    pub fn decide(&mut self, row: Row) -> Option<Outcome>
         ensures world { world_of self.new ≡ after (world_of self.old) (Step.Decide row) }
-        ensures reply { result ≡ reply (world_of self.old) (Step.Decide row) }
+        ensures reply { decided_reply result ≡ reply (world_of self.old) (Step.Decide row) }
     {
         let Some(_) = self.row_node(row) else {
-            return Reply::Nothing;
+            return None;
         };
         if !is_open(self.last(row)) {
-            return Reply::Nothing;
+            return None;
         }
         self.add_decide(row)
     }
@@ -217,44 +226,44 @@ impl World {
         self.board.last(row.client, row)
     }
 
-    // The same where the row is begun and keeps none yet.
-    fn add_decide(&mut self, row: Row) -> Reply
+    // Decides the row, which is begun and keeps no outcome yet.
+    fn add_decide(&mut self, row: Row) -> Option<Outcome>
         requires begun { is_begun (world_of self.old) row ≡ true }
         requires last { (row_of (world_of self.old) row).last ≡ Outcome.Open }
         ensures world { world_of self.new ≡ after (world_of self.old) (Step.Decide row) }
-        ensures reply { result ≡ reply (world_of self.old) (Step.Decide row) }
+        ensures reply { decided_reply result ≡ reply (world_of self.old) (Step.Decide row) }
     {
         is_lawful();
         let outcome = self.board.decide(row.client, row);
-        reply_to(outcome)
+        kept_outcome(outcome)
     }
 
     /// The colour's column settles the row's node with the outcome that the row keeps, where the node is open there.
-    pub fn settle(&mut self, by: u8, row: Row, colour: u8) -> Reply
+    pub fn settle(&mut self, by: u8, row: Row, colour: u8) -> Option<u64>
         ensures world { world_of self.new ≡ after (world_of self.old) (Step.Settle by row colour) }
-        ensures reply { result ≡ reply (world_of self.old) (Step.Settle by row colour) }
+        ensures reply { place_reply result ≡ reply (world_of self.old) (Step.Settle by row colour) }
     {
         let Some(node) = self.row_node(row) else {
-            return Reply::Nothing;
+            return None;
         };
         if colour >= self.shape.colours {
-            return Reply::Nothing;
+            return None;
         }
         let id = node.id;
         self.add_settle(by, row, colour, id)
     }
 
-    // The same where the row is begun and there is the column.
-    fn add_settle(&mut self, by: u8, row: Row, colour: u8, id: Id) -> Reply
+    // Settles the node of the row, which is begun, in the column, which is there.
+    fn add_settle(&mut self, by: u8, row: Row, colour: u8, id: Id) -> Option<u64>
         requires begun { is_begun (world_of self.old) row ≡ true }
         requires colour { colour < self.old.shape.colours }
         requires id { id ≡ (row_of (world_of self.old) row).node.id }
         ensures world { world_of self.new ≡ after (world_of self.old) (Step.Settle by row colour) }
-        ensures reply { result ≡ reply (world_of self.old) (Step.Settle by row colour) }
+        ensures reply { place_reply result ≡ reply (world_of self.old) (Step.Settle by row colour) }
     {
         let home = self.home(row.client);
         let outcome = self.last(row);
         let at = self.regions[home as usize].settle(by, colour, id, outcome);
-        reply_at(at)
+        event_at(at)
     }
 }

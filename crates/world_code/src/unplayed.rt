@@ -21,7 +21,7 @@ fn greatest_key(keys: &[Key], from: u64, to: u64) -> u64
     most
 }
 
-// The same of carried nodes.
+// The greatest stamp of the carried nodes from one number on up to another.
 fn greatest_item(items: &[Item], from: u64, to: u64) -> u64
     ensures { result ≡ greatest (map (λ i. i.head.key.stamp) (drop from (take to items.now))) }
 {

@@ -2,16 +2,20 @@
 ghost use Rattle.std.specs.Prelude.{◌≡◌, ◌<◌, ◌≤◌, true, None, map, replicate, length, IfOk, OnOk};
 ghost use Rattle.std.specs.Prelude.{Some, OnErr};
 ghost use Rattle.std.specs.List.{All, range_with_len};
-ghost use Rattle.world_laws.specs.Worlds.{after, opened, reply, home_of, event_reply};
+ghost use Rattle.world_laws.specs.Worlds.{after, opened, reply, home_of};
 ghost use Rattle.world_laws.specs.Worlds.{may_raise, after_raise};
 ghost use Rattle.world_laws.specs.Laws.{IsReached};
 ghost use Rattle.world_code.specs.WorldView.{world_of, client_at, column_at, fresh_columns};
 ghost use Rattle.world_code.specs.Clients.{fresh_client};
+ghost use Rattle.world_code.specs.Replies.{place_reply};
 
 use crate::client::Client;
 use crate::region::RegionColumns;
+use crate::replies::{
+    begun_reply, decided_reply, marked_reply, place_reply, placed_reply, played_reply,
+};
 use column::Column;
-use log_node::{At, Shape};
+use log_node::Shape;
 use skeen_core::{MAX_CLIENTS, MAX_ROWS, MAX_STAMP, Rows};
 use std::alloc::{AllocError, Global};
 use std::marker::Model;
@@ -131,31 +135,37 @@ impl World {
     }
 
     /// The column's clock is raised, where it is smaller and the number is a stamp.
-    pub fn raise(&mut self, by: u8, region: u8, colour: u8, to: u64) -> Result<Reply, AllocError>
+    pub fn raise(
+        &mut self,
+        by: u8,
+        region: u8,
+        colour: u8,
+        to: u64,
+    ) -> Result<Option<u64>, AllocError>
         ensures ok { OnOk result (world_of self.new ≡ after (world_of self.old) (Step.Raise by region colour to)) }
-        ensures reply { IfOk result (λ r. r ≡ reply (world_of self.old) (Step.Raise by region colour to)) }
+        ensures reply { IfOk result (λ place.
+            place_reply place ≡ reply (world_of self.old) (Step.Raise by region colour to)) }
         ensures err { OnErr result (self.new ≡ self.old) }
     {
         if region >= self.shape.regions || colour >= self.shape.colours {
-            return Ok(Reply::Nothing);
+            return Ok(None);
         }
         if to <= self.column(region, colour).clock() || to > MAX_STAMP {
-            return Ok(Reply::Nothing);
+            return Ok(None);
         }
-        self.add_raise(by, region, colour, to)
+        let place = self.add_raise(by, region, colour, to)?;
+        Ok(Some(place))
     }
 
-    // The same where the guard holds.
-    fn add_raise(&mut self, by: u8, region: u8, colour: u8, to: u64) -> Result<Reply, AllocError>
+    // Adds the raise, which may be done.
+    fn add_raise(&mut self, by: u8, region: u8, colour: u8, to: u64) -> Result<u64, AllocError>
         requires { may_raise (world_of self.old) region colour to ≡ true }
         ensures ok { OnOk result (world_of self.new ≡ after_raise (world_of self.old) by region colour to) }
-        ensures reply { IfOk result (λ r. r ≡ event_reply (world_of self.old) region colour 0) }
+        ensures place { IfOk result (λ place. place ≡ length ((world_of self.old).histories region colour)) }
         ensures err { OnErr result (self.new ≡ self.old) }
     {
-        match self.regions[region as usize].raise(by, colour, to)? {
-            At::Event(place) => Ok(Reply::Event { place, stamp: 0 }),
-            At::Look(_) => unreachable!(),
-        }
+        let place = self.regions[region as usize].raise(by, colour, to)?;
+        Ok(place)
     }
 
     /// Does a step of any kind.
@@ -169,29 +179,29 @@ impl World {
                 client,
                 colours,
                 text,
-            } => self.begin(alloc, client, colours, text),
-            Step::Propose { by, row, colour } => self.propose(by, row, colour),
-            Step::Fence { row, colour, why } => Ok(self.fence(row, colour, why)),
-            Step::Decide { row } => Ok(self.decide(row)),
-            Step::Settle { by, row, colour } => Ok(self.settle(by, row, colour)),
+            } => Ok(begun_reply(self.begin(alloc, client, colours, text)?)),
+            Step::Propose { by, row, colour } => Ok(placed_reply(self.propose(by, row, colour)?)),
+            Step::Fence { row, colour, why } => Ok(marked_reply(self.fence(row, colour, why))),
+            Step::Decide { row } => Ok(decided_reply(self.decide(row))),
+            Step::Settle { by, row, colour } => Ok(place_reply(self.settle(by, row, colour))),
             Step::Single {
                 client,
                 colour,
                 text,
-            } => self.single(alloc, client, colour, text),
+            } => Ok(placed_reply(self.single(alloc, client, colour, text)?)),
             Step::Raise {
                 by,
                 region,
                 colour,
                 to,
-            } => self.raise(by, region, colour, to),
+            } => Ok(place_reply(self.raise(by, region, colour, to)?)),
             Step::Give {
                 by,
                 origin,
                 region,
                 colour,
                 from,
-            } => self.give(by, origin, region, colour, from),
+            } => Ok(place_reply(self.give(by, origin, region, colour, from)?)),
             Step::Carry {
                 by,
                 origin,
@@ -199,15 +209,18 @@ impl World {
                 colour,
                 start,
                 count,
-            } => self.carry(alloc, by, origin, region, colour, start, count),
+            } => Ok(place_reply(self.carry(alloc, by, origin, region, colour, start, count)?)),
             Step::Trim {
                 by,
                 region,
                 colour,
                 counts,
-            } => self.trim(by, region, colour, counts),
-            Step::Play { client, colour } => Ok(self.play(client, colour)),
-            Step::Seen { client, to } => Ok(self.see(client, to)),
+            } => Ok(place_reply(self.trim(by, region, colour, counts)?)),
+            Step::Play { client, colour } => Ok(played_reply(self.play(client, colour))),
+            Step::Seen { client, to } => {
+                self.see(client, to);
+                Ok(Reply::Nothing)
+            }
         }
     }
 

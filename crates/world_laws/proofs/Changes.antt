@@ -1,29 +1,29 @@
 -- For those who keep a world: what one more Raise, Give, Carry or Trim changes of a column, and what copies hold.
-use Rattle.std.proofs.Common.{◌≡◌, ℕ, ◌+◌, max, List, [], ◌∷◌, ◌++◌, length, take, drop, map, false, refl, ap, sym, ◌∙◌, arith, append-nil, append_assoc}
+use Rattle.std.proofs.Common.{◌≡◌, ℕ, max, List, [], ◌∷◌, ◌++◌, length, take, map, false, refl, ap, sym, ◌∙◌, arith, append-nil, append_assoc}
 use Rattle.std.specs.Prelude.{◌==◌, ◌≢◌}
 use mathlib.Core.Path.{fun_ext}
 use Rattle.std.proofs.lemmas.Bool.{eqb-true, eq-eqb}
-use Rattle.std.proofs.lemmas.List.{take_at, take-append-drop, take-take}
+use Rattle.std.proofs.lemmas.List.{take_at}
 use Rattle.log_node.specs.declared.ids.Id.{Id}
 use Rattle.log_node.specs.declared.ids.Key.{Key}
 use Rattle.log_node.specs.declared.ids.Counts.{Counts}
 use Rattle.log_node.specs.declared.node.Head.{Head}
-use Rattle.log_node.specs.Vectors.{vector, zeros}
+use Rattle.log_node.specs.Vectors.{vector}
 use Rattle.skeen_core.specs.Standings.{Standing, line_of}
 use Rattle.col_core.specs.declared.Event.{Event}
 use Rattle.col_core.specs.declared.Event.TheVariants as events
 use Rattle.col_core.specs.declared.Entry.{Entry}
-use Rattle.col_core.specs.History.{clock, event_number, entries, line, with_event, enters}
-use Rattle.col_core.specs.Cuts.{Chains, Dated, entries_of, needs_of, carried, chain, trimmed_to, base_from}
-use Rattle.col_core.specs.Computed.{with_nexts, node_count, cut, dated}
-use Rattle.col_core.proofs.Appending.{entries-append, clock-append, dated-append}
+use Rattle.col_core.specs.History.{entries, line, with_event, enters}
+use Rattle.col_core.specs.Cuts.{Dated, entries_of, needs_of, carried, chain, trimmed_to, base_from}
+use Rattle.col_core.specs.Computed.{cut, dated}
+use Rattle.col_core.proofs.Appending.{entries-append, dated-append}
 use Rattle.col_core.proofs.Basics.{by_test, if_true, if_false, apart}
-use Rattle.world_laws.specs.Worlds.{World, chains_after, cut_after, base_after, held_of, carried_entry}
+use Rattle.world_laws.specs.Worlds.{World, chains_after, cut_after, base_after, held_of}
 use Rattle.world_laws.proofs.Held.{Held}
 use Rattle.world_laws.proofs.Histories.{entries_dated}
 use Rattle.world_laws.proofs.Clients.{head_with}
 use Rattle.world_laws.proofs.Copies.{chain-last}
-use Rattle.world_laws.proofs.OfColumns.{AreTwo, MayCarry}
+use Rattle.world_laws.proofs.OfColumns.{AreTwo}
 
 -- the event neither enters nor settles an id
 abbrev pub IsQuiet : Event → Type 0
@@ -58,9 +58,6 @@ entries_stay h e q = entries-append h e ∙ quiet_standings (entries h) e.event 
 
 pub line_stays : (h : List Entry) (e : Entry) → IsQuiet e.event → line (h ++ e ∷ []) ≡ line h
 line_stays h e q = ap line_of (entries_stay h e q)
-
-pub clock_stays : (h : List Entry) (e : Entry) → event_number e.event e.stamp ≡ 0 → clock (h ++ e ∷ []) ≡ clock h
-clock_stays h e is = let a = clock-append h e in omega (arith, a, is)
 
 -- Chains and cuts
 
@@ -115,11 +112,6 @@ pub chains_stay : (own : ℕ) (h : List Entry) (e : Entry) → IsQuiet e.event
     → ((region : ℕ) → carried region e.event ≡ []) → chains_after own (h ++ e ∷ []) ≡ chains_after own h
 chains_stay own h e q none = fun_ext (λ region. chain_stays own region h e q (none region))
 
-pub cut_stays : (own : ℕ) (h : List Entry) (e : Entry) → IsQuiet e.event
-    → ((region : ℕ) → carried region e.event ≡ []) → cut_after own (h ++ e ∷ []) ≡ cut_after own h
-cut_stays own h e q none =
-    ap (λ (chains : Chains). with_nexts (node_count chains) chains zeros) (chains_stay own h e q none)
-
 -- Bases
 
 base_from-last : (own regions region : ℕ) (before ds : List Dated) (d : Dated)
@@ -168,21 +160,3 @@ holds_beginning w h origin region colour two =
     let xs = chains_after region (w.histories region colour) origin in
     sym (ap (take (length xs)) (sym t.beginning) ∙ take_at xs t.rest (length xs) refl)
 
--- after a Carry it holds all up to the stretch's end
-pub holds_carried : (w : World) → Held w → (by origin region colour start count : ℕ)
-    → MayCarry w origin region colour start count
-    → chains_after region
-    (w.histories region colour ++ carried_entry w by origin region colour (start + count) ∷ []) origin
-    ≡ take (start + count) (chains_after origin (w.histories origin colour) origin)
-holds_carried w h by origin region colour start count g =
-    let e = carried_entry w by origin region colour (start + count) in
-    let xs = chains_after region (w.histories region colour) origin in
-    let heads = chains_after origin (w.histories origin colour) origin in
-    let part = take (start + count) heads in
-    let ends = g.ends in
-    chain_longer region origin (w.histories region colour) e g.two.differ
-    ∙ (ap (λ (l : List Head). xs ++ l) (if_true (origin == origin) _ _ (eq-eqb origin origin refl))
-    ∙ (ap (λ (l : List Head). l ++ drop (length xs) part)
-    (holds_beginning w h origin region colour g.two
-    ∙ sym (take-take (length xs) (start + count) heads (omega (arith, ends))))
-    ∙ take-append-drop (length xs) part))

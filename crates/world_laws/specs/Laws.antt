@@ -1,25 +1,20 @@
 -- The laws of every world that steps have made, whoever took them and in whatever order.
-use Rattle.std.specs.Prelude.{◌≡◌, ◌≢◌, IsTrue, true, false, ℕ, ◌+◌, ◌*◌, ◌^◌, ◌<◌, ◌≤◌, ◌==◌, Bool, List, [], ◌∷◌, Some, None, slice_get, map, take, length, if◌then◌else◌}
+use Rattle.std.specs.Prelude.{◌≡◌, ◌≢◌, IsTrue, ℕ, ◌+◌, ◌^◌, ◌<◌, ◌≤◌, ◌==◌, List, [], ◌∷◌}
+use Rattle.std.specs.Prelude.{Some, None, slice_get, map, take, length, if◌then◌else◌}
 use Rattle.std.specs.List.{Contains, flat_map, range_with_len}
 use mathlib.Core.List.{IsPrefix}
 use Rattle.log_node.specs.declared.ids.Id.{Id}
-use Rattle.log_node.specs.declared.ids.Key.{Key}
 use Rattle.log_node.specs.declared.ids.Row.{Row}
 use Rattle.log_node.specs.declared.ids.Counts.{Counts}
 use Rattle.log_node.specs.declared.node.Node.{Node}
 use Rattle.log_node.specs.declared.node.Shape.{Shape}
-use Rattle.log_node.specs.Order.{key_below}
 use Rattle.log_node.specs.Vectors.{at, zeros, IsWithin}
-use Rattle.skeen_core.specs.declared.marks.Why.{Why}
-use Rattle.skeen_core.specs.declared.marks.Mark.{Mark}
 use Rattle.skeen_core.specs.declared.marks.Mark.TheVariants as marks
-use Rattle.skeen_core.specs.declared.marks.Outcome.{Outcome}
-use Rattle.skeen_core.specs.declared.marks.Outcome.TheVariants.{Open, Gone, Final}
-use Rattle.skeen_core.specs.Standings.{Standing}
+use Rattle.skeen_core.specs.declared.marks.Outcome.TheVariants.{Open}
 use Rattle.col_core.specs.declared.Event.{Event}
 use Rattle.col_core.specs.declared.Event.TheVariants as events
 use Rattle.col_core.specs.declared.Entry.{Entry}
-use Rattle.col_core.specs.History.{clock, entries, line, entry_key, last_stamp}
+use Rattle.col_core.specs.History.{clock, line, last_stamp}
 use Rattle.col_core.specs.Cuts.{Dated}
 use Rattle.col_core.specs.Copies.{AreTrueCopies}
 use Rattle.col_core.specs.Computed.{dated}
@@ -27,8 +22,14 @@ use Rattle.col_core.specs.Legal.{IsColumnHistory}
 use Rattle.col_core.specs.Rows.{BegunRow, AreLawfulRows, node_wants}
 use Rattle.col_core.specs.Log.{Log, IsLater}
 use Rattle.world_laws.specs.declared.steps.Step.{Step}
-use Rattle.world_laws.specs.Worlds.{World, RowState, opened, run_steps, home_of, home_history, is_begun, is_row_at_end, row_of, row_history, held_of, cut_after, base_after}
-use Rattle.world_laws.specs.Completing.{colours_of, complete_steps}
+use Rattle.world_laws.specs.Worlds.{World, RowState, opened, run_steps, home_of, home_history, is_begun}
+use Rattle.world_laws.specs.Worlds.{row_of, row_history, held_of, cut_after, base_after}
+use Rattle.world_laws.specs.Completing.{colours_of}
+pub use Rattle.world_laws.specs.Completing.{StandsAsDecided, IsFree, Completes, CanComplete}
+pub use Rattle.world_laws.specs.Lines.{Settles, IsFinal, HasEntry, StandsAt, SettlesOnce, OneFinalStamp}
+pub use Rattle.world_laws.specs.Lines.{EachLineRises, OrderedAlike, IsNowhere, FencedIsNowhere}
+pub use Rattle.world_laws.specs.Lines.{NoneGetsBefore}
+
 
 -- the law holds of every world that steps have made
 abbrev pub Always : (World → Type 0) → Type 0
@@ -39,97 +40,6 @@ pub record IsReached (w : World) : Type 0 where
   pub shape : Shape
   pub steps : List Step
   pub is : run_steps (opened shape) steps ≡ w
-
--- Outcomes and lines
-
--- a settling of the id with this outcome stands in the history
-abbrev pub Settles : List Entry → Id → Outcome → Type 0
-Settles history id outcome = (e : Entry) × Contains history e × (e.event ≡ events.Settle id outcome)
-
--- the id is final under the stamp
-abbrev pub IsFinal : List Entry → Id → ℕ → Type 0
-IsFinal history id stamp = Contains (entries history) (record { key = entry_key stamp id; settled = true })
-
--- the id has an entry, open or final
-abbrev pub HasEntry : List Entry → Id → Type 0
-HasEntry history id = (e : Standing) × Contains (entries history) e × (e.key.id ≡ id)
-
--- the id stands at the position of the line
-abbrev pub StandsAt : List Entry → ℕ → Id → Type 0
-StandsAt history position id = (key : Key) × (slice_get (line history) position ≡ Some key) × (key.id ≡ id)
-
--- all settlings of an id, in all columns, have one outcome
-abbrev pub SettlesOnce : World → Type 0
-SettlesOnce w = (id : Id) (region colour region' colour' : ℕ) (outcome outcome' : Outcome)
-    → Settles (w.histories region colour) id outcome → Settles (w.histories region' colour') id outcome'
-    → outcome ≡ outcome'
-
--- an id is final under one stamp, in all columns
-abbrev pub OneFinalStamp : World → Type 0
-OneFinalStamp w = (id : Id) (region colour region' colour' stamp stamp' : ℕ)
-    → IsFinal (w.histories region colour) id stamp → IsFinal (w.histories region' colour') id stamp' → stamp ≡ stamp'
-
--- every line rises in key
-abbrev pub EachLineRises : World → Type 0
-EachLineRises w = (region colour i j : ℕ) (k l : Key) → i < j → slice_get (line (w.histories region colour)) i ≡ Some k
-    → slice_get (line (w.histories region colour)) j ≡ Some l → IsTrue (key_below k l)
-
--- two nodes that stand in two lines stand in the same order in both
-abbrev pub OrderedAlike : World → Type 0
-OrderedAlike w = (region colour region' colour' i j i' j' : ℕ) (one other : Id)
-    → StandsAt (w.histories region colour) i one → StandsAt (w.histories region colour) j other
-    → StandsAt (w.histories region' colour') i' one → StandsAt (w.histories region' colour') j' other → i < j → i' < j'
-
--- the id is final in no column, and stands in no line
-pub record IsNowhere (w : World) (id : Id) : Type 0 where
-  pub final : (region colour stamp : ℕ) → IsFinal (w.histories region colour) id stamp → ⊥
-  pub in_line : (region colour position : ℕ) → StandsAt (w.histories region colour) position id → ⊥
-
--- the node of a row that bears a fence is final in no column, and stands in no line
-abbrev pub FencedIsNowhere : World → Type 0
-FencedIsNowhere w = (row : Row) (colour : ℕ) (why : Why) → IsTrue (is_begun w row)
-    → (row_of w row).marks colour ≡ marks.Fenced why → IsNowhere w (row_of w row).node.id
-
--- For a single at a place and each later moment, every open entry with a key below the single's was open before it.
-abbrev pub NoneGetsBefore : World → Type 0
-NoneGetsBefore w = (region colour place later : ℕ) (e : Entry) (id : Id) (floor : ℕ) (wants : Counts) (f : Standing)
-    → slice_get (w.histories region colour) place ≡ Some e → e.event ≡ events.Single id floor wants → place < later
-    → Contains (entries (take later (w.histories region colour))) f → f.settled ≡ false
-    → IsTrue (key_below f.key (entry_key e.stamp id)) → Contains (entries (take place (w.histories region colour))) f
-
--- Completion
-
--- The append is complete: its outcome is kept, and its node is final under that number in all its columns, or has an
--- entry in none.
-abbrev pub StandsAsDecided : World → Row → Outcome → Type 0
-StandsAsDecided w row Open = ⊥
-StandsAsDecided w row (Gone why) =
-    (region colour : ℕ) → HasEntry (w.histories region colour) (row_of w row).node.id → ⊥
-StandsAsDecided w row (Final f) =
-    (colour : ℕ) → Contains (colours_of w row) colour → IsFinal (row_history w row colour) (row_of w row).node.id f
-
--- The colour, which has this mark, does not hinder the append: the mark is a number, or it is missing, memory is found
--- and a stamp is left.
-abbrev pub IsFree : World → Row → (ℕ → Bool) → ℕ → Mark → Type 0
-IsFree w row found colour marks.None = (found colour ≡ true) × (is_row_at_end w row colour ≡ false)
-IsFree w row found colour (marks.Number stamp) = Unit {0}
-IsFree w row found colour (marks.Fenced why) = ⊥
-
--- the steps complete the append of so many colours
-pub record Completes (w : World) (row : Row) (found : ℕ → Bool) (steps : List Step) : Type 0 where
-  pub few : length steps ≤ 2 * length (colours_of w row) + 1
-  pub same : (row_of (run_steps w steps) row).node ≡ (row_of w row).node
-  pub stands : StandsAsDecided (run_steps w steps) row (row_of (run_steps w steps) row).last
-  -- where each colour is free, the node is final
-  pub final : ((colour : ℕ) → Contains (colours_of w row) colour
-      → IsFree w row found colour ((row_of w row).marks colour))
-      → (f : ℕ) × ((row_of (run_steps w steps) row).last ≡ Final f)
-
--- Any begun append can be completed by anybody, in at most one step to mark each colour, one to decide and one to
--- settle each colour, whether memory is found or not.
-abbrev pub CanComplete : World → Type 0
-CanComplete w = (by : ℕ) (row : Row) (found : ℕ → Bool) → IsTrue (is_begun w row)
-    → Completes w row found (complete_steps w by row found)
 
 -- Rows
 

@@ -2,7 +2,7 @@
 use crate::{Answer, ClientReport, ColumnReport, PointPiece, ReplyLine, Report, SyncPiece, print};
 use col_core::{Entries, Entry, Event};
 use fuzzy_io::{Failed, MemorySink};
-use log_node::{At, Colours, Counts, Head, Id, Item, Items, Key, ListOf, Node, Text};
+use log_node::{At, Colours, Counts, Head, Id, Item, Items, Key, ListOf, Node, Text, Wants};
 use script_text::Word;
 use std::alloc::{AllocError, Global};
 use std::process::Abort;
@@ -86,7 +86,7 @@ pub fn item(alloc: Global, key: Key, text: &[u8]) -> Result<Item, AllocError> {
         colours: Colours(1),
         text: Text::copied(alloc, text)?,
         floor: 0,
-        wants: ListOf::new(alloc),
+        wants: Wants::new(alloc),
         row: None,
     };
     let head = Head {

@@ -8,7 +8,7 @@ use Rattle.playback.proofs.player.items_in_order.Goals as goal
 
 pub loop-region-init : goal.loop-region-init
 loop-region-init c =
-    subst (IsPlaying c.args.view.now c.args.from c.args.from) (sym c.new-items.ensures.items)
+    subst (IsPlaying c.args.view.now c.args.from c.args.from) (sym c.in_ok-items.ensures.items)
     (none_played c.args.view.now c.args.from c.requires.from c.requires.cut)
 
 pub loop-region-preserved : goal.loop-region-preserved
@@ -18,7 +18,7 @@ loop-region-preserved c =
     let on = one_played view c.args.from c.loop-region.played c.loop-region.items.items c.in-Some.region item
     c.loop-region.invariant c.in-Some.ensures
     (c.next_item.ensures ∙ ap Some (sym c.in_ok-share.ensures)) in
-    subst (λ (v : Counts). IsPlaying view c.args.from v c.push.new.self.items) (sym c.more-played.ensures)
+    subst (λ (v : Counts). IsPlaying view c.args.from v c.push.new.self.items) (sym c.next_counts-played.ensures)
     (subst (IsPlaying view c.args.from (one_more c.loop-region.played c.in-Some.region))
     (sym {A = List PlacedNode} c.in_ok-push.ensures.items) on)
 

@@ -4,19 +4,20 @@ use Rattle.log_node.specs.declared.node.Shape.{Shape}
 use Rattle.report_text.specs.declared.report.Answer.TheVariants as answers
 use Rattle.world_laws.specs.declared.steps.Step.TheVariants.{Single}
 use Rattle.world_laws.specs.Laws.{Always, LogGrows, IsFinal}
-use Rattle.world_laws.specs.Worlds.{World, may_single, single_stamp, home_history, next_id, after, reply}
+use Rattle.world_laws.specs.Worlds.{World, home_history, next_id, after, reply}
 use Rattle.world_laws.specs.declared.steps.Reply.TheVariants.{Event}
 use Rattle.log_node.specs.declared.node.At.TheVariants as ats
 use Rattle.report_text.specs.declared.report.PointPiece.{PointPiece}
 use Rattle.col_core.specs.History.{entry_key}
 use Rattle.script_in_order.specs.Helps.{Helps}
 use Rattle.world_laws.proofs.CallerLemmas.{of_reached, after_reached}
+use Rattle.world_code.specs.Replies.{placed_reply}
 use Rattle.world_code.specs.WorldView.{world_of}
 use Rattle.world_laws.specs.Laws.{IsReached}
 use Rattle.script_meaning.specs.Helping.{cleared}
 use Rattle.script_meaning.specs.Appends.{appended_one}
 use Rattle.script_in_order.specs.Doing.{DoneBy}
-use Rattle.script_in_order.proofs.Beginning.{entered, not_entered, no_other_entry}
+use Rattle.script_in_order.proofs.Beginning.{entered, not_entered}
 use Rattle.script_in_order.proofs.Finals.{single_final, final_later, run_shape}
 use Rattle.script_in_order.proofs.Appending.{stands_alone, ends_alone}
 use Rattle.script_in_order.proofs.appends.append_one.Goals as goal
@@ -25,30 +26,22 @@ pub clear-requires-clause-by : goal.clear-requires-clause-by
 clear-requires-clause-by c =
     subst (λ (s : Shape). c.args.command.now.client < length s.homes)
     (sym (run_shape (world_of c.args.world.now) (world_of c.single.new.self)
-    (Single c.args.command.now.client c.args.colour c.in_ok-text.text ∷ []) (sym c.in_ok-place.ensures.ok)))
+    (Single c.args.command.now.client c.args.colour c.in_ok-text.text ∷ []) (sym c.in_ok-entered.ensures.ok)))
     c.requires.caller
 
 pub clear-requires-clause-colour : goal.clear-requires-clause-colour
 clear-requires-clause-colour c =
     subst (λ (s : Shape). c.args.colour < s.colours)
     (sym (run_shape (world_of c.args.world.now) (world_of c.single.new.self)
-    (Single c.args.command.now.client c.args.colour c.in_ok-text.text ∷ []) (sym c.in_ok-place.ensures.ok)))
+    (Single c.args.command.now.client c.args.colour c.in_ok-text.text ∷ []) (sym c.in_ok-entered.ensures.ok)))
     c.requires.within
 
-pub unreachable-requires : goal.unreachable-requires
-unreachable-requires c =
-    let w = world_of c.args.world.now in
-    let client = c.args.command.now.client in
-    no_other_entry (may_single w client c.args.colour) c.in_ok-place.field-0
-    (length (home_history w client c.args.colour))
-    (single_stamp w client c.args.colour) c.in_ok-place.ensures.reply c.in_default.not-Nothing c.in_default.not-Event
-
-pub returns-in-Nothing-clause-ok : goal.returns-in-Nothing-clause-ok
-returns-in-Nothing-clause-ok c =
+pub returns-in-None-clause-ok : goal.returns-in-None-clause-ok
+returns-in-None-clause-ok c =
     let w = world_of c.args.world.now in
     let client = c.args.command.now.client in
     let none = not_entered w (world_of c.single.new.self) client c.args.colour c.in_ok-text.text
-    (sym c.in-Nothing.is ∙ c.in_ok-place.ensures.reply) c.in_ok-place.ensures.ok in
+    (ap placed_reply (sym c.in-None.is) ∙ c.in_ok-entered.ensures.reply) c.in_ok-entered.ensures.ok in
     subst (λ (x : World). DoneBy (λ grants state. appended_one grants state c.args.command.now c.args.text.now
     c.args.colour)
     c.args.command.now w x (answers.StampEnd c.args.colour) []) (sym none.1)
@@ -72,41 +65,41 @@ pub position-requires-clause-client : goal.position-requires-clause-client
 position-requires-clause-client c =
     subst (λ (s : Shape). c.args.command.now.client < length s.homes)
     (sym (c.clear.ensures.shape ∙ run_shape (world_of c.args.world.now) (world_of c.single.new.self)
-    (Single c.args.command.now.client c.args.colour c.in_ok-text.text ∷ []) (sym c.in_ok-place.ensures.ok)))
+    (Single c.args.command.now.client c.args.colour c.in_ok-text.text ∷ []) (sym c.in_ok-entered.ensures.ok)))
     c.requires.caller
 
 pub position-requires-clause-colour : goal.position-requires-clause-colour
 position-requires-clause-colour c =
     subst (λ (s : Shape). c.args.colour < s.colours)
     (sym (c.clear.ensures.shape ∙ run_shape (world_of c.args.world.now) (world_of c.single.new.self)
-    (Single c.args.command.now.client c.args.colour c.in_ok-text.text ∷ []) (sym c.in_ok-place.ensures.ok)))
+    (Single c.args.command.now.client c.args.colour c.in_ok-text.text ∷ []) (sym c.in_ok-entered.ensures.ok)))
     c.requires.within
 
 pub position-requires-clause-stamped : goal.position-requires-clause-stamped
 position-requires-clause-stamped c =
     later (world_of c.args.world.now) (world_of c.single.new.self) (world_of c.clear.new.world)
     c.args.command.now.client
-    c.args.colour c.in-Event.place c.in-Event.stamp c.next_id-id.result c.in_ok-text.text c.agrees.ensures
-    c.log_only_grows.ensures.log (sym c.in-Event.is ∙ c.in_ok-place.ensures.reply) c.in_ok-place.ensures.ok
+    c.args.colour c.in-Some.placed.place c.in-Some.placed.stamp c.next_id-id.result c.in_ok-text.text c.agrees.ensures
+    c.log_only_grows.ensures.log (ap placed_reply (sym c.in-Some.is) ∙ c.in_ok-entered.ensures.reply) c.in_ok-entered.ensures.ok
     c.next_id-id.ensures c.clear.ensures.helps
 
-pub returns-in-Event-clause-ok : goal.returns-in-Event-clause-ok
-returns-in-Event-clause-ok c =
+pub returns-in-Some-clause-ok : goal.returns-in-Some-clause-ok
+returns-in-Some-clause-ok c =
     let w = world_of c.args.world.now in
     let client = c.args.command.now.client in
     let new = world_of c.clear.new.world in
-    let e = entered w client c.args.colour c.in_ok-text.text c.in-Event.place c.in-Event.stamp
-    (sym c.in-Event.is ∙ c.in_ok-place.ensures.reply) in
+    let e = entered w client c.args.colour c.in_ok-text.text c.in-Some.placed.place c.in-Some.placed.stamp
+    (ap placed_reply (sym c.in-Some.is) ∙ c.in_ok-entered.ensures.reply) in
     subst (λ (t : List ℕ). DoneBy (λ grants state. appended_one grants state c.args.command.now t c.args.colour)
-    c.args.command.now w new (answers.Stood c.in-Event.stamp None c.from.result) [])
+    c.args.command.now w new (answers.Stood c.in-Some.placed.stamp None c.from.result) [])
     (c.in_ok-text.ensures ∙ c.as_bytes.ensures)
-    (stands_alone c.args.command.now c.in_ok-text.text c.args.colour c.in-Event.place c.in-Event.stamp c.position.result
-    c.next_id-id.result w (world_of c.single.new.self) new e.0 e.1 e.2 c.next_id-id.ensures c.in_ok-place.ensures.ok
+    (stands_alone c.args.command.now c.in_ok-text.text c.args.colour c.in-Some.placed.place c.in-Some.placed.stamp c.position.result
+    c.next_id-id.result w (world_of c.single.new.self) new e.0 e.1 e.2 c.next_id-id.ensures c.in_ok-entered.ensures.ok
     c.clear.ensures.helps c.position.ensures c.from.result
     (c.from.ensures ∙ (c.push_reserved.ensures.items
     ∙ ap (λ (l : List PointPiece). l ++ record {
       colour = c.args.colour;
-      at = ats.Event c.in-Event.place;
+      at = ats.Event c.in-Some.placed.place;
       position = c.position.result;
     } ∷ [])
     c.in_ok-points.ensures.items)))

@@ -10,14 +10,15 @@ use Rattle.report_text.specs.declared.report.Answer.TheVariants as answers
 use Rattle.world_laws.specs.declared.steps.Step.TheVariants.{Begin}
 use Rattle.world_laws.specs.Laws.{IsBounded, CanComplete, RowsStay, IsReached}
 use Rattle.world_laws.specs.Completing.{complete_steps}
-use Rattle.world_laws.specs.Worlds.{World, may_begin, next_row, next_id, run_steps}
+use Rattle.world_laws.specs.Worlds.{World, run_steps}
 use Rattle.world_laws.proofs.CallerLemmas.{of_reached, after_reached}
 use Rattle.world_code.specs.declared.completing.Completed.{Completed}
 use Rattle.world_code.specs.Completed.{IsCompleted}
+use Rattle.world_code.specs.Replies.{begun_reply}
 use Rattle.world_code.specs.WorldView.{world_of}
 use Rattle.script_meaning.specs.Appends.{appended_several}
 use Rattle.script_in_order.specs.Doing.{DoneBy}
-use Rattle.script_in_order.proofs.Beginning.{Begins, begins, fills, nothing_begun, no_other}
+use Rattle.script_in_order.proofs.Beginning.{Begins, begins, fills, nothing_begun}
 use Rattle.script_in_order.proofs.Finals.{several_final, several_begun, run_shape}
 use Rattle.script_in_order.proofs.Lists.{colours_of_places}
 use Rattle.script_in_order.proofs.Appending.{fills_several, ends_several}
@@ -31,18 +32,11 @@ shape_then w w1 w2 client colours text row id completed b done =
     run_shape w w2 (Begin client colours text ∷ complete_steps w1 client row done.found)
     (ap (λ (x : World). run_steps x (complete_steps w1 client row done.found)) (sym b.world) ∙ sym done.world)
 
-pub unreachable-requires : goal.unreachable-requires
-unreachable-requires c =
-    let w = world_of c.args.world.now in
-    no_other (may_begin w c.args.command.now.client c.args.colours) c.in_ok-row.field-0
-    (next_row w c.args.command.now.client)
-    (next_id w c.args.command.now.client) c.in_ok-row.ensures.reply c.in_default.not-Nothing c.in_default.not-Begun
-
 pub complete-completed-requires : goal.complete-completed-requires
 complete-completed-requires c =
-    (begins (world_of c.args.world.now) c.args.command.now.client c.args.colours c.in_ok-text.text c.in-Begun.row
-    c.in-Begun.id
-    (world_of c.begin.new.self) (sym c.in-Begun.is ∙ c.in_ok-row.ensures.reply) c.in_ok-row.ensures.ok).begun
+    (begins (world_of c.args.world.now) c.args.command.now.client c.args.colours c.in_ok-text.text c.in-Some.begun.row
+    c.in-Some.begun.id
+    (world_of c.begin.new.self) (ap begun_reply (sym c.in-Some.is) ∙ c.in_ok-new.ensures.reply) c.in_ok-new.ensures.ok).begun
 
 pub end-requires : goal.end-requires
 end-requires c =
@@ -50,11 +44,11 @@ end-requires c =
     let w1 = world_of c.begin.new.self in
     let w2 = world_of c.complete-completed.new.self in
     let client = c.args.command.now.client in
-    let row = c.in-Begun.row in
+    let row = c.in-Some.begun.row in
     let done = c.complete-completed.ensures in
-    let b = begins w client c.args.colours c.in_ok-text.text row c.in-Begun.id w1
-    (sym c.in-Begun.is ∙ c.in_ok-row.ensures.reply) c.in_ok-row.ensures.ok in
-    let shape = shape_then w w1 w2 client c.args.colours c.in_ok-text.text row c.in-Begun.id c.complete-completed.result
+    let b = begins w client c.args.colours c.in_ok-text.text row c.in-Some.begun.id w1
+    (ap begun_reply (sym c.in-Some.is) ∙ c.in_ok-new.ensures.reply) c.in_ok-new.ensures.ok in
+    let shape = shape_then w w1 w2 client c.args.colours c.in_ok-text.text row c.in-Some.begun.id c.complete-completed.result
     b done in
     let reached : IsReached w1 =
     subst IsReached (sym b.world) (after_reached w (Begin client c.args.colours c.in_ok-text.text)
@@ -68,32 +62,32 @@ end-requires c =
       placed = ap (map (λ (p : PointPiece). p.colour)) c.in_ok-places.ensures ∙ colours_of_places w client
           (members c.args.colours);
       decided = done.decided;
-      stamped = several_final w w1 w2 client c.args.colours c.in_ok-text.text row c.in-Begun.id
+      stamped = several_final w w1 w2 client c.args.colours c.in_ok-text.text row c.in-Some.begun.id
           c.complete-completed.result
           (of_reached CanComplete c.can_complete.ensures w1 reached) b done;
     }
 
-pub returns-in-Begun-clause-ok : goal.returns-in-Begun-clause-ok
-returns-in-Begun-clause-ok c =
+pub returns-in-Some-clause-ok : goal.returns-in-Some-clause-ok
+returns-in-Some-clause-ok c =
     let w = world_of c.args.world.now in
     let w1 = world_of c.begin.new.self in
-    let b = begins w c.args.command.now.client c.args.colours c.in_ok-text.text c.in-Begun.row c.in-Begun.id w1
-    (sym c.in-Begun.is ∙ c.in_ok-row.ensures.reply) c.in_ok-row.ensures.ok in
+    let b = begins w c.args.command.now.client c.args.colours c.in_ok-text.text c.in-Some.begun.row c.in-Some.begun.id w1
+    (ap begun_reply (sym c.in-Some.is) ∙ c.in_ok-new.ensures.reply) c.in_ok-new.ensures.ok in
     subst (λ (t : List ℕ). DoneBy (λ grants state. appended_several grants state c.args.command.now c.args.colours t)
     c.args.command.now w (world_of c.end.new.world) c.end.result []) (c.in_ok-text.ensures ∙ c.as_bytes.ensures)
-    (ends_several c.args.command.now c.args.colours c.in_ok-text.text c.in-Begun.row c.in-Begun.id
+    (ends_several c.args.command.now c.args.colours c.in_ok-text.text c.in-Some.begun.row c.in-Some.begun.id
     c.complete-completed.result
     c.in_ok-places.places.items w w1 (world_of c.complete-completed.new.self) (world_of c.end.new.world) c.end.result b
     c.complete-completed.ensures c.in_ok-places.ensures c.end.ensures)
 
-pub returns-in-Nothing-clause-ok : goal.returns-in-Nothing-clause-ok
-returns-in-Nothing-clause-ok c =
+pub returns-in-None-clause-ok : goal.returns-in-None-clause-ok
+returns-in-None-clause-ok c =
     let w = world_of c.args.world.now in
     let client = c.args.command.now.client in
     let whole = c.is_whole.ensures in
-    let answer = sym c.in-Nothing.is ∙ c.in_ok-row.ensures.reply in
+    let answer = ap begun_reply (sym c.in-None.is) ∙ c.in_ok-new.ensures.reply in
     let same = nothing_begun w (world_of c.begin.new.self) client c.args.colours c.in_ok-text.text answer
-    c.in_ok-row.ensures.ok in
+    c.in_ok-new.ensures.ok in
     let full = fills w client c.args.colours c.in_ok-text.text c.requires.caller
     (whole.homes client 0 c.requires.caller)
     c.requires.many c.requires.within (of_reached IsBounded c.is_lawful.ensures.bounds w whole.reached) answer in

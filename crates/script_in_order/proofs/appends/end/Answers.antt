@@ -32,16 +32,16 @@ unreachable-requires c = c.requires.decided c.in-Open.is
 pub clear_all-requires-clause-by : goal.clear_all-requires-clause-by
 clear_all-requires-clause-by c =
     subst (λ (s : Shape). c.args.row.client < length s.homes)
-    (sym (run_shape (world_of c.args.world.now) (world_of c.see-seen.new.self) (Seen c.args.row.client c.in-Final.stamp
+    (sym (run_shape (world_of c.args.world.now) (world_of c.see.new.self) (Seen c.args.row.client c.in-Final.stamp
     ∷ [])
-    (sym c.see-seen.ensures.world))) c.requires.caller
+    (sym c.see.ensures))) c.requires.caller
 
 pub clear_all-requires-clause-colours : goal.clear_all-requires-clause-colours
 clear_all-requires-clause-colours c =
     subst (λ (s : Shape). All (λ k. k < s.colours) (members c.args.colours))
-    (sym (run_shape (world_of c.args.world.now) (world_of c.see-seen.new.self) (Seen c.args.row.client c.in-Final.stamp
+    (sym (run_shape (world_of c.args.world.now) (world_of c.see.new.self) (Seen c.args.row.client c.in-Final.stamp
     ∷ [])
-    (sym c.see-seen.ensures.world))) c.requires.within
+    (sym c.see.ensures))) c.requires.within
 
 final_at : (w : World) (client : ℕ) (id : Id) (colours : List ℕ) (outcome : Outcome) (stamp : ℕ) → outcome ≡ Final stamp
     → AreFinal w client id colours outcome → (colour : ℕ) → Contains colours colour
@@ -54,10 +54,10 @@ with_positions-requires c =
     let w = world_of c.args.world.now in
     let new = world_of c.clear_all.new.world in
     let client = c.args.row.client in
-    let seen = sym c.see-seen.ensures.world in
+    let seen = sym c.see.ensures in
     let helps = c.clear_all.ensures.helps in
     let shape = c.clear_all.ensures.shape
-    ∙ run_shape w (world_of c.see-seen.new.self) (Seen client c.in-Final.stamp ∷ []) seen in
+    ∙ run_shape w (world_of c.see.new.self) (Seen client c.in-Final.stamp ∷ []) seen in
     let run : run_steps w (Seen client c.in-Final.stamp ∷ helps.steps) ≡ new =
     ap (λ (x : World). run_steps x helps.steps) seen ∙ helps.run in
     let over = λ (P : ℕ → Type 0) (a : All P (members c.args.colours)).
@@ -102,7 +102,7 @@ as_final w w2 new row id colours stamp places points outcome is seen helps e =
 
 pub returns : goal.returns
 returns c =
-    as_final (world_of c.args.world.now) (world_of c.see-seen.new.self) (world_of c.clear_all.new.world) c.args.row
+    as_final (world_of c.args.world.now) (world_of c.see.new.self) (world_of c.clear_all.new.world) c.args.row
     c.args.id
     (members c.args.colours) c.in-Final.stamp c.args.places.items c.with_positions.result c.args.outcome c.in-Final.is
-    c.see-seen.ensures.world c.clear_all.ensures.helps c.with_positions.ensures
+    c.see.ensures c.clear_all.ensures.helps c.with_positions.ensures

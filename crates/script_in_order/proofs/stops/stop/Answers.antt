@@ -1,13 +1,14 @@
 use Rattle.std.proofs.Common.{◌≡◌, ◌∙◌, ◌-◌, [], List, ap, sym, subst, ℕ, suc, refl, arith}
 use Rattle.log_node.specs.declared.node.Shape.{Shape}
 use Rattle.world_laws.specs.Laws.{IsBounded}
-use Rattle.world_laws.specs.Worlds.{World, may_begin, next_row, next_id}
+use Rattle.world_laws.specs.Worlds.{World}
 use Rattle.world_laws.proofs.CallerLemmas.{of_reached}
+use Rattle.world_code.specs.Replies.{begun_reply}
 use Rattle.world_code.specs.WorldView.{world_of}
 use Rattle.report_text.specs.declared.report.Answer.TheVariants as answers
 use Rattle.script_meaning.specs.Appends.{stopped}
 use Rattle.script_in_order.specs.Doing.{DoneBy}
-use Rattle.script_in_order.proofs.Beginning.{begins, fills, nothing_begun, no_other, at_least}
+use Rattle.script_in_order.proofs.Beginning.{begins, fills, nothing_begun, at_least}
 use Rattle.script_in_order.proofs.Appending.{stops_at_once, stops_full, stops_within}
 use Rattle.script_in_order.proofs.stops.stop.Goals as goal
 
@@ -18,39 +19,32 @@ returns-then-steps-eq0-clause-ok c =
 
 pub complete_first-requires : goal.complete_first-requires
 complete_first-requires c =
-    (begins (world_of c.args.world.now) c.args.command.now.client c.args.colours c.in_ok-text.text c.in-Begun.row
-    c.in-Begun.id
-    (world_of c.begin.new.self) (sym c.in-Begun.is ∙ c.in_ok-row.ensures.reply) c.in_ok-row.ensures.ok).begun
+    (begins (world_of c.args.world.now) c.args.command.now.client c.args.colours c.in_ok-text.text c.in-Some.begun.row
+    c.in-Some.begun.id
+    (world_of c.begin.new.self) (ap begun_reply (sym c.in-Some.is) ∙ c.in_ok-new.ensures.reply) c.in_ok-new.ensures.ok).begun
 
-pub unreachable-requires : goal.unreachable-requires
-unreachable-requires c =
-    let w = world_of c.args.world.now in
-    no_other (may_begin w c.args.command.now.client c.args.colours) c.in_ok-row.field-0
-    (next_row w c.args.command.now.client)
-    (next_id w c.args.command.now.client) c.in_ok-row.ensures.reply c.in_default.not-Nothing c.in_default.not-Begun
-
-pub returns-in-Begun-clause-ok : goal.returns-in-Begun-clause-ok
-returns-in-Begun-clause-ok c =
+pub returns-in-Some-clause-ok : goal.returns-in-Some-clause-ok
+returns-in-Some-clause-ok c =
     let w = world_of c.args.world.now in
     let steps : c.args.steps ≡ suc (c.args.steps - 1) = omega (arith, c.if-steps-eq0.false) in
-    let b = begins w c.args.command.now.client c.args.colours c.in_ok-text.text c.in-Begun.row c.in-Begun.id
-    (world_of c.begin.new.self) (sym c.in-Begun.is ∙ c.in_ok-row.ensures.reply) c.in_ok-row.ensures.ok in
+    let b = begins w c.args.command.now.client c.args.colours c.in_ok-text.text c.in-Some.begun.row c.in-Some.begun.id
+    (world_of c.begin.new.self) (ap begun_reply (sym c.in-Some.is) ∙ c.in_ok-new.ensures.reply) c.in_ok-new.ensures.ok in
     subst (λ (t : List ℕ). DoneBy (λ grants state. stopped grants state c.args.command.now c.args.colours t c.args.steps)
     c.args.command.now w (world_of c.complete_first.new.self) (answers.Stopped c.args.steps) [])
     (c.in_ok-text.ensures ∙ c.as_bytes.ensures)
     (stops_within c.args.command.now c.args.colours c.in_ok-text.text c.args.steps (c.args.steps - 1) (c.args.steps - 1)
-    c.complete_first.result c.in-Begun.row c.in-Begun.id w (world_of c.begin.new.self)
+    c.complete_first.result c.in-Some.begun.row c.in-Some.begun.id w (world_of c.begin.new.self)
     (world_of c.complete_first.new.self) steps refl b c.complete_first.ensures)
 
-pub returns-in-Nothing-clause-ok : goal.returns-in-Nothing-clause-ok
-returns-in-Nothing-clause-ok c =
+pub returns-in-None-clause-ok : goal.returns-in-None-clause-ok
+returns-in-None-clause-ok c =
     let w = world_of c.args.world.now in
     let client = c.args.command.now.client in
     let whole = c.is_whole.ensures in
     let steps : c.args.steps ≡ suc (c.args.steps - 1) = omega (arith, c.if-steps-eq0.false) in
-    let answer = sym c.in-Nothing.is ∙ c.in_ok-row.ensures.reply in
+    let answer = ap begun_reply (sym c.in-None.is) ∙ c.in_ok-new.ensures.reply in
     let same = nothing_begun w (world_of c.begin.new.self) client c.args.colours c.in_ok-text.text answer
-    c.in_ok-row.ensures.ok in
+    c.in_ok-new.ensures.ok in
     let full = fills w client c.args.colours c.in_ok-text.text c.requires.caller
     (whole.homes client 0 c.requires.caller)
     (at_least 2 c.args.colours c.requires.many) c.requires.within

@@ -1,39 +1,35 @@
-use Rattle.std.proofs.Common.{◌≡◌, true, ap, sym, subst, ◌∙◌}
+use Rattle.std.proofs.Common.{◌≡◌, true, List, length, refl, ap, sym, subst, ◌∙◌}
+use Rattle.column.specs.Columns.{ColumnState}
 use Rattle.world_laws.specs.declared.steps.Step.TheVariants as steps
 use Rattle.world_laws.specs.Worlds.{may_give, after}
 use Rattle.world_code.specs.WorldView.{WorldView, world_of}
-use Rattle.world_code.proofs.Moving.{Moved, put_columns, on_err, unmoved, given_moved, give_other, give_region}
+use Rattle.world_code.proofs.Moving.{Moved, GiveCall, put_columns, given_moved, give_other, give_region, give_place}
+use Rattle.world_code.proofs.Placing.{put_back, on_err}
+use Rattle.world_code.proofs.Views.{view_of}
+use Rattle.world_code.proofs.world.World.add_give.Goals.{After-index_mut, In_ok-place}
 use Rattle.world_code.proofs.world.World.add_give.Goals as goal
 
-abbrev old_of : goal.After-reply_at → WorldView
-old_of c = let i = c.self.inside in record {
-  shape = i.shape;
-  clients = i.clients.items;
-  board = i.board;
-  columns = i.regions.items;
+-- what the code has read
+read : (c : After-index_mut) → GiveCall (view_of c.self.inside) c.args.origin c.args.region c.args.colour c.args.from
+    c.index_mut.result.now
+read c = record {
+  whole = c.self.invariant;
+  guard = subst (λ (k : WorldView). may_give (world_of k) c.args.origin c.args.region c.args.colour c.args.from ≡ true)
+      (sym c.self.view_is) c.requires;
+  columns_are = c.index_mut.ensures.value;
 }
 
-its_move : (c : goal.After-reply_at) → Moved (old_of c)
+-- what has become of the world
+its_move : (c : In_ok-place) → Moved (view_of c.self.inside)
     (steps.Give c.args.by c.args.origin c.args.region c.args.colour c.args.from)
-    (put_columns (old_of c) c.args.origin c.note.new.self)
-its_move c =
-    given_moved (old_of c) c.self.invariant c.args.by c.args.origin c.args.region c.args.colour c.args.from
-    (subst (λ (k : WorldView). may_give (world_of k) c.args.origin c.args.region c.args.colour c.args.from ≡ true)
-    (sym c.self.view_is) c.requires)
-    c.index_mut.result.now c.index_mut.ensures.value c.note.new.self c.in_ok-at.ensures.ok
+    (put_columns (view_of c.self.inside) c.args.origin c.note.new.self)
+its_move c = given_moved (read c.before.before.before.before) c.args.by c.in_ok-place.ensures.ok
 
-pub returns-in_err-at-clause-err : goal.returns-in_err-at-clause-err
-returns-in_err-at-clause-err c =
-    let i = c.self.inside in
-    let old : WorldView = record {
-      shape = i.shape;
-      clients = i.clients.items;
-      board = i.board;
-      columns = i.regions.items;
-    } in
-    on_err c.from_residual.result _
-    (unmoved old c.args.origin c.index_mut.result.now c.note.new.self c.in_err-at.ensures.err c.index_mut.ensures.value
-    ∙ c.self.view_is)
+pub note-requires-clause-other : goal.note-requires-clause-other
+note-requires-clause-other c = give_other (read c)
+
+pub note-requires-clause-region : goal.note-requires-clause-region
+note-requires-clause-region c = give_region (read c)
 
 pub invariant_of-self-2 : goal.invariant_of-self-2
 invariant_of-self-2 c = (its_move c).whole
@@ -43,28 +39,14 @@ returns-clause-ok c =
     (its_move c).world ∙ ap (λ (k : WorldView). after (world_of k) (steps.Give c.args.by c.args.origin c.args.region
     c.args.colour c.args.from)) c.self.view_is
 
-pub note-requires-clause-other : goal.note-requires-clause-other
-note-requires-clause-other c =
-    let i = c.self.inside in
-    let old : WorldView = record {
-      shape = i.shape;
-      clients = i.clients.items;
-      board = i.board;
-      columns = i.regions.items;
-    } in
-    give_other old c.self.invariant c.args.by c.args.origin c.args.region c.args.colour c.args.from
-    (subst (λ (k : WorldView). may_give (world_of k) c.args.origin c.args.region c.args.colour c.args.from ≡ true)
-    (sym c.self.view_is) c.requires) c.index_mut.result.now c.index_mut.ensures.value
+pub returns-clause-place : goal.returns-clause-place
+returns-clause-place c =
+    c.in_ok-place.ensures.answer
+    ∙ (give_place (read (goal.at.returns-clause-place c).After-index_mut)
+    ∙ ap (λ (k : WorldView). length ((world_of k).histories c.args.origin c.args.colour)) c.self.view_is)
 
-pub note-requires-clause-region : goal.note-requires-clause-region
-note-requires-clause-region c =
-    let i = c.self.inside in
-    let old : WorldView = record {
-      shape = i.shape;
-      clients = i.clients.items;
-      board = i.board;
-      columns = i.regions.items;
-    } in
-    give_region old c.self.invariant c.args.by c.args.origin c.args.region c.args.colour c.args.from
-    (subst (λ (k : WorldView). may_give (world_of k) c.args.origin c.args.region c.args.colour c.args.from ≡ true)
-    (sym c.self.view_is) c.requires) c.index_mut.result.now c.index_mut.ensures.value
+pub returns-in_err-place-clause-err : goal.returns-in_err-place-clause-err
+returns-in_err-place-clause-err c =
+    on_err c.from_residual.result _
+    (ap (λ (cs : List (List ColumnState)). record (view_of c.self.inside) { columns = cs })
+    (put_back c.args.origin refl c.index_mut.ensures.value c.in_err-place.ensures.err) ∙ c.self.view_is)

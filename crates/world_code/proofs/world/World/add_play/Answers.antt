@@ -3,13 +3,13 @@ use Rattle.world_laws.specs.Worlds.{may_play, after_play, home_of}
 use Rattle.world_code.specs.Clients.{ClientView}
 use Rattle.world_code.specs.WorldView.{WorldView, world_of, IsWhole}
 use Rattle.world_code.proofs.Plays.{may_play_is, play_world, play_whole, code_list, code_region, code_base}
+use Rattle.world_code.proofs.Views.{view_of}
 use Rattle.world_code.proofs.world.World.add_play.Goals as goal
 
 pub invariant_of-self : goal.invariant_of-self
 invariant_of-self c =
     let i = c.self.inside in
-    let old : WorldView =
-    record { shape = i.shape; clients = i.clients.items; board = i.board; columns = i.regions.items } in
+    let old = view_of i in
     let client = c.args.client in
     let colour = c.args.colour in
     let w = c.self.invariant in
@@ -28,8 +28,7 @@ invariant_of-self c =
 pub returns-clause-world : goal.returns-clause-world
 returns-clause-world c =
     let i = c.self.inside in
-    let old : WorldView =
-    record { shape = i.shape; clients = i.clients.items; board = i.board; columns = i.regions.items } in
+    let old = view_of i in
     let client = c.args.client in
     let colour = c.args.colour in
     let w = c.self.invariant in
@@ -49,8 +48,7 @@ returns-clause-world c =
 pub unplayed_stamp-stamp-requires-clause-region : goal.unplayed_stamp-stamp-requires-clause-region
 unplayed_stamp-stamp-requires-clause-region c =
     let i = c.self.inside in
-    let old : WorldView =
-    record { shape = i.shape; clients = i.clients.items; board = i.board; columns = i.regions.items } in
+    let old = view_of i in
     let client = c.args.client in
     let colour = c.args.colour in
     let is_true = subst (λ (k : WorldView). may_play (world_of k) client colour ≡ true) (sym c.self.view_is)
@@ -63,8 +61,7 @@ unplayed_stamp-stamp-requires-clause-region c =
 pub unplayed_stamp-stamp-requires-clause-base : goal.unplayed_stamp-stamp-requires-clause-base
 unplayed_stamp-stamp-requires-clause-base c =
     let i = c.self.inside in
-    let old : WorldView =
-    record { shape = i.shape; clients = i.clients.items; board = i.board; columns = i.regions.items } in
+    let old = view_of i in
     let client = c.args.client in
     let colour = c.args.colour in
     let is_true = subst (λ (k : WorldView). may_play (world_of k) client colour ≡ true) (sym c.self.view_is)

@@ -1,252 +1,97 @@
-use Rattle.std.proofs.Common.{◌≡◌, true, false, List, Some, ap, sym, subst, ◌∙◌, arith}
-use Rattle.std.specs.Prelude.{slice_get, not}
-use Rattle.std.proofs.lemmas.Bool.{and_from}
-use Rattle.log_node.specs.declared.node.Node.{Node}
+use Rattle.std.proofs.Common.{◌≡◌, true, false, List, Some, refl, ap, sym, subst, ◌∙◌, arith}
+use Rattle.std.specs.Prelude.{slice_get}
 use Rattle.column.specs.Columns.{ColumnState}
 use Rattle.world_laws.specs.Worlds.{may_mark, is_row_at_end, after_propose, event_reply, proposed_stamp, home_of}
 use Rattle.world_code.specs.WorldView.{WorldView, client_at, world_of, IsWhole}
-use Rattle.world_code.proofs.Calling.{refused, on_err}
-use Rattle.world_code.proofs.Proposing.{call_colour, call_fresh, call_region, call_of_colour, call_floor}
-use Rattle.world_code.proofs.Proposing.{call_row, call_stamp, columns_there, its_row}
-use Rattle.world_code.proofs.Proposing.{board_colour, board_row, code_kept, code_reply, propose_world, propose_whole}
+use Rattle.world_code.proofs.Placing.{put_back, on_err}
+use Rattle.world_code.proofs.Proposing.{board_colour, board_row}
+use Rattle.world_code.proofs.ProposeCalls.{ProposeCall, propose_home, call_colour, call_fresh, call_region, call_of_colour}
+use Rattle.world_code.proofs.ProposeCalls.{call_floor, call_row, call_stamp, call_reply, kept_after, whole_after, world_after}
+use Rattle.world_code.proofs.Views.{view_of}
+use Rattle.world_code.proofs.world.World.add_propose.Goals.{After-index_mut}
 use Rattle.world_code.proofs.world.World.add_propose.Goals as goal
+
+-- what the code has read
+read : (c : After-index_mut) → ProposeCall (view_of c.self.inside) c.args.row c.args.colour c.home-home.result
+    c.index_mut.result.now c.args.node.value
+read c =
+    let row = c.args.row in
+    let back = sym c.self.view_is in
+    record {
+      whole = c.self.invariant;
+      may = subst (λ (k : WorldView). may_mark (world_of k) row c.args.colour ≡ true) back c.requires.may;
+      left = subst (λ (k : WorldView). is_row_at_end (world_of k) row c.args.colour ≡ false) back c.requires.stamp;
+      home_is = ap (λ (k : WorldView). home_of (world_of k) row.client) c.self.view_is ∙ sym c.home-home.ensures;
+      columns_are = c.index_mut.ensures.value;
+      node_is = subst (λ (k : WorldView). slice_get (client_at k row.client).begun row.number ≡ Some c.args.node.value)
+          back c.requires.node;
+    }
 
 pub index_mut-requires : goal.index_mut-requires
 index_mut-requires c =
-    let i = c.self.inside in
-    let old : WorldView =
-    record { shape = i.shape; clients = i.clients.items; board = i.board; columns = i.regions.items } in
-    let w = c.self.invariant in
-    let row = c.args.row in
-    let colour = c.args.colour in
-    let node : Node = c.args.node.value in
-    let may = subst (λ (k : WorldView). may_mark (world_of k) row colour ≡ true) (sym c.self.view_is) c.requires.may in
-    let home_is = ap (λ (k : WorldView). home_of (world_of k) row.client) c.self.view_is ∙ sym c.home-home.ensures in
-    let lt = columns_there old w row (its_row old w row colour may) in
-    omega (arith, home_is, lt)
+    let lt = propose_home (view_of c.self.inside) c.args.row c.args.colour c.home-home.result c.self.invariant
+    (subst (λ (k : WorldView). may_mark (world_of k) c.args.row c.args.colour ≡ true) (sym c.self.view_is) c.requires.may)
+    (ap (λ (k : WorldView). home_of (world_of k) c.args.row.client) c.self.view_is ∙ sym c.home-home.ensures) in
+    omega (arith, lt)
 
 pub propose-requires-clause-colour : goal.propose-requires-clause-colour
-propose-requires-clause-colour c =
-    let i = c.self.inside in
-    let old : WorldView =
-    record { shape = i.shape; clients = i.clients.items; board = i.board; columns = i.regions.items } in
-    let w = c.self.invariant in
-    let row = c.args.row in
-    let colour = c.args.colour in
-    let node : Node = c.args.node.value in
-    let may = subst (λ (k : WorldView). may_mark (world_of k) row colour ≡ true) (sym c.self.view_is) c.requires.may in
-    let home_is = ap (λ (k : WorldView). home_of (world_of k) row.client) c.self.view_is ∙ sym c.home-home.ensures in
-    let node_is = subst (λ (k : WorldView). slice_get (client_at k row.client).begun row.number ≡ Some node)
-    (sym c.self.view_is) c.requires.node in
-    call_colour old w row colour may c.home-home.result home_is c.index_mut.result.now c.index_mut.ensures.value node
-    node_is
+propose-requires-clause-colour c = call_colour (read c)
 
 pub propose-requires-clause-fresh : goal.propose-requires-clause-fresh
-propose-requires-clause-fresh c =
-    let i = c.self.inside in
-    let old : WorldView =
-    record { shape = i.shape; clients = i.clients.items; board = i.board; columns = i.regions.items } in
-    let w = c.self.invariant in
-    let row = c.args.row in
-    let colour = c.args.colour in
-    let node : Node = c.args.node.value in
-    let may = subst (λ (k : WorldView). may_mark (world_of k) row colour ≡ true) (sym c.self.view_is) c.requires.may in
-    let home_is = ap (λ (k : WorldView). home_of (world_of k) row.client) c.self.view_is ∙ sym c.home-home.ensures in
-    let node_is = subst (λ (k : WorldView). slice_get (client_at k row.client).begun row.number ≡ Some node)
-    (sym c.self.view_is) c.requires.node in
-    call_fresh old w row colour may c.home-home.result home_is c.index_mut.result.now c.index_mut.ensures.value node
-    node_is
+propose-requires-clause-fresh c = call_fresh (read c)
 
 pub propose-requires-clause-region : goal.propose-requires-clause-region
-propose-requires-clause-region c =
-    let i = c.self.inside in
-    let old : WorldView =
-    record { shape = i.shape; clients = i.clients.items; board = i.board; columns = i.regions.items } in
-    let w = c.self.invariant in
-    let row = c.args.row in
-    let colour = c.args.colour in
-    let node : Node = c.args.node.value in
-    let may = subst (λ (k : WorldView). may_mark (world_of k) row colour ≡ true) (sym c.self.view_is) c.requires.may in
-    let home_is = ap (λ (k : WorldView). home_of (world_of k) row.client) c.self.view_is ∙ sym c.home-home.ensures in
-    let node_is = subst (λ (k : WorldView). slice_get (client_at k row.client).begun row.number ≡ Some node)
-    (sym c.self.view_is) c.requires.node in
-    call_region old w row colour may c.home-home.result home_is c.index_mut.result.now c.index_mut.ensures.value node
-    node_is
+propose-requires-clause-region c = call_region (read c)
 
 pub propose-requires-clause-of_colour : goal.propose-requires-clause-of_colour
-propose-requires-clause-of_colour c =
-    let i = c.self.inside in
-    let old : WorldView =
-    record { shape = i.shape; clients = i.clients.items; board = i.board; columns = i.regions.items } in
-    let w = c.self.invariant in
-    let row = c.args.row in
-    let colour = c.args.colour in
-    let node : Node = c.args.node.value in
-    let may = subst (λ (k : WorldView). may_mark (world_of k) row colour ≡ true) (sym c.self.view_is) c.requires.may in
-    let home_is = ap (λ (k : WorldView). home_of (world_of k) row.client) c.self.view_is ∙ sym c.home-home.ensures in
-    let node_is = subst (λ (k : WorldView). slice_get (client_at k row.client).begun row.number ≡ Some node)
-    (sym c.self.view_is) c.requires.node in
-    call_of_colour old w row colour may c.home-home.result home_is c.index_mut.result.now c.index_mut.ensures.value node
-    node_is
+propose-requires-clause-of_colour c = call_of_colour (read c)
 
 pub propose-requires-clause-floor : goal.propose-requires-clause-floor
-propose-requires-clause-floor c =
-    let i = c.self.inside in
-    let old : WorldView =
-    record { shape = i.shape; clients = i.clients.items; board = i.board; columns = i.regions.items } in
-    let w = c.self.invariant in
-    let row = c.args.row in
-    let colour = c.args.colour in
-    let node : Node = c.args.node.value in
-    let may = subst (λ (k : WorldView). may_mark (world_of k) row colour ≡ true) (sym c.self.view_is) c.requires.may in
-    let home_is = ap (λ (k : WorldView). home_of (world_of k) row.client) c.self.view_is ∙ sym c.home-home.ensures in
-    let node_is = subst (λ (k : WorldView). slice_get (client_at k row.client).begun row.number ≡ Some node)
-    (sym c.self.view_is) c.requires.node in
-    call_floor old w row colour may c.home-home.result home_is c.index_mut.result.now c.index_mut.ensures.value node
-    node_is
+propose-requires-clause-floor c = call_floor (read c)
 
 pub propose-requires-clause-row : goal.propose-requires-clause-row
-propose-requires-clause-row c =
-    let i = c.self.inside in
-    let old : WorldView =
-    record { shape = i.shape; clients = i.clients.items; board = i.board; columns = i.regions.items } in
-    let w = c.self.invariant in
-    let row = c.args.row in
-    let colour = c.args.colour in
-    let node : Node = c.args.node.value in
-    let may = subst (λ (k : WorldView). may_mark (world_of k) row colour ≡ true) (sym c.self.view_is) c.requires.may in
-    let home_is = ap (λ (k : WorldView). home_of (world_of k) row.client) c.self.view_is ∙ sym c.home-home.ensures in
-    let node_is = subst (λ (k : WorldView). slice_get (client_at k row.client).begun row.number ≡ Some node)
-    (sym c.self.view_is) c.requires.node in
-    call_row old w row colour may c.home-home.result home_is c.index_mut.result.now c.index_mut.ensures.value node
-    node_is
+propose-requires-clause-row c = call_row (read c)
 
 pub mark-requires-clause-colour : goal.mark-requires-clause-colour
 mark-requires-clause-colour c =
-    let i = c.self.inside in
-    let old : WorldView =
-    record { shape = i.shape; clients = i.clients.items; board = i.board; columns = i.regions.items } in
-    let w = c.self.invariant in
-    let row = c.args.row in
-    let colour = c.args.colour in
-    let node : Node = c.args.node.value in
-    let may = subst (λ (k : WorldView). may_mark (world_of k) row colour ≡ true) (sym c.self.view_is) c.requires.may in
-    let home_is = ap (λ (k : WorldView). home_of (world_of k) row.client) c.self.view_is ∙ sym c.home-home.ensures in
-    let node_is = subst (λ (k : WorldView). slice_get (client_at k row.client).begun row.number ≡ Some node)
-    (sym c.self.view_is) c.requires.node in
-    board_colour old w row colour may
+    let call = read (goal.at.mark-requires-clause-colour c).After-index_mut in
+    board_colour (view_of c.self.inside) c.self.invariant c.args.row c.args.colour call.may
 
 pub mark-requires-clause-row : goal.mark-requires-clause-row
 mark-requires-clause-row c =
-    let i = c.self.inside in
-    let old : WorldView =
-    record { shape = i.shape; clients = i.clients.items; board = i.board; columns = i.regions.items } in
-    let w = c.self.invariant in
-    let row = c.args.row in
-    let colour = c.args.colour in
-    let node : Node = c.args.node.value in
-    let may = subst (λ (k : WorldView). may_mark (world_of k) row colour ≡ true) (sym c.self.view_is) c.requires.may in
-    let home_is = ap (λ (k : WorldView). home_of (world_of k) row.client) c.self.view_is ∙ sym c.home-home.ensures in
-    let node_is = subst (λ (k : WorldView). slice_get (client_at k row.client).begun row.number ≡ Some node)
-    (sym c.self.view_is) c.requires.node in
-    board_row old w row colour may
+    let call = read (goal.at.mark-requires-clause-row c).After-index_mut in
+    board_row (view_of c.self.inside) c.self.invariant c.args.row c.args.colour call.may
 
 pub mark-requires-clause-number : goal.mark-requires-clause-number
 mark-requires-clause-number c =
-    let i = c.self.inside in
-    let old : WorldView =
-    record { shape = i.shape; clients = i.clients.items; board = i.board; columns = i.regions.items } in
-    let w = c.self.invariant in
-    let row = c.args.row in
-    let colour = c.args.colour in
-    let node : Node = c.args.node.value in
-    let may = subst (λ (k : WorldView). may_mark (world_of k) row colour ≡ true) (sym c.self.view_is) c.requires.may in
-    let home_is = ap (λ (k : WorldView). home_of (world_of k) row.client) c.self.view_is ∙ sym c.home-home.ensures in
-    let node_is = subst (λ (k : WorldView). slice_get (client_at k row.client).begun row.number ≡ Some node)
-    (sym c.self.view_is) c.requires.node in
-    let not_end = subst (λ (k : WorldView). is_row_at_end (world_of k) row colour ≡ false) (sym c.self.view_is)
-    c.requires.stamp in
-    call_stamp old w row colour may c.home-home.result home_is c.index_mut.result.now c.index_mut.ensures.value node
-    node_is not_end
-    c.in_ok-at.stamp c.in_ok-at.ensures.answer.1
+    call_stamp (read (goal.at.mark-requires-clause-number c).After-index_mut) c.in_ok-placed.ensures.answer
 
 pub invariant_of-self-2 : goal.invariant_of-self-2
 invariant_of-self-2 c =
-    let i = c.self.inside in
-    let old : WorldView =
-    record { shape = i.shape; clients = i.clients.items; board = i.board; columns = i.regions.items } in
-    let w = c.self.invariant in
-    let row = c.args.row in
-    let colour = c.args.colour in
-    let node : Node = c.args.node.value in
-    let may = subst (λ (k : WorldView). may_mark (world_of k) row colour ≡ true) (sym c.self.view_is) c.requires.may in
-    let home_is = ap (λ (k : WorldView). home_of (world_of k) row.client) c.self.view_is ∙ sym c.home-home.ensures in
-    let node_is = subst (λ (k : WorldView). slice_get (client_at k row.client).begun row.number ≡ Some node)
-    (sym c.self.view_is) c.requires.node in
-    let not_end = subst (λ (k : WorldView). is_row_at_end (world_of k) row colour ≡ false) (sym c.self.view_is)
-    c.requires.stamp in
-    let all = and_from (may_mark (world_of old) row colour) _ may (ap not not_end) in
-    subst IsWhole (sym (code_kept old w row colour may c.home-home.result home_is c.index_mut.result.now
-    c.index_mut.ensures.value node node_is c.args.by c.in_ok-at.stamp c.propose.new.self
-    c.mark.new.self c.in_ok-at.ensures.ok c.in_ok-at.ensures.answer.1 c.mark.ensures.rows))
-    (propose_whole old w row colour may c.args.by all)
+    let call = read (goal.at.invariant_of-self-2 c).After-index_mut in
+    subst IsWhole (sym (kept_after call c.args.by c.in_ok-placed.ensures.answer c.in_ok-placed.ensures.ok
+    c.mark.ensures.rows)) (whole_after call c.args.by)
 
 pub returns-clause-ok : goal.returns-clause-ok
 returns-clause-ok c =
-    let i = c.self.inside in
-    let old : WorldView =
-    record { shape = i.shape; clients = i.clients.items; board = i.board; columns = i.regions.items } in
-    let w = c.self.invariant in
-    let row = c.args.row in
-    let colour = c.args.colour in
-    let node : Node = c.args.node.value in
-    let may = subst (λ (k : WorldView). may_mark (world_of k) row colour ≡ true) (sym c.self.view_is) c.requires.may in
-    let home_is = ap (λ (k : WorldView). home_of (world_of k) row.client) c.self.view_is ∙ sym c.home-home.ensures in
-    let node_is = subst (λ (k : WorldView). slice_get (client_at k row.client).begun row.number ≡ Some node)
-    (sym c.self.view_is) c.requires.node in
-    ap world_of (code_kept old w row colour may c.home-home.result home_is c.index_mut.result.now
-    c.index_mut.ensures.value node node_is c.args.by c.in_ok-at.stamp c.propose.new.self
-    c.mark.new.self c.in_ok-at.ensures.ok c.in_ok-at.ensures.answer.1 c.mark.ensures.rows)
-    ∙ (propose_world old w row colour may c.args.by
-    ∙ ap (λ (k : WorldView). after_propose (world_of k) c.args.by row colour) c.self.view_is)
+    let call = read (goal.at.returns-clause-ok c).After-index_mut in
+    ap world_of (kept_after call c.args.by c.in_ok-placed.ensures.answer c.in_ok-placed.ensures.ok c.mark.ensures.rows)
+    ∙ (world_after call c.args.by
+    ∙ ap (λ (k : WorldView). after_propose (world_of k) c.args.by c.args.row c.args.colour) c.self.view_is)
 
-pub returns-clause-reply : goal.returns-clause-reply
-returns-clause-reply c =
-    let i = c.self.inside in
-    let old : WorldView =
-    record { shape = i.shape; clients = i.clients.items; board = i.board; columns = i.regions.items } in
-    let w = c.self.invariant in
-    let row = c.args.row in
-    let colour = c.args.colour in
-    let node : Node = c.args.node.value in
-    let may = subst (λ (k : WorldView). may_mark (world_of k) row colour ≡ true) (sym c.self.view_is) c.requires.may in
-    let home_is = ap (λ (k : WorldView). home_of (world_of k) row.client) c.self.view_is ∙ sym c.home-home.ensures in
-    let node_is = subst (λ (k : WorldView). slice_get (client_at k row.client).begun row.number ≡ Some node)
-    (sym c.self.view_is) c.requires.node in
-    code_reply old w row colour may c.home-home.result home_is c.index_mut.result.now c.index_mut.ensures.value node
-    node_is
-    c.in_ok-at.at c.in-Event.place c.in_ok-at.stamp c.in-Event.is c.in_ok-at.ensures.answer.0
-    c.in_ok-at.ensures.answer.1
-    ∙ ap (λ (k : WorldView). event_reply (world_of k) (home_of (world_of k) row.client) colour
-    (proposed_stamp (world_of k) row colour)) c.self.view_is
+pub returns-clause-placed : goal.returns-clause-placed
+returns-clause-placed c =
+    call_reply (read (goal.at.returns-clause-placed c).After-index_mut) c.in_ok-placed.ensures.answer
+    ∙ ap (λ (k : WorldView). event_reply (world_of k) (home_of (world_of k) c.args.row.client) c.args.colour
+    (proposed_stamp (world_of k) c.args.row c.args.colour)) c.self.view_is
 
 pub invariant_of-self : goal.invariant_of-self
 invariant_of-self c =
-    let i = c.self.inside in
-    let old : WorldView =
-    record { shape = i.shape; clients = i.clients.items; board = i.board; columns = i.regions.items } in
-    subst (λ (cs : List (List ColumnState)). IsWhole (record old { columns = cs }))
-    (sym (refused i.regions.items c.home-home.result c.index_mut.result.now c.propose.new.self c.index_mut.ensures.value
-    c.in_err-at.ensures.err))
-    c.self.invariant
+    subst (λ (cs : List (List ColumnState)). IsWhole (record (view_of c.self.inside) { columns = cs }))
+    (sym (put_back c.home-home.result refl c.index_mut.ensures.value c.in_err-placed.ensures.err)) c.self.invariant
 
-pub returns-in_err-at-clause-err : goal.returns-in_err-at-clause-err
-returns-in_err-at-clause-err c =
-    let i = c.self.inside in
-    let old : WorldView =
-    record { shape = i.shape; clients = i.clients.items; board = i.board; columns = i.regions.items } in
+pub returns-in_err-placed-clause-err : goal.returns-in_err-placed-clause-err
+returns-in_err-placed-clause-err c =
     on_err c.from_residual.result _
-    (ap (λ (cs : List (List ColumnState)). record old { columns = cs })
-    (refused i.regions.items c.home-home.result c.index_mut.result.now c.propose.new.self c.index_mut.ensures.value
-    c.in_err-at.ensures.err)
-    ∙ c.self.view_is)
+    (ap (λ (cs : List (List ColumnState)). record (view_of c.self.inside) { columns = cs })
+    (put_back c.home-home.result refl c.index_mut.ensures.value c.in_err-placed.ensures.err) ∙ c.self.view_is)

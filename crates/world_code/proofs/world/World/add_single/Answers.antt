@@ -1,182 +1,71 @@
-use Rattle.std.proofs.Common.{◌≡◌, true, List, ap, sym, subst, ◌∙◌}
-use Rattle.log_node.specs.declared.node.Node.{Node}
+use Rattle.std.proofs.Common.{◌≡◌, true, List, refl, ap, sym, subst, ◌∙◌}
 use Rattle.column.specs.Columns.{ColumnState}
 use Rattle.world_laws.specs.Worlds.{may_single, after_single, event_reply, single_stamp, home_of}
 use Rattle.world_code.specs.Clients.{next_single}
 use Rattle.world_code.specs.WorldView.{WorldView, client_at, world_of, IsWhole}
-use Rattle.world_code.proofs.Singles.{may_single_is, single_world, single_whole}
-use Rattle.world_code.proofs.Calling.{call_fresh, call_of_colour, call_floor, kept_after, reply_same, refused, on_err}
+use Rattle.world_code.specs.declared.replies.Placed.{Placed}
+use Rattle.world_code.proofs.Calling.{SingleCall, call_fresh, call_of_colour, call_floor, kept_after, kept_whole, kept_world}
+use Rattle.world_code.proofs.Calling.{placed_same}
+use Rattle.world_code.proofs.Placing.{put_back, on_err}
+use Rattle.world_code.proofs.Views.{view_of}
+use Rattle.world_code.proofs.world.World.add_single.Goals.{After-index_mut}
 use Rattle.world_code.proofs.world.World.add_single.Goals as goal
 
-pub single-requires-clause-fresh : goal.single-requires-clause-fresh
-single-requires-clause-fresh c =
-    let i = c.self.inside in
-    let old : WorldView = record {
-      shape = i.shape;
-      clients = i.clients.items;
-      board = i.board;
-      columns = i.regions.items;
-    } in
-    let back = sym c.self.view_is in
+-- what the code has read
+read : (c : After-index_mut) → SingleCall (view_of c.self.inside) c.args.client c.args.colour c.args.home
+    c.index_mut.result.now c.args.node.value
+read c =
     let client = c.args.client in
     let colour = c.args.colour in
     let home = c.args.home in
-    let node : Node = c.args.node.value in
-    let may_true = subst (λ (k : WorldView). may_single (world_of k) client colour ≡ true) back c.requires.may in
-    let may = may_single_is old client colour may_true in
-    let home_is = subst (λ (k : WorldView). home_of (world_of k) client ≡ home) back c.requires.home in
-    let node_is = subst (λ (k : WorldView). node ≡ next_single (client_at k client) client home colour node.text) back
-    c.requires.node in
-    call_fresh old c.self.invariant client colour may home home_is c.index_mut.result.now c.index_mut.ensures.value
-    node node_is
+    let node = c.args.node.value in
+    let back = sym c.self.view_is in
+    record {
+      whole = c.self.invariant;
+      guard = subst (λ (k : WorldView). may_single (world_of k) client colour ≡ true) back c.requires.may;
+      home_is = subst (λ (k : WorldView). home_of (world_of k) client ≡ home) back c.requires.home;
+      row_is = c.index_mut.ensures.value;
+      node_is = subst (λ (k : WorldView). node ≡ next_single (client_at k client) client home colour node.text) back
+          c.requires.node;
+    }
+
+pub single-requires-clause-fresh : goal.single-requires-clause-fresh
+single-requires-clause-fresh c = call_fresh (read c)
 
 pub single-requires-clause-of_colour : goal.single-requires-clause-of_colour
-single-requires-clause-of_colour c =
-    let i = c.self.inside in
-    let old : WorldView = record {
-      shape = i.shape;
-      clients = i.clients.items;
-      board = i.board;
-      columns = i.regions.items;
-    } in
-    let back = sym c.self.view_is in
-    let client = c.args.client in
-    let colour = c.args.colour in
-    let home = c.args.home in
-    let node : Node = c.args.node.value in
-    let may_true = subst (λ (k : WorldView). may_single (world_of k) client colour ≡ true) back c.requires.may in
-    let may = may_single_is old client colour may_true in
-    let home_is = subst (λ (k : WorldView). home_of (world_of k) client ≡ home) back c.requires.home in
-    let node_is = subst (λ (k : WorldView). node ≡ next_single (client_at k client) client home colour node.text) back
-    c.requires.node in
-    call_of_colour old c.self.invariant client colour may home home_is c.index_mut.result.now
-    c.index_mut.ensures.value node node_is
+single-requires-clause-of_colour c = call_of_colour (read c)
 
 pub single-requires-clause-floor : goal.single-requires-clause-floor
-single-requires-clause-floor c =
-    let i = c.self.inside in
-    let old : WorldView = record {
-      shape = i.shape;
-      clients = i.clients.items;
-      board = i.board;
-      columns = i.regions.items;
-    } in
-    let back = sym c.self.view_is in
-    let client = c.args.client in
-    let colour = c.args.colour in
-    let home = c.args.home in
-    let node : Node = c.args.node.value in
-    let may_true = subst (λ (k : WorldView). may_single (world_of k) client colour ≡ true) back c.requires.may in
-    let may = may_single_is old client colour may_true in
-    let home_is = subst (λ (k : WorldView). home_of (world_of k) client ≡ home) back c.requires.home in
-    let node_is = subst (λ (k : WorldView). node ≡ next_single (client_at k client) client home colour node.text) back
-    c.requires.node in
-    call_floor old c.self.invariant client colour may home home_is c.index_mut.result.now c.index_mut.ensures.value
-    node node_is
+single-requires-clause-floor c = call_floor (read c)
 
 pub invariant_of-self-2 : goal.invariant_of-self-2
 invariant_of-self-2 c =
-    let i = c.self.inside in
-    let old : WorldView = record {
-      shape = i.shape;
-      clients = i.clients.items;
-      board = i.board;
-      columns = i.regions.items;
-    } in
-    let back = sym c.self.view_is in
-    let client = c.args.client in
-    let colour = c.args.colour in
-    let home = c.args.home in
-    let node : Node = c.args.node.value in
-    let may_true = subst (λ (k : WorldView). may_single (world_of k) client colour ≡ true) back c.requires.may in
-    let may = may_single_is old client colour may_true in
-    let home_is = subst (λ (k : WorldView). home_of (world_of k) client ≡ home) back c.requires.home in
-    let node_is = subst (λ (k : WorldView). node ≡ next_single (client_at k client) client home colour node.text) back
-    c.requires.node in
-    subst IsWhole (sym (kept_after old c.self.invariant client colour may home home_is c.index_mut.result.now
-    c.index_mut.ensures.value node node_is
-    c.single.new.self c.index_mut-2.result.now c.append.new.self c.in_ok-at.stamp c.args.shared.value
-    c.in_ok-at.ensures.ok c.index_mut-2.ensures.value
-    c.requires.shared c.in_ok-at.ensures.answer.1 c.append.ensures))
-    (single_whole old c.self.invariant client colour node.text may may_true)
+    let call = read (goal.at.invariant_of-self-2 c).After-index_mut in
+    subst IsWhole (sym (kept_after call c.in_ok-placed.ensures.ok c.index_mut-2.ensures.value c.requires.shared
+    (ap (λ (p : Placed). p.stamp) c.in_ok-placed.ensures.answer) c.append.ensures)) (kept_whole call)
 
 pub returns-clause-ok : goal.returns-clause-ok
 returns-clause-ok c =
-    let i = c.self.inside in
-    let old : WorldView = record {
-      shape = i.shape;
-      clients = i.clients.items;
-      board = i.board;
-      columns = i.regions.items;
-    } in
-    let back = sym c.self.view_is in
-    let client = c.args.client in
-    let colour = c.args.colour in
-    let home = c.args.home in
-    let node : Node = c.args.node.value in
-    let may_true = subst (λ (k : WorldView). may_single (world_of k) client colour ≡ true) back c.requires.may in
-    let may = may_single_is old client colour may_true in
-    let home_is = subst (λ (k : WorldView). home_of (world_of k) client ≡ home) back c.requires.home in
-    let node_is = subst (λ (k : WorldView). node ≡ next_single (client_at k client) client home colour node.text) back
-    c.requires.node in
-    ap world_of (kept_after old c.self.invariant client colour may home home_is c.index_mut.result.now
-    c.index_mut.ensures.value node node_is
-    c.single.new.self c.index_mut-2.result.now c.append.new.self c.in_ok-at.stamp c.args.shared.value
-    c.in_ok-at.ensures.ok c.index_mut-2.ensures.value
-    c.requires.shared c.in_ok-at.ensures.answer.1 c.append.ensures)
-    ∙ (single_world old c.self.invariant client colour node.text may
-    ∙ ap (λ (k : WorldView). after_single (world_of k) client colour node.text) c.self.view_is)
+    let call = read (goal.at.returns-clause-ok c).After-index_mut in
+    ap world_of (kept_after call c.in_ok-placed.ensures.ok c.index_mut-2.ensures.value c.requires.shared
+    (ap (λ (p : Placed). p.stamp) c.in_ok-placed.ensures.answer) c.append.ensures)
+    ∙ (kept_world call
+    ∙ ap (λ (k : WorldView). after_single (world_of k) c.args.client c.args.colour c.args.node.value.text)
+    c.self.view_is)
 
-pub returns-clause-reply : goal.returns-clause-reply
-returns-clause-reply c =
-    let i = c.self.inside in
-    let old : WorldView = record {
-      shape = i.shape;
-      clients = i.clients.items;
-      board = i.board;
-      columns = i.regions.items;
-    } in
-    let back = sym c.self.view_is in
-    let client = c.args.client in
-    let colour = c.args.colour in
-    let home = c.args.home in
-    let node : Node = c.args.node.value in
-    let may_true = subst (λ (k : WorldView). may_single (world_of k) client colour ≡ true) back c.requires.may in
-    let may = may_single_is old client colour may_true in
-    let home_is = subst (λ (k : WorldView). home_of (world_of k) client ≡ home) back c.requires.home in
-    let node_is = subst (λ (k : WorldView). node ≡ next_single (client_at k client) client home colour node.text) back
-    c.requires.node in
-    reply_same old c.self.invariant client colour may home home_is c.index_mut.result.now c.index_mut.ensures.value
-    node node_is c.in_ok-at.at c.in-Event.place c.in_ok-at.stamp c.in-Event.is c.in_ok-at.ensures.answer.0
-    c.in_ok-at.ensures.answer.1
-    ∙ ap (λ (k : WorldView). event_reply (world_of k) home colour (single_stamp (world_of k) client colour))
-    c.self.view_is
+pub returns-clause-placed : goal.returns-clause-placed
+returns-clause-placed c =
+    placed_same (read (goal.at.returns-clause-placed c).After-index_mut) c.in_ok-placed.ensures.answer
+    ∙ ap (λ (k : WorldView). event_reply (world_of k) c.args.home c.args.colour
+    (single_stamp (world_of k) c.args.client c.args.colour)) c.self.view_is
 
 pub invariant_of-self : goal.invariant_of-self
 invariant_of-self c =
-    let i = c.self.inside in
-    let old : WorldView = record {
-      shape = i.shape;
-      clients = i.clients.items;
-      board = i.board;
-      columns = i.regions.items;
-    } in
-    subst (λ (cs : List (List ColumnState)). IsWhole (record old { columns = cs }))
-    (sym (refused i.regions.items c.args.home c.index_mut.result.now c.single.new.self c.index_mut.ensures.value
-    c.in_err-at.ensures.err))
-    c.self.invariant
+    subst (λ (cs : List (List ColumnState)). IsWhole (record (view_of c.self.inside) { columns = cs }))
+    (sym (put_back c.args.home refl c.index_mut.ensures.value c.in_err-placed.ensures.err)) c.self.invariant
 
-pub returns-in_err-at-clause-err : goal.returns-in_err-at-clause-err
-returns-in_err-at-clause-err c =
-    let i = c.self.inside in
-    let old : WorldView = record {
-      shape = i.shape;
-      clients = i.clients.items;
-      board = i.board;
-      columns = i.regions.items;
-    } in
+pub returns-in_err-placed-clause-err : goal.returns-in_err-placed-clause-err
+returns-in_err-placed-clause-err c =
     on_err c.from_residual.result _
-    (ap (λ (cs : List (List ColumnState)). record old { columns = cs })
-    (refused i.regions.items c.args.home c.index_mut.result.now c.single.new.self c.index_mut.ensures.value
-    c.in_err-at.ensures.err)
-    ∙ c.self.view_is)
+    (ap (λ (cs : List (List ColumnState)). record (view_of c.self.inside) { columns = cs })
+    (put_back c.args.home refl c.index_mut.ensures.value c.in_err-placed.ensures.err) ∙ c.self.view_is)

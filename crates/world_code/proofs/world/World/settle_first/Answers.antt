@@ -31,10 +31,10 @@ loop-colour-preserved c =
     elim c.if-taken-gt0.branch [
       | then-taken-gt0+then-has v ↦ record {
         taken = taken_as w (settles_below by row set (n + 1)) limit _ _ _ _
-            (taken_more w w1 (world_of v.settle-reply.new.self) (settles_below by row set n)
+            (taken_more w w1 (world_of v.settle.new.self) (settles_below by row set n)
             (settles_below by row set (n + 1)) (Settle by row n) limit t.done t.left before v.if-taken-gt0.true
-            (settles_with by row set n (sym v.has.ensures ∙ v.if-has.true)) v.settle-reply.ensures.world
-            v.done_count.result (v.done_count.ensures.count ∙ ap done_count v.settle-reply.ensures.reply))
+            (settles_with by row set n (sym v.has.ensures ∙ v.if-has.true)) v.settle.ensures.world
+            v.done_count.result (v.done_count.ensures.count ∙ ap done_count (v.place_reply-reply.ensures ∙ v.settle.ensures.reply)))
             (ap world_of v.self-is) v.taken-is;
         few = (let one = v.done_count.ensures.few in let some = v.if-taken-gt0.true in
             subst (λ (x : Taken). x.done + x.left ≤ limit) (sym v.taken-is) (omega (arith, le, one, some)));
