@@ -1,4 +1,4 @@
-use Rattle.std.proofs.Common.{ℕ, sym, refl, subst, ◌∙◌, ◌<◌}
+use Rattle.std.proofs.Common.{sym, refl, subst, ◌∙◌, ◌<◌}
 use Rattle.stamp_board.specs.declared.view.Size.{Size}
 use Rattle.stamp_board.proofs.Telling.{joined_grows, joined_learns, joined_agree, joined_own}
 use Rattle.stamp_board.proofs.board.Board.hear.Goals as goal
