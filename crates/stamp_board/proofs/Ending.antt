@@ -17,26 +17,24 @@ use Rattle.log_node.specs.declared.ids.Row.{Row}
 use Rattle.skeen_core.specs.declared.marks.ColourMark.{ColourMark}
 use Rattle.stamp_board.specs.declared.view.Size.{Size}
 use Rattle.stamp_board.specs.declared.view.View.{View}
+use Rattle.stamp_board.specs.declared.board.Board.{Board}
 use Rattle.stamp_board.specs.declared.seats.Seat.{Seat}
 use Rattle.stamp_board.specs.declared.seats.ColumnSeat.{ColumnSeat}
-use Rattle.stamp_board.specs.Words.{row_at, word_at, words_of, owner_of, mark_from}
+use Rattle.stamp_board.specs.Words.{row_at, word_at, owner_of, mark_from}
 use Rattle.stamp_board.specs.Rows.{IsRow, AreColours, colours_in, mark_in}
 use Rattle.stamp_board.specs.Views.{at}
 use Rattle.stamp_board.specs.Law.{Fits, Lawful, Kept}
-use Rattle.stamp_board.specs.Seats.{seen, column_seen}
+use Rattle.stamp_board.specs.Seats.{AreClientsOf, AreColumnsOf, seen, column_seen}
 use Rattle.stamp_board.specs.Closing.{Closes, rows_begun, all_begun}
 use Rattle.stamp_board.specs.Inside.{IsIn, Gathered}
 use Rattle.stamp_board.proofs.Places.{owner_of_mark, owner_of_row}
 use Rattle.stamp_board.proofs.Keeps.{fits}
 use Rattle.stamp_board.proofs.Possible.{may_be}
 
-take_suc : (l : List ℕ) (i x : ℕ) → get_elem? l i ≡ some x → take (suc i) l ≡ take i l ++ x ∷ []
-take_suc [] i x e = absurd (some-ne-none x (sym e))
-take_suc (y ∷ ys) zero x e = ap (λ (z : ℕ). z ∷ []) (some-injective y x e)
-take_suc (y ∷ ys) (suc i) x e = ap (λ (l : List ℕ). y ∷ l) (take_suc ys i x e)
-
-pub take_more : (l : List ℕ) (i x : ℕ) → get_elem? l i ≡ some x → take (i + 1) l ≡ take i l ++ x ∷ []
-take_more l i x e = ap (λ (n : ℕ). take n l) (add-one i) ∙ take_suc l i x e
+pub found_at : (l : List ℕ) (i x : ℕ) → get_elem? l i ≡ some x → get_or l i 0 ≡ x
+found_at [] i x e = absurd (some-ne-none x (sym e))
+found_at (y ∷ ys) zero x e = some-injective y x e
+found_at (y ∷ ys) (suc i) x e = found_at ys i x e
 
 -- a colour with its mark in the row
 abbrev pub marked : Size → List ℕ → Row → ℕ → ColourMark
@@ -76,13 +74,11 @@ ok_also (Err e) P Q f h = tt
 
 -- what the rule says of the last words
 pub last_words : (key k : Size) → key ≡ k → (id : ℕ) (v : View) (ws : List ℕ) (xs : List Node)
-    → Final (Seen (Kept key) id v) ws xs → (length ws ≡ words_of k) × Lawful k ws × Fits k ws v
+    → Final (Seen (Kept key) id v) ws xs → Lawful k ws × Fits k ws v
 last_words key k same id v ws xs f =
     let kept = f.1.0 in
-    let a : (length f.0.words ≡ words_of k) × Lawful k f.0.words × Fits k f.0.words v
-    = subst (λ (z : Size). (length f.0.words ≡ words_of z) × Lawful z f.0.words × Fits z f.0.words v) same
-    (kept.long, kept.lawful, fits key f.0 kept id v f.1.1) in
-    subst (λ (z : List ℕ). (length z ≡ words_of k) × Lawful k z × Fits k z v) f.2 a
+    subst (λ (z : Size × List ℕ). Lawful z.0 z.1 × Fits z.0 z.1 v) (λ i. (same i, f.2 i))
+    (kept.lawful, fits key f.0 kept id v f.1.1)
 
 pub same_seats : (k : Size) (v : View) {ss ss' : List Seat} {cs cs' : List ColumnSeat} → ss ≡ ss' → cs ≡ cs'
     → Gathered k ss cs v → Gathered k ss' cs' v
@@ -105,7 +101,7 @@ module _ (k : Size) (ws : List ℕ) (ss : List Seat) (cs : List ColumnSeat) (v :
       let owner : owner_of k i ≡ 1 + n = owner_of_row k r l in sym (f.mine i (omega arith, omega arith, omega arith))
       ∙ (in_seat n s here).mine i owner
 
-  pub closes : ((n : ℕ) (s : Seat) → slice_get ss n ≡ Some s → ((seen s).size ≡ k) × (s.client ≡ n))
+  closes : ((n : ℕ) (s : Seat) → slice_get ss n ≡ Some s → ((seen s).size ≡ k) × (s.client ≡ n))
       → ((n : ℕ) (c : ColumnSeat) → slice_get cs n ≡ Some c → ((column_seen c).size ≡ k) × (c.colour ≡ n))
       → Closes k ws v ss cs
   closes are are_columns = record {
@@ -127,7 +123,7 @@ module _ (k : Size) (ws : List ℕ) (ss : List Seat) (cs : List ColumnSeat) (v :
   }
 
 -- each row that the seats have begun is one of the board's, and is begun for two colours or more
-pub rows_stand : (k : Size) (ws : List ℕ) (v : View) (ss : List Seat) (cs : List ColumnSeat) → Closes k ws v ss cs
+rows_stand : (k : Size) (ws : List ℕ) (v : View) (ss : List Seat) (cs : List ColumnSeat) → Closes k ws v ss cs
     → length ss ≡ k.clients
     → ((n : ℕ) (s : Seat) → slice_get ss n ≡ Some s → ((seen s).size ≡ k) × (s.client ≡ n))
     → All (λ row. IsRow k row × AreColours k (colours_in k ws row)) (all_begun ss)
@@ -142,3 +138,18 @@ rows_stand k ws v ss cs closed many are = all_of_seats (λ row. IsRow k row × A
       subst (λ (m : ℕ). AreColours k (colours_in k ws (row m))) (sym client)
           (closed.board.colours (row n) ((closed.begun n s here j inside).1 lt)),
     ))
+
+module _ (b : Board) (ws : List ℕ) (ss : List Seat) (cs : List ColumnSeat) (v : View)
+    (counts : (length ss ≡ b.size.clients) × (length cs ≡ b.size.colours)) (clients : AreClientsOf b ss) where
+  named : (n : ℕ) (s : Seat) → slice_get ss n ≡ Some s → ((seen s).size ≡ b.size) × (s.client ≡ n)
+  named n s here = let q = clients n s here in (q.0.1, q.2)
+
+  -- what the board closes with, of its last words and of the seat that has taken in all others
+  pub closes_with : AreColumnsOf b cs → Lawful b.size ws × Fits b.size ws v → Gathered b.size ss cs v
+      → (v.low ≡ 1) × (v.high ≡ 1 + b.size.clients + b.size.colours) → Closes b.size ws v ss cs
+  closes_with columns is g parts = closes b.size ws ss cs v is.0 is.1 g parts.0 parts.1 counts.0 counts.1 named
+      (λ n c here. let q = columns n c here in (q.0.1, q.1))
+
+  pub closed_rows : Closes b.size ws v ss cs
+      → All (λ row. IsRow b.size row × AreColours b.size (colours_in b.size ws row)) (all_begun ss)
+  closed_rows all = rows_stand b.size ws v ss cs all counts.0 named

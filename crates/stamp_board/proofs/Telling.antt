@@ -1,15 +1,16 @@
 -- What a seat knows after it has taken in another.
-use Rattle.std.proofs.Common.{◌≡◌, ℕ, ◌+◌, sym, refl, ap, ◌∙◌, subst}
+use Rattle.std.proofs.Common.{◌≡◌, ◌≢◌, ◌<◌, arith, ℕ, ◌+◌, sym, refl, ap, ◌∙◌, subst}
 use Rattle.log_node.specs.declared.ids.Row.{Row}
 use Rattle.log_node.specs.declared.node.Node.{Node}
 use Rattle.stamp_board.specs.declared.view.Size.{Size}
 use Rattle.stamp_board.specs.declared.view.View.{View}
 use Rattle.skeen_core.specs.declared.marks.Mark.{Mark}
 use Rattle.skeen_core.specs.declared.marks.Outcome.{Outcome}
-use Rattle.stamp_board.specs.Words.{row_at, word_at, mark_from, outcome_from}
-use Rattle.stamp_board.specs.Views.{Agree, Has, Grows, Learns, KnowsBegun, KnowsWord, KnowsMark, KnowsOutcome}
+use Rattle.stamp_board.specs.Words.{owner_of, row_at, word_at, mark_from, outcome_from}
+use Rattle.stamp_board.specs.Views.{Agree, at, Has, Grows, Learns, KnowsBegun, KnowsWord, KnowsMark, KnowsOutcome}
 use Rattle.stamp_board.specs.Law.{Told, heard, both}
 use Rattle.stamp_board.proofs.Knowing.{Has-left, Has-right, heard_grows, heard_mine}
+use Rattle.stamp_board.proofs.Places.{owner_of_row}
 use Rattle.stamp_board.proofs.CallerLemmas.{Grows-trans}
 
 pub both_grows : (v w : View) → Grows v (both v w)
@@ -58,3 +59,16 @@ module _ (v w u : View) (n : ℕ) (is : u ≡ heard (both v w) 0 n) (tells : Tol
 
   pub joined_agree : v.size ≡ w.size → Agree v w
   joined_agree same = record { node = joined_nodes same; mark = joined_marks same; outcome = joined_outcomes same }
+
+  -- a row of the seat's own client that the other one knows as begun is one that the seat has begun
+  pub joined_own : v.size ≡ w.size → (row : Row) (x : Node) → row.number < v.size.rows → v.low ≡ 1 + row.client
+      → v.high ≡ 2 + row.client → KnowsBegun w row x → at v.mine (word_at v.size (row_at v.size row) 0) ≢ 0
+  joined_own same row x lt low high h none =
+      let r = row_at v.size row in
+      let b = tells.2.begun r x (Has-right v.begun w.begun r x
+      (subst (λ (z : Size). Has w.begun (row_at z row) x) (sym same) h)) in
+      let owner : owner_of v.size (word_at v.size r 0) ≡ 1 + row.client = owner_of_row v.size row lt in
+      let m = tells.2.mine (word_at v.size r 0) (omega (arith, owner), omega (arith, owner, low), omega (arith, owner, high)) in
+      let some = b.0 in
+      let is = b.1 in
+      let f : ⊥ = omega (arith, m, none, some, is) in f

@@ -5,6 +5,7 @@ mod begins;
 mod blank;
 mod board;
 mod close;
+mod closed_words;
 mod decide;
 mod gather;
 mod law;

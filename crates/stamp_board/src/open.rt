@@ -77,7 +77,7 @@ impl Board {
     }
 
     /// A board whose rows are not begun, with a seat for each client and one for each colour. Each client has `rows`
-    /// rows.
+    /// rows. Each word of each row is written here, so the caller asks for no more rows than can be begun.
     pub fn open(
         alloc: Global,
         clients: u8,

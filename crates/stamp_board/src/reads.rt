@@ -49,6 +49,8 @@ impl Board {
         ensures seat { IsLaterColumn seat.old seat.new }
         ensures none { SetsNone seat.old seat.new }
         ensures mark { result ≡ set_mark seat.old row }
+        ensures value { let k = self.now.size in
+            Possibly k (column_seen seat.new) (λ ws. mark_in k ws row seat.old.colour ≡ result) }
         ensures known { result ≢ Mark.None → KnowsMark (column_seen seat.new) row seat.old.colour result }
         ensures before { (m : Mark) → KnowsMark (column_seen seat.old) row seat.old.colour m → result ≡ m }
         ensures stamp { IsMark result }

@@ -1,8 +1,9 @@
 // What seats tell one another.
 ghost use Rattle.std.specs.Prelude.{◌≡◌, ℕ, ◌<◌, []};
-ghost use Rattle.stamp_board.specs.Views.{Agree, Learns, told};
+ghost use Rattle.log_node.specs.declared.node.Node.{Node};
+ghost use Rattle.stamp_board.specs.Views.{Agree, KnowsBegun, Learns, told};
 ghost use Rattle.stamp_board.specs.Law.{Joins, lowest, others};
-ghost use Rattle.stamp_board.specs.Seats.{IsSeatOf, IsColumnOf, IsLater, IsLaterColumn, IsNote, SetsNone};
+ghost use Rattle.stamp_board.specs.Seats.{IsSeatOf, IsClients, IsColumnOf, IsLater, IsLaterColumn, IsNote, SetsNone};
 ghost use Rattle.stamp_board.specs.Seats.{seen, column_seen};
 ghost use Rattle.stamp_board.specs.Inside.{IsOf, Stays};
 
@@ -66,12 +67,14 @@ impl Board {
     }
 
     /// The seat then knows what both knew. What both knew of a row is the same: no two seats know one row as begun for
-    /// two nodes.
+    /// two nodes, and the rows of the seat's own client that the other one knows as begun are those that the seat began.
     pub fn hear(&self, seat: &mut Seat, other: Seat)
         requires { IsSeatOf self.now seat.old × IsSeatOf self.now other }
         ensures seat { IsLater seat.old seat.new }
         ensures learns { Learns (seen other) (seen seat.new) }
         ensures agree { Agree (seen seat.old) (seen other) }
+        ensures own { IsClients self.now seat.old → (j : ℕ) (x : Node) → j < self.now.size.rows
+            → KnowsBegun (seen other) (record { client = seat.old.client; number = j }) x → j < seat.old.used }
     {
         let Seat {
             client: _,

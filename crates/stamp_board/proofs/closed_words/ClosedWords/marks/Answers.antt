@@ -1,21 +1,25 @@
-use Rattle.std.proofs.Common.{◌≡◌, ℕ, ◌/◌, ◌%◌, ◌^◌, ◌≤◌, ◌∷◌, ◌++◌, [], true, false, get_or, sym, ap, ◌∙◌}
+use Rattle.std.proofs.Common.{◌≡◌, ℕ, ◌/◌, ◌%◌, ◌^◌, ◌≤◌, ◌∷◌, ◌++◌, [], true, false, sym, ap, ◌∙◌}
 use Rattle.std.proofs.Common.{arith, eq-eqb, ne_eqb}
+use Rattle.std.specs.Mem.Slots.{slots_items}
 use Rattle.skeen_core.specs.declared.marks.ColourMark.{ColourMark}
 use Rattle.stamp_board.specs.Words.{mark_from}
 use Rattle.stamp_board.specs.Rows.{colours_in}
 use Rattle.stamp_board.proofs.Colours.{has_bit, below, below_skip, below_one, below_members}
 use Rattle.stamp_board.proofs.Ending.{marked}
-use Rattle.stamp_board.proofs.close.marks_of.Goals as goal
-use Rattle.stamp_board.proofs.close.marks_of.Goals.{then-bits-colour-eq1+in_ok-push, else-bits-colour-eq1}
+use Rattle.stamp_board.proofs.closed_words.ClosedWords.marks.Goals as goal
+use Rattle.stamp_board.proofs.closed_words.ClosedWords.marks.Goals.{
+  then-bits-colour-eq1+in_ok-push,
+  else-bits-colour-eq1,
+}
 
 pub loop-colour-preserved : goal.loop-colour-preserved
-loop-colour-preserved c = let ws = c.args.words.now in let l = c.loop-colour in
-    let bits : ℕ = get_or ws c.index.result 0 in let f = marked c.args.size ws c.args.row in
+loop-colour-preserved c = let b = c.args.self.now in let l = c.loop-colour in let bits : ℕ = c.word-bits.result in
+    let f = marked b.size (slots_items b.closed.words) c.args.row in
     elim c.if-bits-colour-eq1.branch [
       | then-bits-colour-eq1+in_ok-push w ↦
           let bit : has_bit bits l.colour ≡ true = eq-eqb (bits / 2 ^ l.colour % 2) 1 w.if-bits-colour-eq1.true in
           let mark : w.mark_of-mark.result ≡ (f l.colour).mark = w.mark_of-mark.ensures
-          ∙ ap (λ (z : ℕ). mark_from (get_or ws z 0)) w.index-then-bits-colour-eq1.ensures.word in
+          ∙ ap mark_from w.word.ensures in
           w.marks-is ∙ w.in_ok-push.ensures.ok
           ∙ (λ i. l.invariant i ++ (let m : ColourMark = record { colour = l.colour; mark = mark i } in m) ∷ [])
           ∙ sym (below_one f bits l.colour bit)
@@ -25,11 +29,9 @@ loop-colour-preserved c = let ws = c.args.words.now in let l = c.loop-colour in
     ]
 
 pub returns : goal.returns
-returns c = let k = c.args.size in let ws = c.args.words.now in let l = c.loop-colour in
+returns c = let b = c.args.self.now in let k = b.size in let ws = slots_items b.closed.words in let l = c.loop-colour in
     let f = marked k ws c.args.row in
-    let a = l.auto.colour-end in let b = c.loop-colour-test.false in let last : l.colour ≡ k.colours = omega arith in
-    let bits : get_or ws c.index.result 0 ≡ (colours_in k ws c.args.row).0 = ap (λ (z : ℕ). get_or ws z 0)
-    c.index.ensures.word in
-    let few : k.colours ≤ 64 = (let most = c.requires.size.1 in omega arith) in
-    l.invariant ∙ (λ i. below f (bits i) (last i))
+    let a = l.auto.colour-end in let d = c.loop-colour-test.false in let last : l.colour ≡ k.colours = omega arith in
+    let few : k.colours ≤ 64 = (let most = b.is_size in omega arith) in
+    l.invariant ∙ (λ i. below f (c.word-bits.ensures i) (last i))
     ∙ sym (below_members f (colours_in k ws c.args.row) k.colours few c.requires.colours.within)
