@@ -34,7 +34,8 @@ use Rattle.script_text.proofs.KnownLaws.{IsLawful, known_push, lawful_start, law
 use Rattle.script_text.specs.Laws.{Follows, Tells}
 use Rattle.script_text.proofs.HeaderLaws.{parts, header_ok, version_read, regions_read, colours_read, rows_read, client_read, declared_is, declared_read, begin_read}
 use Rattle.script_text.proofs.CommandLaws.{command_ok, command_read, may_ask}
-use Rattle.script_text.proofs.FullLaws.{any_empty, says_full}
+use Rattle.script_text.proofs.FullLaws.{any_empty}
+use Rattle.script_text.proofs.SaysFull.{says_full}
 use Rattle.script_text.proofs.TestLaws.{Tests, tests_ok, tests_refuse, tests_last}
 use Rattle.script_text.proofs.FaultLaws.{header_line_tests, command_line_tests}
 

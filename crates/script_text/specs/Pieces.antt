@@ -17,6 +17,11 @@ fields_of line = slice_split (λ b. b == 32) line
 abbrev pub names_in : List ℕ → List (List ℕ)
 names_in cols = slice_split (λ b. b == 44) cols
 
+-- the first field, or nothing
+abbrev pub first_in : List (List ℕ) → List ℕ
+first_in [] = []
+first_in (field ∷ fields) = field
+
 abbrev pub is_between : ℕ → ℕ → ℕ → Bool
 is_between low high n = nat_le low n && nat_le n high
 

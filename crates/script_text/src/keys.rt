@@ -98,13 +98,12 @@ pub fn pairs_at(alloc: Global, fields: &[&[u8]]) -> Result<Pairs, Fault>
     Ok(pairs)
 }
 
-/// A number of at most so many digits.
+/// A number of steps, of at most three digits.
 #[tactic(auto, unfolding(crate::specs::Readings::digits_at))]
-pub fn digits_at(most: usize, field: &[u8]) -> Result<u64, Fault>
-    requires { most ≤ 10 }
-    ensures { Gives result (digits_at most field.now) }
+pub fn steps_at(field: &[u8]) -> Result<u64, Fault>
+    ensures { Gives result (digits_at 3 field.now) }
 {
-    if !is_number(most, field) {
+    if !is_number(3, field) {
         return Err(Fault::Refused(Reason::BadNumber));
     }
     Ok(number_value(field))

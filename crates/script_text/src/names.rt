@@ -81,7 +81,7 @@ pub fn colour_numbers(alloc: Global, names: &[Text], fields: &[&[u8]]) -> Result
 }
 
 /// The set of these colours.
-pub fn set_of(colours: &[u8]) -> Colours
+fn set_of(colours: &[u8]) -> Colours
     requires { All (λ c. c < 16) colours.now }
     ensures { result ≡ set_of colours.now }
 {
@@ -93,7 +93,7 @@ pub fn set_of(colours: &[u8]) -> Colours
 }
 
 /// The numbers of the colours whose names stand between commas.
-pub fn cols_at(alloc: Global, names: &[Text], cols: &[u8]) -> Result<ColourList, Fault>
+fn cols_at(alloc: Global, names: &[Text], cols: &[u8]) -> Result<ColourList, Fault>
     requires { length names.now ≤ 16 }
     ensures value { Gives result (colours_at names.now (names_in cols.now)) }
     ensures below { IfOk result (All (λ c. c < 16)) }
@@ -103,14 +103,15 @@ pub fn cols_at(alloc: Global, names: &[Text], cols: &[u8]) -> Result<ColourList,
     colour_numbers(alloc, names, &fields)
 }
 
-/// The set of the colours whose names stand between commas.
+/// The set of the colours whose names stand between commas, and their number.
 #[tactic(auto, unfolding(crate::specs::Readings::colour_set_at))]
-pub fn colour_set(alloc: Global, names: &[Text], cols: &[u8]) -> Result<Colours, Fault>
+pub fn colour_set(alloc: Global, names: &[Text], cols: &[u8]) -> Result<(Colours, usize), Fault>
     requires { length names.now ≤ 16 }
-    ensures { Gives result (colour_set_at names.now cols.now) }
+    ensures value { Gives result (colour_set_at names.now cols.now) }
+    ensures few { IfOk result (λ s. s.1 ≤ 16) }
 {
     let colours = cols_at(alloc, names, cols)?;
-    Ok(set_of(colours.as_slice()))
+    Ok((set_of(colours.as_slice()), colours.len()))
 }
 
 /// A node's text.
