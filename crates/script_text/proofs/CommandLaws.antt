@@ -36,17 +36,9 @@ use Rattle.script_text.proofs.KnownLaws.{IsLawful, stopped_among}
 use Rattle.script_text.specs.Laws.{Follows}
 use Rattle.script_text.proofs.HeaderLaws.{parts}
 use Rattle.script_text.proofs.FullLaws.{is_empty, any_empty}
-use Rattle.script_text.proofs.KindLaws.{kind_ok, kind_again, kind_full}
+use Rattle.script_text.proofs.KindLaws.{find_passes, all_ok, all_again}
 
 -- ---- words
-
-find_passes : {X : Type 0} (p : X → Bool) (xs : List X) (x : X) → find p xs ≡ Some x → p x ≡ true
-find_passes p [] x e = absurd cc
-find_passes p (y ∷ ys) x e =
-    elim (cases_Bool (p y)) [
-      | inl same ↦ let h = rw same at e in let k : y ≡ x = cc in rw (← k) same
-      | inr other ↦ find_passes p ys x (rw other at e)
-    ]
 
 pub word_ok : (field : List ℕ) (word : Word) → word_at field ≡ Some word → field ≡ word_text word
 word_ok field word e = (bytes_eq-Decides field (word_text word)).0 (find_passes (λ w. bytes_eq field (word_text w)) WORDS word e)
@@ -101,43 +93,6 @@ word_full words.Read = refl
 word_full words.Commit = refl
 word_full words.Enq = refl
 word_full words.Deq = refl
-
--- ---- the fields after the word
-
-no_fields : (args : List (List ℕ)) → eqb (length args) 0 ≡ true → args ≡ []
-no_fields [] h = refl
-no_fields (a ∷ args) h = let e = eqb-true (suc (length args)) 0 h in absurd (omega (arith, e))
-
-all_ok : (before : List Item) (row : List Field) (args : List (List ℕ)) (given last : Given) → fits row args ≡ true → given_at (known_of before) row args given ≡ Ok last
-    → SpellAll before row args given last
-unfolding given_at
-all_ok before [] args given last h e = (no_fields args h, sym (ok_is given last e))
-all_ok before (field ∷ row) args given last h e =
-    let p = and_parts (has field (own_fields field args)) (fits row (later_fields field args)) h in
-    let b = bind_ok (taken_at (known_of before) field (own_fields field args) given) (λ next. given_at (known_of before) row (later_fields field args) next) last e in
-    (b.0, kind_ok before field args given b.0 p.0 b.1, all_ok before row (later_fields field args) b.0 last p.1 b.2)
-
-all_again : (before : List Item) (row : List Field) (args : List (List ℕ)) (given last : Given) → IsLawful (known_of before) → SpellAll before row args given last
-    → (fits row args ≡ true) × (given_at (known_of before) row args given ≡ Ok last)
-unfolding given_at
-all_again before [] args given last l s = (rw s.0 refl, rw s.1 refl)
-all_again before (field ∷ row) args given last l s =
-    let k = kind_again before field (own_fields field args) given s.0 l s.1 in
-    let r = all_again before row (later_fields field args) s.0 last l s.2 in
-    (rw (k.0, r.0) refl, rw k.1 r.1)
-
-own_later : (most : Option ℕ) (args : List (List ℕ)) → own_in most args ++ later_in most args ≡ args
-own_later None [] = refl
-own_later None (a ∷ args) = refl
-own_later (Some most) args = append-nil args
-
-pub all_full : (before : List Item) (row : List Field) (args : List (List ℕ)) (given last : Given) → IsLawful (known_of before) → SpellAll before row args given last → any_empty args ≡ false
-all_full before [] args given last l s = rw s.0 refl
-all_full before (field ∷ row) args given last l s =
-    let own = own_fields field args in
-    let later = later_fields field args in
-    ap any_empty (sym (own_later (at_most field) args)) ∙ list_any-append is_empty own later
-    ∙ ap (λ b. b || any_empty later) (kind_full before field own given s.0 l s.1) ∙ all_full before row later s.0 last l s.2
 
 -- ---- after the fields
 

@@ -9,7 +9,7 @@ use Rattle.script_text.specs.declared.script.Reason.{Reason}
 use Rattle.script_text.specs.declared.script.Reason.TheVariants as reasons
 use Rattle.script_text.specs.declared.script.Word.{Word}
 use Rattle.script_text.specs.declared.script.Word.TheVariants as words
-use Rattle.script_text.specs.declared.script.Kind.TheVariants as kinds
+use Rattle.script_text.specs.declared.table.Sort.{Sort}
 use Rattle.script_text.specs.declared.table.Field.{Field}
 use Rattle.script_text.specs.declared.table.Field.TheVariants as fields
 use Rattle.script_text.specs.declared.table.Kinds.{Kinds}
@@ -23,18 +23,18 @@ use Rattle.script_text.specs.declared.reads.HeldRead.{HeldRead}
 use Rattle.script_text.specs.Pieces.{is_between, is_among, is_number, number_value, number_of, name_of, names_in, first_in}
 use Rattle.script_text.specs.Items.{may_come, region_names, colour_names, client_names, objects, object_names, header_words, stage_of, has_begun, has_stopped, has_read, commands, set_of}
 use Rattle.script_text.specs.Reads.{holds}
-use Rattle.script_text.specs.Table.{word_at, row_fields, last_of, own_fields, later_fields, fits, nothing, what_of}
+use Rattle.script_text.specs.Table.{word_at, row_fields, last_of, own_fields, later_fields, fits, nothing, what_of, sort_fields, sort_at, kind_of}
 use Rattle.script_text.specs.Faults.{when, each_field, new_name, region_field, colour_field, colour_fields, field_at, kind_tests, field_tests, last_tests, word_tests, command_tests, is_full, header_tests, object_tests}
 use Rattle.script_text.specs.Kept.{known_of}
-use Rattle.script_text.specs.Readings.{◌>>=◌, refuse, found_or, each_at, new_name_at, number_at, colours_at, colour_set_at, text_at, pair_at, digits_at, object_at, with_none, with_one, with_two, with_three, with_two_others}
-use Rattle.script_text.specs.HeaderReadings.{version_at, regions_at, colour_line_at, rows_at, client_named_at, client_at, object_names_in, object_name_at, sharded_at, map_at, tx_at, causal_at, queue_at, declared_at, headed_at, header_at}
+use Rattle.script_text.specs.Readings.{◌>>=◌, refuse, found_or, each_at, new_name_at, number_at, colours_at, colour_set_at, text_at, pair_at, digits_at, object_at, with_none, with_one, with_two}
+use Rattle.script_text.specs.HeaderReadings.{version_at, regions_at, colour_line_at, rows_at, client_named_at, client_at, object_names_in, object_name_at, sorted_at, declared_at, headed_at, header_at}
 use Rattle.script_text.specs.CommandReadings.{taken_at, given_at, ended_well, what_at, worded_at, asked_at, caller_at, command_at}
 use Rattle.script_text.proofs.EachLemmas.{bind_ok, refused_ok, ok_is}
 use Rattle.script_text.proofs.NameLemmas.{named, found_ok}
 use Rattle.script_text.proofs.FieldLaws.{digits_ok, object_number}
 use Rattle.script_text.proofs.ReadLaws.{held_is}
 use Rattle.script_text.proofs.KnownLaws.{stopped_among}
-use Rattle.script_text.proofs.TestLaws.{Tests, tests_ok, tests_refuse, tests_then, tests_last, tests_same, is_found, among_number, number_tests, new_name_tests, each_tests, colours_tests, none_tests, one_tests, two_tests, three_tests, two_others_tests}
+use Rattle.script_text.proofs.TestLaws.{Tests, tests_ok, tests_refuse, tests_then, tests_last, tests_same, is_found, among_number, number_tests, new_name_tests, each_tests, colours_tests, none_tests, one_tests, two_tests}
 use Rattle.script_text.proofs.HeaderLaws.{same_word}
 use Rattle.script_text.proofs.KindLaws.{order_at, order_ok, put_number, put_colours, put_set, put_object, put_text, put_pairs, kind_faults}
 
@@ -71,50 +71,26 @@ object_name_tests : (before : List Item) (field : List ℕ) → Tests (when (is_
 unfolding object_name_at
 object_name_tests before field = tests_refuse (is_full before) reasons.BadForm (new_name (object_names before) field) (new_name_at (object_names before) field) (λ _. new_name_tests (object_names before) field)
 
-causal_tests : (before : List Item) (args : List (List ℕ)) → Tests (when (not (eqb (length args) 2)) reasons.BadForm ∷ object_tests before args (colour_field before (field_at args 1))) (with_two (causal_at (known_of before)) args)
-unfolding causal_at
-causal_tests before args =
-    two_tests (λ args. object_tests before args (colour_field before (field_at args 1))) (causal_at (known_of before)) (λ a b.
-    tests_then (when (is_full before) reasons.BadForm ∷ new_name (object_names before) a) (colour_field before b) (object_name_at (known_of before) a)
-    (λ name. number_at reasons.UnknownColour (colour_names before) b >>= λ n. Ok (items.Declared (record { name = name; kind = kinds.Causal n }))) (object_name_tests before a) (λ name e.
-    tests_last (colour_field before b) (number_at reasons.UnknownColour (colour_names before) b) (λ n. items.Declared (record { name = name; kind = kinds.Causal n })) (number_tests reasons.UnknownColour (colour_names before) b))) args
+fields_faults : (before : List Item) (row : List Field) (args : List (List ℕ)) (given : Given) → Tests (field_tests before row args) (given_at (known_of before) row args given)
+unfolding given_at
+fields_faults before [] args given = tests_ok given
+fields_faults before (field ∷ row) args given =
+    tests_then (kind_tests before field (own_fields field args)) (field_tests before row (later_fields field args)) (taken_at (known_of before) field (own_fields field args) given)
+    (λ next. given_at (known_of before) row (later_fields field args) next) (kind_faults before field (own_fields field args) given) (λ next e. fields_faults before row (later_fields field args) next)
 
-queue_tests : (before : List Item) (args : List (List ℕ))
-    → Tests (when (not (eqb (length args) 3)) reasons.BadForm ∷ object_tests before args (region_field before (field_at args 1) ++ colour_field before (field_at args 2))) (with_three (queue_at (known_of before)) args)
-unfolding queue_at
-queue_tests before args =
-    three_tests (λ args. object_tests before args (region_field before (field_at args 1) ++ colour_field before (field_at args 2))) (queue_at (known_of before)) (λ a b c.
-    tests_then (when (is_full before) reasons.BadForm ∷ new_name (object_names before) a) (region_field before b ++ colour_field before c) (object_name_at (known_of before) a)
-    (λ name. number_at reasons.UnknownRegion (region_names before) b >>= λ home. number_at reasons.UnknownColour (colour_names before) c >>= λ n. Ok (items.Declared (record { name = name; kind = kinds.Queue home n }))) (object_name_tests before a) (λ name e.
-    tests_then (region_field before b) (colour_field before c) (number_at reasons.UnknownRegion (region_names before) b)
-    (λ home. number_at reasons.UnknownColour (colour_names before) c >>= λ n. Ok (items.Declared (record { name = name; kind = kinds.Queue home n }))) (number_tests reasons.UnknownRegion (region_names before) b) (λ home h.
-    tests_last (colour_field before c) (number_at reasons.UnknownColour (colour_names before) c) (λ n. items.Declared (record { name = name; kind = kinds.Queue home n })) (number_tests reasons.UnknownColour (colour_names before) c)))) args
-
-sharded_tests : (before : List Item) (a b : List ℕ) (args : List (List ℕ))
-    → Tests ((when (is_full before) reasons.BadForm ∷ new_name (object_names before) a) ++ (region_field before b ++ colour_fields before args)) (sharded_at (known_of before) a b args)
-unfolding sharded_at
-sharded_tests before a b args =
-    tests_then (when (is_full before) reasons.BadForm ∷ new_name (object_names before) a) (region_field before b ++ colour_fields before args) (object_name_at (known_of before) a)
-    (λ name. number_at reasons.UnknownRegion (region_names before) b >>= λ home. colours_at (colour_names before) args >>= λ ns. Ok (name, home, ns)) (object_name_tests before a) (λ name e.
-    tests_then (region_field before b) (colour_fields before args) (number_at reasons.UnknownRegion (region_names before) b)
-    (λ home. colours_at (colour_names before) args >>= λ ns. Ok (name, home, ns)) (number_tests reasons.UnknownRegion (region_names before) b) (λ home h.
-    tests_last (colour_fields before args) (colours_at (colour_names before) args) (λ ns. (name, home, ns)) (colours_tests before args)))
-
-map_tests : (before : List Item) (args : List (List ℕ))
-    → Tests (when (not (is_between 3 18 (length args))) reasons.BadForm ∷ object_tests before args (region_field before (field_at args 1) ++ colour_fields before (drop 2 args))) (with_two_others 16 (map_at (known_of before)) args)
-unfolding map_at
-map_tests before args =
-    two_others_tests (λ args. object_tests before args (region_field before (field_at args 1) ++ colour_fields before (drop 2 args))) (map_at (known_of before)) (λ a b args.
-    tests_last ((when (is_full before) reasons.BadForm ∷ new_name (object_names before) a) ++ (region_field before b ++ colour_fields before args)) (sharded_at (known_of before) a b args)
-    (λ s. items.Declared (record { name = s.0; kind = kinds.Map s.1 s.2 })) (sharded_tests before a b args)) args
-
-tx_tests : (before : List Item) (args : List (List ℕ))
-    → Tests (when (not (is_between 3 18 (length args))) reasons.BadForm ∷ object_tests before args (region_field before (field_at args 1) ++ colour_fields before (drop 2 args))) (with_two_others 16 (tx_at (known_of before)) args)
-unfolding tx_at
-tx_tests before args =
-    two_others_tests (λ args. object_tests before args (region_field before (field_at args 1) ++ colour_fields before (drop 2 args))) (tx_at (known_of before)) (λ a b args.
-    tests_last ((when (is_full before) reasons.BadForm ∷ new_name (object_names before) a) ++ (region_field before b ++ colour_fields before args)) (sharded_at (known_of before) a b args)
-    (λ s. items.Declared (record { name = s.0; kind = kinds.Tx s.1 s.2 })) (sharded_tests before a b args)) args
+sorted_tests : (before : List Item) (sort : Sort) (args : List (List ℕ)) → Tests (object_tests before (Some sort) args) (sorted_at (known_of before) sort args)
+unfolding sorted_at
+sorted_tests before sort [] = λ more. refl
+sorted_tests before sort (field ∷ args) =
+    let known = known_of before in
+    let row = sort_fields sort in
+    let name = when (is_full before) reasons.BadForm ∷ new_name (object_names before) field in
+    let later = field_tests before row args in
+    tests_refuse (not (fits row args)) reasons.BadForm (name ++ later) (object_name_at known field >>= λ name. given_at known row args nothing >>= λ g. Ok (declared name g)) (λ _.
+    tests_then name later (object_name_at known field) (λ name. given_at known row args nothing >>= λ g. Ok (declared name g)) (object_name_tests before field) (λ name e.
+    tests_last later (given_at known row args nothing) (declared name) (fields_faults before row args nothing))) where
+      declared : List ℕ → Given → Item
+      declared name g = items.Declared (record { name = name; kind = kind_of sort g })
 
 -- the version may come only before all else
 no_version : (stage : Stage) → is_among (header_words stage) (codes "fuzzylog") ≡ true → stage ≡ stages.Nothing
@@ -127,27 +103,10 @@ no_version stages.Clients h = absurd cc
 no_version stages.Objects h = absurd cc
 no_version stages.Commands h = absurd cc
 
-declared_tests : (before : List Item) (word : List ℕ) (args : List (List ℕ)) → Tests (
-    if bytes_eq word (codes "causal") then
-    when (not (eqb (length args) 2)) reasons.BadForm ∷ object_tests before args (colour_field before (field_at args 1))
-    else (if bytes_eq word (codes "queue") then
-    when (not (eqb (length args) 3)) reasons.BadForm ∷ object_tests before args (region_field before (field_at args 1) ++ colour_field before (field_at args 2))
-    else when (not (is_between 3 18 (length args))) reasons.BadForm
-    ∷ object_tests before args (region_field before (field_at args 1) ++ colour_fields before (drop 2 args)))) (declared_at (known_of before) word args)
+declared_tests : (before : List Item) (found : Option Sort) (args : List (List ℕ)) → Tests (object_tests before found args) (declared_at (known_of before) found args)
 unfolding declared_at
-declared_tests before word args =
-    elim (cases_Bool (bytes_eq word (codes "causal"))) [
-      | inl same ↦ rw same (causal_tests before args)
-      | inr n1 ↦
-          elim (cases_Bool (bytes_eq word (codes "queue"))) [
-            | inl same ↦ rw (n1, same) (queue_tests before args)
-            | inr n2 ↦
-                elim (cases_Bool (bytes_eq word (codes "map"))) [
-                  | inl same ↦ rw (n1, n2, same) (map_tests before args)
-                  | inr n3 ↦ rw (n1, n2, n3) (tx_tests before args)
-                ]
-          ]
-    ]
+declared_tests before None args = λ more. refl
+declared_tests before (Some sort) args = sorted_tests before sort args
 
 headed_tests : (before : List Item) (word : List ℕ) (args : List (List ℕ)) → bytes_eq word (codes "fuzzylog") ≡ false → Tests (header_tests before word args) (headed_at (known_of before) word args)
 unfolding headed_at
@@ -166,7 +125,7 @@ headed_tests before word args n0 =
                         | inr n4 ↦
                             elim (cases_Bool (bytes_eq word (codes "begin"))) [
                               | inl same ↦ rw (n0, n1, n2, n3, n4, same) (none_tests items.Begin args)
-                              | inr n5 ↦ rw (n0, n1, n2, n3, n4, n5) (declared_tests before word args)
+                              | inr n5 ↦ rw (n0, n1, n2, n3, n4, n5) (declared_tests before (sort_at word) args)
                             ]
                       ]
                 ]
@@ -189,13 +148,6 @@ header_line_tests before word args started =
     headed_tests before word args (not_version before word started (not-false (may_come before word) e)))
 
 -- ---- commands
-
-fields_faults : (before : List Item) (row : List Field) (args : List (List ℕ)) (given : Given) → Tests (field_tests before row args) (given_at (known_of before) row args given)
-unfolding given_at
-fields_faults before [] args given = tests_ok given
-fields_faults before (field ∷ row) args given =
-    tests_then (kind_tests before field (own_fields field args)) (field_tests before row (later_fields field args)) (taken_at (known_of before) field (own_fields field args) given)
-    (λ next. given_at (known_of before) row (later_fields field args) next) (kind_faults before field (own_fields field args) given) (λ next e. fields_faults before row (later_fields field args) next)
 
 -- the fields that last tests speak of
 at_0 : (args : List (List ℕ)) → first_in (take 1 args) ≡ field_at args 0

@@ -14,7 +14,7 @@ use Rattle.script_text.specs.declared.table.Kinds.{Kinds}
 use Rattle.script_text.specs.Table.{is_of}
 use Rattle.script_text.specs.Pieces.{is_key, is_number, number_value, is_among, is_between, number_of, name_of}
 use Rattle.script_text.specs.Grammar.{are_new_names, are_new_keys, is_one_of, has_equals, key_in, value_in, pair_of, SpellsNumber}
-use Rattle.script_text.specs.Readings.{◌>>=◌, refuse, each_at, value_at, key_at, new_pair_at, pair_at, digits_at, object_at, with_none, with_one, with_two, with_three, with_two_others}
+use Rattle.script_text.specs.Readings.{◌>>=◌, refuse, each_at, value_at, key_at, new_pair_at, pair_at, digits_at, object_at, with_none, with_one, with_two}
 use Rattle.script_text.proofs.EachLemmas.{refused_ok, bind_ok, ok_is}
 use Rattle.script_text.proofs.NameLemmas.{each_ok_cons, each_ok_nil, each_cons, each_nil, first_apart, new_parts}
 
@@ -218,22 +218,3 @@ two_ok f [] x e = absurd cc
 two_ok f (a ∷ []) x e = absurd cc
 two_ok f (a ∷ b ∷ []) x e = (a, b, refl, e)
 two_ok f (a ∷ b ∷ c ∷ args) x e = absurd cc
-
-pub three_ok : {A : Type 0} (f : List ℕ → List ℕ → List ℕ → Result A Reason) (args : List (List ℕ)) (x : A) → with_three f args ≡ Ok x → (a b c : List ℕ) × (args ≡ a ∷ b ∷ c ∷ []) × (f a b c ≡ Ok x)
-three_ok f [] x e = absurd cc
-three_ok f (a ∷ []) x e = absurd cc
-three_ok f (a ∷ b ∷ []) x e = absurd cc
-three_ok f (a ∷ b ∷ c ∷ []) x e = (a, b, c, refl, e)
-three_ok f (a ∷ b ∷ c ∷ d ∷ args) x e = absurd cc
-
-pub two_others_ok : {A : Type 0} (f : List ℕ → List ℕ → List (List ℕ) → Result A Reason) (args : List (List ℕ)) (x : A) → with_two_others 16 f args ≡ Ok x
-    → (a b : List ℕ) × (others : List (List ℕ)) × (args ≡ a ∷ b ∷ others) × (is_between 1 16 (length others) ≡ true) × (f a b others ≡ Ok x)
-two_others_ok f [] x e = absurd cc
-two_others_ok f (a ∷ []) x e = absurd cc
-two_others_ok f (a ∷ b ∷ args) x e =
-    let r = refused_ok (not (is_between 1 16 (length args))) reasons.BadForm (f a b args) x e in
-    (a, b, args, refl, not-false (is_between 1 16 (length args)) r.0, r.1)
-
-pub two_others_again : {A : Type 0} (f : List ℕ → List ℕ → List (List ℕ) → Result A Reason) (a b : List ℕ) (args : List (List ℕ)) (x : A) → is_between 1 16 (length args) ≡ true → f a b args ≡ Ok x
-    → with_two_others 16 f (a ∷ b ∷ args) ≡ Ok x
-two_others_again f a b args x few e = rw few e

@@ -19,7 +19,7 @@ use Rattle.script_text.specs.declared.script.Word.TheVariants as words
 use Rattle.script_text.specs.declared.table.Field.{Field}
 use Rattle.script_text.specs.declared.table.Field.TheVariants as fields
 use Rattle.script_text.specs.declared.given.Given.{Given}
-use Rattle.script_text.specs.Table.{row_fields, own_fields, later_fields, nothing, what_of}
+use Rattle.script_text.specs.Table.{row_fields, own_fields, later_fields, nothing, what_of, sort_text, sort_of}
 use Rattle.script_text.specs.Words.{word_of}
 use Rattle.script_text.specs.declared.script.Command.{Command}
 use Rattle.script_text.specs.declared.script.Script.{Script}
@@ -29,7 +29,7 @@ use Rattle.script_text.specs.declared.item.Stage.{Stage}
 use Rattle.script_text.specs.declared.item.Stage.TheVariants as stages
 use Rattle.script_text.specs.Pieces.{lines_of, fields_of, is_among, is_between}
 use Rattle.script_text.specs.Items.{stage_after, stage_of, header_words, may_come, is_begun, has_begun, regions_in, colours_in, clients_in, commands_in, last_said, region_names, colour_names, client_names, client_homes, commands, script_of, set_of}
-use Rattle.script_text.specs.Grammar.{kind_word, kept_lines, is_passed_over, may_follow, is_colour, is_region, are_colours, SpellsColours, Spells, SpellAll, SpellsWhat, Says, Say, AreLines, IsScript}
+use Rattle.script_text.specs.Grammar.{kept_lines, is_passed_over, may_follow, is_colour, is_region, are_colours, SpellsColours, Spells, SpellAll, SpellsWhat, Says, Say, AreLines, IsScript}
 use Rattle.script_text.specs.Fitting.{IsShape, AreBelow, IsWithin, IsFitting}
 
 and-left : (a b : Bool) → (a && b) ≡ true → a ≡ true
@@ -270,6 +270,7 @@ kind_within before fields.Key own given next s w = rw s.3 (record { set = w.set;
 kind_within before fields.Value own given next s w = rw s.3 (record { set = w.set; colour = w.colour; region = w.region })
 kind_within before (fields.Keys most) own given next s w = rw s.1 (record { set = w.set; colour = w.colour; region = w.region })
 kind_within before (fields.Pairs most) own given next s w = rw s.2 (record { set = w.set; colour = w.colour; region = w.region })
+kind_within before (fields.Colours most) own given next s w = rw s.4 (record { set = w.set; colour = w.colour; region = w.region })
 
 all_within : (before : List Item) (row : List Field) (args : List (List ℕ)) (given last : Given) → SpellAll before row args given last
     → IsGivenWithin (length (region_names before)) (length (colour_names before)) given → IsGivenWithin (length (region_names before)) (length (colour_names before)) last
@@ -425,8 +426,8 @@ module _ (before : List Item) (fit : Fits (length (region_names before)) (length
   more_item number fields (items.Colours names) says ok = more_colours names (and-left _ _ (and-left _ _ ok)) (and-right _ _ (and-left _ _ ok))
   more_item number fields (items.Rows rows) says ok = more_rows rows (and-left _ _ ok)
   more_item number fields (items.Client name home) says ok = let abc = and-left _ _ ok in let ab = and-left _ _ abc in more_client name home (and-left _ _ ab) (and-right _ _ ab) (and-right _ _ ok)
-  more_item number fields (items.Declared object) says ok = more_object object (by_kind object.kind (and-left _ _ (and-left _ _ (and-left _ _ ok)))) where
-    by_kind : (kind : Kind) → may_come before (kind_word kind) ≡ true → (0 < regions) × (0 < colours) × (0 < length homes) × (asked ≡ [])
+  more_item number fields (items.Declared object) says ok = more_object object (by_kind object.kind (and-left _ _ (and-left _ _ ok))) where
+    by_kind : (kind : Kind) → may_come before (sort_text (sort_of kind)) ≡ true → (0 < regions) × (0 < colours) × (0 < length homes) × (asked ≡ [])
     by_kind (kinds.Map _ _) come = at_end (codes "map") refl refl refl refl refl (stage_of before) regions colours homes asked come fit.early
     by_kind (kinds.Tx _ _) come = at_end (codes "tx") refl refl refl refl refl (stage_of before) regions colours homes asked come fit.early
     by_kind (kinds.Causal _) come = at_end (codes "causal") refl refl refl refl refl (stage_of before) regions colours homes asked come fit.early

@@ -15,7 +15,7 @@ use Rattle.script_text.specs.declared.item.Item.{Item}
 use Rattle.script_text.specs.declared.item.Item.TheVariants as items
 use Rattle.script_text.specs.Pieces.{is_name, is_key, is_text, is_number, is_between, is_letter_or_digit, is_among, name_of, names_in}
 use Rattle.script_text.specs.Items.{may_come, region_names, colour_names, client_names, object_names, objects, has_read}
-use Rattle.script_text.specs.Grammar.{Says, SpellsNumber, may_follow, are_new_names, are_new_keys, are_keys, are_pairs, are_new_numbers, are_colours, is_region, is_colour, is_kind, kind_word, kind_fields, has_equals, is_one_of}
+use Rattle.script_text.specs.Grammar.{Says, SpellsNumber, may_follow, are_new_names, are_new_keys, are_keys, are_pairs, are_new_numbers, are_colours, is_region, is_colour, has_equals, is_one_of}
 use Rattle.script_text.specs.Kept.{known_of}
 use Rattle.script_text.proofs.NameLemmas.{named, new_parts}
 use Rattle.script_text.proofs.KnownLaws.{IsLawful}

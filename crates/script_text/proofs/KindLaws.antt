@@ -1,8 +1,9 @@
 -- The fields of one kind are read exactly.
-use Rattle.std.proofs.Common.{◌≡◌, ℕ, zero, suc, ◌+◌, ◌*◌, ◌<◌, ◌≤◌, Bool, true, false, not, ◌&&◌, cond, ltb, leb, eqb, inl, inr, List, [], ◌∷◌, ◌++◌, length, map, take, Option, Some, None, Result, Ok, Err, refl, sym, ap, subst, ◌∙◌, arith}
+use Rattle.std.proofs.Common.{◌≡◌, ℕ, zero, suc, ◌+◌, ◌*◌, ◌<◌, ◌≤◌, Bool, true, false, not, ◌&&◌, ◌||◌, cond, ltb, leb, eqb, inl, inr, List, [], ◌∷◌, ◌++◌, length, map, take, drop, append-nil, Option, Some, None, Result, Ok, Err, refl, sym, ap, subst, ◌∙◌, arith}
 use Rattle.std.specs.Prelude.{slice_get}
-use Rattle.std.specs.List.{list_all, slice_split}
-use Rattle.std.proofs.lemmas.Bool.{cases_Bool, and_parts, not-false, lt-ltb, ltb-true, le-leb, ne_eqb}
+use Rattle.std.specs.List.{find, list_all, slice_split}
+use Rattle.std.proofs.lemmas.List.Folds.{list_any-append}
+use Rattle.std.proofs.lemmas.Bool.{cases_Bool, and_parts, not-false, leb-true, eqb-true, lt-ltb, ltb-true, le-leb, ne_eqb}
 use Rattle.std.proofs.lemmas.List.{length-map}
 use Rattle.std.proofs.lemmas.List.Splits.{length-slice_split}
 use Rattle.log_node.specs.declared.ids.Colours.{Colours}
@@ -16,19 +17,19 @@ use Rattle.script_text.specs.declared.given.Given.{Given}
 use Rattle.script_text.specs.declared.item.Item.{Item}
 use Rattle.script_text.specs.Pieces.{is_text, is_key, is_between, is_number, number_value, name_of, names_in, first_in}
 use Rattle.script_text.specs.Items.{set_of, region_names, colour_names, object_names, objects}
-use Rattle.script_text.specs.Table.{own_fields, has}
-use Rattle.script_text.specs.Grammar.{Spells, SpellsColours, are_colours, are_keys, are_pairs, are_new_keys, are_new_numbers, is_colour, is_region, has_equals, key_in, value_in, pair_of, is_one_of}
+use Rattle.script_text.specs.Table.{own_in, later_in, at_most, own_fields, later_fields, has, fits}
+use Rattle.script_text.specs.Grammar.{Spells, SpellAll, SpellsColours, are_colours, are_keys, are_pairs, are_new_keys, are_new_numbers, is_colour, is_region, has_equals, key_in, value_in, pair_of, is_one_of}
 use Rattle.script_text.specs.Faults.{when, kind_tests, colour_fields, key_field, pair_field}
 use Rattle.script_text.specs.Kept.{known_of}
 use Rattle.script_text.specs.Readings.{◌>>=◌, refuse, each_at, number_at, colours_at, colour_set_at, text_at, value_at, key_at, pair_at, digits_at, object_at}
-use Rattle.script_text.specs.CommandReadings.{taken_at}
+use Rattle.script_text.specs.CommandReadings.{taken_at, given_at}
 use Rattle.script_text.proofs.EachLemmas.{refused_ok, bind_ok, ok_is}
 use Rattle.script_text.proofs.NameLemmas.{named, number_ok, number_at_again, colours_ok, colours_again}
 use Rattle.script_text.proofs.FieldLaws.{value_ok, value_again, key_ok, key_again, keys_ok, keys_again, ArePairFields, pairs_ok, pairs_again, digits_ok, digits_again, object_ok, object_again, object_within}
 use Rattle.script_text.proofs.KnownLaws.{IsLawful}
 use Rattle.script_text.proofs.TestLaws.{Tests, tests_ok, tests_refuse, tests_last, number_tests, text_tests, value_tests, key_tests, pair_tests, each_tests, colours_tests}
 use Rattle.script_text.proofs.TestLaws as laws
-use Rattle.script_text.proofs.FullLaws.{is_empty, any_empty, number_full, key_full, text_full, cols_full, colour_full, region_full, name_of_full, keys_full, pairs_full}
+use Rattle.script_text.proofs.FullLaws.{is_empty, any_empty, number_full, key_full, text_full, cols_full, colour_full, region_full, name_of_full, keys_full, pairs_full, named_full}
 
 -- ---- texts, colours, objects and pairs
 
@@ -123,6 +124,9 @@ put_keys given ks = record given { keys = ks }
 unfoldable pub put_pairs : Given → List Pair → Given
 put_pairs given ps = record given { pairs = ps }
 
+unfoldable pub put_order : Given → List ℕ → Given
+put_order given ns = record given { order = ns }
+
 -- ---- each kind
 
 single : (args : List (List ℕ)) → leb 1 (length (take 1 args)) ≡ true → take 1 args ≡ first_in (take 1 args) ∷ []
@@ -131,7 +135,7 @@ single (a ∷ args) h = refl
 
 pub kind_ok : (before : List Item) (field : Field) (args : List (List ℕ)) (given next : Given) → has field (own_fields field args) ≡ true
     → taken_at (known_of before) field (own_fields field args) given ≡ Ok next → Spells before field (own_fields field args) given next
-unfolding taken_at colour_set_at put_number put_colours put_set put_colour put_region put_object put_text put_key put_value put_keys put_pairs
+unfolding taken_at colour_set_at put_number put_colours put_set put_colour put_region put_object put_text put_key put_value put_keys put_pairs put_order
 kind_ok before fields.Steps args given next h e =
     let f = first_in (take 1 args) in
     let b = bind_ok (digits_at 3 f) (λ n. Ok (put_number given n)) next e in
@@ -184,6 +188,15 @@ kind_ok before (fields.Pairs most) args given next h e =
     let k = pairs_ok [] args b.0 b.1 in
     (k.1.equals, pairs_lawful most args h k.1, sym (ok_is (put_pairs given b.0) next b.2) ∙ ap (put_pairs given) k.0)
 
+kind_ok before (fields.Colours most) args given next h e =
+    let b = bind_ok (colours_at (colour_names before) args) (λ ns. Ok (put_order given ns)) next e in
+    let c = colours_ok (colour_names before) [] args b.0 b.1 in
+    let same : length args ≡ length b.0 = ap length c.0 ∙ length-map b.0 (name_of (colour_names before)) in
+    let p = and_parts (leb 1 (length args)) (leb (length args) most) h in
+    let some : leb 1 (length b.0) ≡ true = rw (← same) p.0 in
+    let few : leb (length b.0) most ≡ true = rw (← same) p.1 in
+    (b.0, c.0, rw (some, c.1, c.2) refl, leb-true (length b.0) most few, sym (ok_is (put_order given b.0) next b.2))
+
 pub kind_again : (before : List Item) (field : Field) (own : List (List ℕ)) (given next : Given) → IsLawful (known_of before) → Spells before field own given next
     → (has field own ≡ true) × (taken_at (known_of before) field own given ≡ Ok next)
 unfolding taken_at colour_set_at
@@ -206,6 +219,11 @@ kind_again before (fields.Pairs most) own given next l s =
     let p = pairs_read most own s.0 s.1 in
     (p.0, rw (p.1, s.2) refl)
 
+kind_again before (fields.Colours most) own given next l s =
+    let a = and_parts (leb 1 (length s.0) && are_new_numbers [] s.0) (list_all (is_colour before) s.0) s.2 in
+    let b = and_parts (leb 1 (length s.0)) (are_new_numbers [] s.0) a.0 in
+    (rw (s.1, length-map s.0 (name_of (colour_names before)), b.0, le-leb (length s.0) most s.3) refl, rw (s.1, colours_again (colour_names before) [] s.0 l.colours refl b.1 a.1, s.4) refl)
+
 -- none of the fields is empty
 pub kind_full : (before : List Item) (field : Field) (own : List (List ℕ)) (given next : Given) → IsLawful (known_of before) → Spells before field own given next → any_empty own ≡ false
 kind_full before fields.Steps own given next l s = rw (s.1, number_full 3 s.0 s.2) refl
@@ -219,9 +237,13 @@ kind_full before fields.Value own given next l s = rw (s.1, key_full s.0 s.2) re
 kind_full before (fields.Keys most) own given next l s = keys_full [] own (and_parts (is_between 1 most (length own)) (are_new_keys [] own) s.0).1
 kind_full before (fields.Pairs most) own given next l s = pairs_full own s.0
 
+kind_full before (fields.Colours most) own given next l s =
+    let a = and_parts (leb 1 (length s.0) && are_new_numbers [] s.0) (list_all (is_colour before) s.0) s.2 in
+    rw s.1 (named_full (colour_names before) s.0 l.colours a.1)
+
 -- the first test that fails is the reason of the reading
 pub kind_faults : (before : List Item) (field : Field) (own : List (List ℕ)) (given : Given) → Tests (kind_tests before field own) (taken_at (known_of before) field own given)
-unfolding taken_at colour_set_at digits_at put_number put_colours put_set put_colour put_region put_object put_text put_key put_value put_keys put_pairs
+unfolding taken_at colour_set_at digits_at put_number put_colours put_set put_colour put_region put_object put_text put_key put_value put_keys put_pairs put_order
 kind_faults before fields.Steps own given =
     let f = first_in own in
     tests_last (when (not (is_number 3 f)) reasons.BadNumber ∷ []) (digits_at 3 f) (put_number given)
@@ -238,3 +260,49 @@ kind_faults before fields.Key own given = tests_last (kind_tests before fields.K
 kind_faults before fields.Value own given = tests_last (kind_tests before fields.Value own) (value_at (first_in own)) (put_value given) (value_tests (first_in own))
 kind_faults before (fields.Keys most) own given = tests_last (kind_tests before (fields.Keys most) own) (each_at key_at [] own) (put_keys given) (each_tests key_field key_at key_tests [] own)
 kind_faults before (fields.Pairs most) own given = tests_last (kind_tests before (fields.Pairs most) own) (each_at pair_at [] own) (put_pairs given) (each_tests pair_field pair_at pair_tests [] own)
+kind_faults before (fields.Colours most) own given = tests_last (colour_fields before own) (colours_at (colour_names before) own) (put_order given) (colours_tests before own)
+
+-- ---- all fields of a row
+
+pub find_passes : {X : Type 0} (p : X → Bool) (xs : List X) (x : X) → find p xs ≡ Some x → p x ≡ true
+find_passes p [] x e = absurd cc
+find_passes p (y ∷ ys) x e =
+    elim (cases_Bool (p y)) [
+      | inl same ↦ let h = rw same at e in let k : y ≡ x = cc in rw (← k) same
+      | inr other ↦ find_passes p ys x (rw other at e)
+    ]
+
+no_fields : (args : List (List ℕ)) → eqb (length args) 0 ≡ true → args ≡ []
+no_fields [] h = refl
+no_fields (a ∷ args) h = let e = eqb-true (suc (length args)) 0 h in absurd (omega (arith, e))
+
+pub all_ok : (before : List Item) (row : List Field) (args : List (List ℕ)) (given last : Given) → fits row args ≡ true → given_at (known_of before) row args given ≡ Ok last
+    → SpellAll before row args given last
+unfolding given_at
+all_ok before [] args given last h e = (no_fields args h, sym (ok_is given last e))
+all_ok before (field ∷ row) args given last h e =
+    let p = and_parts (has field (own_fields field args)) (fits row (later_fields field args)) h in
+    let b = bind_ok (taken_at (known_of before) field (own_fields field args) given) (λ next. given_at (known_of before) row (later_fields field args) next) last e in
+    (b.0, kind_ok before field args given b.0 p.0 b.1, all_ok before row (later_fields field args) b.0 last p.1 b.2)
+
+pub all_again : (before : List Item) (row : List Field) (args : List (List ℕ)) (given last : Given) → IsLawful (known_of before) → SpellAll before row args given last
+    → (fits row args ≡ true) × (given_at (known_of before) row args given ≡ Ok last)
+unfolding given_at
+all_again before [] args given last l s = (rw s.0 refl, rw s.1 refl)
+all_again before (field ∷ row) args given last l s =
+    let k = kind_again before field (own_fields field args) given s.0 l s.1 in
+    let r = all_again before row (later_fields field args) s.0 last l s.2 in
+    (rw (k.0, r.0) refl, rw k.1 r.1)
+
+own_later : (most : Option ℕ) (args : List (List ℕ)) → own_in most args ++ later_in most args ≡ args
+own_later None [] = refl
+own_later None (a ∷ args) = refl
+own_later (Some most) args = append-nil args
+
+pub all_full : (before : List Item) (row : List Field) (args : List (List ℕ)) (given last : Given) → IsLawful (known_of before) → SpellAll before row args given last → any_empty args ≡ false
+all_full before [] args given last l s = rw s.0 refl
+all_full before (field ∷ row) args given last l s =
+    let own = own_fields field args in
+    let later = later_fields field args in
+    ap any_empty (sym (own_later (at_most field) args)) ∙ list_any-append is_empty own later
+    ∙ ap (λ b. b || any_empty later) (kind_full before field own given s.0 l s.1) ∙ all_full before row later s.0 last l s.2

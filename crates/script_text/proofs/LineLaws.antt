@@ -22,7 +22,8 @@ use Rattle.script_text.specs.declared.item.Stage.TheVariants as stages
 use Rattle.script_text.specs.declared.known.Known.{Known}
 use Rattle.script_text.specs.Pieces.{lines_of, fields_of, is_ascii_line, is_between, is_among, is_name}
 use Rattle.script_text.specs.Items.{is_begun, has_begun, header_words, may_come, stage_of, stage_after, script_of}
-use Rattle.script_text.specs.Grammar.{is_passed_over, kept_lines, Says, Say, AreLines, IsScript, may_follow, kind_word}
+use Rattle.script_text.specs.Grammar.{is_passed_over, kept_lines, Says, Say, AreLines, IsScript, may_follow}
+use Rattle.script_text.specs.Table.{sort_text, sort_of}
 use Rattle.script_text.specs.Faults.{when, first_of, field_at, command_tests, header_tests, fields_tests, fault_of}
 use Rattle.script_text.specs.Kept.{known_of, known_after, known_with}
 use Rattle.script_text.specs.Readings.{◌>>=◌, refuse, Fails}
@@ -113,7 +114,7 @@ version_line : (line : List ℕ) → fields_of line ≡ codes "fuzzylog" ∷ cod
 version_line line e = sym (join_with_byte-slice_split 32 line) ∙ ap (join_with_byte 32) e
 
 -- nothing else may come first
-first_kind : (kind : Kind) → may_come [] (kind_word kind) ≡ true → ⊥
+first_kind : (kind : Kind) → may_come [] (sort_text (sort_of kind)) ≡ true → ⊥
 first_kind (kinds.Map home ns) h = cc
 first_kind (kinds.Tx home ns) h = cc
 first_kind (kinds.Causal colour) h = cc

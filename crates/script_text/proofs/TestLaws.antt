@@ -15,7 +15,7 @@ use Rattle.script_text.specs.Pieces.{is_name, is_key, is_text, is_number, is_amo
 use Rattle.script_text.specs.Items.{region_names, colour_names, objects}
 use Rattle.script_text.specs.Grammar.{has_equals, key_in, value_in}
 use Rattle.script_text.specs.Faults.{when, first_of, each_field, new_name, region_field, colour_field, colour_fields, text_field, value_field, key_field, pair_field, object_named, is_unknown, is_other, object_field}
-use Rattle.script_text.specs.Readings.{◌>>=◌, refuse, found_or, number_at, new_name_at, each_at, colour_at, text_at, value_at, key_at, new_pair_at, pair_at, object_at, with_none, with_one, with_two, with_three, with_two_others}
+use Rattle.script_text.specs.Readings.{◌>>=◌, refuse, found_or, number_at, new_name_at, each_at, colour_at, text_at, value_at, key_at, new_pair_at, pair_at, object_at, with_none, with_one, with_two}
 use Rattle.script_text.proofs.EachLemmas.{Reader}
 
 -- where a value is read no test holds; else the reason is that of the first that does
@@ -152,22 +152,3 @@ two_tests tests f h [] = λ more. refl
 two_tests tests f h (a ∷ []) = λ more. refl
 two_tests tests f h (a ∷ b ∷ []) = tests_refuse false reasons.BadForm (tests (a ∷ b ∷ [])) (f a b) (λ _. h a b)
 two_tests tests f h (a ∷ b ∷ c ∷ args) = rw (ne_eqb (suc (suc (suc (length args)))) 2 (λ e. omega arith)) (λ more. refl)
-
-pub three_tests : {A : Type 0} (tests : List (List ℕ) → List (Option Reason)) (f : List ℕ → List ℕ → List ℕ → Result A Reason) → ((a b c : List ℕ) → Tests (tests (a ∷ b ∷ c ∷ [])) (f a b c))
-    → (args : List (List ℕ)) → Tests (when (not (eqb (length args) 3)) reasons.BadForm ∷ tests args) (with_three f args)
-three_tests tests f h [] = λ more. refl
-three_tests tests f h (a ∷ []) = λ more. refl
-three_tests tests f h (a ∷ b ∷ []) = λ more. refl
-three_tests tests f h (a ∷ b ∷ c ∷ []) = tests_refuse false reasons.BadForm (tests (a ∷ b ∷ c ∷ [])) (f a b c) (λ _. h a b c)
-three_tests tests f h (a ∷ b ∷ c ∷ d ∷ args) = rw (ne_eqb (suc (suc (suc (suc (length args))))) 3 (λ e. omega arith)) (λ more. refl)
-
-between_suc_suc : (n : ℕ) → is_between 3 18 (suc (suc n)) ≡ is_between 1 16 n
-between_suc_suc n = grind (arith, nat_tests)
-
-pub two_others_tests : {A : Type 0} (tests : List (List ℕ) → List (Option Reason)) (f : List ℕ → List ℕ → List (List ℕ) → Result A Reason)
-    → ((a b : List ℕ) (args : List (List ℕ)) → Tests (tests (a ∷ b ∷ args)) (f a b args))
-    → (args : List (List ℕ)) → Tests (when (not (is_between 3 18 (length args))) reasons.BadForm ∷ tests args) (with_two_others 16 f args)
-two_others_tests tests f h [] = λ more. refl
-two_others_tests tests f h (a ∷ []) = λ more. refl
-two_others_tests tests f h (a ∷ b ∷ args) =
-    rw between_suc_suc (tests_refuse (not (is_between 1 16 (length args))) reasons.BadForm (tests (a ∷ b ∷ args)) (f a b args) (λ _. h a b args))

@@ -16,7 +16,7 @@ use Rattle.script_text.specs.declared.script.Word.{Word}
 use Rattle.script_text.specs.Pieces.{first_in}
 use Rattle.script_text.specs.Reads.{holds}
 use Rattle.script_text.specs.Table.{word_at, row_fields, last_of, own_fields, later_fields, fits, nothing, what_of}
-use Rattle.script_text.specs.Readings.{◌>>=◌, refuse, number_at, each_at, colour_set_at, text_at, value_at, key_at, pair_at, digits_at, object_at}
+use Rattle.script_text.specs.Readings.{◌>>=◌, refuse, number_at, each_at, colours_at, colour_set_at, text_at, value_at, key_at, pair_at, digits_at, object_at}
 
 -- what is given after the fields of one kind
 unfoldable pub taken_at : Known → Field → List (List ℕ) → Given → Result Given Reason
@@ -30,6 +30,7 @@ taken_at known fields.Key own given = key_at [] (first_in own) >>= λ k. Ok (rec
 taken_at known fields.Value own given = value_at (first_in own) >>= λ v. Ok (record given { value = v })
 taken_at known (fields.Keys most) own given = each_at key_at [] own >>= λ ks. Ok (record given { keys = ks })
 taken_at known (fields.Pairs most) own given = each_at pair_at [] own >>= λ ps. Ok (record given { pairs = ps })
+taken_at known (fields.Colours most) own given = colours_at known.script.colours own >>= λ ns. Ok (record given { order = ns })
 
 -- and after all fields
 unfoldable pub given_at : Known → List Field → List (List ℕ) → Given → Result Given Reason

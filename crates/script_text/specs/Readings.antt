@@ -126,13 +126,3 @@ with_one f _ = Err reasons.BadForm
 abbrev pub with_two : {A : Type 0} → (List ℕ → List ℕ → Result A Reason) → List (List ℕ) → Result A Reason
 with_two f (a ∷ b ∷ []) = f a b
 with_two f _ = Err reasons.BadForm
-
-abbrev pub with_three : {A : Type 0} → (List ℕ → List ℕ → List ℕ → Result A Reason) → List (List ℕ) → Result A Reason
-with_three f (a ∷ b ∷ c ∷ []) = f a b c
-with_three f _ = Err reasons.BadForm
-
--- two fields, and one to so many others
-abbrev pub with_two_others : {A : Type 0} → ℕ → (List ℕ → List ℕ → List (List ℕ) → Result A Reason) → List (List ℕ) → Result A Reason
-with_two_others most f [] = Err reasons.BadForm
-with_two_others most f (a ∷ []) = Err reasons.BadForm
-with_two_others most f (a ∷ b ∷ args) = refuse (not (is_between 1 most (length args))) reasons.BadForm (f a b args)

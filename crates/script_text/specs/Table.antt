@@ -12,7 +12,9 @@ use Rattle.script_text.specs.declared.table.Field.{Field}
 use Rattle.script_text.specs.declared.table.Field.TheVariants as fields
 use Rattle.script_text.specs.declared.table.Kinds.{Kinds}
 use Rattle.script_text.specs.declared.table.Last.{Last}
-use Rattle.script_text.specs.declared.table.TheConstants.{WORDS}
+use Rattle.script_text.specs.declared.table.TheConstants.{WORDS, MAP_LINE, TX_LINE, CAUSAL_LINE, QUEUE_LINE, SORTS}
+use Rattle.script_text.specs.declared.table.Sort.{Sort}
+use Rattle.script_text.specs.declared.table.Sort.TheVariants as sorts
 use Rattle.script_text.specs.declared.given.Given.{Given}
 use Rattle.script_text.specs.Words.{row_of, word_text}
 
@@ -45,6 +47,7 @@ at_most fields.Key = None
 at_most fields.Value = None
 at_most (fields.Keys most) = Some most
 at_most (fields.Pairs most) = Some most
+at_most (fields.Colours most) = Some most
 
 abbrev pub own_in : Option ℕ → List (List ℕ) → List (List ℕ)
 own_in None args = take 1 args
@@ -90,6 +93,7 @@ nothing = record {
   value = [];
   keys = [];
   pairs = [];
+  order = [];
 }
 
 -- what a command asks for, by what its fields give
@@ -109,3 +113,38 @@ what_of words.Read g = whats.Read g.object g.keys
 what_of words.Commit g = whats.Commit g.object g.pairs
 what_of words.Enq g = whats.Enq g.object g.value
 what_of words.Deq g = whats.Deq g.object
+
+-- ---- the lines of objects
+
+-- the word of an object's line, and the fields after the object's name
+abbrev pub SortRow : Type 0
+SortRow = (record { now : List ℕ }) × (record { now : List Field })
+
+abbrev pub sort_row : Sort → SortRow
+sort_row sorts.Map = MAP_LINE
+sort_row sorts.Tx = TX_LINE
+sort_row sorts.Causal = CAUSAL_LINE
+sort_row sorts.Queue = QUEUE_LINE
+
+abbrev pub sort_text : Sort → List ℕ
+sort_text sort = (sort_row sort).0.now
+
+abbrev pub sort_fields : Sort → List Field
+sort_fields sort = (sort_row sort).1.now
+
+-- what a line with this word declares
+abbrev pub sort_at : List ℕ → Option Sort
+sort_at word = find (λ sort. bytes_eq word (sort_text sort)) SORTS
+
+abbrev pub sort_of : Kind → Sort
+sort_of (kinds.Map _ _) = sorts.Map
+sort_of (kinds.Tx _ _) = sorts.Tx
+sort_of (kinds.Causal _) = sorts.Causal
+sort_of (kinds.Queue _ _) = sorts.Queue
+
+-- what an object is, by what its fields give
+abbrev pub kind_of : Sort → Given → Kind
+kind_of sorts.Map g = kinds.Map g.region g.order
+kind_of sorts.Tx g = kinds.Tx g.region g.order
+kind_of sorts.Causal g = kinds.Causal g.colour
+kind_of sorts.Queue g = kinds.Queue g.region g.colour

@@ -2,7 +2,7 @@
 ghost use Rattle.std.specs.Prelude.{◌≡◌, ◌≤◌, IfOk};
 ghost use Rattle.script_text.specs.declared.script.Word.TheVariants as words;
 ghost use Rattle.script_text.specs.Kept.{IsSmall};
-ghost use Rattle.script_text.specs.Table.{nothing, what_of};
+ghost use Rattle.script_text.specs.Table.{nothing, what_of, kind_of};
 ghost use Rattle.script_text.specs.Readings.{Gives, Takes, fields_in};
 ghost use Rattle.script_text.specs.Pieces.{first_in};
 ghost use Rattle.script_text.specs.CommandReadings.{taken_at, given_at};
@@ -10,11 +10,11 @@ ghost use Rattle.script_text.specs.CommandReadings.{taken_at, given_at};
 use crate::fault::Fault;
 use crate::keys::{key_at, keys_at, pairs_at, steps_at, value_at};
 use crate::known::Known;
-use crate::names::{colour_set, text_at};
+use crate::names::{colour_numbers, colour_set, text_at};
 use crate::objects::object_at;
-use crate::script::{What, Word};
-use crate::table::Field;
-use log_node::{Colours, Keys, ListOf, Pairs, Text};
+use crate::script::{Kind, What, Word};
+use crate::table::{Field, Sort};
+use log_node::{ColourList, Colours, Keys, ListOf, Pairs, Text};
 use std::alloc::Global;
 
 /// What each kind of field gives; a command has at most one field of a kind.
@@ -32,6 +32,7 @@ pub struct Given {
     pub value: Text,
     pub keys: Keys,
     pub pairs: Pairs,
+    pub order: ColourList,
 }
 
 fn first<'a>(own: &[&'a [u8]]) -> &'a [u8]
@@ -60,6 +61,7 @@ impl Given {
             value: Text::empty(alloc),
             keys: ListOf::new(alloc),
             pairs: ListOf::new(alloc),
+            order: ListOf::new(alloc),
         }
     }
 
@@ -98,6 +100,9 @@ impl Given {
             Field::Value => self.value = value_at(alloc, first(own))?,
             Field::Keys { .. } => self.keys = keys_at(alloc, own)?,
             Field::Pairs { .. } => self.pairs = pairs_at(alloc, own)?,
+            Field::Colours { .. } => {
+                self.order = colour_numbers(alloc, known.script.colours.as_slice(), own)?;
+            }
         }
         Ok(())
     }
@@ -204,6 +209,21 @@ impl Given {
                 value: given.value,
             },
             Word::Deq => What::Deq { object },
+        }
+    }
+
+    /// What an object is, by what the fields after its name gave.
+    pub fn into_kind(self, sort: Sort) -> Kind
+        ensures { result ≡ kind_of sort self }
+    {
+        let home = self.region;
+        let colour = self.colour;
+        let colours = self.order;
+        match sort {
+            Sort::Map => Kind::Map { home, colours },
+            Sort::Tx => Kind::Tx { home, colours },
+            Sort::Causal => Kind::Causal { colour },
+            Sort::Queue => Kind::Queue { home, colour },
         }
     }
 }

@@ -4,7 +4,7 @@
 // `row_of`, `what_of` and `word_of`; the checker names each of these. A new kind of field has its line in `Spells`,
 // `kind_tests`, `taken_at` and `Given::take`.
 ghost use Rattle.std.specs.Prelude.{◌≡◌, ◌≤◌, length};
-ghost use Rattle.script_text.specs.Table.{row_fields, last_of, word_at, at_most, own_fields, later_fields, has, fits};
+ghost use Rattle.script_text.specs.Table.{sort_text, sort_fields, sort_at, row_fields, last_of, word_at, at_most, own_fields, later_fields, has, fits};
 ghost use Rattle.script_text.specs.Words.{word_text, word_of};
 ghost use Rattle.script_text.specs.Readings.{fields_in};
 
@@ -36,6 +36,8 @@ pub enum Field {
     Keys { most: usize },
     /// One to so many pairs with distinct keys, which are the last fields.
     Pairs { most: usize },
+    /// One to so many distinct colours, which are the last fields.
+    Colours { most: usize },
 }
 
 /// What is tested after the fields.
@@ -210,6 +212,53 @@ impl Word {
     }
 }
 
+/// What an object's line may declare.
+#[derive(Clone, Copy, Debug, PartialEq, Eq)]
+pub enum Sort {
+    Map,
+    Tx,
+    Causal,
+    Queue,
+}
+
+/// The word of an object's line, and the fields after the object's name.
+pub type SortRow = (&'static [u8], &'static [Field]);
+
+const SHARDED: &[Field] = &[Field::Region, Field::Colours { most: 16 }];
+
+pub const MAP_LINE: SortRow = (b"map", SHARDED);
+
+pub const TX_LINE: SortRow = (b"tx", SHARDED);
+
+pub const CAUSAL_LINE: SortRow = (b"causal", &[Field::Colour]);
+
+pub const QUEUE_LINE: SortRow = (b"queue", &[Field::Region, Field::Colour]);
+
+/// All sorts.
+pub const SORTS: [Sort; 4] = [Sort::Map, Sort::Tx, Sort::Causal, Sort::Queue];
+
+impl Sort {
+    /// The row of an object's line.
+    pub fn row(self) -> SortRow
+        ensures text { result.0.now ≡ sort_text self }
+        ensures fields { result.1.now ≡ sort_fields self }
+    {
+        match self {
+            Sort::Map => MAP_LINE,
+            Sort::Tx => TX_LINE,
+            Sort::Causal => CAUSAL_LINE,
+            Sort::Queue => QUEUE_LINE,
+        }
+    }
+
+    /// The sort of object that a line with this word declares.
+    pub fn of_bytes(field: &[u8]) -> Option<Sort>
+        ensures { result ≡ sort_at field.now }
+    {
+        SORTS.iter().copied().find(|sort| field == sort.row().0)
+    }
+}
+
 impl What {
     /// The word by which a script asks for it.
     pub fn word(&self) -> Word
@@ -241,7 +290,7 @@ impl Field {
         ensures { result ≡ at_most self }
     {
         match self {
-            Field::Keys { most } | Field::Pairs { most } => Some(most),
+            Field::Keys { most } | Field::Pairs { most } | Field::Colours { most } => Some(most),
             Field::Steps | Field::Cols | Field::Colour | Field::Region | Field::Text => None,
             Field::Object { .. } | Field::Key | Field::Value => None,
         }
