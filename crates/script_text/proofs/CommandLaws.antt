@@ -1,17 +1,14 @@
 -- A command line gives an item exactly where it says one that may follow.
-use Rattle.std.proofs.Common.{◌≡◌, ℕ, zero, suc, ◌+◌, ◌*◌, ◌<◌, ◌≤◌, Bool, true, false, not, ◌&&◌, ◌||◌, cond, ltb, leb, eqb, inl, inr, List, [], ◌∷◌, ◌++◌, length, map, take, drop, append-nil, Option, Some, None, Result, Ok, Err, refl, sym, ap, subst, ◌∙◌, codes, arith}
-use Rattle.std.specs.List.{find, list_any}
+use Rattle.std.proofs.Common.{◌≡◌, ℕ, ◌+◌, ◌*◌, ◌<◌, ◌≤◌, true, false, not, ◌&&◌, ltb, leb, eqb, List, [], ◌∷◌, length, Option, Some, None, Ok, refl, sym, ap, subst, ◌∙◌, arith}
+use Rattle.std.specs.List.{list_any}
 use Rattle.std.specs.Str.{bytes_eq}
-use Rattle.std.proofs.lemmas.Bool.{cases_Bool, and_parts, not-true, not-false, lt-ltb, ltb-true, ltb-false, le-ltb, le-leb, leb-true, eqb-true}
+use Rattle.std.proofs.lemmas.Bool.{and_parts, not-true, not-false, lt-ltb, ltb-true, ltb-false, le-ltb, le-leb, leb-true}
 use Rattle.std.proofs.lemmas.Slice.Eq.{bytes_eq-Decides}
-use Rattle.std.proofs.lemmas.List.Folds.{list_any-append}
-use Rattle.script_text.specs.declared.script.Reason.{Reason}
 use Rattle.script_text.specs.declared.script.Reason.TheVariants as reasons
 use Rattle.script_text.specs.declared.script.Word.{Word}
 use Rattle.script_text.specs.declared.script.Word.TheVariants as words
 use Rattle.script_text.specs.declared.script.What.{What}
 use Rattle.script_text.specs.declared.script.Command.{Command}
-use Rattle.script_text.specs.declared.table.Field.{Field}
 use Rattle.script_text.specs.declared.table.Last.{Last}
 use Rattle.script_text.specs.declared.table.Last.TheVariants as lasts
 use Rattle.script_text.specs.declared.table.TheConstants.{WORDS}
@@ -21,21 +18,21 @@ use Rattle.script_text.specs.declared.known.Known.{Known}
 use Rattle.script_text.specs.declared.item.Item.TheVariants as items
 use Rattle.script_text.specs.declared.reads.HeldRead.{HeldRead}
 use Rattle.script_text.specs.Pieces.{name_of}
-use Rattle.script_text.specs.Items.{has_begun, client_names, has_stopped, has_read, commands}
+use Rattle.script_text.specs.Items.{has_begun, client_names, has_stopped, commands}
 use Rattle.script_text.specs.Reads.{holds}
-use Rattle.script_text.specs.Table.{word_at, row_fields, last_of, own_in, later_in, at_most, own_fields, later_fields, has, fits, nothing, what_of}
+use Rattle.script_text.specs.Table.{word_at, row_fields, last_of, fits, nothing, what_of}
 use Rattle.script_text.specs.Words.{word_text, word_of}
-use Rattle.script_text.specs.Grammar.{Says, SpellAll, SpellsWhat, ends_well, may_follow}
+use Rattle.script_text.specs.Grammar.{SpellAll, SpellsWhat, ends_well, may_follow}
 use Rattle.script_text.specs.Kept.{known_of}
 use Rattle.script_text.specs.Readings.{◌>>=◌, refuse, number_at}
-use Rattle.script_text.specs.CommandReadings.{taken_at, given_at, ended_well, what_at, worded_at, asked_at, caller_at, command_at}
+use Rattle.script_text.specs.CommandReadings.{given_at, ended_well, what_at, worded_at, asked_at, caller_at, command_at}
 use Rattle.script_text.proofs.EachLemmas.{refused_ok, bind_ok, ok_is}
 use Rattle.script_text.proofs.NameLemmas.{number_ok, number_at_again}
 use Rattle.script_text.proofs.ReadLaws.{held_is}
 use Rattle.script_text.proofs.KnownLaws.{IsLawful, stopped_among}
 use Rattle.script_text.specs.Laws.{Follows}
 use Rattle.script_text.proofs.HeaderLaws.{parts}
-use Rattle.script_text.proofs.FullLaws.{is_empty, any_empty}
+use Rattle.script_text.proofs.FullLaws.{is_empty}
 use Rattle.script_text.proofs.KindLaws.{find_passes, all_ok, all_again}
 
 -- ---- words

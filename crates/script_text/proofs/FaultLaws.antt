@@ -1,6 +1,6 @@
 -- A line's first fault is the reason of its reading.
-use Rattle.std.proofs.Common.{◌≡◌, ℕ, zero, suc, ◌+◌, ◌*◌, ◌<◌, ◌≤◌, Bool, true, false, not, ◌&&◌, ◌||◌, cond, eqb, leb, ltb, List, [], ◌∷◌, ◌++◌, length, map, take, drop, Option, Some, None, Result, Ok, Err, refl, sym, ap, subst, ◌∙◌, inl, inr, codes, arith}
-use Rattle.std.specs.Prelude.{unwrap_or, if◌then◌else◌}
+use Rattle.std.proofs.Common.{◌≡◌, ℕ, ◌+◌, ◌*◌, true, false, not, ◌&&◌, eqb, leb, ltb, List, [], ◌∷◌, ◌++◌, length, take, drop, Option, Some, None, Ok, refl, sym, ap, ◌∙◌, inl, inr, codes}
+use Rattle.std.specs.Prelude.{unwrap_or}
 use Rattle.std.specs.List.{list_any}
 use Rattle.std.specs.Str.{bytes_eq}
 use Rattle.std.proofs.lemmas.Bool.{cases_Bool, not-false}
@@ -21,20 +21,20 @@ use Rattle.script_text.specs.declared.item.Stage.{Stage}
 use Rattle.script_text.specs.declared.item.Stage.TheVariants as stages
 use Rattle.script_text.specs.declared.reads.HeldRead.{HeldRead}
 use Rattle.script_text.specs.Pieces.{is_between, is_among, is_number, number_value, number_of, name_of, names_in, first_in}
-use Rattle.script_text.specs.Items.{may_come, region_names, colour_names, client_names, objects, object_names, header_words, stage_of, has_begun, has_stopped, has_read, commands, set_of}
+use Rattle.script_text.specs.Items.{may_come, region_names, colour_names, client_names, objects, object_names, header_words, stage_of, has_stopped, has_read, commands, set_of}
 use Rattle.script_text.specs.Reads.{holds}
 use Rattle.script_text.specs.Table.{word_at, row_fields, last_of, own_fields, later_fields, fits, nothing, what_of, sort_fields, sort_at, kind_of}
-use Rattle.script_text.specs.Faults.{when, each_field, new_name, region_field, colour_field, colour_fields, field_at, kind_tests, field_tests, last_tests, word_tests, command_tests, is_full, header_tests, object_tests}
+use Rattle.script_text.specs.Faults.{when, each_field, new_name, region_field, field_at, kind_tests, field_tests, last_tests, word_tests, command_tests, is_full, header_tests, object_tests}
 use Rattle.script_text.specs.Kept.{known_of}
-use Rattle.script_text.specs.Readings.{◌>>=◌, refuse, found_or, each_at, new_name_at, number_at, colours_at, colour_set_at, text_at, pair_at, digits_at, object_at, with_none, with_one, with_two}
-use Rattle.script_text.specs.HeaderReadings.{version_at, regions_at, colour_line_at, rows_at, client_named_at, client_at, object_names_in, object_name_at, sorted_at, declared_at, headed_at, header_at}
+use Rattle.script_text.specs.Readings.{◌>>=◌, refuse, found_or, each_at, new_name_at, number_at, colour_set_at, text_at, pair_at, digits_at, object_at, with_one, with_two}
+use Rattle.script_text.specs.HeaderReadings.{regions_at, colour_line_at, rows_at, client_named_at, client_at, object_name_at, sorted_at, declared_at, headed_at, header_at}
 use Rattle.script_text.specs.CommandReadings.{taken_at, given_at, ended_well, what_at, worded_at, asked_at, caller_at, command_at}
 use Rattle.script_text.proofs.EachLemmas.{bind_ok, refused_ok, ok_is}
-use Rattle.script_text.proofs.NameLemmas.{named, found_ok}
+use Rattle.script_text.proofs.NameLemmas.{found_ok}
 use Rattle.script_text.proofs.FieldLaws.{digits_ok, object_number}
 use Rattle.script_text.proofs.ReadLaws.{held_is}
 use Rattle.script_text.proofs.KnownLaws.{stopped_among}
-use Rattle.script_text.proofs.TestLaws.{Tests, tests_ok, tests_refuse, tests_then, tests_last, tests_same, is_found, among_number, number_tests, new_name_tests, each_tests, colours_tests, none_tests, one_tests, two_tests}
+use Rattle.script_text.proofs.TestLaws.{Tests, tests_ok, tests_refuse, tests_then, tests_last, tests_same, is_found, among_number, number_tests, new_name_tests, each_tests, none_tests, one_tests, two_tests}
 use Rattle.script_text.proofs.HeaderLaws.{same_word}
 use Rattle.script_text.proofs.KindLaws.{order_at, order_ok, put_number, put_colours, put_set, put_object, put_text, put_pairs, kind_faults}
 

@@ -1,9 +1,9 @@
 -- Keys, pairs, numbers and objects in a line are read exactly.
-use Rattle.std.proofs.Common.{◌≡◌, ℕ, zero, suc, ◌+◌, ◌<◌, ◌≤◌, Bool, true, false, not, ◌&&◌, ◌||◌, cond, eqb, leb, ltb, List, [], ◌∷◌, ◌++◌, length, get_or, map, Option, Some, None, Result, Ok, Err, refl, sym, ap, subst, ◌∙◌, append_assoc, inl, inr, arith}
+use Rattle.std.proofs.Common.{◌≡◌, ℕ, zero, suc, ◌<◌, Bool, true, false, not, ◌&&◌, List, [], ◌∷◌, ◌++◌, length, get_or, map, Some, Result, Ok, Err, refl, sym, ap, ◌∙◌, inl, inr, arith}
 use Rattle.std.specs.Prelude.{slice_get}
-use Rattle.std.specs.List.{list_any, list_all}
+use Rattle.std.specs.List.{list_all}
 use Rattle.std.specs.Str.{bytes_eq}
-use Rattle.std.proofs.lemmas.Bool.{cases_Bool, and_parts, and_from, not-true, not-false}
+use Rattle.std.proofs.lemmas.Bool.{cases_Bool, and_parts, not-true, not-false}
 use Rattle.std.proofs.lemmas.Slice.Eq.{bytes_eq-Decides}
 use Rattle.std.proofs.lemmas.List.{map_push, get_or-map}
 use Rattle.log_node.specs.declared.forms.Pair.{Pair}
@@ -12,7 +12,7 @@ use Rattle.script_text.specs.declared.script.Reason.{Reason}
 use Rattle.script_text.specs.declared.script.Reason.TheVariants as reasons
 use Rattle.script_text.specs.declared.table.Kinds.{Kinds}
 use Rattle.script_text.specs.Table.{is_of}
-use Rattle.script_text.specs.Pieces.{is_key, is_number, number_value, is_among, is_between, number_of, name_of}
+use Rattle.script_text.specs.Pieces.{is_key, is_number, number_value, is_among, number_of, name_of}
 use Rattle.script_text.specs.Grammar.{are_new_names, are_new_keys, is_one_of, has_equals, key_in, value_in, pair_of, SpellsNumber}
 use Rattle.script_text.specs.Readings.{◌>>=◌, refuse, each_at, value_at, key_at, new_pair_at, pair_at, digits_at, object_at, with_none, with_one, with_two}
 use Rattle.script_text.proofs.EachLemmas.{refused_ok, bind_ok, ok_is}

@@ -1,16 +1,14 @@
 -- The numbers in a script name what there is.
-use Rattle.std.proofs.Common.{◌≡◌, ◌≢◌, ◌⊎◌, inl, inr, ℕ, zero, suc, ◌+◌, ◌^◌, ◌<◌, ◌≤◌, max, ◌==◌, cond, Bool, true, false, List, [], ◌∷◌, ◌++◌, length, map, Option, Some, None, refl, ap, sym, subst, ◌∙◌, arith, append-nil, append_assoc, length-append, eqb-true, leb-true, ltb-true, get_or}
-use Rattle.std.specs.Prelude.{IsTrue, ◌&&◌, nat_lt, nat_le, not, codes, bit_or}
+use Rattle.std.proofs.Common.{◌≡◌, inl, inr, ℕ, zero, suc, ◌^◌, ◌<◌, ◌≤◌, cond, Bool, true, false, List, [], ◌∷◌, ◌++◌, length, map, Option, Some, None, refl, ap, sym, subst, ◌∙◌, arith, append-nil, append_assoc, length-append, eqb-true, leb-true, ltb-true}
+use Rattle.std.specs.Prelude.{IsTrue, ◌&&◌, nat_lt, not, codes, bit_or}
 use Rattle.std.specs.Int.{bit_at}
-use Rattle.std.specs.List.{All, cons_option, filter, filter_map, fold, last_or, list_all, list_any, range_with_len, enumerate_from}
+use Rattle.std.specs.List.{All, cons_option, filter, filter_map, fold, last_or, list_all, range_with_len, enumerate_from}
 use Rattle.std.proofs.lemmas.List.{map-append, length-map}
 use Rattle.std.proofs.lemmas.List.FromFn.{length-enumerate_from}
-use Rattle.std.proofs.lemmas.List.Elements.{All-nil, All-append, filter_map-append}
+use Rattle.std.proofs.lemmas.List.Elements.{All-nil, All-append}
 use Rattle.std.proofs.lemmas.Nat.Bits.{bit_at_or, bit_at-zero, bit_at-pow_other}
 use Rattle.std.proofs.lemmas.Bool.Decides.{eqb_tells}
-use Rattle.log_node.specs.declared.ids.Colours.{Colours}
-use Rattle.log_node.specs.declared.node.Shape.{Shape}
-use Rattle.log_node.specs.Sets.{has, members}
+use Rattle.log_node.specs.Sets.{has}
 use Rattle.script_text.specs.declared.script.Kind.{Kind}
 use Rattle.script_text.specs.declared.script.Kind.TheVariants as kinds
 use Rattle.script_text.specs.declared.script.What.{What}
@@ -29,8 +27,8 @@ use Rattle.script_text.specs.declared.item.Stage.{Stage}
 use Rattle.script_text.specs.declared.item.Stage.TheVariants as stages
 use Rattle.script_text.specs.Pieces.{lines_of, fields_of, is_among, is_between}
 use Rattle.script_text.specs.Items.{stage_after, stage_of, header_words, may_come, is_begun, has_begun, regions_in, colours_in, clients_in, commands_in, last_said, region_names, colour_names, client_names, client_homes, commands, script_of, set_of}
-use Rattle.script_text.specs.Grammar.{kept_lines, is_passed_over, may_follow, is_colour, is_region, are_colours, SpellsColours, Spells, SpellAll, SpellsWhat, Says, Say, AreLines, IsScript}
-use Rattle.script_text.specs.Fitting.{IsShape, AreBelow, IsWithin, IsFitting}
+use Rattle.script_text.specs.Grammar.{kept_lines, is_passed_over, may_follow, is_region, Spells, SpellAll, SpellsWhat, Says, Say, AreLines, IsScript}
+use Rattle.script_text.specs.Fitting.{AreBelow, IsWithin, IsFitting}
 
 and-left : (a b : Bool) → (a && b) ≡ true → a ≡ true
 and-left true b e = refl

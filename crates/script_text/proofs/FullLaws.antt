@@ -1,26 +1,14 @@
 -- What is no empty field.
-use Rattle.std.proofs.Common.{◌≡◌, ℕ, zero, suc, ◌+◌, ◌<◌, ◌≤◌, Bool, true, false, not, ◌&&◌, ◌||◌, ltb, leb, eqb, inl, inr, List, [], ◌∷◌, ◌++◌, length, map, refl, sym, ap, subst, ◌∙◌, codes, arith}
+use Rattle.std.proofs.Common.{◌≡◌, ℕ, zero, suc, ◌<◌, Bool, true, false, not, ◌&&◌, ltb, leb, eqb, List, [], ◌∷◌, ◌++◌, length, refl, ap, ◌∙◌, arith}
 use Rattle.std.specs.List.{list_any, list_all}
-use Rattle.std.proofs.lemmas.Bool.{cases_Bool, and_parts, or_from, ne_eqb, ltb-true, leb-true}
-use Rattle.std.proofs.lemmas.List.Folds.{list_any-append}
-use Rattle.log_node.specs.declared.forms.Pair.{Pair}
-use Rattle.script_text.specs.declared.script.Kind.{Kind}
-use Rattle.script_text.specs.declared.script.Kind.TheVariants as kinds
-use Rattle.script_text.specs.declared.script.Word.{Word}
-use Rattle.script_text.specs.declared.script.Word.TheVariants as words
-use Rattle.script_text.specs.declared.script.What.{What}
-use Rattle.script_text.specs.declared.script.What.TheVariants as whats
-use Rattle.script_text.specs.declared.script.Command.{Command}
+use Rattle.std.proofs.lemmas.Bool.{and_parts, ne_eqb, ltb-true, leb-true}
 use Rattle.script_text.specs.declared.item.Item.{Item}
-use Rattle.script_text.specs.declared.item.Item.TheVariants as items
 use Rattle.script_text.specs.Pieces.{is_name, is_key, is_text, is_number, is_between, is_letter_or_digit, is_among, name_of, names_in}
-use Rattle.script_text.specs.Items.{may_come, region_names, colour_names, client_names, object_names, objects, has_read}
-use Rattle.script_text.specs.Grammar.{Says, SpellsNumber, may_follow, are_new_names, are_new_keys, are_keys, are_pairs, are_new_numbers, are_colours, is_region, is_colour, has_equals, is_one_of}
+use Rattle.script_text.specs.Items.{region_names, colour_names}
+use Rattle.script_text.specs.Grammar.{are_new_names, are_new_keys, are_new_numbers, are_colours, is_region, is_colour, has_equals}
 use Rattle.script_text.specs.Kept.{known_of}
 use Rattle.script_text.proofs.NameLemmas.{named, new_parts}
 use Rattle.script_text.proofs.KnownLaws.{IsLawful}
-use Rattle.script_text.proofs.FieldLaws.{object_names_of, object_within}
-use Rattle.script_text.specs.Laws.{Follows}
 
 abbrev pub is_empty : List ℕ → Bool
 is_empty field = eqb (length field) 0

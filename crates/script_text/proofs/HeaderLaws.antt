@@ -1,10 +1,8 @@
 -- A header line gives an item exactly where it says one that may follow.
-use Rattle.std.proofs.Common.{◌≡◌, ℕ, ◌+◌, ◌<◌, ◌≤◌, Bool, true, false, not, ◌&&◌, cond, ltb, leb, inl, inr, List, [], ◌∷◌, ◌++◌, length, map, Option, Some, None, Result, Ok, Err, refl, sym, ap, subst, ◌∙◌, codes, arith}
-use Rattle.std.specs.List.{list_all}
+use Rattle.std.proofs.Common.{◌≡◌, ℕ, ◌<◌, true, not, ◌&&◌, ltb, leb, inl, inr, List, [], ◌∷◌, length, Option, Some, None, Result, Ok, refl, sym, ap, subst, ◌∙◌, codes}
 use Rattle.std.specs.Str.{bytes_eq}
-use Rattle.std.proofs.lemmas.Bool.{cases_Bool, and_parts, not-true, not-false, lt-ltb, ltb-true, leb-false, lt-leb}
+use Rattle.std.proofs.lemmas.Bool.{cases_Bool, and_parts, not-false, lt-ltb, ltb-true, leb-false, lt-leb}
 use Rattle.std.proofs.lemmas.Slice.Eq.{bytes_eq-Decides}
-use Rattle.std.proofs.lemmas.List.{length-map}
 use Rattle.script_text.specs.declared.script.Kind.{Kind}
 use Rattle.script_text.specs.declared.table.Sort.{Sort}
 use Rattle.script_text.specs.declared.table.Sort.TheVariants as sorts
@@ -17,18 +15,16 @@ use Rattle.script_text.specs.declared.script.Reason.{Reason}
 use Rattle.script_text.specs.declared.script.Reason.TheVariants as reasons
 use Rattle.script_text.specs.declared.item.Item.{Item}
 use Rattle.script_text.specs.declared.item.Item.TheVariants as items
-use Rattle.script_text.specs.declared.item.Stage.{Stage}
-use Rattle.script_text.specs.declared.item.Stage.TheVariants as stages
 use Rattle.script_text.specs.declared.known.Known.{Known}
-use Rattle.script_text.specs.Pieces.{is_between, is_among, is_number, number_value, name_of}
-use Rattle.script_text.specs.Items.{may_come, region_names, colour_names, client_names, objects, object_names, header_words, stage_of}
-use Rattle.script_text.specs.Grammar.{Says, SpellsNumber, may_follow, are_new_names, is_region, SpellAll}
+use Rattle.script_text.specs.Pieces.{is_between, is_number, number_value, name_of}
+use Rattle.script_text.specs.Items.{may_come, region_names, client_names, objects, object_names}
+use Rattle.script_text.specs.Grammar.{SpellsNumber, may_follow, are_new_names, is_region, SpellAll}
 use Rattle.script_text.specs.Laws.{Follows}
 use Rattle.script_text.specs.Kept.{known_of}
-use Rattle.script_text.specs.Readings.{◌>>=◌, refuse, number_at, new_name_at, new_names_at, with_none, with_one, with_two}
-use Rattle.script_text.specs.HeaderReadings.{version_at, regions_at, colour_line_at, rows_at, client_named_at, client_at, object_names_in, object_name_at, sorted_at, declared_at, headed_at, header_at}
+use Rattle.script_text.specs.Readings.{◌>>=◌, number_at, new_name_at, new_names_at}
+use Rattle.script_text.specs.HeaderReadings.{version_at, regions_at, colour_line_at, rows_at, client_named_at, client_at, object_name_at, sorted_at, declared_at, headed_at, header_at}
 use Rattle.script_text.proofs.EachLemmas.{refused_ok, bind_ok, ok_is}
-use Rattle.script_text.proofs.NameLemmas.{named, names_ok, names_again, new_name_ok, new_name_again, number_ok, number_at_again}
+use Rattle.script_text.proofs.NameLemmas.{names_ok, names_again, new_name_ok, new_name_again, number_ok, number_at_again}
 use Rattle.script_text.proofs.FieldLaws.{none_ok, one_ok, two_ok}
 use Rattle.script_text.proofs.KindLaws.{find_passes, all_ok, all_again}
 use Rattle.script_text.proofs.KnownLaws.{IsLawful}

@@ -1,9 +1,9 @@
 -- The fields of one kind are read exactly.
-use Rattle.std.proofs.Common.{◌≡◌, ℕ, zero, suc, ◌+◌, ◌*◌, ◌<◌, ◌≤◌, Bool, true, false, not, ◌&&◌, ◌||◌, cond, ltb, leb, eqb, inl, inr, List, [], ◌∷◌, ◌++◌, length, map, take, drop, append-nil, Option, Some, None, Result, Ok, Err, refl, sym, ap, subst, ◌∙◌, arith}
+use Rattle.std.proofs.Common.{◌≡◌, ℕ, suc, ◌≤◌, Bool, true, false, not, ◌&&◌, ◌||◌, leb, eqb, inl, inr, List, [], ◌∷◌, ◌++◌, length, map, take, append-nil, Option, Some, None, Result, Ok, refl, sym, ap, ◌∙◌, arith}
 use Rattle.std.specs.Prelude.{slice_get}
-use Rattle.std.specs.List.{find, list_all, slice_split}
+use Rattle.std.specs.List.{find, list_all}
 use Rattle.std.proofs.lemmas.List.Folds.{list_any-append}
-use Rattle.std.proofs.lemmas.Bool.{cases_Bool, and_parts, not-false, leb-true, eqb-true, lt-ltb, ltb-true, le-leb, ne_eqb}
+use Rattle.std.proofs.lemmas.Bool.{cases_Bool, and_parts, not-false, leb-true, eqb-true, lt-ltb, ltb-true, le-leb}
 use Rattle.std.proofs.lemmas.List.{length-map}
 use Rattle.std.proofs.lemmas.List.Splits.{length-slice_split}
 use Rattle.log_node.specs.declared.ids.Colours.{Colours}
@@ -18,10 +18,10 @@ use Rattle.script_text.specs.declared.item.Item.{Item}
 use Rattle.script_text.specs.Pieces.{is_text, is_key, is_between, is_number, number_value, name_of, names_in, first_in}
 use Rattle.script_text.specs.Items.{set_of, region_names, colour_names, object_names, objects}
 use Rattle.script_text.specs.Table.{own_in, later_in, at_most, own_fields, later_fields, has, fits}
-use Rattle.script_text.specs.Grammar.{Spells, SpellAll, SpellsColours, are_colours, are_keys, are_pairs, are_new_keys, are_new_numbers, is_colour, is_region, has_equals, key_in, value_in, pair_of, is_one_of}
+use Rattle.script_text.specs.Grammar.{Spells, SpellAll, are_colours, are_keys, are_pairs, are_new_keys, are_new_numbers, is_colour, has_equals, key_in, value_in, pair_of, is_one_of}
 use Rattle.script_text.specs.Faults.{when, kind_tests, colour_fields, key_field, pair_field}
 use Rattle.script_text.specs.Kept.{known_of}
-use Rattle.script_text.specs.Readings.{◌>>=◌, refuse, each_at, number_at, colours_at, colour_set_at, text_at, value_at, key_at, pair_at, digits_at, object_at}
+use Rattle.script_text.specs.Readings.{each_at, number_at, colours_at, colour_set_at, text_at, value_at, key_at, pair_at, digits_at, object_at}
 use Rattle.script_text.specs.CommandReadings.{taken_at, given_at}
 use Rattle.script_text.proofs.EachLemmas.{refused_ok, bind_ok, ok_is}
 use Rattle.script_text.proofs.NameLemmas.{named, number_ok, number_at_again, colours_ok, colours_again}
@@ -187,7 +187,6 @@ kind_ok before (fields.Pairs most) args given next h e =
     let b = bind_ok (each_at pair_at [] args) (λ ps. Ok (put_pairs given ps)) next e in
     let k = pairs_ok [] args b.0 b.1 in
     (k.1.equals, pairs_lawful most args h k.1, sym (ok_is (put_pairs given b.0) next b.2) ∙ ap (put_pairs given) k.0)
-
 kind_ok before (fields.Colours most) args given next h e =
     let b = bind_ok (colours_at (colour_names before) args) (λ ns. Ok (put_order given ns)) next e in
     let c = colours_ok (colour_names before) [] args b.0 b.1 in
@@ -218,7 +217,6 @@ kind_again before (fields.Keys most) own given next l s =
 kind_again before (fields.Pairs most) own given next l s =
     let p = pairs_read most own s.0 s.1 in
     (p.0, rw (p.1, s.2) refl)
-
 kind_again before (fields.Colours most) own given next l s =
     let a = and_parts (leb 1 (length s.0) && are_new_numbers [] s.0) (list_all (is_colour before) s.0) s.2 in
     let b = and_parts (leb 1 (length s.0)) (are_new_numbers [] s.0) a.0 in
@@ -236,7 +234,6 @@ kind_full before fields.Key own given next l s = rw (s.1, key_full s.0 s.2) refl
 kind_full before fields.Value own given next l s = rw (s.1, key_full s.0 s.2) refl
 kind_full before (fields.Keys most) own given next l s = keys_full [] own (and_parts (is_between 1 most (length own)) (are_new_keys [] own) s.0).1
 kind_full before (fields.Pairs most) own given next l s = pairs_full own s.0
-
 kind_full before (fields.Colours most) own given next l s =
     let a = and_parts (leb 1 (length s.0) && are_new_numbers [] s.0) (list_all (is_colour before) s.0) s.2 in
     rw s.1 (named_full (colour_names before) s.0 l.colours a.1)

@@ -1,5 +1,5 @@
 -- What is kept of the lines is what they say, line after line, and names stay distinct and few.
-use Rattle.std.proofs.Common.{◌≡◌, ℕ, ◌+◌, ◌<◌, ◌≤◌, Bool, true, false, ◌&&◌, cond, not, inl, inr, lit≤, subst, codes, ltb, leb, eqb, IsTrue, List, [], ◌∷◌, ◌++◌, length, map, Option, Some, None, refl, sym, ap, ◌∙◌, append_assoc, arith}
+use Rattle.std.proofs.Common.{◌≡◌, ℕ, ◌<◌, Bool, true, false, ◌&&◌, not, inl, inr, lit≤, subst, codes, ltb, leb, eqb, List, [], ◌∷◌, ◌++◌, length, map, Option, Some, refl, sym, append_assoc, arith}
 use Rattle.std.specs.List.{list_any, filter_map, last_or}
 use Rattle.std.proofs.lemmas.Bool.{cases_Bool, and_parts, ltb-true, leb-true}
 use Rattle.std.proofs.lemmas.List.{append-nil, map-append, length-append}
@@ -10,7 +10,7 @@ use Rattle.script_text.specs.declared.item.Item.{Item}
 use Rattle.script_text.specs.declared.item.Item.TheVariants as items
 use Rattle.script_text.specs.declared.known.Known.{Known}
 use Rattle.script_text.specs.Pieces.{is_name, is_among, is_between}
-use Rattle.script_text.specs.Items.{last_said, commands, commands_in, is_stop, has_stopped, stage_of, stage_after, may_come, region_names, colour_names, client_names, objects, object_names}
+use Rattle.script_text.specs.Items.{last_said, is_stop, may_come, client_names, objects, object_names}
 use Rattle.script_text.specs.Grammar.{are_new_names, may_follow, is_region}
 use Rattle.script_text.specs.Table.{sort_text, sort_of}
 use Rattle.script_text.specs.Kept.{known_of, known_after, with_item, stops_in, stopped_in, IsSmall}

@@ -1,20 +1,19 @@
 -- A reading gives the reason of the first test that holds.
-use Rattle.std.proofs.Common.{◌≡◌, ℕ, zero, suc, ◌+◌, ◌<◌, ◌≤◌, Bool, true, false, not, ◌&&◌, ◌||◌, cond, eqb, leb, ltb, List, [], ◌∷◌, ◌++◌, length, map, drop, Option, Some, None, Result, Ok, Err, refl, sym, ap, ◌∙◌, append_assoc, inl, inr, arith}
-use Rattle.std.specs.List.{list_any, find}
+use Rattle.std.proofs.Common.{◌≡◌, ℕ, suc, Bool, true, false, not, eqb, List, [], ◌∷◌, ◌++◌, length, map, Option, Some, None, Result, Ok, Err, refl, ◌∙◌, append_assoc, inl, inr, arith}
+use Rattle.std.specs.List.{find}
 use Rattle.std.specs.Str.{bytes_eq}
 use Rattle.std.specs.Option.{option_map}
-use Rattle.std.proofs.lemmas.Bool.{cases_Bool, ne_eqb, le-leb, lt-leb, and_right}
-use Rattle.std.proofs.lemmas.Bool.Decides.{nat_tests}
+use Rattle.std.proofs.lemmas.Bool.{cases_Bool, ne_eqb}
 use Rattle.script_text.specs.declared.script.Object.{Object}
 use Rattle.script_text.specs.declared.script.Reason.{Reason}
 use Rattle.script_text.specs.declared.script.Reason.TheVariants as reasons
 use Rattle.script_text.specs.declared.table.Kinds.{Kinds}
 use Rattle.script_text.specs.declared.item.Item.{Item}
 use Rattle.script_text.specs.Table.{is_of}
-use Rattle.script_text.specs.Pieces.{is_name, is_key, is_text, is_number, is_among, is_between, number_of}
-use Rattle.script_text.specs.Items.{region_names, colour_names, objects}
+use Rattle.script_text.specs.Pieces.{is_name, is_key, is_text, is_among, number_of}
+use Rattle.script_text.specs.Items.{colour_names, objects}
 use Rattle.script_text.specs.Grammar.{has_equals, key_in, value_in}
-use Rattle.script_text.specs.Faults.{when, first_of, each_field, new_name, region_field, colour_field, colour_fields, text_field, value_field, key_field, pair_field, object_named, is_unknown, is_other, object_field}
+use Rattle.script_text.specs.Faults.{when, first_of, each_field, new_name, colour_field, colour_fields, text_field, value_field, key_field, pair_field, is_unknown, is_other, object_field}
 use Rattle.script_text.specs.Readings.{◌>>=◌, refuse, found_or, number_at, new_name_at, each_at, colour_at, text_at, value_at, key_at, new_pair_at, pair_at, object_at, with_none, with_one, with_two}
 use Rattle.script_text.proofs.EachLemmas.{Reader}
 

@@ -1,7 +1,6 @@
 -- What a header line gives.
 use Rattle.std.specs.Prelude.{ℕ, nat_le, not, ◌&&◌, List, [], ◌∷◌, length, map, Option, Some, None, Result, Ok, Err, codes, if◌then◌else◌}
 use Rattle.std.specs.Str.{bytes_eq}
-use Rattle.log_node.specs.declared.ids.Colours.{Colours}
 use Rattle.script_text.specs.declared.table.Sort.{Sort}
 use Rattle.script_text.specs.declared.script.Object.{Object}
 use Rattle.script_text.specs.declared.script.Reason.{Reason}
@@ -9,6 +8,7 @@ use Rattle.script_text.specs.declared.script.Reason.TheVariants as reasons
 use Rattle.script_text.specs.declared.item.Item.{Item}
 use Rattle.script_text.specs.declared.item.Item.TheVariants as items
 use Rattle.script_text.specs.declared.known.Known.{Known}
+use Rattle.script_text.specs.declared.limits.TheConstants.{VERSION_1, ROWS_DIGITS}
 use Rattle.script_text.specs.Pieces.{is_number, number_value, is_among, is_between}
 use Rattle.script_text.specs.Items.{header_words}
 use Rattle.script_text.specs.Readings.{◌>>=◌, refuse, number_at, new_name_at, new_names_at, with_none, with_one, with_two}
@@ -20,13 +20,13 @@ version_at (one ∷ []) = refuse (not (bytes_eq one (codes "1"))) reasons.BadVer
 version_at _ = Err reasons.BadVersion
 
 unfoldable pub regions_at : List (List ℕ) → Result Item Reason
-regions_at args = refuse (not (is_between 1 4 (length args))) reasons.BadForm (new_names_at args >>= λ names. Ok (items.Regions names))
+regions_at args = refuse (not (is_between 1 VERSION_1.regions (length args))) reasons.BadForm (new_names_at args >>= λ names. Ok (items.Regions names))
 
 unfoldable pub colour_line_at : List (List ℕ) → Result Item Reason
-colour_line_at args = refuse (not (is_between 1 16 (length args))) reasons.BadForm (new_names_at args >>= λ names. Ok (items.Colours names))
+colour_line_at args = refuse (not (is_between 1 VERSION_1.colours (length args))) reasons.BadForm (new_names_at args >>= λ names. Ok (items.Colours names))
 
 unfoldable pub rows_at : List ℕ → Result Item Reason
-rows_at field = refuse (not (is_number 10 field && is_between 1 4096 (number_value field))) reasons.BadNumber (Ok (items.Rows (number_value field)))
+rows_at field = refuse (not (is_number ROWS_DIGITS field && is_between 1 VERSION_1.rows (number_value field))) reasons.BadNumber (Ok (items.Rows (number_value field)))
 
 unfoldable pub client_named_at : Known → List ℕ → List ℕ → Result Item Reason
 client_named_at known field region = do
@@ -35,14 +35,14 @@ client_named_at known field region = do
   Ok (items.Client name home)
 
 unfoldable pub client_at : Known → List ℕ → List ℕ → Result Item Reason
-client_at known field region = refuse (nat_le 16 (length known.script.clients)) reasons.BadForm (client_named_at known field region)
+client_at known field region = refuse (nat_le VERSION_1.clients (length known.script.clients)) reasons.BadForm (client_named_at known field region)
 
 abbrev pub object_names_in : Known → List (List ℕ)
 object_names_in known = map (λ (o : Object). o.name) known.script.objects
 
 -- a new object's name, where there is room for one
 unfoldable pub object_name_at : Known → List ℕ → Result (List ℕ) Reason
-object_name_at known field = refuse (nat_le 16 (length known.script.objects)) reasons.BadForm (new_name_at (object_names_in known) field)
+object_name_at known field = refuse (nat_le VERSION_1.objects (length known.script.objects)) reasons.BadForm (new_name_at (object_names_in known) field)
 
 -- the line of an object of this sort
 unfoldable pub sorted_at : Known → Sort → List (List ℕ) → Result Item Reason

@@ -1,5 +1,5 @@
 -- Readings: what fields give, or the first reason against them.
-use Rattle.std.specs.Prelude.{◌≡◌, Bool, true, false, ℕ, suc, ◌+◌, not, List, [], ◌∷◌, ◌++◌, length, map, Option, Some, None, Result, Ok, Err, if◌then◌else◌}
+use Rattle.std.specs.Prelude.{◌≡◌, Bool, true, false, ℕ, suc, not, List, [], ◌∷◌, ◌++◌, length, map, Option, Some, None, Result, Ok, Err, if◌then◌else◌}
 use Rattle.std.specs.Str.{bytes_eq}
 use Rattle.std.specs.Borrow.{Bor}
 use Rattle.log_node.specs.declared.ids.Colours.{Colours}
@@ -10,7 +10,7 @@ use Rattle.script_text.specs.declared.script.Reason.TheVariants as reasons
 use Rattle.script_text.specs.declared.fault.Fault.{Fault}
 use Rattle.script_text.specs.declared.fault.Fault.TheVariants as faults
 use Rattle.script_text.specs.declared.table.Kinds.{Kinds}
-use Rattle.script_text.specs.Pieces.{is_name, is_key, is_text, is_number, number_value, is_among, is_between, number_of, names_in}
+use Rattle.script_text.specs.Pieces.{is_name, is_key, is_text, is_number, number_value, is_among, number_of, names_in}
 use Rattle.script_text.specs.Items.{set_of}
 use Rattle.script_text.specs.Table.{is_of}
 use Rattle.script_text.specs.Grammar.{has_equals, key_in, value_in}

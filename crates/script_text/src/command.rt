@@ -1,6 +1,7 @@
 // The command lines.
 ghost use Rattle.std.specs.Prelude.{◌≡◌, ◌≤◌, ◌==◌};
 ghost use Rattle.std.specs.List.{list_any};
+ghost use Rattle.script_text.specs.declared.limits.TheConstants.{VERSION_1};
 ghost use Rattle.script_text.specs.Kept.{IsSmall};
 ghost use Rattle.script_text.specs.Readings.{Gives, fields_in};
 ghost use Rattle.script_text.specs.CommandReadings.{ended_well, what_at, worded_at, asked_at, caller_at, command_at};
@@ -18,7 +19,7 @@ use std::alloc::Global;
 /// The tests after the fields.
 #[tactic(auto, unfolding(crate::specs::CommandReadings::ended_well))]
 fn ended_well(known: &Known, client: u8, last: Last, given: Given) -> Result<Given, Fault>
-    requires { given.count ≤ 16 }
+    requires { given.count ≤ VERSION_1.colours }
     ensures { Gives result (ended_well known.now client last given) }
 {
     match last {

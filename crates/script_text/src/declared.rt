@@ -10,6 +10,7 @@ use crate::fault::Fault;
 use crate::given::Given;
 use crate::item::Item;
 use crate::known::Known;
+use crate::limits::VERSION_1;
 use crate::pieces::is_name;
 use crate::script::{Object, Reason};
 use crate::table::{Sort, fits};
@@ -27,7 +28,7 @@ fn is_object(objects: &[Object], name: &[u8]) -> bool
 fn object_name(alloc: Global, known: &Known, field: &[u8]) -> Result<Text, Fault>
     ensures { Gives result (object_name_at known.now field.now) }
 {
-    if known.script.objects.len() >= 16 {
+    if known.script.objects.len() >= VERSION_1.objects {
         return Err(Fault::Refused(Reason::BadForm));
     }
     if !is_name(field) {

@@ -1,5 +1,6 @@
 // What the fields after a command's word give.
 ghost use Rattle.std.specs.Prelude.{◌≡◌, ◌≤◌, IfOk};
+ghost use Rattle.script_text.specs.declared.limits.TheConstants.{VERSION_1};
 ghost use Rattle.script_text.specs.declared.script.Word.TheVariants as words;
 ghost use Rattle.script_text.specs.Kept.{IsSmall};
 ghost use Rattle.script_text.specs.Table.{nothing, what_of, kind_of};
@@ -75,9 +76,9 @@ impl Given {
         own: &[&[u8]],
     ) -> Result<(), Fault>
         requires small { IsSmall known.now }
-        requires few { self.old.count ≤ 16 }
+        requires few { self.old.count ≤ VERSION_1.colours }
         ensures given { Takes result self.new (taken_at known.now field (fields_in own.now) self.old) }
-        ensures few { self.new.count ≤ 16 }
+        ensures few { self.new.count ≤ VERSION_1.colours }
     {
         match field {
             Field::Steps => self.number = steps_at(first(own))?,
@@ -117,9 +118,9 @@ impl Given {
         args: &[&[u8]],
     ) -> Result<Given, Fault>
         requires small { IsSmall known.now }
-        requires few { self.count ≤ 16 }
+        requires few { self.count ≤ VERSION_1.colours }
         ensures given { Gives result (given_at known.now fields.now (fields_in args.now) self) }
-        ensures few { IfOk result (λ given. given.count ≤ 16) }
+        ensures few { IfOk result (λ given. given.count ≤ VERSION_1.colours) }
     {
         match fields {
             [] => Ok(self),
@@ -140,7 +141,7 @@ impl Given {
     ) -> Result<Given, Fault>
         requires { IsSmall known.now }
         ensures given { Gives result (given_at known.now fields.now (fields_in args.now) nothing) }
-        ensures few { IfOk result (λ given. given.count ≤ 16) }
+        ensures few { IfOk result (λ given. given.count ≤ VERSION_1.colours) }
     {
         Given::new(alloc).after(alloc, known, fields, args)
     }

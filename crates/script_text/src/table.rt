@@ -8,6 +8,7 @@ ghost use Rattle.script_text.specs.Table.{sort_text, sort_fields, sort_at, row_f
 ghost use Rattle.script_text.specs.Words.{word_text, word_of};
 ghost use Rattle.script_text.specs.Readings.{fields_in};
 
+use crate::limits::VERSION_1;
 use crate::script::{What, Word};
 
 /// The kinds of object that have a command.
@@ -224,7 +225,12 @@ pub enum Sort {
 /// The word of an object's line, and the fields after the object's name.
 pub type SortRow = (&'static [u8], &'static [Field]);
 
-const SHARDED: &[Field] = &[Field::Region, Field::Colours { most: 16 }];
+const SHARDED: &[Field] = &[
+    Field::Region,
+    Field::Colours {
+        most: VERSION_1.colours,
+    },
+];
 
 pub const MAP_LINE: SortRow = (b"map", SHARDED);
 

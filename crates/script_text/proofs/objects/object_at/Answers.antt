@@ -1,8 +1,6 @@
-use Rattle.std.proofs.Common.{◌≡◌, ◌<◌, length, get_or, [], true, false, Err, Ok, not, refl, sym, ap, ◌∙◌, below_more, arith}
+use Rattle.std.proofs.Common.{◌≡◌, get_or, [], true, false, refl, sym, ◌∙◌, below_more, arith}
 use Rattle.std.specs.Str.{bytes_eq}
-use Rattle.script_text.specs.declared.script.Reason.TheVariants as reasons
 use Rattle.script_text.specs.Table.{is_of}
-use Rattle.script_text.specs.Readings.{object_at}
 use Rattle.script_text.proofs.FieldLaws.{object_names_of, object_first, object_none, object_name_read}
 use Rattle.script_text.proofs.objects.object_at.Goals as goal
 
