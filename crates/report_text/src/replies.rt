@@ -1,13 +1,21 @@
 // The lines of a client: its name, its replies, and the nodes that they show.
 ghost use Rattle.std.specs.Prelude.{◌≡◌};
+ghost use Rattle.script_text.specs.Words.{word_text};
+ghost use Rattle.report_text.specs.Output.{Adds};
 ghost use Rattle.report_text.specs.Replies.{node_line, reply_lines, client_lines};
 
 use crate::names::NameIndex;
 use crate::output::{Output, put_number};
 use crate::printed::{Printed, print_each};
 use crate::report::{ClientReport, ReplyLine};
-use crate::words::put_word;
 use log_node::{Item, Key};
+use script_text::Word;
+
+fn put_word<O: Output>(word: Word, out: &mut O)
+    ensures { Adds (O.state out.old) (O.state out.new) (word_text word) }
+{
+    out.put(word.as_bytes());
+}
 
 fn key_of(item: &Item) -> Key
     ensures { result ≡ item.now.head.key }

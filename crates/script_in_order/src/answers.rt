@@ -12,7 +12,6 @@ use crate::appends::append;
 use crate::moves::{pull, trim};
 use crate::stops::stop;
 use crate::syncs::sync;
-use crate::words::word_of;
 use log_node::{Items, ListOf};
 use report_text::{Answer, ReplyLine};
 use script_text::{Command, What};
@@ -71,7 +70,7 @@ pub fn reply_of(
     };
     ReplyLine {
         line: command.line,
-        word: word_of(&command.what),
+        word: command.what.word(),
         answer,
         nodes,
     }

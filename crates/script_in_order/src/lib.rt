@@ -14,7 +14,6 @@ mod rows;
 mod run;
 mod stops;
 mod syncs;
-mod words;
 
 pub use built::is_built;
 pub use in_order::run_in_order;

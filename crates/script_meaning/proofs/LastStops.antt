@@ -14,7 +14,7 @@ use Rattle.script_text.specs.declared.item.Item.{Item}
 use Rattle.script_text.specs.declared.item.Item.TheVariants as items
 use Rattle.script_text.specs.Items.{is_stop, client_names, commands, commands_in, has_stopped, has_begun}
 use Rattle.script_text.specs.Pieces.{lines_of}
-use Rattle.script_text.specs.Grammar.{may_follow, is_lawful_what, Say, kept_lines}
+use Rattle.script_text.specs.Grammar.{may_follow, Say, kept_lines}
 use Rattle.script_meaning.specs.States.{StopsAreLast}
 use Rattle.script_meaning.specs.Laws.{ScriptsStopLast}
 use Rattle.script_meaning.proofs.FirstProposal.{in_any}
@@ -78,15 +78,14 @@ item_last before (items.Asks command) l ok =
     not_true (has_stopped before command.client) (middle ok) in
     subst Last (sym (command_more before (items.Asks command) command refl))
     (last_more (commands before) command l (going_on before command none)) where
-      pick : (a b c d : Bool) → (a && b && c && d) ≡ true → c ≡ true
-      pick true true true d e = refl
-      pick true true false d e = absurd (let f : ⊥ = cc in f)
-      pick true false c d e = absurd (let f : ⊥ = cc in f)
-      pick false b c d e = absurd (let f : ⊥ = cc in f)
+      pick : (a b c : Bool) → (a && b && c) ≡ true → c ≡ true
+      pick true true c e = e
+      pick true false c e = absurd (let f : ⊥ = cc in f)
+      pick false b c e = absurd (let f : ⊥ = cc in f)
 
       middle : IsTrue (may_follow before (items.Asks command)) → not (has_stopped before command.client) ≡ true
       middle e = pick (has_begun before) (nat_lt command.client (length (client_names before)))
-          (not (has_stopped before command.client)) (is_lawful_what before command.client command.what) e
+          (not (has_stopped before command.client)) e
 
 all_last : (before : List Item) (lines : List (ℕ × List ℕ)) (said : List Item) → Last (commands before)
     → Say before lines said → Last (commands (before ++ said))

@@ -1,20 +1,20 @@
 -- Keys, pairs, numbers and objects in a line are read exactly.
-use Rattle.std.proofs.Common.{◌≡◌, ℕ, zero, suc, ◌+◌, ◌<◌, ◌≤◌, Bool, true, false, not, ◌&&◌, ◌||◌, cond, eqb, leb, ltb, List, [], ◌∷◌, ◌++◌, length, get_or, map, Option, Some, None, Result, Ok, Err, refl, sym, ap, subst, ◌∙◌, append_assoc, inl, inr, arith}
+use Rattle.std.proofs.Common.{◌≡◌, ℕ, zero, suc, ◌<◌, Bool, true, false, not, ◌&&◌, List, [], ◌∷◌, ◌++◌, length, get_or, map, Some, Result, Ok, Err, refl, sym, ap, ◌∙◌, inl, inr, arith}
 use Rattle.std.specs.Prelude.{slice_get}
-use Rattle.std.specs.List.{list_any, list_all}
+use Rattle.std.specs.List.{list_all}
 use Rattle.std.specs.Str.{bytes_eq}
-use Rattle.std.proofs.lemmas.Bool.{cases_Bool, and_parts, and_from, not-true, not-false}
+use Rattle.std.proofs.lemmas.Bool.{cases_Bool, and_parts, not-true, not-false}
 use Rattle.std.proofs.lemmas.Slice.Eq.{bytes_eq-Decides}
 use Rattle.std.proofs.lemmas.List.{map_push, get_or-map}
 use Rattle.log_node.specs.declared.forms.Pair.{Pair}
 use Rattle.script_text.specs.declared.script.Object.{Object}
 use Rattle.script_text.specs.declared.script.Reason.{Reason}
 use Rattle.script_text.specs.declared.script.Reason.TheVariants as reasons
-use Rattle.script_text.specs.declared.script.Word.{Word}
-use Rattle.script_text.specs.Words.{has_word}
-use Rattle.script_text.specs.Pieces.{is_key, is_number, number_value, is_among, is_between, number_of, name_of}
-use Rattle.script_text.specs.Grammar.{are_new_names, are_new_keys, has_object, has_equals, key_in, value_in, pair_of, SpellPairs, SpellsNumber}
-use Rattle.script_text.specs.Readings.{◌>>=◌, refuse, each_at, value_at, key_at, new_pair_at, pair_at, digits_at, object_at, with_none, with_one, with_two, with_three, with_others, with_two_others}
+use Rattle.script_text.specs.declared.table.Kinds.{Kinds}
+use Rattle.script_text.specs.Table.{is_of}
+use Rattle.script_text.specs.Pieces.{is_key, is_number, number_value, is_among, number_of, name_of}
+use Rattle.script_text.specs.Grammar.{are_new_names, are_new_keys, is_one_of, has_equals, key_in, value_in, pair_of, SpellsNumber}
+use Rattle.script_text.specs.Readings.{◌>>=◌, refuse, each_at, value_at, key_at, new_pair_at, pair_at, digits_at, object_at, with_none, with_one, with_two}
 use Rattle.script_text.proofs.EachLemmas.{refused_ok, bind_ok, ok_is}
 use Rattle.script_text.proofs.NameLemmas.{each_ok_cons, each_ok_nil, each_cons, each_nil, first_apart, new_parts}
 
@@ -134,49 +134,49 @@ digits_again most field n s = rw (s.digits, s.value) refl
 abbrev pub object_names_of : List Object → List (List ℕ)
 object_names_of os = map (λ (o : Object). o.name) os
 
-pub object_ok : (word : Word) (os : List Object) (field : List ℕ) (n : ℕ) → object_at word os field ≡ Ok n → (has_object word (slice_get os n) ≡ true) × (field ≡ name_of (object_names_of os) n)
+pub object_ok : (of : Kinds) (os : List Object) (field : List ℕ) (n : ℕ) → object_at of os field ≡ Ok n → (is_one_of of (slice_get os n) ≡ true) × (field ≡ name_of (object_names_of os) n)
 unfolding object_at
-object_ok word [] field n e = absurd cc
-object_ok word (o ∷ os) field n e =
+object_ok of [] field n e = absurd cc
+object_ok of (o ∷ os) field n e =
     elim (cases_Bool (bytes_eq field o.name)) [
       | inl same ↦
-          let r = refused_ok (not (has_word word o.kind)) reasons.WrongObject (Ok 0) n (rw same at e) in
+          let r = refused_ok (not (is_of of o.kind)) reasons.WrongObject (Ok 0) n (rw same at e) in
           let z : 0 ≡ n = ok_is 0 n r.1 in
-          rw (← z) (not-false (has_word word o.kind) r.0, (bytes_eq-Decides field o.name).0 same)
+          rw (← z) (not-false (is_of of o.kind) r.0, (bytes_eq-Decides field o.name).0 same)
       | inr apart ↦
-          let b = bind_ok (object_at word os field) (λ m. Ok (suc m)) n (rw apart at e) in
-          let r = object_ok word os field b.0 b.1 in
+          let b = bind_ok (object_at of os field) (λ m. Ok (suc m)) n (rw apart at e) in
+          let r = object_ok of os field b.0 b.1 in
           let z : suc b.0 ≡ n = ok_is (suc b.0) n b.2 in
           rw (← z) r
     ]
 
-pub object_within : (word : Word) (os : List Object) (n : ℕ) → has_object word (slice_get os n) ≡ true → n < length (object_names_of os)
-object_within word [] zero h = absurd cc
-object_within word [] (suc n) h = absurd cc
-object_within word (o ∷ os) zero h = omega arith
-object_within word (o ∷ os) (suc n) h = let r = object_within word os n h in omega arith
+pub object_within : (of : Kinds) (os : List Object) (n : ℕ) → is_one_of of (slice_get os n) ≡ true → n < length (object_names_of os)
+object_within of [] zero h = absurd cc
+object_within of [] (suc n) h = absurd cc
+object_within of (o ∷ os) zero h = omega arith
+object_within of (o ∷ os) (suc n) h = let r = object_within of os n h in omega arith
 
-pub object_again : (earlier : List (List ℕ)) (word : Word) (os : List Object) (n : ℕ) → are_new_names earlier (object_names_of os) ≡ true → has_object word (slice_get os n) ≡ true
-    → object_at word os (name_of (object_names_of os) n) ≡ Ok n
+pub object_again : (earlier : List (List ℕ)) (of : Kinds) (os : List Object) (n : ℕ) → are_new_names earlier (object_names_of os) ≡ true → is_one_of of (slice_get os n) ≡ true
+    → object_at of os (name_of (object_names_of os) n) ≡ Ok n
 unfolding object_at
-object_again earlier word [] n fresh h = absurd (let r = object_within word [] n h in omega arith)
-object_again earlier word (o ∷ os) zero fresh h = rw ((bytes_eq-Decides o.name o.name).1 refl, h) refl
-object_again earlier word (o ∷ os) (suc n) fresh h =
-    let later = object_again (earlier ++ o.name ∷ []) word os n (new_parts earlier (object_names_of os) o.name fresh).2 h in
-    rw (first_apart earlier (object_names_of os) o.name n fresh (object_within word os n h), later) refl
+object_again earlier of [] n fresh h = absurd (let r = object_within of [] n h in omega arith)
+object_again earlier of (o ∷ os) zero fresh h = rw ((bytes_eq-Decides o.name o.name).1 refl, h) refl
+object_again earlier of (o ∷ os) (suc n) fresh h =
+    let later = object_again (earlier ++ o.name ∷ []) of os n (new_parts earlier (object_names_of os) o.name fresh).2 h in
+    rw (first_apart earlier (object_names_of os) o.name n fresh (object_within of os n h), later) refl
 
 -- the number of an object is that of its name
-pub object_number : (word : Word) (os : List Object) (field : List ℕ) (n : ℕ) → object_at word os field ≡ Ok n → number_of (object_names_of os) field ≡ Some n
+pub object_number : (of : Kinds) (os : List Object) (field : List ℕ) (n : ℕ) → object_at of os field ≡ Ok n → number_of (object_names_of os) field ≡ Some n
 unfolding object_at
-object_number word [] field n e = absurd cc
-object_number word (o ∷ os) field n e =
+object_number of [] field n e = absurd cc
+object_number of (o ∷ os) field n e =
     elim (cases_Bool (bytes_eq field o.name)) [
       | inl same ↦
-          let r = refused_ok (not (has_word word o.kind)) reasons.WrongObject (Ok 0) n (rw same at e) in
+          let r = refused_ok (not (is_of of o.kind)) reasons.WrongObject (Ok 0) n (rw same at e) in
           rw same (ap (λ k. Some k) (ok_is 0 n r.1))
       | inr apart ↦
-          let b = bind_ok (object_at word os field) (λ m. Ok (suc m)) n (rw apart at e) in
-          let r = object_number word os field b.0 b.1 in
+          let b = bind_ok (object_at of os field) (λ m. Ok (suc m)) n (rw apart at e) in
+          let r = object_number of os field b.0 b.1 in
           rw (apart, r) (ap (λ k. Some k) (ok_is (suc b.0) n b.2))
     ]
 
@@ -185,19 +185,19 @@ refused_suc true why i = refl
 refused_suc false why i = refl
 
 -- the first object of the name is the one that is read
-pub object_first : (word : Word) (os : List Object) (field : List ℕ) (i : ℕ) (o : Object) → i < length os → ((k : ℕ) → k < i → bytes_eq field (get_or (object_names_of os) k []) ≡ false)
-    → get_or os i o ≡ o → bytes_eq field o.name ≡ true → object_at word os field ≡ refuse (not (has_word word o.kind)) reasons.WrongObject (Ok i)
+pub object_first : (of : Kinds) (os : List Object) (field : List ℕ) (i : ℕ) (o : Object) → i < length os → ((k : ℕ) → k < i → bytes_eq field (get_or (object_names_of os) k []) ≡ false)
+    → get_or os i o ≡ o → bytes_eq field o.name ≡ true → object_at of os field ≡ refuse (not (is_of of o.kind)) reasons.WrongObject (Ok i)
 unfolding object_at
-object_first word [] field i o lt none at here = absurd (omega arith)
-object_first word (p ∷ os) field zero o lt none at here = rw (at, here) refl
-object_first word (p ∷ os) field (suc i) o lt none at here =
-    let later = object_first word os field i o (omega arith) (λ k h. none (suc k) (omega arith)) at here in
-    rw (none 0 (omega arith), later) (refused_suc (not (has_word word o.kind)) reasons.WrongObject i)
+object_first of [] field i o lt none at here = absurd (omega arith)
+object_first of (p ∷ os) field zero o lt none at here = rw (at, here) refl
+object_first of (p ∷ os) field (suc i) o lt none at here =
+    let later = object_first of os field i o (omega arith) (λ k h. none (suc k) (omega arith)) at here in
+    rw (none 0 (omega arith), later) (refused_suc (not (is_of of o.kind)) reasons.WrongObject i)
 
-pub object_none : (word : Word) (os : List Object) (field : List ℕ) → ((k : ℕ) → k < length os → bytes_eq field (get_or (object_names_of os) k []) ≡ false) → object_at word os field ≡ Err reasons.UnknownObject
+pub object_none : (of : Kinds) (os : List Object) (field : List ℕ) → ((k : ℕ) → k < length os → bytes_eq field (get_or (object_names_of os) k []) ≡ false) → object_at of os field ≡ Err reasons.UnknownObject
 unfolding object_at
-object_none word [] field none = refl
-object_none word (o ∷ os) field none = rw (none 0 (omega arith), object_none word os field (λ k h. none (suc k) (omega arith))) refl
+object_none of [] field none = refl
+object_none of (o ∷ os) field none = rw (none 0 (omega arith), object_none of os field (λ k h. none (suc k) (omega arith))) refl
 
 pub object_name_read : (os : List Object) (i : ℕ) (o : Object) → i < length os → o ≡ get_or os i o → get_or (object_names_of os) i [] ≡ o.name
 object_name_read os i o lt at = get_or-map (λ (o : Object). o.name) os i o [] lt ∙ ap (λ (o : Object). o.name) (sym at)
@@ -218,32 +218,3 @@ two_ok f [] x e = absurd cc
 two_ok f (a ∷ []) x e = absurd cc
 two_ok f (a ∷ b ∷ []) x e = (a, b, refl, e)
 two_ok f (a ∷ b ∷ c ∷ args) x e = absurd cc
-
-pub three_ok : {A : Type 0} (f : List ℕ → List ℕ → List ℕ → Result A Reason) (args : List (List ℕ)) (x : A) → with_three f args ≡ Ok x → (a b c : List ℕ) × (args ≡ a ∷ b ∷ c ∷ []) × (f a b c ≡ Ok x)
-three_ok f [] x e = absurd cc
-three_ok f (a ∷ []) x e = absurd cc
-three_ok f (a ∷ b ∷ []) x e = absurd cc
-three_ok f (a ∷ b ∷ c ∷ []) x e = (a, b, c, refl, e)
-three_ok f (a ∷ b ∷ c ∷ d ∷ args) x e = absurd cc
-
-pub others_ok : {A : Type 0} (most : ℕ) (f : List ℕ → List (List ℕ) → Result A Reason) (args : List (List ℕ)) (x : A) → with_others most f args ≡ Ok x
-    → (a : List ℕ) × (others : List (List ℕ)) × (args ≡ a ∷ others) × (is_between 1 most (length others) ≡ true) × (f a others ≡ Ok x)
-others_ok most f [] x e = absurd cc
-others_ok most f (a ∷ args) x e =
-    let r = refused_ok (not (is_between 1 most (length args))) reasons.BadForm (f a args) x e in
-    (a, args, refl, not-false (is_between 1 most (length args)) r.0, r.1)
-
-pub others_again : {A : Type 0} (most : ℕ) (f : List ℕ → List (List ℕ) → Result A Reason) (a : List ℕ) (args : List (List ℕ)) (x : A) → is_between 1 most (length args) ≡ true → f a args ≡ Ok x → with_others most f (a ∷ args) ≡ Ok x
-others_again most f a args x few e = rw few e
-
-pub two_others_ok : {A : Type 0} (f : List ℕ → List ℕ → List (List ℕ) → Result A Reason) (args : List (List ℕ)) (x : A) → with_two_others 16 f args ≡ Ok x
-    → (a b : List ℕ) × (others : List (List ℕ)) × (args ≡ a ∷ b ∷ others) × (is_between 1 16 (length others) ≡ true) × (f a b others ≡ Ok x)
-two_others_ok f [] x e = absurd cc
-two_others_ok f (a ∷ []) x e = absurd cc
-two_others_ok f (a ∷ b ∷ args) x e =
-    let r = refused_ok (not (is_between 1 16 (length args))) reasons.BadForm (f a b args) x e in
-    (a, b, args, refl, not-false (is_between 1 16 (length args)) r.0, r.1)
-
-pub two_others_again : {A : Type 0} (f : List ℕ → List ℕ → List (List ℕ) → Result A Reason) (a b : List ℕ) (args : List (List ℕ)) (x : A) → is_between 1 16 (length args) ≡ true → f a b args ≡ Ok x
-    → with_two_others 16 f (a ∷ b ∷ args) ≡ Ok x
-two_others_again f a b args x few e = rw few e

@@ -1,20 +1,24 @@
 -- The numbers in a script name what there is.
-use Rattle.std.proofs.Common.{◌≡◌, ◌≢◌, ◌⊎◌, inl, inr, ℕ, zero, suc, ◌+◌, ◌^◌, ◌<◌, ◌≤◌, max, ◌==◌, cond, Bool, true, false, List, [], ◌∷◌, ◌++◌, length, map, Option, Some, None, refl, ap, sym, subst, ◌∙◌, arith, append-nil, append_assoc, length-append, eqb-true, leb-true, ltb-true, get_or}
-use Rattle.std.specs.Prelude.{IsTrue, ◌&&◌, nat_lt, nat_le, not, codes, bit_or}
+use Rattle.std.proofs.Common.{◌≡◌, inl, inr, ℕ, zero, suc, ◌^◌, ◌<◌, ◌≤◌, cond, Bool, true, false, List, [], ◌∷◌, ◌++◌, length, map, Option, Some, None, refl, ap, sym, subst, ◌∙◌, arith, append-nil, append_assoc, length-append, eqb-true, leb-true, ltb-true}
+use Rattle.std.specs.Prelude.{IsTrue, ◌&&◌, nat_lt, not, codes, bit_or}
 use Rattle.std.specs.Int.{bit_at}
-use Rattle.std.specs.List.{All, cons_option, filter, filter_map, fold, last_or, list_all, list_any, range_with_len, enumerate_from}
+use Rattle.std.specs.List.{All, cons_option, filter, filter_map, fold, last_or, list_all, range_with_len, enumerate_from}
 use Rattle.std.proofs.lemmas.List.{map-append, length-map}
 use Rattle.std.proofs.lemmas.List.FromFn.{length-enumerate_from}
-use Rattle.std.proofs.lemmas.List.Elements.{All-nil, All-append, filter_map-append}
+use Rattle.std.proofs.lemmas.List.Elements.{All-nil, All-append}
 use Rattle.std.proofs.lemmas.Nat.Bits.{bit_at_or, bit_at-zero, bit_at-pow_other}
 use Rattle.std.proofs.lemmas.Bool.Decides.{eqb_tells}
-use Rattle.log_node.specs.declared.ids.Colours.{Colours}
-use Rattle.log_node.specs.declared.node.Shape.{Shape}
-use Rattle.log_node.specs.Sets.{has, members}
+use Rattle.log_node.specs.Sets.{has}
 use Rattle.script_text.specs.declared.script.Kind.{Kind}
 use Rattle.script_text.specs.declared.script.Kind.TheVariants as kinds
 use Rattle.script_text.specs.declared.script.What.{What}
-use Rattle.script_text.specs.declared.script.What.TheVariants as whats
+use Rattle.script_text.specs.declared.script.Word.{Word}
+use Rattle.script_text.specs.declared.script.Word.TheVariants as words
+use Rattle.script_text.specs.declared.table.Field.{Field}
+use Rattle.script_text.specs.declared.table.Field.TheVariants as fields
+use Rattle.script_text.specs.declared.given.Given.{Given}
+use Rattle.script_text.specs.Table.{row_fields, own_fields, later_fields, nothing, what_of, sort_text, sort_of}
+use Rattle.script_text.specs.Words.{word_of}
 use Rattle.script_text.specs.declared.script.Command.{Command}
 use Rattle.script_text.specs.declared.script.Script.{Script}
 use Rattle.script_text.specs.declared.item.Item.{Item}
@@ -23,8 +27,8 @@ use Rattle.script_text.specs.declared.item.Stage.{Stage}
 use Rattle.script_text.specs.declared.item.Stage.TheVariants as stages
 use Rattle.script_text.specs.Pieces.{lines_of, fields_of, is_among, is_between}
 use Rattle.script_text.specs.Items.{stage_after, stage_of, header_words, may_come, is_begun, has_begun, regions_in, colours_in, clients_in, commands_in, last_said, region_names, colour_names, client_names, client_homes, commands, script_of, set_of}
-use Rattle.script_text.specs.Grammar.{kind_word, kept_lines, is_passed_over, may_follow, is_lawful_what, is_colour, is_region, are_colours, SpellsColours, SpellsStop, SpellsWhat, Says, Say, AreLines, IsScript}
-use Rattle.script_text.specs.Fitting.{IsShape, AreBelow, IsWithin, IsFitting}
+use Rattle.script_text.specs.Grammar.{kept_lines, is_passed_over, may_follow, is_region, Spells, SpellAll, SpellsWhat, Says, Say, AreLines, IsScript}
+use Rattle.script_text.specs.Fitting.{AreBelow, IsWithin, IsFitting}
 
 and-left : (a b : Bool) → (a && b) ≡ true → a ≡ true
 and-left true b e = refl
@@ -244,27 +248,57 @@ at_commands stages.Objects r c h k e f = no e
 at_commands stages.Commands r c h k e f = f
 
 -- WHAT A COMMAND NAMES
-within_set : (before : List Item) (field : List ℕ) (set : Colours) → SpellsColours before field set → AreBelow (length (colour_names before)) set
-within_set before field set s =
-    let three = s.lawful in
-    subst (λ (t : Colours). AreBelow (length (colour_names before)) t) (sym s.set) (set-below (length (colour_names before)) s.order (and-right _ _ three))
+-- what is given names what there is
+record IsGivenWithin (regions colours : ℕ) (given : Given) : Type 0 where
+  set : AreBelow colours given.colours
+  colour : given.colour < colours
+  region : given.region < regions
 
-is_within : (before : List Item) (client : ℕ) (args : List (List ℕ)) (what : What) → is_lawful_what before client what ≡ true → SpellsWhat before args what → IsWithin (length (region_names before)) (length (colour_names before)) what
-is_within before client args (whats.Append set text) ok s = within_set before s.0 set s.1
-is_within before client args (whats.Stop steps set text) ok s = within_set before s.1 set s.2.spelled
-is_within before client args (whats.Sync colour) ok s = ltb-true _ _ ok
-is_within before client args (whats.Scan set) ok s = within_set before s.0 set s.1
-is_within before client args (whats.Pull region colour) ok s = (ltb-true _ _ (and-left _ _ ok), ltb-true _ _ (and-right _ _ ok))
-is_within before client args (whats.Trim colour) ok s = ltb-true _ _ ok
-is_within before client args (whats.Put object key value) ok s = tt
-is_within before client args (whats.Get object key) ok s = tt
-is_within before client args (whats.Del object key) ok s = tt
-is_within before client args (whats.PutAll object pairs) ok s = tt
-is_within before client args (whats.GetAll object keys) ok s = tt
-is_within before client args (whats.Read object keys) ok s = tt
-is_within before client args (whats.Commit object pairs) ok s = tt
-is_within before client args (whats.Enq object value) ok s = tt
-is_within before client args (whats.Deq object) ok s = tt
+kind_within : (before : List Item) (field : Field) (own : List (List ℕ)) (given next : Given) → Spells before field own given next
+    → IsGivenWithin (length (region_names before)) (length (colour_names before)) given → IsGivenWithin (length (region_names before)) (length (colour_names before)) next
+kind_within before fields.Steps own given next s w = rw s.3 (record { set = w.set; colour = w.colour; region = w.region })
+kind_within before fields.Cols own given next s w =
+    let o = s.2 in
+    rw o.next_is (record { set = set-below (length (colour_names before)) o.order (and-right _ _ o.lawful); colour = w.colour; region = w.region })
+kind_within before fields.Colour own given next s w = rw s.3 (record { set = w.set; colour = ltb-true _ _ s.2; region = w.region })
+kind_within before fields.Region own given next s w = rw s.3 (record { set = w.set; colour = w.colour; region = ltb-true _ _ s.2 })
+kind_within before fields.Text own given next s w = rw s.3 (record { set = w.set; colour = w.colour; region = w.region })
+kind_within before (fields.Object of) own given next s w = rw s.3 (record { set = w.set; colour = w.colour; region = w.region })
+kind_within before fields.Key own given next s w = rw s.3 (record { set = w.set; colour = w.colour; region = w.region })
+kind_within before fields.Value own given next s w = rw s.3 (record { set = w.set; colour = w.colour; region = w.region })
+kind_within before (fields.Keys most) own given next s w = rw s.1 (record { set = w.set; colour = w.colour; region = w.region })
+kind_within before (fields.Pairs most) own given next s w = rw s.2 (record { set = w.set; colour = w.colour; region = w.region })
+kind_within before (fields.Colours most) own given next s w = rw s.4 (record { set = w.set; colour = w.colour; region = w.region })
+
+all_within : (before : List Item) (row : List Field) (args : List (List ℕ)) (given last : Given) → SpellAll before row args given last
+    → IsGivenWithin (length (region_names before)) (length (colour_names before)) given → IsGivenWithin (length (region_names before)) (length (colour_names before)) last
+all_within before [] args given last s w = rw s.1 w
+all_within before (field ∷ row) args given last s w =
+    all_within before row (later_fields field args) s.0 last s.2 (kind_within before field (own_fields field args) given s.0 s.1 w)
+
+what_within : (regions colours : ℕ) (word : Word) (given : Given) → IsGivenWithin regions colours given → IsWithin regions colours (what_of word given)
+what_within regions colours words.Append given w = w.set
+what_within regions colours words.Stop given w = w.set
+what_within regions colours words.Sync given w = w.colour
+what_within regions colours words.Scan given w = w.set
+what_within regions colours words.Pull given w = (w.region, w.colour)
+what_within regions colours words.Trim given w = w.colour
+what_within regions colours words.Put given w = tt
+what_within regions colours words.Get given w = tt
+what_within regions colours words.Del given w = tt
+what_within regions colours words.PutAll given w = tt
+what_within regions colours words.GetAll given w = tt
+what_within regions colours words.Read given w = tt
+what_within regions colours words.Commit given w = tt
+what_within regions colours words.Enq given w = tt
+what_within regions colours words.Deq given w = tt
+
+is_within : (before : List Item) (client : ℕ) (args : List (List ℕ)) (what : What) → 0 < length (region_names before) → 0 < length (colour_names before) → SpellsWhat before client args what
+    → IsWithin (length (region_names before)) (length (colour_names before)) what
+is_within before client args what r c s =
+    subst (λ (w : What). IsWithin (length (region_names before)) (length (colour_names before)) w) (sym s.same)
+    (what_within (length (region_names before)) (length (colour_names before)) (word_of what) s.given
+    (all_within before (row_fields (word_of what)) args nothing s.given s.spelled (record { set = set-below (length (colour_names before)) [] refl; colour = c; region = r })))
 
 -- ONE MORE ITEM
 module _ (before : List Item) (fit : Fits (length (region_names before)) (length (colour_names before)) (client_homes before) (commands before) (stage_of before)) where
@@ -365,10 +399,10 @@ module _ (before : List Item) (fit : Fits (length (region_names before)) (length
         early = (early.0, early.1, omega arith, early.2);
       })
 
-  more_command : (command : Command) (args : List (List ℕ)) → has_begun before ≡ true → nat_lt command.client (length (client_names before)) ≡ true → is_lawful_what before command.client command.what ≡ true → SpellsWhat before args command.what
+  more_command : (command : Command) (args : List (List ℕ)) → has_begun before ≡ true → nat_lt command.client (length (client_names before)) ≡ true → SpellsWhat before command.client args command.what
       → Fit (before ++ items.Asks command ∷ [])
   unfolding Fit Early
-  more_command command args begun caller ok spelled =
+  more_command command args begun caller spelled =
       let early = at_commands (stage_of before) regions colours homes asked begun fit.early in
       let its = ltb-true _ _ caller in
       let e = as_many in
@@ -380,7 +414,7 @@ module _ (before : List Item) (fit : Fits (length (region_names before)) (length
         few_clients = fit.few_clients;
         are_homes = fit.are_homes;
         callers = one-more (λ (c : Command). c.client < length homes) asked command fit.callers (omega arith);
-        within = one-more (λ (c : Command). IsWithin regions colours c.what) asked command fit.within (is_within before command.client args command.what ok spelled);
+        within = one-more (λ (c : Command). IsWithin regions colours c.what) asked command fit.within (is_within before command.client args command.what early.0 early.1 spelled);
         early = early;
       })
 
@@ -390,15 +424,15 @@ module _ (before : List Item) (fit : Fits (length (region_names before)) (length
   more_item number fields (items.Colours names) says ok = more_colours names (and-left _ _ (and-left _ _ ok)) (and-right _ _ (and-left _ _ ok))
   more_item number fields (items.Rows rows) says ok = more_rows rows (and-left _ _ ok)
   more_item number fields (items.Client name home) says ok = let abc = and-left _ _ ok in let ab = and-left _ _ abc in more_client name home (and-left _ _ ab) (and-right _ _ ab) (and-right _ _ ok)
-  more_item number fields (items.Declared object) says ok = more_object object (by_kind object.kind (and-left _ _ (and-left _ _ (and-left _ _ ok)))) where
-    by_kind : (kind : Kind) → may_come before (kind_word kind) ≡ true → (0 < regions) × (0 < colours) × (0 < length homes) × (asked ≡ [])
+  more_item number fields (items.Declared object) says ok = more_object object (by_kind object.kind (and-left _ _ (and-left _ _ ok))) where
+    by_kind : (kind : Kind) → may_come before (sort_text (sort_of kind)) ≡ true → (0 < regions) × (0 < colours) × (0 < length homes) × (asked ≡ [])
     by_kind (kinds.Map _ _) come = at_end (codes "map") refl refl refl refl refl (stage_of before) regions colours homes asked come fit.early
     by_kind (kinds.Tx _ _) come = at_end (codes "tx") refl refl refl refl refl (stage_of before) regions colours homes asked come fit.early
     by_kind (kinds.Causal _) come = at_end (codes "causal") refl refl refl refl refl (stage_of before) regions colours homes asked come fit.early
     by_kind (kinds.Queue _ _) come = at_end (codes "queue") refl refl refl refl refl (stage_of before) regions colours homes asked come fit.early
   more_item number fields items.Begin says ok = more_begin ok
   more_item number fields (items.Asks command) says ok =
-      let abc = and-left _ _ ok in let ab = and-left _ _ abc in more_command command says.1 (and-left _ _ ab) (and-right _ _ ab) (and-right _ _ ok) says.2
+      let ab = and-left _ _ ok in more_command command says.1 (and-left _ _ ab) (and-right _ _ ab) says.2
 
 -- the items of some lines, one after another
 all_fit : (before : List Item) (lines : List (ℕ × List ℕ)) (said : List Item) → Fit before → Say before lines said → Fit (before ++ said)

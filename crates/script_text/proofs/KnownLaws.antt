@@ -1,5 +1,5 @@
 -- What is kept of the lines is what they say, line after line, and names stay distinct and few.
-use Rattle.std.proofs.Common.{◌≡◌, ℕ, ◌+◌, ◌<◌, ◌≤◌, Bool, true, false, ◌&&◌, cond, not, inl, inr, lit≤, subst, codes, ltb, leb, eqb, IsTrue, List, [], ◌∷◌, ◌++◌, length, map, Option, Some, None, refl, sym, ap, ◌∙◌, append_assoc, arith}
+use Rattle.std.proofs.Common.{◌≡◌, ℕ, ◌<◌, Bool, true, false, ◌&&◌, not, inl, inr, lit≤, subst, codes, ltb, leb, eqb, List, [], ◌∷◌, ◌++◌, length, map, Option, Some, refl, sym, append_assoc, arith}
 use Rattle.std.specs.List.{list_any, filter_map, last_or}
 use Rattle.std.proofs.lemmas.Bool.{cases_Bool, and_parts, ltb-true, leb-true}
 use Rattle.std.proofs.lemmas.List.{append-nil, map-append, length-append}
@@ -10,8 +10,9 @@ use Rattle.script_text.specs.declared.item.Item.{Item}
 use Rattle.script_text.specs.declared.item.Item.TheVariants as items
 use Rattle.script_text.specs.declared.known.Known.{Known}
 use Rattle.script_text.specs.Pieces.{is_name, is_among, is_between}
-use Rattle.script_text.specs.Items.{last_said, commands, commands_in, is_stop, has_stopped, stage_of, stage_after, may_come, region_names, colour_names, client_names, objects, object_names}
-use Rattle.script_text.specs.Grammar.{are_new_names, may_follow, is_region, is_kind, kind_word}
+use Rattle.script_text.specs.Items.{last_said, is_stop, may_come, client_names, objects, object_names}
+use Rattle.script_text.specs.Grammar.{are_new_names, may_follow, is_region}
+use Rattle.script_text.specs.Table.{sort_text, sort_of}
 use Rattle.script_text.specs.Kept.{known_of, known_after, with_item, stops_in, stopped_in, IsSmall}
 use Rattle.script_text.proofs.ReadLaws.{held_push}
 
@@ -131,10 +132,10 @@ lawful_after before (items.Client name home) l h =
     let few = ltb-true (length (client_names before)) 16 (and_parts (may_come before (codes "client")) (ltb (length (client_names before)) 16) b.0).1 in
     client_lawful (known_of before) name home l few b.1
 lawful_after before (items.Declared object) l h =
-    let a = and_parts (may_come before (kind_word object.kind) && ltb (length (objects before)) 16 && are_new_names (object_names before) (object.name ∷ [])) (is_kind before object.kind) h in
-    let b = and_parts (may_come before (kind_word object.kind) && ltb (length (objects before)) 16) (are_new_names (object_names before) (object.name ∷ [])) a.0 in
-    let few = ltb-true (length (objects before)) 16 (and_parts (may_come before (kind_word object.kind)) (ltb (length (objects before)) 16) b.0).1 in
-    object_lawful (known_of before) object l few b.1
+    let come = may_come before (sort_text (sort_of object.kind)) in
+    let few = ltb (length (objects before)) 16 in
+    let a = and_parts (come && few) (are_new_names (object_names before) (object.name ∷ [])) h in
+    object_lawful (known_of before) object l (ltb-true (length (objects before)) 16 (and_parts come few a.0).1) a.1
 lawful_after before items.Begin l h = as_before (known_of before) items.Begin l refl
 lawful_after before (items.Asks command) l h = record {
   regions = l.regions;

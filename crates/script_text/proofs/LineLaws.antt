@@ -1,18 +1,14 @@
 -- A line is read exactly, and lines one after another.
-use Rattle.std.proofs.Common.{◌≡◌, ℕ, zero, suc, ◌+◌, ◌-◌, ◌<◌, ◌≤◌, ◌^◌, ◌⊎◌, Bool, true, false, not, ◌&&◌, ◌||◌, cond, ltb, leb, eqb, inl, inr, IsTrue, List, [], ◌∷◌, ◌++◌, length, map, take, drop, Option, Some, None, Result, Ok, Err, refl, sym, ap, subst, ◌∙◌, codes, append_assoc, add-one, zero-add, arith}
-use Rattle.std.specs.Prelude.{slice_get, IfOk, IfErr, IsFalse, if◌then◌else◌}
-use Rattle.std.specs.List.{filter, list_any, list_all, enumerate_from, slice_split, join_with_byte, onto_first}
+use Rattle.std.proofs.Common.{◌≡◌, ℕ, ◌+◌, Bool, true, false, not, ◌&&◌, ◌||◌, eqb, inl, inr, List, [], ◌∷◌, ◌++◌, Option, Some, None, Result, Ok, Err, refl, sym, ap, subst, ◌∙◌, codes, arith}
+use Rattle.std.specs.Prelude.{if◌then◌else◌}
+use Rattle.std.specs.List.{slice_split, join_with_byte}
 use Rattle.std.specs.Str.{bytes_eq}
-use Rattle.std.proofs.lemmas.Bool.{cases_Bool, cases_eq, and_parts, not-true, not-false, ltb-true, ltb-false, leb-false, lt-ltb, le-ltb, lt-leb, le-leb, eqb-true, eqb-false, eq-eqb, ne_eqb, both_ways}
-use Rattle.std.proofs.lemmas.List.{append-nil, length-append}
+use Rattle.std.proofs.lemmas.Bool.{cases_Bool, not-false, eqb-true, eqb-false}
+use Rattle.std.proofs.lemmas.List.{append-nil}
 use Rattle.std.proofs.lemmas.List.Splits.{join_with_byte-slice_split}
 use Rattle.std.proofs.lemmas.Slice.Eq.{bytes_eq-Decides}
-use lib.Dec.{eqb-suc-zero}
-use Rattle.script_text.specs.declared.fault.Fault.{Fault}
-use Rattle.script_text.specs.declared.fault.Fault.TheVariants as faults
 use Rattle.script_text.specs.declared.script.Kind.{Kind}
 use Rattle.script_text.specs.declared.script.Kind.TheVariants as kinds
-use Rattle.script_text.specs.declared.script.Script.{Script}
 use Rattle.script_text.specs.declared.script.Reason.{Reason}
 use Rattle.script_text.specs.declared.script.Reason.TheVariants as reasons
 use Rattle.script_text.specs.declared.item.Item.{Item}
@@ -20,22 +16,24 @@ use Rattle.script_text.specs.declared.item.Item.TheVariants as items
 use Rattle.script_text.specs.declared.item.Stage.{Stage}
 use Rattle.script_text.specs.declared.item.Stage.TheVariants as stages
 use Rattle.script_text.specs.declared.known.Known.{Known}
-use Rattle.script_text.specs.Pieces.{lines_of, fields_of, is_ascii_line, is_between, is_among, is_name}
-use Rattle.script_text.specs.Items.{is_begun, has_begun, header_words, may_come, stage_of, stage_after, script_of}
-use Rattle.script_text.specs.Grammar.{is_passed_over, kept_lines, Says, Say, AreLines, IsScript, may_follow, kind_word}
-use Rattle.script_text.specs.Faults.{when, first_of, field_at, command_tests, header_tests, fields_tests, fault_of}
-use Rattle.script_text.specs.Kept.{known_of, known_after, known_with}
-use Rattle.script_text.specs.Readings.{◌>>=◌, refuse, Fails}
+use Rattle.script_text.specs.Pieces.{fields_of, is_ascii_line, is_among}
+use Rattle.script_text.specs.Items.{is_begun, has_begun, header_words, may_come, stage_of, stage_after}
+use Rattle.script_text.specs.Grammar.{is_passed_over}
+use Rattle.script_text.specs.Table.{sort_text, sort_of}
+use Rattle.script_text.specs.Faults.{when, first_of, command_tests, header_tests, fields_tests, fault_of}
+use Rattle.script_text.specs.Kept.{known_of, known_with}
+use Rattle.script_text.specs.Readings.{◌>>=◌, refuse}
 use Rattle.script_text.specs.HeaderReadings.{version_at, headed_at, header_at}
 use Rattle.script_text.specs.CommandReadings.{command_at}
 use Rattle.script_text.specs.LineReadings.{item_at, full_item_at, kept_at, line_at}
-use Rattle.script_text.proofs.EachLemmas.{refused_ok, bind_ok, ok_is, done}
-use Rattle.script_text.proofs.KnownLaws.{IsLawful, known_push, lawful_start, lawful_push}
+use Rattle.script_text.proofs.EachLemmas.{refused_ok, bind_ok, ok_is}
+use Rattle.script_text.proofs.KnownLaws.{IsLawful, known_push, lawful_push}
 use Rattle.script_text.specs.Laws.{Follows, Tells}
-use Rattle.script_text.proofs.HeaderLaws.{parts, header_ok, version_read, regions_read, colours_read, rows_read, client_read, declared_is, declared_read, begin_read}
+use Rattle.script_text.proofs.HeaderLaws.{header_ok, version_read, regions_read, colours_read, rows_read, client_read, declared_is, declared_read, begin_read}
 use Rattle.script_text.proofs.CommandLaws.{command_ok, command_read, may_ask}
-use Rattle.script_text.proofs.FullLaws.{any_empty, says_full}
-use Rattle.script_text.proofs.TestLaws.{Tests, tests_ok, tests_refuse, tests_last}
+use Rattle.script_text.proofs.FullLaws.{any_empty}
+use Rattle.script_text.proofs.SaysFull.{says_full}
+use Rattle.script_text.proofs.TestLaws.{Tests, tests_refuse, tests_last}
 use Rattle.script_text.proofs.FaultLaws.{header_line_tests, command_line_tests}
 
 -- ---- a line's fields
@@ -112,7 +110,7 @@ version_line : (line : List ℕ) → fields_of line ≡ codes "fuzzylog" ∷ cod
 version_line line e = sym (join_with_byte-slice_split 32 line) ∙ ap (join_with_byte 32) e
 
 -- nothing else may come first
-first_kind : (kind : Kind) → may_come [] (kind_word kind) ≡ true → ⊥
+first_kind : (kind : Kind) → may_come [] (sort_text (sort_of kind)) ≡ true → ⊥
 first_kind (kinds.Map home ns) h = cc
 first_kind (kinds.Tx home ns) h = cc
 first_kind (kinds.Causal colour) h = cc

@@ -1,5 +1,5 @@
 -- What the numbers of names are, and the colours that a line names.
-use Rattle.std.proofs.Common.{◌≡◌, ℕ, zero, suc, ◌+◌, ◌<◌, ◌≤◌, ◌⊎◌, inl, inr, Bool, true, false, not, ◌&&◌, cond, eqb, ltb, ◌||◌, IsTrue, List, [], ◌∷◌, ◌++◌, length, map, Option, Some, None, Result, Ok, Err, All, refl, sym, ap, subst, ◌∙◌, append_assoc, arith}
+use Rattle.std.proofs.Common.{◌≡◌, ℕ, zero, suc, ◌<◌, ◌≤◌, inl, inr, Bool, true, false, not, ◌&&◌, eqb, ltb, ◌||◌, List, [], ◌∷◌, ◌++◌, length, map, Option, Some, None, Result, Ok, Err, All, refl, sym, ap, subst, ◌∙◌, append_assoc, arith}
 use Rattle.std.specs.Borrow.{Bor}
 use Rattle.std.specs.List.{list_any, list_all, AllByRecursion}
 use Rattle.std.specs.Str.{bytes_eq}
@@ -20,7 +20,7 @@ use Rattle.script_text.specs.declared.script.Reason.TheVariants as reasons
 use Rattle.script_text.specs.Pieces.{is_among, is_name, number_of, name_of}
 use Rattle.script_text.specs.Grammar.{are_new_names, are_new_numbers}
 use Rattle.script_text.specs.Readings.{◌>>=◌, refuse, Gives, found_or, fields_in, number_at, new_name_at, each_at, colour_at, colours_at}
-use Rattle.script_text.proofs.EachLemmas.{Reader, refused_ok, bind_ok, ok_is, done}
+use Rattle.script_text.proofs.EachLemmas.{Reader, refused_ok, bind_ok, ok_is}
 
 pub any_fields : (field : List ℕ) (fields : List (Bor (List ℕ))) → list_any (λ (o : Bor (List ℕ)). bytes_eq field o.now) fields ≡ is_among (fields_in fields) field
 any_fields field [] = refl

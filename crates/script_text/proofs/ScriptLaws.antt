@@ -1,8 +1,8 @@
 -- The bytes are read exactly, and else the first faulty line is told with its reason.
-use Rattle.std.proofs.Common.{◌≡◌, ℕ, zero, suc, ◌+◌, ◌-◌, ◌<◌, ◌≤◌, ◌^◌, ◌⊎◌, Bool, true, false, not, ◌&&◌, ◌||◌, cond, ltb, leb, eqb, inl, inr, IsTrue, List, [], ◌∷◌, ◌++◌, length, map, take, drop, Option, Some, None, Result, Ok, Err, refl, sym, ap, subst, ◌∙◌, codes, append_assoc, arith}
-use Rattle.std.specs.Prelude.{slice_get, IfOk, IfErr, IsFalse, if◌then◌else◌}
-use Rattle.std.specs.List.{filter, list_any, list_all, enumerate_from, onto_first}
-use Rattle.std.proofs.lemmas.Bool.{cases_Bool, and_parts, not-true, not-false, ltb-true, ltb-false, leb-false, leb-true, lt-ltb, le-ltb, lt-leb, le-leb, eqb-true, eqb-false, eq-eqb, ne_eqb}
+use Rattle.std.proofs.Common.{◌≡◌, ℕ, suc, ◌+◌, ◌-◌, ◌<◌, ◌≤◌, true, false, cond, ltb, leb, eqb, inl, inr, List, [], ◌∷◌, ◌++◌, length, take, Option, Some, None, Result, Ok, Err, refl, sym, ap, ◌∙◌, append_assoc, arith}
+use Rattle.std.specs.Prelude.{slice_get, IfOk, IfErr, if◌then◌else◌}
+use Rattle.std.specs.List.{list_all, enumerate_from, onto_first}
+use Rattle.std.proofs.lemmas.Bool.{cases_Bool, and_parts, ltb-true, ltb-false, leb-false, leb-true, lt-ltb, le-ltb, lt-leb, le-leb, eqb-true, eqb-false, eq-eqb, ne_eqb}
 use Rattle.std.proofs.lemmas.List.{append-nil}
 use lib.Dec.{eqb-suc-zero}
 use Rattle.script_text.specs.declared.fault.Fault.{Fault}
@@ -14,16 +14,16 @@ use Rattle.script_text.specs.declared.reading.ScriptFault.{ScriptFault}
 use Rattle.script_text.specs.declared.reading.ScriptFault.TheVariants as script_faults
 use Rattle.script_text.specs.declared.item.Item.{Item}
 use Rattle.script_text.specs.declared.known.Known.{Known}
-use Rattle.script_text.specs.Pieces.{lines_of, fields_of, is_ascii_line}
-use Rattle.script_text.specs.Items.{is_begun, has_begun, script_of}
-use Rattle.script_text.specs.Grammar.{is_passed_over, kept_lines, Say, AreLines, IsScript}
+use Rattle.script_text.specs.Pieces.{lines_of, is_ascii_line}
+use Rattle.script_text.specs.Items.{is_begun}
+use Rattle.script_text.specs.Grammar.{is_passed_over, kept_lines, Say, IsScript}
 use Rattle.script_text.specs.Faults.{fault_of, IsFirstFault, LacksBegin, IsRefused}
 use Rattle.script_text.specs.Parse.{IsFaultOf, GivesScript}
 use Rattle.script_text.specs.Laws.{Tells}
 use Rattle.script_text.specs.Kept.{known_of, known_with}
 use Rattle.script_text.specs.Readings.{refuse, Fails}
 use Rattle.script_text.specs.LineReadings.{line_at, then_at, lines_at, ended_at, ends_at, script_at, fault_at, FailsAt, GivesAt}
-use Rattle.script_text.proofs.EachLemmas.{refused_ok, ok_is}
+use Rattle.script_text.proofs.EachLemmas.{refused_ok}
 use Rattle.script_text.proofs.KnownLaws.{IsLawful, lawful_start}
 use Rattle.script_text.proofs.LineLaws.{IsPlace, line_ok, line_read, reason_of, line_fault, said_with, known_said, lawful_said, place_start, place_next}
 

@@ -1,15 +1,14 @@
 -- A line has no fault exactly where it is sound.
-use Rattle.std.proofs.Common.{◌≡◌, ℕ, zero, suc, ◌+◌, ◌<◌, ◌≤◌, Bool, true, false, not, ◌&&◌, eqb, List, [], ◌∷◌, ◌++◌, length, Option, Some, None, Result, Ok, Err, refl, sym, ap, subst, ◌∙◌, ◌↔◌, inl, inr, append_assoc, arith}
-use Rattle.std.specs.List.{last_or, list_all, enumerate_from}
-use Rattle.std.proofs.lemmas.Bool.{cases_Bool, ne_eqb}
+use Rattle.std.proofs.Common.{◌≡◌, ℕ, ◌+◌, ◌<◌, false, eqb, List, [], ◌∷◌, ◌++◌, length, Option, Some, None, Result, Ok, Err, refl, sym, ap, subst, ◌∙◌, ◌↔◌, append_assoc, arith}
+use Rattle.std.specs.List.{last_or, enumerate_from}
+use Rattle.std.proofs.lemmas.Bool.{ne_eqb}
 use Rattle.std.proofs.lemmas.List.{append-nil}
 use Rattle.script_text.specs.declared.item.Item.{Item}
-use Rattle.script_text.specs.declared.item.Item.TheVariants as items
 use Rattle.script_text.specs.declared.item.Stage.TheVariants as stages
 use Rattle.script_text.specs.declared.script.Reason.{Reason}
 use Rattle.script_text.specs.declared.script.Reason.TheVariants as reasons
-use Rattle.script_text.specs.Items.{stage_of, stage_after}
-use Rattle.script_text.specs.Grammar.{is_passed_over, kept_lines, Say, AreLines}
+use Rattle.script_text.specs.Items.{stage_after}
+use Rattle.script_text.specs.Grammar.{kept_lines, Say, AreLines}
 use Rattle.script_text.specs.Faults.{fault_of}
 use Rattle.script_text.specs.Laws.{IsSound}
 use Rattle.script_text.specs.Kept.{known_of}

@@ -1,21 +1,20 @@
 -- A reading gives the reason of the first test that holds.
-use Rattle.std.proofs.Common.{◌≡◌, ℕ, zero, suc, ◌+◌, ◌<◌, ◌≤◌, Bool, true, false, not, ◌&&◌, ◌||◌, cond, eqb, leb, ltb, List, [], ◌∷◌, ◌++◌, length, map, drop, Option, Some, None, Result, Ok, Err, refl, sym, ap, ◌∙◌, append_assoc, inl, inr, arith}
-use Rattle.std.specs.List.{list_any, find}
+use Rattle.std.proofs.Common.{◌≡◌, ℕ, suc, Bool, true, false, not, eqb, List, [], ◌∷◌, ◌++◌, length, map, Option, Some, None, Result, Ok, Err, refl, ◌∙◌, append_assoc, inl, inr, arith}
+use Rattle.std.specs.List.{find}
 use Rattle.std.specs.Str.{bytes_eq}
 use Rattle.std.specs.Option.{option_map}
-use Rattle.std.proofs.lemmas.Bool.{cases_Bool, ne_eqb, le-leb, lt-leb, and_right}
-use Rattle.std.proofs.lemmas.Bool.Decides.{nat_tests}
+use Rattle.std.proofs.lemmas.Bool.{cases_Bool, ne_eqb}
 use Rattle.script_text.specs.declared.script.Object.{Object}
 use Rattle.script_text.specs.declared.script.Reason.{Reason}
 use Rattle.script_text.specs.declared.script.Reason.TheVariants as reasons
-use Rattle.script_text.specs.declared.script.Word.{Word}
+use Rattle.script_text.specs.declared.table.Kinds.{Kinds}
 use Rattle.script_text.specs.declared.item.Item.{Item}
-use Rattle.script_text.specs.Words.{has_word}
-use Rattle.script_text.specs.Pieces.{is_name, is_key, is_text, is_number, is_among, is_between, number_of}
-use Rattle.script_text.specs.Items.{region_names, colour_names, objects}
+use Rattle.script_text.specs.Table.{is_of}
+use Rattle.script_text.specs.Pieces.{is_name, is_key, is_text, is_among, number_of}
+use Rattle.script_text.specs.Items.{colour_names, objects}
 use Rattle.script_text.specs.Grammar.{has_equals, key_in, value_in}
-use Rattle.script_text.specs.Faults.{when, first_of, each_field, new_name, region_field, colour_field, colour_fields, text_field, value_field, key_field, pair_field, object_named, is_unknown, lacks_word, object_field}
-use Rattle.script_text.specs.Readings.{◌>>=◌, refuse, found_or, number_at, new_name_at, each_at, colour_at, text_at, value_at, key_at, new_pair_at, pair_at, object_at, with_none, with_one, with_two, with_three, with_others, with_two_others}
+use Rattle.script_text.specs.Faults.{when, first_of, each_field, new_name, colour_field, colour_fields, text_field, value_field, key_field, pair_field, is_unknown, is_other, object_field}
+use Rattle.script_text.specs.Readings.{◌>>=◌, refuse, found_or, number_at, new_name_at, each_at, colour_at, text_at, value_at, key_at, new_pair_at, pair_at, object_at, with_none, with_one, with_two}
 use Rattle.script_text.proofs.EachLemmas.{Reader}
 
 -- where a value is read no test holds; else the reason is that of the first that does
@@ -121,18 +120,18 @@ colours_tests before fields = each_tests (λ earlier field. colour_field before 
 
 -- ---- objects
 
-object_on : (word : Word) (os : List Object) (field : List ℕ)
-    → Tests (when (is_unknown (find (λ (o : Object). bytes_eq field o.name) os)) reasons.UnknownObject ∷ when (lacks_word word (find (λ (o : Object). bytes_eq field o.name) os)) reasons.WrongObject ∷ []) (object_at word os field)
+object_on : (of : Kinds) (os : List Object) (field : List ℕ)
+    → Tests (when (is_unknown (find (λ (o : Object). bytes_eq field o.name) os)) reasons.UnknownObject ∷ when (is_other of (find (λ (o : Object). bytes_eq field o.name) os)) reasons.WrongObject ∷ []) (object_at of os field)
 unfolding object_at
-object_on word [] field = λ more. refl
-object_on word (o ∷ os) field =
+object_on of [] field = λ more. refl
+object_on of (o ∷ os) field =
     elim (cases_Bool (bytes_eq field o.name)) [
-      | inl same ↦ rw same (tests_refuse (not (has_word word o.kind)) reasons.WrongObject [] (Ok 0) (λ _. tests_ok {A = ℕ} 0))
-      | inr apart ↦ rw apart (tests_last (when (is_unknown (find (λ (o : Object). bytes_eq field o.name) os)) reasons.UnknownObject ∷ when (lacks_word word (find (λ (o : Object). bytes_eq field o.name) os)) reasons.WrongObject ∷ []) (object_at word os field) (λ n. suc n) (object_on word os field))
+      | inl same ↦ rw same (tests_refuse (not (is_of of o.kind)) reasons.WrongObject [] (Ok 0) (λ _. tests_ok {A = ℕ} 0))
+      | inr apart ↦ rw apart (tests_last (when (is_unknown (find (λ (o : Object). bytes_eq field o.name) os)) reasons.UnknownObject ∷ when (is_other of (find (λ (o : Object). bytes_eq field o.name) os)) reasons.WrongObject ∷ []) (object_at of os field) (λ n. suc n) (object_on of os field))
     ]
 
-pub object_tests : (before : List Item) (word : Word) (field : List ℕ) → Tests (object_field before word field) (object_at word (objects before) field)
-object_tests before word field = object_on word (objects before) field
+pub object_tests : (before : List Item) (of : Kinds) (field : List ℕ) → Tests (object_field before of field) (object_at of (objects before) field)
+object_tests before of field = object_on of (objects before) field
 
 -- ---- so many fields
 
@@ -152,31 +151,3 @@ two_tests tests f h [] = λ more. refl
 two_tests tests f h (a ∷ []) = λ more. refl
 two_tests tests f h (a ∷ b ∷ []) = tests_refuse false reasons.BadForm (tests (a ∷ b ∷ [])) (f a b) (λ _. h a b)
 two_tests tests f h (a ∷ b ∷ c ∷ args) = rw (ne_eqb (suc (suc (suc (length args)))) 2 (λ e. omega arith)) (λ more. refl)
-
-pub three_tests : {A : Type 0} (tests : List (List ℕ) → List (Option Reason)) (f : List ℕ → List ℕ → List ℕ → Result A Reason) → ((a b c : List ℕ) → Tests (tests (a ∷ b ∷ c ∷ [])) (f a b c))
-    → (args : List (List ℕ)) → Tests (when (not (eqb (length args) 3)) reasons.BadForm ∷ tests args) (with_three f args)
-three_tests tests f h [] = λ more. refl
-three_tests tests f h (a ∷ []) = λ more. refl
-three_tests tests f h (a ∷ b ∷ []) = λ more. refl
-three_tests tests f h (a ∷ b ∷ c ∷ []) = tests_refuse false reasons.BadForm (tests (a ∷ b ∷ c ∷ [])) (f a b c) (λ _. h a b c)
-three_tests tests f h (a ∷ b ∷ c ∷ d ∷ args) = rw (ne_eqb (suc (suc (suc (suc (length args))))) 3 (λ e. omega arith)) (λ more. refl)
-
-between_suc : (most n : ℕ) → is_between 2 (suc most) (suc n) ≡ is_between 1 most n
-between_suc most n = grind (arith, nat_tests)
-
-pub others_tests : {A : Type 0} (most : ℕ) (tests : List (List ℕ) → List (Option Reason)) (f : List ℕ → List (List ℕ) → Result A Reason) → ((a : List ℕ) (args : List (List ℕ)) → Tests (tests (a ∷ args)) (f a args))
-    → (args : List (List ℕ)) → Tests (when (not (is_between 2 (suc most) (length args))) reasons.BadForm ∷ tests args) (with_others most f args)
-others_tests most tests f h [] = λ more. refl
-others_tests most tests f h (a ∷ args) =
-    rw between_suc (tests_refuse (not (is_between 1 most (length args))) reasons.BadForm (tests (a ∷ args)) (f a args) (λ _. h a args))
-
-between_suc_suc : (n : ℕ) → is_between 3 18 (suc (suc n)) ≡ is_between 1 16 n
-between_suc_suc n = grind (arith, nat_tests)
-
-pub two_others_tests : {A : Type 0} (tests : List (List ℕ) → List (Option Reason)) (f : List ℕ → List ℕ → List (List ℕ) → Result A Reason)
-    → ((a b : List ℕ) (args : List (List ℕ)) → Tests (tests (a ∷ b ∷ args)) (f a b args))
-    → (args : List (List ℕ)) → Tests (when (not (is_between 3 18 (length args))) reasons.BadForm ∷ tests args) (with_two_others 16 f args)
-two_others_tests tests f h [] = λ more. refl
-two_others_tests tests f h (a ∷ []) = λ more. refl
-two_others_tests tests f h (a ∷ b ∷ args) =
-    rw between_suc_suc (tests_refuse (not (is_between 1 16 (length args))) reasons.BadForm (tests (a ∷ b ∷ args)) (f a b args) (λ _. h a b args))

@@ -1,5 +1,5 @@
 -- What holds of the numbers in a script: each names something, and the shape keeps its limits.
-use Rattle.std.specs.Prelude.{◌≡◌, ℕ, ◌<◌, ◌≤◌, ◌^◌, List, length}
+use Rattle.std.specs.Prelude.{◌≡◌, ℕ, ◌<◌, ◌≤◌, ◌^◌, length}
 use Rattle.std.specs.List.{All}
 use Rattle.log_node.specs.declared.node.Shape.{Shape}
 use Rattle.log_node.specs.declared.ids.Colours.{Colours}
@@ -8,15 +8,16 @@ use Rattle.script_text.specs.declared.script.What.{What}
 use Rattle.script_text.specs.declared.script.What.TheVariants as whats
 use Rattle.script_text.specs.declared.script.Command.{Command}
 use Rattle.script_text.specs.declared.script.Script.{Script}
+use Rattle.script_text.specs.declared.limits.TheConstants.{VERSION_1}
 
--- 1 to 4 regions, 1 to 16 colours and 1 to 16 clients, each of which is in a region
+-- a region, a colour and a client at least, and no more than the version allows; each client is in a region
 pub record IsShape (shape : Shape) : Type 0 where
   pub a_region : 0 < shape.regions
-  pub few_regions : shape.regions ≤ 4
+  pub few_regions : shape.regions ≤ VERSION_1.regions
   pub a_colour : 0 < shape.colours
-  pub few_colours : shape.colours ≤ 16
+  pub few_colours : shape.colours ≤ VERSION_1.colours
   pub a_client : 0 < length shape.homes
-  pub few_clients : length shape.homes ≤ 16
+  pub few_clients : length shape.homes ≤ VERSION_1.clients
   pub homes : All (λ home. home < shape.regions) shape.homes
 
 -- the colours of a set are below this number

@@ -1,8 +1,7 @@
 -- What the lines of a script say one by one, and what they say together.
-use Rattle.std.specs.Prelude.{Bool, true, false, ℕ, ◌+◌, ◌^◌, ◌==◌, bit_or, not, ◌&&◌, ◌||◌, List, [], ◌∷◌, length, map, Option, Some, None, codes, if◌then◌else◌}
+use Rattle.std.specs.Prelude.{Bool, true, false, ℕ, ◌^◌, ◌==◌, bit_or, not, ◌&&◌, ◌||◌, List, [], ◌∷◌, length, map, Option, Some, None, codes, if◌then◌else◌}
 use Rattle.std.specs.List.{filter_map, list_any, fold, last_or}
 use Rattle.log_node.specs.declared.ids.Colours.{Colours}
-use Rattle.script_text.specs.declared.script.Kind.{Kind}
 use Rattle.script_text.specs.declared.script.Object.{Object}
 use Rattle.script_text.specs.declared.script.Command.{Command}
 use Rattle.script_text.specs.declared.script.What.{What}
@@ -12,6 +11,8 @@ use Rattle.script_text.specs.declared.item.Item.{Item}
 use Rattle.script_text.specs.declared.item.Item.TheVariants as items
 use Rattle.script_text.specs.declared.item.Stage.{Stage}
 use Rattle.script_text.specs.declared.item.Stage.TheVariants as stages
+use Rattle.script_text.specs.declared.limits.Limits.{Limits}
+use Rattle.script_text.specs.declared.limits.TheConstants.{VERSION_1}
 use Rattle.script_text.specs.Pieces.{is_among}
 
 -- what lines end with whose last item is this
@@ -87,9 +88,13 @@ region_names before = last_said [] (filter_map regions_in before)
 abbrev pub colour_names : List Item → List (List ℕ)
 colour_names before = last_said [] (filter_map colours_in before)
 
--- how many rows each client has: as said, or 4,096
+-- the limits of the version that the lines name, of which there is one
+abbrev pub limits_of : List Item → Limits
+limits_of before = VERSION_1
+
+-- how many rows each client has
 abbrev pub row_number : List Item → ℕ
-row_number before = last_said 4096 (filter_map rows_in before)
+row_number before = last_said (limits_of before).unsaid_rows (filter_map rows_in before)
 
 abbrev pub client_names : List Item → List (List ℕ)
 client_names before = map (λ c. c.0) (filter_map clients_in before)

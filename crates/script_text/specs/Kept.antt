@@ -1,13 +1,13 @@
 -- What is kept of the lines so far, which later lines read.
-use Rattle.std.specs.Prelude.{◌≤◌, ℕ, ◌+◌, List, [], ◌∷◌, ◌++◌, length, Option, Some, None, if◌then◌else◌}
+use Rattle.std.specs.Prelude.{◌≤◌, ℕ, List, [], ◌∷◌, ◌++◌, length, Option, Some, None, if◌then◌else◌}
 use Rattle.std.specs.List.{filter_map}
-use Rattle.log_node.specs.declared.ids.Colours.{Colours}
 use Rattle.script_text.specs.declared.script.Command.{Command}
 use Rattle.script_text.specs.declared.script.Script.{Script}
 use Rattle.script_text.specs.declared.item.Item.{Item}
 use Rattle.script_text.specs.declared.item.Item.TheVariants as items
 use Rattle.script_text.specs.declared.known.Known.{Known}
 use Rattle.script_text.specs.declared.reads.HeldRead.{HeldRead}
+use Rattle.script_text.specs.declared.limits.TheConstants.{VERSION_1}
 use Rattle.script_text.specs.Items.{stage_of, stage_after, script_of, commands, is_stop}
 use Rattle.script_text.specs.Reads.{reads_after, held_after}
 
@@ -57,7 +57,7 @@ known_with known (Some item) = known_after known item
 
 -- names are few enough to be numbered by a byte
 pub record IsSmall (known : Known) : Type 0 where
-  pub regions : length known.script.regions ≤ 16
-  pub colours : length known.script.colours ≤ 16
-  pub clients : length known.script.clients ≤ 16
-  pub objects : length known.script.objects ≤ 16
+  pub regions : length known.script.regions ≤ VERSION_1.regions
+  pub colours : length known.script.colours ≤ VERSION_1.colours
+  pub clients : length known.script.clients ≤ VERSION_1.clients
+  pub objects : length known.script.objects ≤ VERSION_1.objects

@@ -1,7 +1,8 @@
 -- What a line tells after others, and how many rows a script may ask for.
-use Rattle.std.specs.Prelude.{◌≡◌, ◌≤◌, Bool, true, false, IsTrue, IsFalse, ℕ, List, Option, Some, None}
+use Rattle.std.specs.Prelude.{◌≤◌, IsTrue, IsFalse, ℕ, List, Option, Some, None}
 use Rattle.script_text.specs.declared.item.Item.{Item}
 use Rattle.script_text.specs.declared.script.Script.{Script}
+use Rattle.script_text.specs.declared.limits.TheConstants.{VERSION_1}
 use Rattle.script_text.specs.Pieces.{fields_of, is_ascii_line}
 use Rattle.script_text.specs.Grammar.{is_passed_over, Says, may_follow, IsScript}
 
@@ -21,6 +22,6 @@ pub record IsSound (before : List Item) (number : ℕ) (line : List ℕ) : Type 
   pub said : Option Item
   pub tells : Tells before number line said
 
--- What is read as a script has at most 4,096 rows for each client.
+-- What is read as a script has at most as many rows for each client as its version allows.
 abbrev pub RowsAreWithinLimits : Type 0
-RowsAreWithinLimits = (bytes : List ℕ) (script : Script) → IsScript bytes script → script.shape.rows ≤ 4096
+RowsAreWithinLimits = (bytes : List ℕ) (script : Script) → IsScript bytes script → script.shape.rows ≤ VERSION_1.rows

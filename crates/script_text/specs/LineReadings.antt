@@ -11,10 +11,11 @@ use Rattle.script_text.specs.declared.fault.Fault.TheVariants as faults
 use Rattle.script_text.specs.declared.known.Known.{Known}
 use Rattle.script_text.specs.declared.reading.ScriptFault.{ScriptFault}
 use Rattle.script_text.specs.declared.reading.ScriptFault.TheVariants as script_faults
+use Rattle.script_text.specs.declared.limits.TheConstants.{MAX_BYTES, MAX_LINES}
 use Rattle.script_text.specs.Pieces.{lines_of, fields_of, is_ascii_line}
 use Rattle.script_text.specs.Items.{is_begun}
 use Rattle.script_text.specs.Grammar.{is_passed_over}
-use Rattle.script_text.specs.Kept.{known_with, known_of, known_after}
+use Rattle.script_text.specs.Kept.{known_with, known_of}
 use Rattle.script_text.specs.Readings.{◌>>=◌, refuse}
 use Rattle.script_text.specs.HeaderReadings.{header_at}
 use Rattle.script_text.specs.CommandReadings.{command_at}
@@ -49,7 +50,7 @@ then_at number (Err why) f = Err (number, why)
 unfoldable pub lines_at : Known → ℕ → List (List ℕ) → Result Known (ℕ × Reason)
 lines_at known number [] = Ok known
 lines_at known number (line ∷ lines) =
-    then_at (number + 1) (refuse (nat_le 20000 number) reasons.TooManyLines (line_at known (number + 1) line)) (λ said. lines_at (known_with known said) (number + 1) lines)
+    then_at (number + 1) (refuse (nat_le MAX_LINES number) reasons.TooManyLines (line_at known (number + 1) line)) (λ said. lines_at (known_with known said) (number + 1) lines)
 
 -- the script, where the header has ended
 unfoldable pub ended_at : ℕ → Known → Result Script (ℕ × Reason)
@@ -63,7 +64,7 @@ ends_at number (Err refusal) = Err refusal
 
 unfoldable pub script_at : List ℕ → Result Script (ℕ × Reason)
 script_at bytes =
-    if nat_lt 1048576 (length bytes) then Err (0, reasons.ScriptTooLong)
+    if nat_lt MAX_BYTES (length bytes) then Err (0, reasons.ScriptTooLong)
     else ends_at (length (lines_of bytes)) (lines_at (known_of []) 0 (lines_of bytes))
 
 -- a fault in the line with this number

@@ -1,8 +1,10 @@
 -- The pieces that stand in a script's bytes: lines, fields, names, keys, texts and numbers.
-use Rattle.std.specs.Prelude.{Bool, true, false, ℕ, zero, suc, ◌+◌, ◌*◌, ◌-◌, ◌==◌, nat_le, nat_lt, ◌&&◌, ◌||◌, List, [], ◌∷◌, length, Option, Some, None, if◌then◌else◌}
+use Rattle.std.specs.Prelude.{Bool, false, ℕ, zero, suc, ◌+◌, ◌*◌, ◌-◌, ◌==◌, nat_le, nat_lt, ◌&&◌, ◌||◌, List, [], ◌∷◌, length, Option, Some, None, if◌then◌else◌}
 use Rattle.std.specs.List.{list_any, list_all, fold, slice_split, onto_first}
 use Rattle.std.specs.Str.{bytes_eq}
 use Rattle.std.specs.Option.{option_map}
+use Rattle.script_text.specs.declared.limits.TheConstants.{MAX_NAME, MAX_KEY}
+use Rattle.log_node.specs.declared.text.TheConstants.{MAX_TEXT}
 
 -- the lines: each ends with a line feed or with the bytes
 abbrev pub lines_of : List ℕ → List (List ℕ)
@@ -16,6 +18,11 @@ fields_of line = slice_split (λ b. b == 32) line
 -- the names between commas
 abbrev pub names_in : List ℕ → List (List ℕ)
 names_in cols = slice_split (λ b. b == 44) cols
+
+-- the first field, or nothing
+abbrev pub first_in : List (List ℕ) → List ℕ
+first_in [] = []
+first_in (field ∷ fields) = field
 
 abbrev pub is_between : ℕ → ℕ → ℕ → Bool
 is_between low high n = nat_le low n && nat_le n high
@@ -35,15 +42,15 @@ is_letter_or_digit b = is_letter b || is_digit b
 -- 1 to 12 letters and digits, the first a letter
 abbrev pub is_name : List ℕ → Bool
 is_name [] = false
-is_name (b ∷ bs) = is_letter b && list_all is_letter_or_digit bs && nat_le (length bs) 11
+is_name (b ∷ bs) = is_letter b && list_all is_letter_or_digit bs && nat_lt (length bs) MAX_NAME
 
 -- a key or a value of an object: 1 to 16 letters and digits
 abbrev pub is_key : List ℕ → Bool
-is_key bytes = is_between 1 16 (length bytes) && list_all is_letter_or_digit bytes
+is_key bytes = is_between 1 MAX_KEY (length bytes) && list_all is_letter_or_digit bytes
 
 -- 1 to 200 bytes, none a blank
 abbrev pub is_text : List ℕ → Bool
-is_text bytes = is_between 1 200 (length bytes) && list_all (is_between 33 126) bytes
+is_text bytes = is_between 1 MAX_TEXT (length bytes) && list_all (is_between 33 126) bytes
 
 -- a number of at most so many digits: 0, or digits of which the first is none
 abbrev pub is_number : ℕ → List ℕ → Bool

@@ -1,5 +1,5 @@
 -- Readings: what fields give, or the first reason against them.
-use Rattle.std.specs.Prelude.{◌≡◌, Bool, true, false, ℕ, suc, ◌+◌, not, List, [], ◌∷◌, ◌++◌, length, map, Option, Some, None, Result, Ok, Err, if◌then◌else◌}
+use Rattle.std.specs.Prelude.{◌≡◌, Bool, true, false, ℕ, suc, not, List, [], ◌∷◌, ◌++◌, length, map, Option, Some, None, Result, Ok, Err, if◌then◌else◌}
 use Rattle.std.specs.Str.{bytes_eq}
 use Rattle.std.specs.Borrow.{Bor}
 use Rattle.log_node.specs.declared.ids.Colours.{Colours}
@@ -9,11 +9,10 @@ use Rattle.script_text.specs.declared.script.Reason.{Reason}
 use Rattle.script_text.specs.declared.script.Reason.TheVariants as reasons
 use Rattle.script_text.specs.declared.fault.Fault.{Fault}
 use Rattle.script_text.specs.declared.fault.Fault.TheVariants as faults
-use Rattle.script_text.specs.declared.script.Word.{Word}
-use Rattle.script_text.specs.Pieces.{is_name, is_key, is_text, is_number, number_value, is_among, is_between, number_of, names_in}
+use Rattle.script_text.specs.declared.table.Kinds.{Kinds}
+use Rattle.script_text.specs.Pieces.{is_name, is_key, is_text, is_number, number_value, is_among, number_of, names_in}
 use Rattle.script_text.specs.Items.{set_of}
-use Rattle.script_text.specs.Words.{has_word}
-use Rattle.script_text.specs.Reads.{holds}
+use Rattle.script_text.specs.Table.{is_of}
 use Rattle.script_text.specs.Grammar.{has_equals, key_in, value_in}
 
 infixl 10 ◌>>=◌
@@ -34,6 +33,11 @@ Fails (faults.Refused why) reading = reading ≡ Err why
 abbrev pub Gives : {X : Type 0} → Result X Fault → Result X Reason → Type 0
 Gives (Ok x) reading = reading ≡ Ok x
 Gives (Err fault) reading = Fails fault reading
+
+-- the same of what a field gave, where it is kept beside the result
+abbrev pub Takes : {X : Type 0} → Result Unit Fault → X → Result X Reason → Type 0
+Takes (Ok _) next reading = reading ≡ Ok next
+Takes (Err fault) next reading = Fails fault reading
 
 -- what was found, or the reason
 abbrev pub found_or : {A : Type 0} → Reason → Option A → Result A Reason
@@ -71,11 +75,11 @@ colour_at names earlier field = do
 abbrev pub colours_at : List (List ℕ) → List (List ℕ) → Result (List ℕ) Reason
 colours_at names fields = each_at (colour_at names) [] fields
 
--- the set of the colours that a field names
-unfoldable pub colour_set_at : List (List ℕ) → List ℕ → Result Colours Reason
+-- the set of the colours that a field names, and their number
+unfoldable pub colour_set_at : List (List ℕ) → List ℕ → Result (Colours × ℕ) Reason
 colour_set_at names cols = do
-  colours ← colours_at names (names_in cols)
-  Ok (set_of colours)
+  order ← colours_at names (names_in cols)
+  Ok (set_of order, length order)
 
 unfoldable pub text_at : List ℕ → Result (List ℕ) Reason
 text_at field = refuse (not (is_text field)) reasons.TextLength (Ok field)
@@ -102,12 +106,12 @@ pair_at earlier field = new_pair_at (map key_in earlier) field
 unfoldable pub digits_at : ℕ → List ℕ → Result ℕ Reason
 digits_at most field = refuse (not (is_number most field)) reasons.BadNumber (Ok (number_value field))
 
--- the number of an object of this name, whose kind has the command
-unfoldable pub object_at : Word → List Object → List ℕ → Result ℕ Reason
-object_at word [] field = Err reasons.UnknownObject
-object_at word (first ∷ objects) field =
-    if bytes_eq field first.name then refuse (not (has_word word first.kind)) reasons.WrongObject (Ok 0)
-    else object_at word objects field >>= λ n. Ok (suc n)
+-- the number of the object of this name, which is of one of these kinds
+unfoldable pub object_at : Kinds → List Object → List ℕ → Result ℕ Reason
+object_at of [] field = Err reasons.UnknownObject
+object_at of (first ∷ objects) field =
+    if bytes_eq field first.name then refuse (not (is_of of first.kind)) reasons.WrongObject (Ok 0)
+    else object_at of objects field >>= λ n. Ok (suc n)
 
 -- ---- so many fields
 
@@ -122,18 +126,3 @@ with_one f _ = Err reasons.BadForm
 abbrev pub with_two : {A : Type 0} → (List ℕ → List ℕ → Result A Reason) → List (List ℕ) → Result A Reason
 with_two f (a ∷ b ∷ []) = f a b
 with_two f _ = Err reasons.BadForm
-
-abbrev pub with_three : {A : Type 0} → (List ℕ → List ℕ → List ℕ → Result A Reason) → List (List ℕ) → Result A Reason
-with_three f (a ∷ b ∷ c ∷ []) = f a b c
-with_three f _ = Err reasons.BadForm
-
--- a field, and one to so many others
-abbrev pub with_others : {A : Type 0} → ℕ → (List ℕ → List (List ℕ) → Result A Reason) → List (List ℕ) → Result A Reason
-with_others most f [] = Err reasons.BadForm
-with_others most f (a ∷ args) = refuse (not (is_between 1 most (length args))) reasons.BadForm (f a args)
-
--- two fields, and one to so many others
-abbrev pub with_two_others : {A : Type 0} → ℕ → (List ℕ → List ℕ → List (List ℕ) → Result A Reason) → List (List ℕ) → Result A Reason
-with_two_others most f [] = Err reasons.BadForm
-with_two_others most f (a ∷ []) = Err reasons.BadForm
-with_two_others most f (a ∷ b ∷ args) = refuse (not (is_between 1 most (length args))) reasons.BadForm (f a b args)

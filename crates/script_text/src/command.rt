@@ -1,61 +1,48 @@
 // The command lines.
-ghost use Rattle.std.specs.Prelude.{◌≡◌, ◌==◌};
+ghost use Rattle.std.specs.Prelude.{◌≡◌, ◌≤◌, ◌==◌};
 ghost use Rattle.std.specs.List.{list_any};
-ghost use Rattle.script_text.specs.Faults.{word_at};
+ghost use Rattle.script_text.specs.declared.limits.TheConstants.{VERSION_1};
 ghost use Rattle.script_text.specs.Kept.{IsSmall};
 ghost use Rattle.script_text.specs.Readings.{Gives, fields_in};
-ghost use Rattle.script_text.specs.CommandReadings.{what_at, worded_at, asked_at, caller_at, command_at};
+ghost use Rattle.script_text.specs.CommandReadings.{ended_well, what_at, worded_at, asked_at, caller_at, command_at};
 
 use crate::fault::Fault;
+use crate::given::Given;
 use crate::item::Item;
 use crate::known::Known;
-use crate::log_command::{append_line, pull_line, scan_line, stop_line, sync_line, trim_line};
 use crate::names::number_at;
-use crate::object_command::{
-    commit_line, del_line, deq_line, enq_line, get_line, getall_line, put_line, putall_line,
-    read_line,
-};
+use crate::reads::HeldRead;
 use crate::script::{Command, Reason, What, Word};
+use crate::table::{Last, fits};
 use std::alloc::Global;
 
-fn word_at(field: &[u8]) -> Option<Word>
-    ensures { result ≡ word_at field.now }
+/// The tests after the fields.
+#[tactic(auto, unfolding(crate::specs::CommandReadings::ended_well))]
+fn ended_well(known: &Known, client: u8, last: Last, given: Given) -> Result<Given, Fault>
+    requires { given.count ≤ VERSION_1.colours }
+    ensures { Gives result (ended_well known.now client last given) }
 {
-    if field == b"append".as_slice() {
-        Some(Word::Append)
-    } else if field == b"stop".as_slice() {
-        Some(Word::Stop)
-    } else if field == b"sync".as_slice() {
-        Some(Word::Sync)
-    } else if field == b"scan".as_slice() {
-        Some(Word::Scan)
-    } else if field == b"pull".as_slice() {
-        Some(Word::Pull)
-    } else if field == b"trim".as_slice() {
-        Some(Word::Trim)
-    } else if field == b"put".as_slice() {
-        Some(Word::Put)
-    } else if field == b"get".as_slice() {
-        Some(Word::Get)
-    } else if field == b"del".as_slice() {
-        Some(Word::Del)
-    } else if field == b"putall".as_slice() {
-        Some(Word::PutAll)
-    } else if field == b"getall".as_slice() {
-        Some(Word::GetAll)
-    } else if field == b"read".as_slice() {
-        Some(Word::Read)
-    } else if field == b"commit".as_slice() {
-        Some(Word::Commit)
-    } else if field == b"enq".as_slice() {
-        Some(Word::Enq)
-    } else if field == b"deq".as_slice() {
-        Some(Word::Deq)
-    } else {
-        None
+    match last {
+        Last::Nothing => {}
+        Last::StopFits => {
+            if given.count < 2 {
+                return Err(Fault::Refused(Reason::StopNeedsTwoColours));
+            }
+            if given.number > 2 * given.count as u64 + 2 {
+                return Err(Fault::Refused(Reason::BadNumber));
+            }
+        }
+        Last::ReadHeld => {
+            let object = given.object;
+            if !known.held.holds(HeldRead { client, object }) {
+                return Err(Fault::Refused(Reason::NoRead));
+            }
+        }
     }
+    Ok(given)
 }
 
+/// What a command asks for, by its word.
 #[tactic(auto, unfolding(crate::specs::CommandReadings::what_at))]
 fn what_of(
     alloc: Global,
@@ -67,23 +54,13 @@ fn what_of(
     requires { IsSmall known.now }
     ensures { Gives result (what_at known.now client word (fields_in args.now)) }
 {
-    match word {
-        Word::Append => append_line(alloc, known, args),
-        Word::Stop => stop_line(alloc, known, args),
-        Word::Sync => sync_line(known, args),
-        Word::Scan => scan_line(alloc, known, args),
-        Word::Pull => pull_line(known, args),
-        Word::Trim => trim_line(known, args),
-        Word::Put => put_line(alloc, known, args),
-        Word::Get => get_line(alloc, known, args),
-        Word::Del => del_line(alloc, known, args),
-        Word::PutAll => putall_line(alloc, known, args),
-        Word::GetAll => getall_line(alloc, known, args),
-        Word::Read => read_line(alloc, known, args),
-        Word::Commit => commit_line(alloc, known, client, args),
-        Word::Enq => enq_line(alloc, known, args),
-        Word::Deq => deq_line(known, args),
+    let (_, _, fields, last) = word.row();
+    if !fits(fields, args) {
+        return Err(Fault::Refused(Reason::BadForm));
     }
+    let given = Given::of(alloc, known, fields, args)?;
+    let ended = ended_well(known, client, last, given)?;
+    Ok(ended.into_what(word))
 }
 
 #[tactic(auto, unfolding(crate::specs::CommandReadings::asked_at, crate::specs::CommandReadings::worded_at))]
@@ -93,7 +70,7 @@ fn asked(alloc: Global, known: &Known, client: u8, fields: &[&[u8]]) -> Result<W
 {
     match fields {
         [] => Err(Fault::Refused(Reason::UnknownCommand)),
-        [field, args @ ..] => match word_at(field) {
+        [field, args @ ..] => match Word::of_bytes(field) {
             Some(word) => what_of(alloc, known, client, word, args),
             None => Err(Fault::Refused(Reason::UnknownCommand)),
         },

@@ -11,6 +11,7 @@ use crate::declared::declared_line;
 use crate::fault::Fault;
 use crate::item::{Item, Stage};
 use crate::known::Known;
+use crate::limits::{ROWS_DIGITS, VERSION_1};
 use crate::names::{new_name, new_names, number_at};
 use crate::pieces::{is_number, number_value};
 use crate::script::Reason;
@@ -30,7 +31,7 @@ fn version_line(args: &[&[u8]]) -> Result<Item, Fault>
 fn regions_line(alloc: Global, args: &[&[u8]]) -> Result<Item, Fault>
     ensures { Gives result (regions_at (fields_in args.now)) }
 {
-    if args.is_empty() || args.len() > 4 {
+    if args.is_empty() || args.len() > VERSION_1.regions {
         return Err(Fault::Refused(Reason::BadForm));
     }
     let names = new_names(alloc, args)?;
@@ -41,7 +42,7 @@ fn regions_line(alloc: Global, args: &[&[u8]]) -> Result<Item, Fault>
 fn colours_line(alloc: Global, args: &[&[u8]]) -> Result<Item, Fault>
     ensures { Gives result (colour_line_at (fields_in args.now)) }
 {
-    if args.is_empty() || args.len() > 16 {
+    if args.is_empty() || args.len() > VERSION_1.colours {
         return Err(Fault::Refused(Reason::BadForm));
     }
     let names = new_names(alloc, args)?;
@@ -52,11 +53,11 @@ fn colours_line(alloc: Global, args: &[&[u8]]) -> Result<Item, Fault>
 fn rows(field: &[u8]) -> Result<Item, Fault>
     ensures { Gives result (rows_at field.now) }
 {
-    if !is_number(10, field) {
+    if !is_number(ROWS_DIGITS, field) {
         return Err(Fault::Refused(Reason::BadNumber));
     }
     let number = number_value(field);
-    if number < 1 || number > 4096 {
+    if number < 1 || number > u64::from(VERSION_1.rows) {
         return Err(Fault::Refused(Reason::BadNumber));
     }
     Ok(Item::Rows {
@@ -89,7 +90,7 @@ fn client(alloc: Global, known: &Known, field: &[u8], region: &[u8]) -> Result<I
     requires { IsSmall known.now }
     ensures { Gives result (client_at known.now field.now region.now) }
 {
-    if known.script.clients.len() >= 16 {
+    if known.script.clients.len() >= VERSION_1.clients {
         return Err(Fault::Refused(Reason::BadForm));
     }
     client_named(alloc, known, field, region)

@@ -5,6 +5,7 @@ ghost use Rattle.script_text.specs.Grammar.{key_in};
 ghost use Rattle.script_text.specs.Readings.{Gives, fields_in, each_at, value_at, key_at, new_pair_at, pair_at, digits_at};
 
 use crate::fault::Fault;
+use crate::limits::STEPS_DIGITS;
 use crate::pieces::{is_among, is_key, is_number, number_value, split_pair};
 use crate::script::Reason;
 use log_node::{Keys, ListOf, Pair, Pairs, Text};
@@ -98,13 +99,12 @@ pub fn pairs_at(alloc: Global, fields: &[&[u8]]) -> Result<Pairs, Fault>
     Ok(pairs)
 }
 
-/// A number of at most so many digits.
+/// A number of steps.
 #[tactic(auto, unfolding(crate::specs::Readings::digits_at))]
-pub fn digits_at(most: usize, field: &[u8]) -> Result<u64, Fault>
-    requires { most ≤ 10 }
-    ensures { Gives result (digits_at most field.now) }
+pub fn steps_at(field: &[u8]) -> Result<u64, Fault>
+    ensures { Gives result (digits_at STEPS_DIGITS field.now) }
 {
-    if !is_number(most, field) {
+    if !is_number(STEPS_DIGITS, field) {
         return Err(Fault::Refused(Reason::BadNumber));
     }
     Ok(number_value(field))

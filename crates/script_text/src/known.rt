@@ -6,6 +6,7 @@ ghost use Rattle.script_text.specs.Readings.{Gives, number_at};
 
 use crate::fault::Fault;
 use crate::item::{Item, Stage};
+use crate::limits::VERSION_1;
 use crate::names::number_at;
 use crate::reads::HeldReads;
 use crate::script::{Reason, Script, What};
@@ -35,7 +36,7 @@ impl Known {
                     regions: 0,
                     colours: 0,
                     homes: ListOf::new(alloc),
-                    rows: 4096,
+                    rows: VERSION_1.unsaid_rows,
                 },
                 regions: ListOf::new(alloc),
                 colours: ListOf::new(alloc),

@@ -15,12 +15,6 @@ use crate::pieces::{is_ascii_line, parts_of};
 use crate::script::Reason;
 use std::alloc::Global;
 
-/// The most bytes that a script may have.
-pub const MAX_BYTES: usize = 1_048_576;
-
-/// The most lines that a script may have.
-pub const MAX_LINES: u32 = 20_000;
-
 /// An empty line, or one that begins with `#`; line 1 is never passed over.
 pub fn is_passed_over(number: u32, line: &[u8]) -> bool
     ensures { result ≡ is_passed_over (number, line.now) }

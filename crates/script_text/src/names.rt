@@ -1,5 +1,6 @@
 // Names in a line: new ones, and those that the header has named.
 ghost use Rattle.std.specs.Prelude.{◌≡◌, ◌≤◌, ◌<◌, [], length, All, IfOk};
+ghost use Rattle.script_text.specs.declared.limits.TheConstants.{VERSION_1};
 ghost use Rattle.script_text.specs.Pieces.{is_among, names_in};
 ghost use Rattle.script_text.specs.Items.{set_of};
 ghost use Rattle.script_text.specs.Readings.{Gives, fields_in, number_at, new_name_at, new_names_at, colour_at, colours_at, colour_set_at, text_at};
@@ -81,8 +82,8 @@ pub fn colour_numbers(alloc: Global, names: &[Text], fields: &[&[u8]]) -> Result
 }
 
 /// The set of these colours.
-pub fn set_of(colours: &[u8]) -> Colours
-    requires { All (λ c. c < 16) colours.now }
+fn set_of(colours: &[u8]) -> Colours
+    requires { All (λ c. c < VERSION_1.colours) colours.now }
     ensures { result ≡ set_of colours.now }
 {
     let mut set = 0;
@@ -93,24 +94,25 @@ pub fn set_of(colours: &[u8]) -> Colours
 }
 
 /// The numbers of the colours whose names stand between commas.
-pub fn cols_at(alloc: Global, names: &[Text], cols: &[u8]) -> Result<ColourList, Fault>
-    requires { length names.now ≤ 16 }
+fn cols_at(alloc: Global, names: &[Text], cols: &[u8]) -> Result<ColourList, Fault>
+    requires { length names.now ≤ VERSION_1.colours }
     ensures value { Gives result (colours_at names.now (names_in cols.now)) }
-    ensures below { IfOk result (All (λ c. c < 16)) }
-    ensures few { IfOk result (λ colours. length colours ≤ 16) }
+    ensures below { IfOk result (All (λ c. c < VERSION_1.colours)) }
+    ensures few { IfOk result (λ colours. length colours ≤ VERSION_1.colours) }
 {
     let fields = parts_of(alloc, cols, b',')?;
     colour_numbers(alloc, names, &fields)
 }
 
-/// The set of the colours whose names stand between commas.
+/// The set of the colours whose names stand between commas, and their number.
 #[tactic(auto, unfolding(crate::specs::Readings::colour_set_at))]
-pub fn colour_set(alloc: Global, names: &[Text], cols: &[u8]) -> Result<Colours, Fault>
-    requires { length names.now ≤ 16 }
-    ensures { Gives result (colour_set_at names.now cols.now) }
+pub fn colour_set(alloc: Global, names: &[Text], cols: &[u8]) -> Result<(Colours, usize), Fault>
+    requires { length names.now ≤ VERSION_1.colours }
+    ensures value { Gives result (colour_set_at names.now cols.now) }
+    ensures few { IfOk result (λ s. s.1 ≤ VERSION_1.colours) }
 {
     let colours = cols_at(alloc, names, cols)?;
-    Ok(set_of(colours.as_slice()))
+    Ok((set_of(colours.as_slice()), colours.len()))
 }
 
 /// A node's text.

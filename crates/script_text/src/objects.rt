@@ -1,32 +1,33 @@
 // The objects that commands name.
 ghost use Rattle.std.specs.Prelude.{◌≡◌, ◌≤◌, length};
-ghost use Rattle.script_text.specs.Words.{has_word};
+ghost use Rattle.script_text.specs.declared.limits.TheConstants.{VERSION_1};
+ghost use Rattle.script_text.specs.Table.{is_of};
 ghost use Rattle.script_text.specs.Readings.{Gives, object_at};
 
 use crate::fault::Fault;
-use crate::script::{Kind, Object, Reason, Word};
+use crate::script::{Kind, Object, Reason};
+use crate::table::Kinds;
 
-/// Whether objects of this kind have the command.
-pub fn has_word(word: Word, kind: &Kind) -> bool
-    ensures { result ≡ has_word word kind.now }
+/// Whether an object is of one of these kinds.
+fn is_of(kinds: Kinds, kind: &Kind) -> bool
+    ensures { result ≡ is_of kinds kind.now }
 {
-    match word {
-        Word::Append | Word::Stop | Word::Sync | Word::Scan | Word::Pull | Word::Trim => false,
-        Word::Put | Word::Get => matches!(kind, Kind::Map { .. } | Kind::Causal { .. }),
-        Word::Del | Word::PutAll | Word::GetAll => matches!(kind, Kind::Map { .. }),
-        Word::Read | Word::Commit => matches!(kind, Kind::Tx { .. }),
-        Word::Enq | Word::Deq => matches!(kind, Kind::Queue { .. }),
+    match kind {
+        Kind::Map { .. } => kinds.map,
+        Kind::Tx { .. } => kinds.tx,
+        Kind::Causal { .. } => kinds.causal,
+        Kind::Queue { .. } => kinds.queue,
     }
 }
 
-/// The number of the object with this name, whose kind has the command.
-pub fn object_at(word: Word, objects: &[Object], field: &[u8]) -> Result<u8, Fault>
-    requires { length objects.now ≤ 16 }
-    ensures { Gives result (object_at word objects.now field.now) }
+/// The number of the object with this name, which is of one of these kinds.
+pub fn object_at(kinds: Kinds, objects: &[Object], field: &[u8]) -> Result<u8, Fault>
+    requires { length objects.now ≤ VERSION_1.objects }
+    ensures { Gives result (object_at kinds objects.now field.now) }
 {
     for (number, object) in objects.iter().enumerate() {
         if field == object.name.as_bytes() {
-            if !has_word(word, &object.kind) {
+            if !is_of(kinds, &object.kind) {
                 return Err(Fault::Refused(Reason::WrongObject));
             }
             return Ok(number as u8);

@@ -1,10 +1,12 @@
 // The pieces of a script's bytes: lines, fields, and what a field may be.
 ghost use Rattle.std.specs.Prelude.{◌≡◌, ◌<◌, ◌≤◌, ◌==◌, ◌↔◌, ◌∷◌, false, length, map, IfOk, IsNone, IfSome, IsTrue};
 ghost use Rattle.std.specs.List.{slice_split, list_all};
+ghost use Rattle.script_text.specs.declared.limits.TheConstants.{ROWS_DIGITS};
 ghost use Rattle.script_text.specs.Pieces.{lines_of, is_between, is_ascii_line, is_letter_or_digit, is_name, is_key, is_text, is_among, is_digit, is_number, number_value, number_of};
 ghost use Rattle.script_text.specs.Grammar.{has_equals, key_in, value_in};
 
-use log_node::Text;
+use crate::limits::{MAX_KEY, MAX_NAME};
+use log_node::{MAX_TEXT, Text};
 use std::alloc::{AllocError, Global};
 
 /// The first line of the bytes, and the bytes after it.
@@ -55,7 +57,7 @@ pub fn is_name(field: &[u8]) -> bool
     match field {
         [] => false,
         [first, others @ ..] => {
-            first.is_ascii_lowercase() && are_letters_or_digits(others) && others.len() <= 11
+            first.is_ascii_lowercase() && are_letters_or_digits(others) && others.len() < MAX_NAME
         }
     }
 }
@@ -64,7 +66,7 @@ pub fn is_name(field: &[u8]) -> bool
 pub fn is_key(field: &[u8]) -> bool
     ensures { result ≡ is_key field.now }
 {
-    1 <= field.len() && field.len() <= 16 && are_letters_or_digits(field)
+    1 <= field.len() && field.len() <= MAX_KEY && are_letters_or_digits(field)
 }
 
 fn are_visible(bytes: &[u8]) -> bool
@@ -77,7 +79,7 @@ fn are_visible(bytes: &[u8]) -> bool
 pub fn is_text(field: &[u8]) -> bool
     ensures { result ≡ is_text field.now }
 {
-    1 <= field.len() && field.len() <= 200 && are_visible(field)
+    1 <= field.len() && field.len() <= MAX_TEXT && are_visible(field)
 }
 
 /// The name is one of these.
@@ -137,7 +139,7 @@ pub fn is_number(most: usize, field: &[u8]) -> bool
 /// The number that the digits are.
 pub fn number_value(digits: &[u8]) -> u64
     requires digits { IsTrue (list_all is_digit digits.now) }
-    requires few { length digits.now ≤ 10 }
+    requires few { length digits.now ≤ ROWS_DIGITS }
     ensures { result ≡ number_value digits.now }
 {
     let mut value = 0;

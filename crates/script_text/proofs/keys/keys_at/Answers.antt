@@ -1,6 +1,6 @@
-use Rattle.std.proofs.Common.{◌≡◌, ◌<◌, ◌∷◌, [], ◌++◌, length, get_or, drop, sym, ap, ◌∙◌, arith}
+use Rattle.std.proofs.Common.{◌<◌, [], length, arith}
 use Rattle.std.proofs.lemmas.Result.{err_from_is_err_and}
-use Rattle.script_text.specs.Readings.{each_at, key_at, fields_in, Fails}
+use Rattle.script_text.specs.Readings.{each_at, key_at, fields_in}
 use Rattle.script_text.proofs.EachLemmas.{each_more, each_ends, each_done, fields_get, length-fields_in}
 use Rattle.script_text.proofs.FieldLaws.{key_ok}
 use Rattle.script_text.proofs.keys.keys_at.Goals as goal

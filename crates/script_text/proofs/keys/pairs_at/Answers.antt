@@ -1,9 +1,9 @@
-use Rattle.std.proofs.Common.{ℕ, List, ◌≡◌, ◌<◌, ◌∷◌, [], ◌++◌, length, map, get_or, take, drop, sym, ap, ◌∙◌, refl, arith}
+use Rattle.std.proofs.Common.{ℕ, List, ◌<◌, ◌∷◌, [], ◌++◌, length, map, take, sym, ap, ◌∙◌, refl, arith}
 use Rattle.std.proofs.lemmas.Result.{err_from_is_err_and}
 use Rattle.std.proofs.lemmas.List.{take_more, map_push}
 use Rattle.log_node.specs.declared.forms.Pair.{Pair}
 use Rattle.script_text.specs.Grammar.{key_in}
-use Rattle.script_text.specs.Readings.{each_at, new_pair_at, pair_at, fields_in, Fails}
+use Rattle.script_text.specs.Readings.{each_at, pair_at, fields_in}
 use Rattle.script_text.proofs.EachLemmas.{each_more, each_ends, each_done, each_begins, fields_get, length-fields_in}
 use Rattle.script_text.proofs.FieldLaws.{pair_key_is}
 use Rattle.script_text.proofs.keys.pairs_at.Goals as goal

@@ -1,5 +1,4 @@
 use Rattle.std.proofs.Common.{◌≡◌, ℕ, List, [], map, take, drop}
-use Rattle.std.specs.Borrow.{Bor}
 use Rattle.log_node.specs.declared.forms.Pair.{Pair}
 use Rattle.script_text.specs.Grammar.{key_in}
 use Rattle.script_text.specs.Readings.{each_at, pair_at, fields_in}

@@ -1,7 +1,7 @@
-use Rattle.std.proofs.Common.{◌≡◌, ◌<◌, ◌∷◌, [], ◌++◌, length, get_or, take, drop, sym, ap, ◌∙◌, arith}
+use Rattle.std.proofs.Common.{◌<◌, [], length, take, arith}
 use Rattle.std.proofs.lemmas.Result.{err_from_is_err_and}
 use Rattle.std.proofs.lemmas.List.{take_more}
-use Rattle.script_text.specs.Readings.{each_at, colour_at, colours_at, fields_in, Fails}
+use Rattle.script_text.specs.Readings.{colour_at, colours_at, fields_in}
 use Rattle.script_text.proofs.EachLemmas.{each_more, each_ends, each_done, fields_get, fields_take, length-fields_in}
 use Rattle.script_text.proofs.names.colour_numbers.Goals as goal
 

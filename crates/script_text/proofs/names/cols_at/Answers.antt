@@ -1,4 +1,3 @@
-use Rattle.script_text.specs.Pieces.{names_in}
 use Rattle.script_text.specs.Readings.{fields_in, colours_at}
 use Rattle.script_text.proofs.NameLemmas.{gives_ok, all_below, few_colours}
 use Rattle.script_text.proofs.names.cols_at.Goals as goal

@@ -1,7 +1,7 @@
-use Rattle.std.proofs.Common.{◌≡◌, ◌<◌, ◌∷◌, [], ◌++◌, length, get_or, drop, sym, ap, ◌∙◌, arith}
+use Rattle.std.proofs.Common.{◌<◌, length, arith}
 use Rattle.std.proofs.lemmas.Result.{err_from_is_err_and}
-use Rattle.script_text.specs.Readings.{each_at, new_name_at, new_names_at, fields_in, Fails}
-use Rattle.script_text.proofs.EachLemmas.{each_more, each_ends, each_done, each_begins, new_name_is, fields_get, length-fields_in}
+use Rattle.script_text.specs.Readings.{new_name_at, new_names_at, fields_in}
+use Rattle.script_text.proofs.EachLemmas.{each_more, each_ends, each_done, new_name_is, fields_get, length-fields_in}
 use Rattle.script_text.proofs.names.new_names.Goals as goal
 
 pub returns-in_err-name : goal.returns-in_err-name

@@ -1,4 +1,4 @@
-use Rattle.std.proofs.Common.{◌<◌, length, arith}
+use Rattle.std.proofs.Common.{arith}
 use Rattle.std.proofs.lemmas.List.{take_rest}
 use Rattle.script_text.proofs.PieceLemmas.{lines_first, lines_all}
 use Rattle.script_text.proofs.pieces.first_line.Goals as goal

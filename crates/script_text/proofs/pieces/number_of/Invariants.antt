@@ -1,4 +1,4 @@
-use Rattle.std.proofs.Common.{◌≡◌, ℕ, ◌<◌, List, [], get_or, false}
+use Rattle.std.proofs.Common.{◌≡◌, ℕ, ◌<◌, [], get_or, false}
 use Rattle.std.specs.Str.{bytes_eq}
 use Rattle.script_text.proofs.pieces.number_of.Given as goal
 

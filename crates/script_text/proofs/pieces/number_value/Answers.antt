@@ -1,4 +1,4 @@
-use Rattle.std.proofs.Common.{◌≡◌, ◌<◌, ◌≤◌, ◌+◌, ◌*◌, ◌-◌, take, get_or, arith, refl, sym, ◌∙◌}
+use Rattle.std.proofs.Common.{◌≡◌, ◌≤◌, ◌+◌, ◌*◌, ◌-◌, take, get_or, arith, refl, sym, ◌∙◌}
 use Rattle.script_text.specs.Pieces.{number_value}
 use Rattle.script_text.proofs.PieceLemmas.{digit_at, power_small, number_more, power_more}
 use Rattle.script_text.proofs.pieces.number_value.Goals as goal

@@ -1,0 +1,150 @@
+-- The table of commands: which fields stand after a word, and what is given with them.
+use Rattle.std.specs.Prelude.{ℕ, Bool, ◌==◌, nat_le, ◌&&◌, List, [], ◌∷◌, length, take, drop, Option, Some, None}
+use Rattle.std.specs.List.{find}
+use Rattle.std.specs.Str.{bytes_eq}
+use Rattle.script_text.specs.declared.script.Word.{Word}
+use Rattle.script_text.specs.declared.script.Word.TheVariants as words
+use Rattle.script_text.specs.declared.script.What.{What}
+use Rattle.script_text.specs.declared.script.What.TheVariants as whats
+use Rattle.script_text.specs.declared.script.Kind.{Kind}
+use Rattle.script_text.specs.declared.script.Kind.TheVariants as kinds
+use Rattle.script_text.specs.declared.table.Field.{Field}
+use Rattle.script_text.specs.declared.table.Field.TheVariants as fields
+use Rattle.script_text.specs.declared.table.Kinds.{Kinds}
+use Rattle.script_text.specs.declared.table.Last.{Last}
+use Rattle.script_text.specs.declared.table.TheConstants.{WORDS, MAP_LINE, TX_LINE, CAUSAL_LINE, QUEUE_LINE, SORTS}
+use Rattle.script_text.specs.declared.table.Sort.{Sort}
+use Rattle.script_text.specs.declared.table.Sort.TheVariants as sorts
+use Rattle.script_text.specs.declared.given.Given.{Given}
+use Rattle.script_text.specs.Words.{row_of, word_text}
+
+abbrev pub row_fields : Word → List Field
+row_fields word = (row_of word).2.now
+
+abbrev pub last_of : Word → Last
+last_of word = (row_of word).3
+
+-- the command with this word
+abbrev pub word_at : List ℕ → Option Word
+word_at field = find (λ word. bytes_eq field (word_text word)) WORDS
+
+-- the kinds of object that have a command
+abbrev pub is_of : Kinds → Kind → Bool
+is_of of (kinds.Map _ _) = of.map
+is_of of (kinds.Tx _ _) = of.tx
+is_of of (kinds.Causal _) = of.causal
+is_of of (kinds.Queue _ _) = of.queue
+
+-- how many last fields a kind of field may take, or nothing where it is one field
+abbrev pub at_most : Field → Option ℕ
+at_most fields.Steps = None
+at_most fields.Cols = None
+at_most fields.Colour = None
+at_most fields.Region = None
+at_most fields.Text = None
+at_most (fields.Object _) = None
+at_most fields.Key = None
+at_most fields.Value = None
+at_most (fields.Keys most) = Some most
+at_most (fields.Pairs most) = Some most
+at_most (fields.Colours most) = Some most
+
+abbrev pub own_in : Option ℕ → List (List ℕ) → List (List ℕ)
+own_in None args = take 1 args
+own_in (Some most) args = args
+
+abbrev pub later_in : Option ℕ → List (List ℕ) → List (List ℕ)
+later_in None args = drop 1 args
+later_in (Some most) args = []
+
+abbrev pub has_in : Option ℕ → ℕ → Bool
+has_in None n = nat_le 1 n
+has_in (Some most) n = nat_le 1 n && nat_le n most
+
+-- of the fields that are left, those that it takes, and those after them
+abbrev pub own_fields : Field → List (List ℕ) → List (List ℕ)
+own_fields field args = own_in (at_most field) args
+
+abbrev pub later_fields : Field → List (List ℕ) → List (List ℕ)
+later_fields field args = later_in (at_most field) args
+
+-- it takes as many as may be
+abbrev pub has : Field → List (List ℕ) → Bool
+has field own = has_in (at_most field) (length own)
+
+-- the number of fields is lawful
+abbrev pub fits : List Field → List (List ℕ) → Bool
+fits [] args = length args == 0
+fits (field ∷ fields) args = has field (own_fields field args) && fits fields (later_fields field args)
+
+-- ---- what is given
+
+-- before the first field
+abbrev pub nothing : Given
+nothing = record {
+  number = 0;
+  colours = record { 0 = 0 };
+  count = 0;
+  colour = 0;
+  region = 0;
+  object = 0;
+  text = [];
+  key = [];
+  value = [];
+  keys = [];
+  pairs = [];
+  order = [];
+}
+
+-- what a command asks for, by what its fields give
+abbrev pub what_of : Word → Given → What
+what_of words.Append g = whats.Append g.colours g.text
+what_of words.Stop g = whats.Stop g.number g.colours g.text
+what_of words.Sync g = whats.Sync g.colour
+what_of words.Scan g = whats.Scan g.colours
+what_of words.Pull g = whats.Pull g.region g.colour
+what_of words.Trim g = whats.Trim g.colour
+what_of words.Put g = whats.Put g.object g.key g.value
+what_of words.Get g = whats.Get g.object g.key
+what_of words.Del g = whats.Del g.object g.key
+what_of words.PutAll g = whats.PutAll g.object g.pairs
+what_of words.GetAll g = whats.GetAll g.object g.keys
+what_of words.Read g = whats.Read g.object g.keys
+what_of words.Commit g = whats.Commit g.object g.pairs
+what_of words.Enq g = whats.Enq g.object g.value
+what_of words.Deq g = whats.Deq g.object
+
+-- ---- the lines of objects
+
+-- the word of an object's line, and the fields after the object's name
+abbrev pub SortRow : Type 0
+SortRow = (record { now : List ℕ }) × (record { now : List Field })
+
+abbrev pub sort_row : Sort → SortRow
+sort_row sorts.Map = MAP_LINE
+sort_row sorts.Tx = TX_LINE
+sort_row sorts.Causal = CAUSAL_LINE
+sort_row sorts.Queue = QUEUE_LINE
+
+abbrev pub sort_text : Sort → List ℕ
+sort_text sort = (sort_row sort).0.now
+
+abbrev pub sort_fields : Sort → List Field
+sort_fields sort = (sort_row sort).1.now
+
+-- what a line with this word declares
+abbrev pub sort_at : List ℕ → Option Sort
+sort_at word = find (λ sort. bytes_eq word (sort_text sort)) SORTS
+
+abbrev pub sort_of : Kind → Sort
+sort_of (kinds.Map _ _) = sorts.Map
+sort_of (kinds.Tx _ _) = sorts.Tx
+sort_of (kinds.Causal _) = sorts.Causal
+sort_of (kinds.Queue _ _) = sorts.Queue
+
+-- what an object is, by what its fields give
+abbrev pub kind_of : Sort → Given → Kind
+kind_of sorts.Map g = kinds.Map g.region g.order
+kind_of sorts.Tx g = kinds.Tx g.region g.order
+kind_of sorts.Causal g = kinds.Causal g.colour
+kind_of sorts.Queue g = kinds.Queue g.region g.colour

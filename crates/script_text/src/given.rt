@@ -1,0 +1,230 @@
+// What the fields after a command's word give.
+ghost use Rattle.std.specs.Prelude.{◌≡◌, ◌≤◌, IfOk};
+ghost use Rattle.script_text.specs.declared.limits.TheConstants.{VERSION_1};
+ghost use Rattle.script_text.specs.declared.script.Word.TheVariants as words;
+ghost use Rattle.script_text.specs.Kept.{IsSmall};
+ghost use Rattle.script_text.specs.Table.{nothing, what_of, kind_of};
+ghost use Rattle.script_text.specs.Readings.{Gives, Takes, fields_in};
+ghost use Rattle.script_text.specs.Pieces.{first_in};
+ghost use Rattle.script_text.specs.CommandReadings.{taken_at, given_at};
+
+use crate::fault::Fault;
+use crate::keys::{key_at, keys_at, pairs_at, steps_at, value_at};
+use crate::known::Known;
+use crate::names::{colour_numbers, colour_set, text_at};
+use crate::objects::object_at;
+use crate::script::{Kind, What, Word};
+use crate::table::{Field, Sort};
+use log_node::{ColourList, Colours, Keys, ListOf, Pairs, Text};
+use std::alloc::Global;
+
+/// What each kind of field gives; a command has at most one field of a kind.
+#[derive(Drop)]
+pub struct Given {
+    pub number: u64,
+    pub colours: Colours,
+    /// How many colours were named.
+    pub count: usize,
+    pub colour: u8,
+    pub region: u8,
+    pub object: u8,
+    pub text: Text,
+    pub key: Text,
+    pub value: Text,
+    pub keys: Keys,
+    pub pairs: Pairs,
+    pub order: ColourList,
+}
+
+fn first<'a>(own: &[&'a [u8]]) -> &'a [u8]
+    ensures { result.now ≡ first_in (fields_in own.now) }
+{
+    match own {
+        [field, ..] => field,
+        [] => &[],
+    }
+}
+
+impl Given {
+    /// What is given before the first field; takes no memory.
+    fn new(alloc: Global) -> Given
+        ensures { result ≡ nothing }
+    {
+        Given {
+            number: 0,
+            colours: Colours(0),
+            count: 0,
+            colour: 0,
+            region: 0,
+            object: 0,
+            text: Text::empty(alloc),
+            key: Text::empty(alloc),
+            value: Text::empty(alloc),
+            keys: ListOf::new(alloc),
+            pairs: ListOf::new(alloc),
+            order: ListOf::new(alloc),
+        }
+    }
+
+    /// Takes what the fields of one kind give.
+    #[tactic(auto, unfolding(crate::specs::CommandReadings::taken_at))]
+    fn take(
+        &mut self,
+        alloc: Global,
+        known: &Known,
+        field: Field,
+        own: &[&[u8]],
+    ) -> Result<(), Fault>
+        requires small { IsSmall known.now }
+        requires few { self.old.count ≤ VERSION_1.colours }
+        ensures given { Takes result self.new (taken_at known.now field (fields_in own.now) self.old) }
+        ensures few { self.new.count ≤ VERSION_1.colours }
+    {
+        match field {
+            Field::Steps => self.number = steps_at(first(own))?,
+            Field::Cols => {
+                let (colours, count) = colour_set(
+                    alloc,
+                    known.script.colours.as_slice(),
+                    first(own),
+                )?;
+                self.colours = colours;
+                self.count = count;
+            }
+            Field::Colour => self.colour = known.colour_at(first(own))?,
+            Field::Region => self.region = known.region_at(first(own))?,
+            Field::Text => self.text = text_at(alloc, first(own))?,
+            Field::Object { kinds } => {
+                self.object = object_at(kinds, known.script.objects.as_slice(), first(own))?;
+            }
+            Field::Key => self.key = key_at(alloc, first(own))?,
+            Field::Value => self.value = value_at(alloc, first(own))?,
+            Field::Keys { .. } => self.keys = keys_at(alloc, own)?,
+            Field::Pairs { .. } => self.pairs = pairs_at(alloc, own)?,
+            Field::Colours { .. } => {
+                self.order = colour_numbers(alloc, known.script.colours.as_slice(), own)?;
+            }
+        }
+        Ok(())
+    }
+
+    /// What is given after fields of these kinds.
+    #[tactic(auto, unfolding(crate::specs::CommandReadings::given_at))]
+    fn after(
+        mut self,
+        alloc: Global,
+        known: &Known,
+        fields: &[Field],
+        args: &[&[u8]],
+    ) -> Result<Given, Fault>
+        requires small { IsSmall known.now }
+        requires few { self.count ≤ VERSION_1.colours }
+        ensures given { Gives result (given_at known.now fields.now (fields_in args.now) self) }
+        ensures few { IfOk result (λ given. given.count ≤ VERSION_1.colours) }
+    {
+        match fields {
+            [] => Ok(self),
+            [field, fields @ ..] => {
+                let (own, later) = field.split(args);
+                self.take(alloc, known, *field, own)?;
+                self.after(alloc, known, fields, later)
+            }
+        }
+    }
+
+    /// What fields of these kinds give.
+    pub fn of(
+        alloc: Global,
+        known: &Known,
+        fields: &[Field],
+        args: &[&[u8]],
+    ) -> Result<Given, Fault>
+        requires { IsSmall known.now }
+        ensures given { Gives result (given_at known.now fields.now (fields_in args.now) nothing) }
+        ensures few { IfOk result (λ given. given.count ≤ VERSION_1.colours) }
+    {
+        Given::new(alloc).after(alloc, known, fields, args)
+    }
+
+    /// What a command asks for, by what its fields gave.
+    pub fn into_what(self, word: Word) -> What
+        requires { word ≡ words.Stop → self.number ≤ 255 }
+        ensures { result ≡ what_of word self }
+    {
+        let given = self;
+        let object = given.object;
+        match word {
+            Word::Append => What::Append {
+                colours: given.colours,
+                text: given.text,
+            },
+            Word::Stop => What::Stop {
+                steps: given.number as u8,
+                colours: given.colours,
+                text: given.text,
+            },
+            Word::Sync => What::Sync {
+                colour: given.colour,
+            },
+            Word::Scan => What::Scan {
+                colours: given.colours,
+            },
+            Word::Pull => What::Pull {
+                region: given.region,
+                colour: given.colour,
+            },
+            Word::Trim => What::Trim {
+                colour: given.colour,
+            },
+            Word::Put => What::Put {
+                object,
+                key: given.key,
+                value: given.value,
+            },
+            Word::Get => What::Get {
+                object,
+                key: given.key,
+            },
+            Word::Del => What::Del {
+                object,
+                key: given.key,
+            },
+            Word::PutAll => What::PutAll {
+                object,
+                pairs: given.pairs,
+            },
+            Word::GetAll => What::GetAll {
+                object,
+                keys: given.keys,
+            },
+            Word::Read => What::Read {
+                object,
+                keys: given.keys,
+            },
+            Word::Commit => What::Commit {
+                object,
+                pairs: given.pairs,
+            },
+            Word::Enq => What::Enq {
+                object,
+                value: given.value,
+            },
+            Word::Deq => What::Deq { object },
+        }
+    }
+
+    /// What an object is, by what the fields after its name gave.
+    pub fn into_kind(self, sort: Sort) -> Kind
+        ensures { result ≡ kind_of sort self }
+    {
+        let home = self.region;
+        let colour = self.colour;
+        let colours = self.order;
+        match sort {
+            Sort::Map => Kind::Map { home, colours },
+            Sort::Tx => Kind::Tx { home, colours },
+            Sort::Causal => Kind::Causal { colour },
+            Sort::Queue => Kind::Queue { home, colour },
+        }
+    }
+}

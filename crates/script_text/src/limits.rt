@@ -1,0 +1,41 @@
+// How large a script may be, and what is in it.
+
+/// What differs between the versions of a script's text: the most names of each kind, the most rows that a client may
+/// be given, and how many it has where the script does not say.
+#[derive(Clone, Copy, Debug, PartialEq, Eq)]
+pub struct Limits {
+    pub regions: usize,
+    pub colours: usize,
+    pub clients: usize,
+    pub objects: usize,
+    pub rows: u32,
+    pub unsaid_rows: u32,
+}
+
+/// The limits of version 1.
+pub const VERSION_1: Limits = Limits {
+    regions: 4,
+    colours: 16,
+    clients: 16,
+    objects: 16,
+    rows: 4096,
+    unsaid_rows: 4096,
+};
+
+/// The most bytes that a script may have.
+pub const MAX_BYTES: usize = 1_048_576;
+
+/// The most lines that a script may have.
+pub const MAX_LINES: u32 = 20_000;
+
+/// The most bytes of a name.
+pub const MAX_NAME: usize = 12;
+
+/// The most bytes of a key or a value.
+pub const MAX_KEY: usize = 16;
+
+/// The most digits of a number of rows.
+pub const ROWS_DIGITS: usize = 10;
+
+/// The most digits of a number of steps.
+pub const STEPS_DIGITS: usize = 3;
