@@ -1,12 +1,12 @@
 -- Beginnings of lists and of column histories, and functions with another value at one number.
 use Rattle.std.proofs.Common.{◌≡◌, ℕ, zero, suc, ◌≤◌, List, [], ◌∷◌, ◌++◌, take, drop, refl, ap, sym, subst, ◌∙◌, arith}
 use Rattle.std.specs.Prelude.{◌==◌}
-use Rattle.std.proofs.lemmas.Bool.{eqb-true}
+use Rattle.std.proofs.lemmas.Bool.{eqb-true, eq-eqb}
 use Rattle.std.proofs.lemmas.List.{take-append-le}
 use Rattle.col_core.specs.Cuts.{Dated}
 use Rattle.col_core.specs.Legal.{IsColumnHistory, IsLawfulEvent}
 use Rattle.col_core.specs.Keeping.{updated, updated_at}
-use Rattle.col_core.proofs.Basics.{choice}
+use Rattle.col_core.proofs.Basics.{choice, if_true}
 use Rattle.lawful_run.proofs.Prefixes.{get-append, get_within}
 
 -- at another value
@@ -43,3 +43,8 @@ front own regions before more h n d there =
     subst (λ (ds : List Dated). IsLawfulEvent own regions ds d.entry.event d.entry.stamp)
     (take-append-le n before more (omega (arith, lt)))
     (h n d (get-append before more n d there))
+
+pub updated_at_here : (f : ℕ → ℕ → ℕ) (a n x : ℕ) → updated_at f a n x a n ≡ x
+updated_at_here f a n x =
+    ap (λ (g : ℕ → ℕ). g n) (if_true (a == a) (updated (f a) n x) (f a) (eq-eqb a a refl)) ∙ if_true (n == n) x (f a n)
+    (eq-eqb n n refl)

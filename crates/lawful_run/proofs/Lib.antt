@@ -20,3 +20,5 @@ pub mod Beginnings
 pub mod Onward
 pub mod Shown
 pub mod Once
+pub mod ReadOrder
+pub mod Folds
