@@ -6,7 +6,6 @@ use Rattle.std.proofs.lemmas.Bool.{eq-eqb}
 use Rattle.std.proofs.lemmas.List.{length-map}
 use Rattle.std.proofs.lemmas.List.Elements.{All-cons, All-nil}
 use mathlib.Core.List.{IsPrefix}
-use Rattle.log_node.specs.declared.ids.Id.{Id}
 use Rattle.log_node.specs.declared.ids.Key.{Key}
 use Rattle.log_node.specs.declared.ids.Colours.{Colours}
 use Rattle.log_node.specs.declared.node.Node.{Node}
@@ -38,12 +37,13 @@ use Rattle.report_text.specs.declared.report.ReplyLine.{ReplyLine}
 use Rattle.report_text.specs.declared.report.ClientReport.{ClientReport}
 use Rattle.report_text.specs.declared.report.Report.{Report}
 use Rattle.lawful_run.specs.Callers.{caller_of, commands_of, node_of}
+use Rattle.lawful_run.specs.Asks.{AsksToAppend}
 use Rattle.lawful_run.specs.Reads.{Syncs, ShowsKey, ReadsAt, AreRead}
 use Rattle.lawful_run.specs.Objects.{IsObjectNode, AreObjectNodes, own_played, shown_verdict}
 use Rattle.lawful_run.specs.Refusals.{kept_before}
 use Rattle.lawful_run.specs.Explains.{Explains}
 use Rattle.lawful_run.specs.Lawful.{LawfulRun}
-use Rattle.lawful_run.specs.Readings.{HasReply, IsAppend, told, kept_of, kept_at}
+use Rattle.lawful_run.specs.Readings.{HasReply, IsAppend, kept_of, kept_at, StandsAtPoints}
 use Rattle.lawful_run.specs.ObjectReadings.{IsNodeOf, AreNodesOf, IsClosing, AreClosing, ScansAreWhole, GetsAreFolds, DequeuesAreFolds, ReadsAreFolds, VerdictsAreFolds}
 use Rattle.lawful_run.proofs.Prefixes.{prefix_get, prefix_take}
 use Rattle.lawful_run.proofs.Listed.{to_in, from_in, in_get, get_in}
@@ -53,7 +53,7 @@ use Rattle.lawful_run.proofs.Clients.{shown_there}
 use Rattle.lawful_run.proofs.Used.{before_ids}
 use Rattle.lawful_run.proofs.Standing.{Stands, column_is, column_within}
 use Rattle.lawful_run.proofs.Lines.{node_there, append_of}
-use Rattle.lawful_run.proofs.Returned.{returned_appends_stand}
+use Rattle.lawful_run.proofs.Returned.{asks_before, at_points}
 use Rattle.lawful_run.proofs.Shown.{stands_in, legal_at}
 use Rattle.lawful_run.proofs.ReadOrder.{closing_order}
 
@@ -180,6 +180,8 @@ module _ (script : Script) (report : Report) (fits : IsFitting script) (run : La
     kept : Kept
     after : Kept
     ids : kept.ids ≡ (kept_of run client n).ids
+    asks : (colours : Colours) (text : List ℕ) → AsksToAppend (caller_of script client) kept command.what colours text
+        → AsksToAppend (caller_of script client) (kept_of run client n) command.what colours text
     explained : Explains run.log (caller_of script client) kept command.what answer reply.nodes after
 
   reason : (client n : ℕ) (reply : ReplyLine) (answer : Answer) → HasReply report client n reply → reply.answer ≡ answer
@@ -195,6 +197,9 @@ module _ (script : Script) (report : Report) (fits : IsFitting script) (run : La
         kept = kept_before step.command.what (kept_at e n);
         after = step.answers.answered;
         ids = before_ids step.command.what (kept_at e n) ∙ ap (λ (k : Kept). k.ids) (sym (c.0.numbered n));
+        asks = λ colours text a.
+            subst (λ (k : Kept). AsksToAppend (caller_of script client) k step.command.what colours text) (sym (c.0.numbered n))
+            (asks_before (caller_of script client) step.command.what (kept_at e n) colours text a);
         explained = subst (λ (y : Answer). Explains run.log (caller_of script client)
             (kept_before step.command.what (kept_at e n)) step.command.what y
             step.reply.nodes step.answers.answered) (ap (λ (x : ReplyLine). x.answer) s.1 ∙ is) step.answers.explained;
@@ -336,8 +341,7 @@ reads_are_folds script report fits run client n reply h stamp shown raises syncs
     ]
 
 pub verdicts_are_folds : VerdictsAreFolds
-verdicts_are_folds script report fits run client n reply h conflict stamp row points read_stamp raises syncs is lines c
-    =
+verdicts_are_folds script report fits run client n reply h conflict stamp row points read_stamp raises syncs is lines c =
     let r = reason script report fits run client n reply _ h is in
     let x = r.explained.2 in
     let s = x.3 in
@@ -345,18 +349,17 @@ verdicts_are_folds script report fits run client n reply h conflict stamp row po
     let order = read_order script report fits run client s.1 _ read_stamp raises syncs r.after s.4 s.3 s.5 lines c in
     let nodes = nodes_are script report fits run s.4 s.6
     (read_stands script report fits run own read_stamp syncs lines c s.4 order) s.7 in
-    let a = returned_appends_stand script report run client n reply h
-    (λ e. let f = ap told (sym is) ∙ e in absurd (let g : ⊥ = cc (f) in g)) in
-    let id : record { client = client; count = r.kept.ids } ≡ a.0 =
-    ap (λ (m : ℕ). record { client = client; count = m }) r.ids ∙ sym a.3.id_is in (
+    let stands = at_points script report run client r.kept x.0 x.1 s.0 row points s.1 s.2 in (
       s.4,
       order,
       s.6,
       nodes,
-      a.0,
-      a.1,
-      a.2,
-      a.3,
+      record { client = client; count = (kept_of run client n).ids },
+      x.0,
+      x.1,
+      record { replied = h; command = r.command; asked = r.asked; asks = r.asks x.0 x.1 x.2; id_is = refl },
       s.0,
-      subst (λ (i : Id). verdict_of s.6 (entry_key s.0 i) ≡ Some (shown_verdict conflict stamp)) id s.8,
+      subst (λ (m : ℕ). StandsAtPoints report own (record { client = client; count = m }) x.0 s.0 points) r.ids stands,
+      subst (λ (m : ℕ). verdict_of s.6 (entry_key s.0 (record { client = client; count = m }))
+          ≡ Some (shown_verdict conflict stamp)) r.ids s.8,
     )

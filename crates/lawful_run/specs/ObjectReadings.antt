@@ -31,7 +31,7 @@ use Rattle.lawful_run.specs.Callers.{caller_of, commands_of}
 use Rattle.lawful_run.specs.Asks.{kind_of, colours_of}
 use Rattle.lawful_run.specs.Objects.{AreAnswers, shown_verdict}
 use Rattle.lawful_run.specs.Lawful.{LawfulRun}
-use Rattle.lawful_run.specs.Readings.{HasReply, IsAppend, Nowhere, told}
+use Rattle.lawful_run.specs.Readings.{HasReply, IsAppend, StandsAtPoints, Nowhere, told}
 
 -- the object reads the node as its command appended it
 pub record IsNodeOf {script : Script} {report : Report} (run : LawfulRun script report)
@@ -60,8 +60,8 @@ IsClosing report region colour line =
 
 -- the lines are the closing ones of the colours of a region's syncs
 abbrev pub AreClosing : Report → ℕ → List SyncPiece → List (List Key) → Type 0
-AreClosing report region syncs lines = AllZip (λ
-    (s : SyncPiece) line. IsClosing report region s.colour line) syncs lines
+AreClosing report region syncs lines =
+    AllZip (λ (s : SyncPiece) line. IsClosing report region s.colour line) syncs lines
 
 -- A scan shows all nodes up to its stamp that the closing lines of its colours have, in the order of the region.
 abbrev pub ScansAreWhole : Type 0
@@ -108,16 +108,17 @@ ReadsAreFolds =
     × AreAnswers asked (values_among (colours_of (caller_of script client) object) nodes asked) shown)
     ⊎ (Commands script client n (whats.Read object asked) × AreAnswers asked (values_after nodes asked) shown))
 
--- A verdict is that of its transaction's node over all nodes up to the read's stamp that the closing lines of its colours
+-- A verdict is that of its transaction's node, where this stands, over all nodes up to the read's stamp that the closing lines of its colours
 -- have.
 abbrev pub VerdictsAreFolds : Type 0
 VerdictsAreFolds =
     (script : Script) (report : Report) → IsFitting script → (run : LawfulRun script report)
     → (client n : ℕ) (reply : ReplyLine) → HasReply report client n reply
-    → (conflict : Value) (stamp : ℕ) (row : Option ℕ) (points : List PointPiece) (read_stamp : ℕ)
-    (raises : List RaisePiece)
-    (syncs : List SyncPiece) → reply.answer ≡ answers.Ruled conflict stamp row points read_stamp raises syncs
+    → (conflict : Value) (stamp : ℕ) (row : Option ℕ) (points : List PointPiece)
+    → (read_stamp : ℕ) (raises : List RaisePiece) (syncs : List SyncPiece)
+    → reply.answer ≡ answers.Ruled conflict stamp row points read_stamp raises syncs
     → (lines : List (List Key)) → AreClosing report (caller_of script client).own syncs lines
     → (keys : List Key) × IsRegionOrder lines read_stamp keys × (nodes : List ObjectNode) × AreNodesOf run keys nodes
     × (id : Id) × (colours : Colours) × (text : List ℕ) × IsAppend run client n reply id colours text
-    × (own : ℕ) × (verdict_of nodes (entry_key own id) ≡ Some (shown_verdict conflict stamp))
+    × (own : ℕ) × StandsAtPoints report (caller_of script client).own id colours own points
+    × (verdict_of nodes (entry_key own id) ≡ Some (shown_verdict conflict stamp))
