@@ -100,7 +100,7 @@ module _ (script : Script) (report : Report) (fits : IsFitting script) (run : La
   regions = script.shape.regions
 
   -- a closing line is that of the whole history
-  closing_line : (region colour : ℕ) (l : List Key) → IsClosing report region colour l
+  pub closing_line : (region colour : ℕ) (l : List Key) → IsClosing report region colour l
       → (region < regions) × (colour < script.shape.colours) × (l ≡ line (run.log.histories region colour))
   closing_line region colour l c =
       let x = column_is script report fits run c.0 c.1 in
@@ -174,17 +174,17 @@ module _ (script : Script) (report : Report) (fits : IsFitting script) (run : La
         All-cons (IsNodeOf run) n ns (node_is s.0 s.1 k s.2 n a.0) (each ks ns (λ key i. stand key (inr i)) a.1)
 
   -- what explains a reply
-  record Reason (client n : ℕ) (reply : ReplyLine) (answer : Answer) : Type 0 where
-    command : Command
-    asked : slice_get (commands_of script client) n ≡ Some command
-    kept : Kept
-    after : Kept
-    ids : kept.ids ≡ (kept_of run client n).ids
-    asks : (colours : Colours) (text : List ℕ) → AsksToAppend (caller_of script client) kept command.what colours text
+  pub record Reason (client n : ℕ) (reply : ReplyLine) (answer : Answer) : Type 0 where
+    pub command : Command
+    pub asked : slice_get (commands_of script client) n ≡ Some command
+    pub kept : Kept
+    pub after : Kept
+    pub ids : kept.ids ≡ (kept_of run client n).ids
+    pub asks : (colours : Colours) (text : List ℕ) → AsksToAppend (caller_of script client) kept command.what colours text
         → AsksToAppend (caller_of script client) (kept_of run client n) command.what colours text
-    explained : Explains run.log (caller_of script client) kept command.what answer reply.nodes after
+    pub explained : Explains run.log (caller_of script client) kept command.what answer reply.nodes after
 
-  reason : (client n : ℕ) (reply : ReplyLine) (answer : Answer) → HasReply report client n reply → reply.answer ≡ answer
+  pub reason : (client n : ℕ) (reply : ReplyLine) (answer : Answer) → HasReply report client n reply → reply.answer ≡ answer
       → Reason client n reply answer
   reason client n reply answer h is =
       let c = shown_there run client h.0 h.1 in

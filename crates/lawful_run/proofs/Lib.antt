@@ -22,3 +22,4 @@ pub mod Shown
 pub mod Once
 pub mod ReadOrder
 pub mod Folds
+pub mod CausalGets

@@ -10,8 +10,10 @@ use Rattle.log_node.specs.Vectors.{at}
 use Rattle.object_fold.specs.Nodes.{ObjectNode}
 use Rattle.object_fold.specs.Maps.{Value, shard_value, values_among}
 use Rattle.object_fold.specs.Queues.{front_after}
+use Rattle.object_fold.specs.Causal.{ChainNode, IsCausalAnswer}
 use Rattle.object_fold.specs.Transactions.{values_after, verdict_of}
 use Rattle.col_core.specs.History.{entry_key}
+use Rattle.col_core.specs.PlayOrder.{Place}
 use Rattle.col_core.specs.RegionOrder.{IsRegionOrder}
 use Rattle.script_text.specs.declared.script.Kind.TheVariants as kinds
 use Rattle.script_text.specs.declared.script.What.{What}
@@ -29,9 +31,9 @@ use Rattle.report_text.specs.declared.report.ColumnReport.{ColumnReport}
 use Rattle.report_text.specs.declared.report.Report.{Report}
 use Rattle.lawful_run.specs.Callers.{caller_of, commands_of}
 use Rattle.lawful_run.specs.Asks.{kind_of, colours_of}
-use Rattle.lawful_run.specs.Objects.{AreAnswers, shown_verdict}
+use Rattle.lawful_run.specs.Objects.{AreAnswers, places_within, shown_verdict}
 use Rattle.lawful_run.specs.Lawful.{LawfulRun}
-use Rattle.lawful_run.specs.Readings.{HasReply, IsAppend, StandsAtPoints, Nowhere, told}
+use Rattle.lawful_run.specs.Readings.{HasReply, IsAppend, StandsAtEnd, StandsAtPoints, Nowhere, told}
 
 -- the object reads the node as its command appended it
 pub record IsNodeOf {script : Script} {report : Report} (run : LawfulRun script report)
@@ -84,6 +86,31 @@ GetsAreFolds =
     × (home : ℕ) × (colours : List ℕ) × (kind_of (caller_of script client) object ≡ Some (kinds.Map home colours))
     × (nodes : List ObjectNode) × AreNodesOf run (take (at sync.counts (caller_of script client).own) line) nodes
     × (value ≡ shard_value colours sync.colour nodes key)
+
+-- the node of a chain as its command appended it, where its region's closing line of the colour has it
+pub record IsChainNodeOf {script : Script} {report : Report} (run : LawfulRun script report) (colour : ℕ) (place : Place)
+    (node : ChainNode) : Type 0 where
+  pub region_is : node.region ≡ place.region
+  pub position_is : node.position ≡ place.position
+  pub key : Key
+  pub stands : StandsAtEnd report place.region colour place.position key
+  pub k : ℕ
+  pub reply : ReplyLine
+  pub colours : Colours
+  pub append : IsAppend run key.id.client k reply key.id colours node.text
+  pub tells : told reply.answer ≢ Nowhere
+
+-- A get of a causal map answers by the first nodes of the closing lines of all regions, as many as its sync counts.
+abbrev pub CausalGetsAreFolds : Type 0
+CausalGetsAreFolds =
+    (script : Script) (report : Report) → IsFitting script → (run : LawfulRun script report)
+    → (client n : ℕ) (reply : ReplyLine) → HasReply report client n reply
+    → (values : List (List ℕ)) (sync : SyncPiece) → reply.answer ≡ answers.GotMany values sync
+    → (line : List Key) → IsClosing report (caller_of script client).own sync.colour line
+    → (object : ℕ) × (key : List ℕ) × Commands script client n (whats.Get object key)
+    × (kind_of (caller_of script client) object ≡ Some (kinds.Causal sync.colour))
+    × (nodes : List ChainNode) × AllZip (IsChainNodeOf run sync.colour) (places_within sync.counts) nodes
+    × IsCausalAnswer nodes key values
 
 -- A dequeue takes the front of the queue after the nodes before its own in the closing line.
 abbrev pub DequeuesAreFolds : Type 0

@@ -1,6 +1,6 @@
 // Laws of explanations, and of what a reader takes from a report.
 ghost use Rattle.lawful_run.specs.Laws.{ExplanationsLast, ReadItemsLast};
-ghost use Rattle.lawful_run.specs.ObjectReadings.{DequeuesAreFolds, GetsAreFolds, ReadsAreFolds, ScansAreWhole, VerdictsAreFolds};
+ghost use Rattle.lawful_run.specs.ObjectReadings.{CausalGetsAreFolds, DequeuesAreFolds, GetsAreFolds, ReadsAreFolds, ScansAreWhole, VerdictsAreFolds};
 ghost use Rattle.lawful_run.specs.Readings.{ClosingLinesRise, NothingElseStands, OneCommand, OneKey, OneOrder, ReturnedAppendsStand, ShownAsAppended, ShownOnce};
 
 /// What a log explains to a client, each later log explains as well.
@@ -62,6 +62,11 @@ pub fn scans_are_whole()
 /// A get of a map answers by the first nodes of the closing line, as many as its sync counts.
 pub fn gets_are_folds()
     ensures { GetsAreFolds }
+{}
+
+/// A get of a causal map answers by the first nodes of all regions' closing lines.
+pub fn causal_gets_are_folds()
+    ensures { CausalGetsAreFolds }
 {}
 
 /// A dequeue takes the front of the queue after the nodes before its own in the closing line.
