@@ -10,12 +10,12 @@ use Rattle.col_core.proofs.Basics.{choice, if_true}
 use Rattle.lawful_run.proofs.Prefixes.{get-append, get_within}
 
 -- at another value
-pub at_new : {A : Type 0} (P : A → Type 0) (f : ℕ → A) (n : ℕ) (x : A) (m : ℕ) → (m ≡ n → P x) → P (f m) → P
-    (updated f n x m)
+pub at_new : {A : Type 0} (P : A → Type 0) (f : ℕ → A) (n : ℕ) (x : A) (m : ℕ) → (m ≡ n → P x) → P (f m)
+    → P (updated f n x m)
 at_new P f n x m here there = choice P (m == n) x (f m) (λ t. here (eqb-true m n t)) (λ _. there)
 
-pub at_new_at : (P : ℕ → Type 0) (f : ℕ → ℕ → ℕ) (a n x b m : ℕ) → (b ≡ a → m ≡ n → P x) → P (f b m) → P
-    (updated_at f a n x b m)
+pub at_new_at : (P : ℕ → Type 0) (f : ℕ → ℕ → ℕ) (a n x b m : ℕ) → (b ≡ a → m ≡ n → P x) → P (f b m)
+    → P (updated_at f a n x b m)
 at_new_at P f a n x b m here there =
     at_new (λ (g : ℕ → ℕ). P (g m)) f a (updated (f a) n x) b
     (λ e. at_new P (f a) n x m (here e) (subst (λ r. P (f r m)) e there)) there

@@ -180,11 +180,13 @@ module _ (script : Script) (report : Report) (fits : IsFitting script) (run : La
     pub kept : Kept
     pub after : Kept
     pub ids : kept.ids ≡ (kept_of run client n).ids
-    pub asks : (colours : Colours) (text : List ℕ) → AsksToAppend (caller_of script client) kept command.what colours text
+    pub asks : (colours : Colours) (text : List ℕ)
+        → AsksToAppend (caller_of script client) kept command.what colours text
         → AsksToAppend (caller_of script client) (kept_of run client n) command.what colours text
     pub explained : Explains run.log (caller_of script client) kept command.what answer reply.nodes after
 
-  pub reason : (client n : ℕ) (reply : ReplyLine) (answer : Answer) → HasReply report client n reply → reply.answer ≡ answer
+  pub reason : (client n : ℕ) (reply : ReplyLine) (answer : Answer) → HasReply report client n reply
+      → reply.answer ≡ answer
       → Reason client n reply answer
   reason client n reply answer h is =
       let c = shown_there run client h.0 h.1 in
@@ -198,7 +200,8 @@ module _ (script : Script) (report : Report) (fits : IsFitting script) (run : La
         after = step.answers.answered;
         ids = before_ids step.command.what (kept_at e n) ∙ ap (λ (k : Kept). k.ids) (sym (c.0.numbered n));
         asks = λ colours text a.
-            subst (λ (k : Kept). AsksToAppend (caller_of script client) k step.command.what colours text) (sym (c.0.numbered n))
+            subst (λ (k : Kept). AsksToAppend (caller_of script client) k step.command.what colours text)
+            (sym (c.0.numbered n))
             (asks_before (caller_of script client) step.command.what (kept_at e n) colours text a);
         explained = subst (λ (y : Answer). Explains run.log (caller_of script client)
             (kept_before step.command.what (kept_at e n)) step.command.what y
@@ -307,7 +310,8 @@ gets_are_folds script report fits run client n reply h value sync is l closing =
       x.6,
       g.nodes,
       nodes_are script report fits run (take (at sync.counts own) l) g.nodes
-          (λ key i. stands_at script report fits run own sync.colour l closing key (in_take (at sync.counts own) l key i))
+          (λ key i. stands_at script report fits run own sync.colour l closing key
+          (in_take (at sync.counts own) l key i))
           (subst (λ (ks : List Key). AreObjectNodes run.log ks g.nodes) (sym keys) g.played),
       g.value_is,
     )

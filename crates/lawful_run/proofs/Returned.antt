@@ -69,8 +69,8 @@ module _ (script : Script) (report : Report) (run : LawfulRun script report) (cl
       ∙ ap (λ (d : ℕ). line (run.log.histories caller.own d)) same)) in
       ap (λ (l : List Key). slice_get l position) shown ∙ stands
 
-  pub at_points : (colours : Colours) (text : List ℕ) (stamp : ℕ) (row : Option ℕ) (points : List PointPiece) (after : Kept)
-      → Appends run.log caller kept (node_of caller kept colours text) stamp row points after
+  pub at_points : (colours : Colours) (text : List ℕ) (stamp : ℕ) (row : Option ℕ) (points : List PointPiece)
+      (after : Kept) → Appends run.log caller kept (node_of caller kept colours text) stamp row points after
       → StandsAtPoints report caller.own id colours stamp points
   at_points colours text stamp None [] after a = absurd a
   at_points colours text stamp None (p ∷ []) after a = record {

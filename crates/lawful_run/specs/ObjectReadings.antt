@@ -1,5 +1,5 @@
--- What a reader takes of stamped reads and of the objects' answers: each is what its definition makes of nodes that stand
--- in the closing lines.
+-- What a reader takes of stamped reads and of the objects' answers: each is what its definition makes of nodes that
+-- stand in the closing lines.
 use Rattle.std.specs.Prelude.{◌≡◌, ◌≢◌, ◌⊎◌, ℕ, List, take, map, Option, Some, slice_get}
 use Rattle.std.specs.List.{All, AllZip, Contains}
 use Rattle.log_node.specs.declared.ids.Id.{Id}
@@ -88,8 +88,8 @@ GetsAreFolds =
     × (value ≡ shard_value colours sync.colour nodes key)
 
 -- the node of a chain as its command appended it, where its region's closing line of the colour has it
-pub record IsChainNodeOf {script : Script} {report : Report} (run : LawfulRun script report) (colour : ℕ) (place : Place)
-    (node : ChainNode) : Type 0 where
+pub record IsChainNodeOf {script : Script} {report : Report} (run : LawfulRun script report) (colour : ℕ)
+    (place : Place) (node : ChainNode) : Type 0 where
   pub region_is : node.region ≡ place.region
   pub position_is : node.position ≡ place.position
   pub key : Key
@@ -135,8 +135,8 @@ ReadsAreFolds =
     × AreAnswers asked (values_among (colours_of (caller_of script client) object) nodes asked) shown)
     ⊎ (Commands script client n (whats.Read object asked) × AreAnswers asked (values_after nodes asked) shown))
 
--- A verdict is that of its transaction's node, where this stands, over all nodes up to the read's stamp that the closing lines of its colours
--- have.
+-- A verdict is that of its transaction's node, where this stands, over all nodes up to the read's stamp that the closing
+-- lines of its colours have.
 abbrev pub VerdictsAreFolds : Type 0
 VerdictsAreFolds =
     (script : Script) (report : Report) → IsFitting script → (run : LawfulRun script report)
