@@ -33,13 +33,14 @@ kept_at start k = nothing_kept
 kept_at (next {commands} {replies} {kept} {after} command reply before answers) k =
     if k == length replies + 1 then after else kept_at before k
 
--- what a client of the report keeps after so many of its commands
+-- the same of a client's report, where there is one
 abbrev pub kept_in : {script : Script} {report : Report} → LawfulRun script report → (client : ℕ)
     (shown : Option ClientReport)
     → slice_get report.clients client ≡ shown → ℕ → Kept
 kept_in run client None there k = nothing_kept
 kept_in run client (Some shown) there k = kept_at (run.clients client shown there).explained k
 
+-- what a client keeps after so many of its commands
 abbrev pub kept_of : {script : Script} {report : Report} → LawfulRun script report → ℕ → ℕ → Kept
 kept_of {script} {report} run client k = kept_in run client (slice_get report.clients client) refl k
 
