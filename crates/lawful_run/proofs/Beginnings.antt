@@ -1,21 +1,21 @@
 -- Beginnings of lists and of column histories, and functions with another value at one number.
 use Rattle.std.proofs.Common.{◌≡◌, ℕ, zero, suc, ◌≤◌, List, [], ◌∷◌, ◌++◌, take, drop, refl, ap, sym, subst, ◌∙◌, arith}
 use Rattle.std.specs.Prelude.{◌==◌}
-use Rattle.std.proofs.lemmas.Bool.{eqb-true}
+use Rattle.std.proofs.lemmas.Bool.{eqb-true, eq-eqb}
 use Rattle.std.proofs.lemmas.List.{take-append-le}
 use Rattle.col_core.specs.Cuts.{Dated}
 use Rattle.col_core.specs.Legal.{IsColumnHistory, IsLawfulEvent}
 use Rattle.col_core.specs.Keeping.{updated, updated_at}
-use Rattle.col_core.proofs.Basics.{choice}
+use Rattle.col_core.proofs.Basics.{choice, if_true}
 use Rattle.lawful_run.proofs.Prefixes.{get-append, get_within}
 
 -- at another value
-pub at_new : {A : Type 0} (P : A → Type 0) (f : ℕ → A) (n : ℕ) (x : A) (m : ℕ) → (m ≡ n → P x) → P (f m) → P
-    (updated f n x m)
+pub at_new : {A : Type 0} (P : A → Type 0) (f : ℕ → A) (n : ℕ) (x : A) (m : ℕ) → (m ≡ n → P x) → P (f m)
+    → P (updated f n x m)
 at_new P f n x m here there = choice P (m == n) x (f m) (λ t. here (eqb-true m n t)) (λ _. there)
 
-pub at_new_at : (P : ℕ → Type 0) (f : ℕ → ℕ → ℕ) (a n x b m : ℕ) → (b ≡ a → m ≡ n → P x) → P (f b m) → P
-    (updated_at f a n x b m)
+pub at_new_at : (P : ℕ → Type 0) (f : ℕ → ℕ → ℕ) (a n x b m : ℕ) → (b ≡ a → m ≡ n → P x) → P (f b m)
+    → P (updated_at f a n x b m)
 at_new_at P f a n x b m here there =
     at_new (λ (g : ℕ → ℕ). P (g m)) f a (updated (f a) n x) b
     (λ e. at_new P (f a) n x m (here e) (subst (λ r. P (f r m)) e there)) there
@@ -43,3 +43,8 @@ front own regions before more h n d there =
     subst (λ (ds : List Dated). IsLawfulEvent own regions ds d.entry.event d.entry.stamp)
     (take-append-le n before more (omega (arith, lt)))
     (h n d (get-append before more n d there))
+
+pub updated_at_here : (f : ℕ → ℕ → ℕ) (a n x : ℕ) → updated_at f a n x a n ≡ x
+updated_at_here f a n x =
+    ap (λ (g : ℕ → ℕ). g n) (if_true (a == a) (updated (f a) n x) (f a) (eq-eqb a a refl)) ∙ if_true (n == n) x (f a n)
+    (eq-eqb n n refl)

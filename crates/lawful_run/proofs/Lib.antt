@@ -20,3 +20,6 @@ pub mod Beginnings
 pub mod Onward
 pub mod Shown
 pub mod Once
+pub mod ReadOrder
+pub mod Folds
+pub mod CausalGets

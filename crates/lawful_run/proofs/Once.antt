@@ -12,7 +12,7 @@ use Rattle.col_core.specs.Cuts.{chain}
 use Rattle.col_core.specs.Computed.{dated}
 use Rattle.col_core.specs.Legal.{IsColumnHistory}
 use Rattle.col_core.specs.Log.{first}
-use Rattle.col_core.specs.Keeping.{Kept, updated, updated_at, kept_after_sync}
+use Rattle.col_core.specs.Keeping.{Kept, updated, kept_after_sync}
 use Rattle.col_core.specs.PlayOrder.{Place}
 use Rattle.col_core.proofs.Basics.{if_true}
 use Rattle.col_core.proofs.CutLaws.{within-at}
@@ -37,15 +37,11 @@ use Rattle.lawful_run.proofs.Prefixes.{get_within}
 use Rattle.lawful_run.proofs.Listed.{get_in}
 use Rattle.lawful_run.proofs.Entered.{one_in_line}
 use Rattle.lawful_run.proofs.Replies.{step_of}
+use Rattle.lawful_run.proofs.Beginnings.{updated_at_here}
 use Rattle.lawful_run.proofs.Clients.{get_there}
 use Rattle.lawful_run.proofs.Lines.{rising, same_region}
 use Rattle.lawful_run.proofs.Onward.{Past, answered, within-self}
 use Rattle.lawful_run.proofs.Shown.{zip_at, legal_at, stands_in, chain_at, home, named}
-
-updated_at_here : (f : ℕ → ℕ → ℕ) (a n x : ℕ) → updated_at f a n x a n ≡ x
-updated_at_here f a n x =
-    ap (λ (g : ℕ → ℕ). g n) (if_true (a == a) (updated (f a) n x) (f a) (eq-eqb a a refl)) ∙ if_true (n == n) x (f a n)
-    (eq-eqb n n refl)
 
 updated_here : {A : Type 0} (f : ℕ → A) (n : ℕ) (x : A) → updated f n x n ≡ x
 updated_here f n x = if_true (n == n) x (f n) (eq-eqb n n refl)

@@ -93,7 +93,7 @@ event_keeps w past l le c (events.Give region from) stamp n = as_before w (entri
 event_keeps w past l le c (events.Carry region start heads) stamp n = as_before w (entries past) c
 event_keeps w past l le c (events.Trim counts) stamp n = as_before w (entries past) c
 
-clock_later : (newer past : List Entry) (w : ℕ) → w ≤ clock past → w ≤ clock (newer ++ past)
+pub clock_later : (newer past : List Entry) (w : ℕ) → w ≤ clock past → w ≤ clock (newer ++ past)
 clock_later [] past w le = le
 clock_later (e ∷ newer) past w le = let a = clock_later newer past w le in omega (arith, a)
 

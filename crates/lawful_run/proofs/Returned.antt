@@ -33,7 +33,7 @@ use Rattle.lawful_run.proofs.Used.{before_ids}
 use Rattle.lawful_run.proofs.Clients.{shown_there}
 
 -- what a command asks does not rest on a read that it lets go
-asks_before : (caller : Caller) (what : What) (kept : Kept) (colours : Colours) (text : List ℕ)
+pub asks_before : (caller : Caller) (what : What) (kept : Kept) (colours : Colours) (text : List ℕ)
     → AsksToAppend caller (kept_before what kept) what colours text → AsksToAppend caller kept what colours text
 asks_before caller (whats.Append asked given) kept colours text a = a
 asks_before caller (whats.Stop steps asked given) kept colours text a = a
@@ -69,8 +69,8 @@ module _ (script : Script) (report : Report) (run : LawfulRun script report) (cl
       ∙ ap (λ (d : ℕ). line (run.log.histories caller.own d)) same)) in
       ap (λ (l : List Key). slice_get l position) shown ∙ stands
 
-  at_points : (colours : Colours) (text : List ℕ) (stamp : ℕ) (row : Option ℕ) (points : List PointPiece) (after : Kept)
-      → Appends run.log caller kept (node_of caller kept colours text) stamp row points after
+  pub at_points : (colours : Colours) (text : List ℕ) (stamp : ℕ) (row : Option ℕ) (points : List PointPiece)
+      (after : Kept) → Appends run.log caller kept (node_of caller kept colours text) stamp row points after
       → StandsAtPoints report caller.own id colours stamp points
   at_points colours text stamp None [] after a = absurd a
   at_points colours text stamp None (p ∷ []) after a = record {

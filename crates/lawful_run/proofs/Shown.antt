@@ -190,7 +190,7 @@ module _ (script : Script) (report : Report) (fits : IsFitting script) (run : La
       ))
 
   -- the text of a node that stands is the one that its command appended
-  text_of : (region colour : ℕ) (key : Key) → standing.Stands run region colour key → (text : List ℕ)
+  pub text_of : (region colour : ℕ) (key : Key) → standing.Stands run region colour key → (text : List ℕ)
       → HasText run.log key.id text
       → (k : ℕ) × (other : ReplyLine) × (colours : Colours) × IsAppend run key.id.client k other key.id colours text ×
       (told other.answer ≢ Nowhere)

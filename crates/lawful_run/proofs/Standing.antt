@@ -244,8 +244,8 @@ module _ (script : Script) (report : Report) (fits : IsFitting script) (run : La
                   let j = in_get rows other (to_in rows other
                   (subst (λ (x : ℕ). Contains (run.log.rows x) other) own out.1.begun)) in
                   let of_node = out.1.of_node in
-                  let one : r ≡ other = same_one (λ
-                  (x : BegunRow). x.node.id) rows lawful.ids_differ i.0 j.0 r other i.1 j.1
+                  let one : r ≡ other = same_one (λ (x : BegunRow). x.node.id) rows lawful.ids_differ i.0 j.0
+                  r other i.1 j.1
                   (same ∙ sym (ap (λ (x : Node). x.id) of_node)) in
                   let gone = out.2 in
                   let e : Final key.stamp ≡ Gone why = sym final ∙ (ap (λ (x : BegunRow). x.last) one ∙ gone) in

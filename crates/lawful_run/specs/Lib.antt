@@ -11,3 +11,4 @@ pub mod Columns
 pub mod Lawful
 pub mod Laws
 pub mod Readings
+pub mod ObjectReadings

@@ -33,13 +33,14 @@ kept_at start k = nothing_kept
 kept_at (next {commands} {replies} {kept} {after} command reply before answers) k =
     if k == length replies + 1 then after else kept_at before k
 
--- what a client of the report keeps after so many of its commands
+-- the same of a client's report, where there is one
 abbrev pub kept_in : {script : Script} {report : Report} → LawfulRun script report → (client : ℕ)
     (shown : Option ClientReport)
     → slice_get report.clients client ≡ shown → ℕ → Kept
 kept_in run client None there k = nothing_kept
 kept_in run client (Some shown) there k = kept_at (run.clients client shown there).explained k
 
+-- what a client keeps after so many of its commands
 abbrev pub kept_of : {script : Script} {report : Report} → LawfulRun script report → ℕ → ℕ → Kept
 kept_of {script} {report} run client k = kept_in run client (slice_get report.clients client) refl k
 
@@ -49,8 +50,8 @@ HasReply report client k reply =
     (shown : ClientReport) × (slice_get report.clients client ≡ Some shown) × (slice_get shown.replies k ≡ Some reply)
 
 -- The client's command number k asks for a node with this id, on these colours and with this text, and has this reply.
-pub record IsAppend {script : Script} {report : Report} (run : LawfulRun script report) (client k : ℕ) (reply : ReplyLine)
-    (id : Id) (colours : Colours) (text : List ℕ) : Type 0 where
+pub record IsAppend {script : Script} {report : Report} (run : LawfulRun script report) (client k : ℕ)
+    (reply : ReplyLine) (id : Id) (colours : Colours) (text : List ℕ) : Type 0 where
   pub replied : HasReply report client k reply
   pub command : Command
   pub asked : slice_get (commands_of script client) k ≡ Some command
@@ -127,8 +128,8 @@ ReturnedAppendsStand =
 -- An id is of one command alone.
 abbrev pub OneCommand : Type 0
 OneCommand =
-    (script : Script) (report : Report) (run : LawfulRun script report) (client k m : ℕ) (reply other : ReplyLine) (id : Id)
-    (colours set : Colours) (text words : List ℕ)
+    (script : Script) (report : Report) (run : LawfulRun script report) (client k m : ℕ) (reply other : ReplyLine)
+    (id : Id) (colours set : Colours) (text words : List ℕ)
     → IsAppend run client k reply id colours text → told reply.answer ≢ Nowhere
     → IsAppend run client m other id set words → told other.answer ≢ Nowhere → k ≡ m
 
@@ -155,8 +156,8 @@ OneOrder =
     → slice_get a.line j ≡ Some l → slice_get b.line n ≡ Some q → l.id ≡ q.id
     → i ≤ j → m ≤ n
 
--- Each key of a closing line is of a command of its client, in the client's region, which asked for this colour and whose
--- answer does not say that its node is nowhere.
+-- Each key of a closing line is of a command of its client, in the client's region, which asked for this colour and
+-- whose answer does not say that its node is nowhere.
 abbrev pub NothingElseStands : Type 0
 NothingElseStands =
     (script : Script) (report : Report) → IsFitting script → (run : LawfulRun script report)
@@ -172,7 +173,8 @@ ShownAsAppended =
     → (client n : ℕ) (reply : ReplyLine) → HasReply report client n reply
     → (item : PlacedNode) → Contains reply.nodes item
     → (k : ℕ) × (other : ReplyLine) × (colours : Colours)
-    × IsAppend run item.head.key.id.client k other item.head.key.id colours item.node.text × (told other.answer ≢ Nowhere)
+    × IsAppend run item.head.key.id.client k other item.head.key.id colours item.node.text
+    × (told other.answer ≢ Nowhere)
 
 -- No id is shown twice among the node lines of a client's syncs of one colour.
 abbrev pub ShownOnce : Type 0

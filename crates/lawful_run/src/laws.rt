@@ -1,5 +1,6 @@
 // Laws of explanations, and of what a reader takes from a report.
 ghost use Rattle.lawful_run.specs.Laws.{ExplanationsLast, ReadItemsLast};
+ghost use Rattle.lawful_run.specs.ObjectReadings.{CausalGetsAreFolds, DequeuesAreFolds, GetsAreFolds, ReadsAreFolds, ScansAreWhole, VerdictsAreFolds};
 ghost use Rattle.lawful_run.specs.Readings.{ClosingLinesRise, NothingElseStands, OneCommand, OneKey, OneOrder, ReturnedAppendsStand, ShownAsAppended, ShownOnce};
 
 /// What a log explains to a client, each later log explains as well.
@@ -51,4 +52,34 @@ pub fn shown_as_appended()
 /// No id is shown twice among the node lines of a client's syncs of one colour.
 pub fn shown_once()
     ensures { ShownOnce }
+{}
+
+/// A scan shows all nodes up to its stamp that the closing lines of its colours have.
+pub fn scans_are_whole()
+    ensures { ScansAreWhole }
+{}
+
+/// A get of a map answers by the first nodes of the closing line, as many as its sync counts.
+pub fn gets_are_folds()
+    ensures { GetsAreFolds }
+{}
+
+/// A get of a causal map answers by the first nodes of all regions' closing lines.
+pub fn causal_gets_are_folds()
+    ensures { CausalGetsAreFolds }
+{}
+
+/// A dequeue takes the front of the queue after the nodes before its own in the closing line.
+pub fn dequeues_are_folds()
+    ensures { DequeuesAreFolds }
+{}
+
+/// A read of several keys answers by all nodes up to its stamp in its colours' closing lines.
+pub fn reads_are_folds()
+    ensures { ReadsAreFolds }
+{}
+
+/// A verdict is that of its transaction over all nodes up to the read's stamp.
+pub fn verdicts_are_folds()
+    ensures { VerdictsAreFolds }
 {}
