@@ -8,7 +8,7 @@ ghost use Rattle.column.specs.Views.{IsOfTwo};
 
 use super::*;
 use col_core::View;
-use log_node::{At, Colours, Counts, Head, Id, Item, Key, ListOf, Node, Row, Shape, Text};
+use log_node::{At, Colours, Counts, Head, Id, Item, Key, ListOf, Node, Row, Shape, Text, Wants};
 use skeen_core::{Outcome, Why};
 use std::alloc::{AllocError, Global};
 use std::process::Abort;
@@ -57,7 +57,7 @@ fn node(alloc: Global, client: u8, wanted: u64) -> Result<Arc<Node>, AllocError>
     ensures floor { IfOk result (λ node. node.value.floor ≡ 0) }
     ensures row { IfOk result (λ node. node.value.row ≡ Some (record { client = client; number = 0 })) }
 {
-    let mut wants = ListOf::new(alloc);
+    let mut wants = Wants::new(alloc);
     wants.push(Counts([wanted, 0, 0, 0]))?;
     wants.push(Counts([0; 4]))?;
     let node = Node {
