@@ -56,7 +56,12 @@ fn long_chain(alloc: Global, count: u64) -> Result<Items, AllocError> {
 // How many of these nodes are played by one who has played none.
 fn count_played(alloc: Global, items: Items) -> Result<usize, PlayFault> {
     let cut = Counts([items.len() as u64, 0, 0, 0]);
-    let view = look(Counts([0; 4]), Counts([0; 4]), cut, one_chain(alloc, items)?);
+    let view = look(
+        Counts([0; 4]),
+        Counts([0; 4]),
+        cut,
+        one_chain(alloc, items)?,
+    );
     let mut player = Player {
         region: 1,
         colour: 2,
