@@ -6,8 +6,8 @@ ghost use Rattle.column.specs.Columns.{cut_of, base_of};
 ghost use Rattle.column.specs.Inside.{IsStillReached};
 
 use crate::contents::Contents;
-use crate::trimming::Trimming;
 use crate::given::Given;
+use crate::trimming::Trimming;
 use col_core::{Entry, Event, Heads};
 use log_node::{At, Counts, Item};
 use std::alloc::{AllocError, Global};
@@ -62,7 +62,9 @@ impl Contents {
         let from = from.min(self.queue.line().len() as u64);
         self.journal
             .reserve(self.opens + self.spare + self.spare + 1)?;
-        self.notes = self.notes.with_number(region, self.notes.of_region(region).max(from));
+        self.notes = self
+            .notes
+            .with_number(region, self.notes.of_region(region).max(from));
         self.journal.push_reserved(Entry {
             by,
             event: Event::Give { region, from },

@@ -48,7 +48,10 @@ impl Trimming {
         requires regions { self.regions ≤ 4 }
         ensures { result ≡ trimmed_base self.base self.notes self.cut self.counts self.own self.regions region }
     {
-        let bound = self.counts.of_region(region).min(self.cut.of_region(region));
+        let bound = self
+            .counts
+            .of_region(region)
+            .min(self.cut.of_region(region));
         let last = if region == self.own {
             least_of(self.notes, self.own, self.regions, bound)
         } else {

@@ -44,6 +44,38 @@ fn chain(alloc: Global, item: Item) -> Result<Items, AllocError> {
     Ok(items)
 }
 
+// One chain of so many nodes.
+fn long_chain(alloc: Global, count: u64) -> Result<Items, AllocError> {
+    let mut items = ListOf::new(alloc);
+    for stamp in 0..count {
+        items.push(item(alloc, 0, 0, stamp, [0; 4])?)?;
+    }
+    Ok(items)
+}
+
+// How many of these nodes are played by one who has played none.
+fn count_played(alloc: Global, items: Items) -> Result<usize, PlayFault> {
+    let cut = Counts([items.len() as u64, 0, 0, 0]);
+    let view = look(
+        Counts([0; 4]),
+        Counts([0; 4]),
+        cut,
+        one_chain(alloc, items)?,
+    );
+    let mut player = Player {
+        region: 1,
+        colour: 2,
+        played: Counts([0; 4]),
+    };
+    Ok(play(alloc, &view, &mut player)?.items.len())
+}
+
+fn one_chain(alloc: Global, items: Items) -> Result<Chains, AllocError> {
+    let mut chains = ListOf::new(alloc);
+    chains.push(items)?;
+    Ok(chains)
+}
+
 // What one sees of a column who has played so many nodes.
 fn look(played: Counts, base: Counts, cut: Counts, items: Chains) -> View
     ensures from { IsLookedFrom result played }
@@ -120,6 +152,13 @@ fn equal_keys_go_by_region(rt: HostRuntime) -> Result<(), Fail> {
     for (item, region) in played.items.as_slice().iter().zip([1, 2, 3, 0]) {
         assert_eq!(rt; item.node().region, region);
     }
+    Ok(())
+}
+
+#[test]
+fn many_nodes_are_played_at_once(rt: HostRuntime) -> Result<(), Fail> {
+    let alloc = rt.alloc();
+    assert_eq!(rt; count_played(alloc, long_chain(alloc, 5_000)?)?, 5_000);
     Ok(())
 }
 

@@ -13,11 +13,11 @@ use crate::board::Board;
 use crate::seats::Seat;
 use crate::steps::Inner;
 use crate::words::mark_of;
-use log_node::Row;
+use log_node::{MAX_COLOURS, Row};
 use skeen_core::{Mark, Outcome, Why, outcome};
 
-// A board has no more colours.
-const MAX_COLOURS: usize = 16;
+// A mark for every colour that there may be.
+const MARKS: usize = MAX_COLOURS as usize;
 
 fn word_of_outcome(kept: Outcome) -> u64
     requires { IsKept kept }
@@ -83,7 +83,7 @@ impl Board {
             result ≢ Outcome.Open → Surely k (seen seat.new) (λ ws. outcome_in k ws row ≡ result) }
         ensures stamp { IsOutcome result }
     {
-        let mut marks = [Mark::None; MAX_COLOURS];
+        let mut marks = [Mark::None; MARKS];
         let count = self.take_marks(&mut seat.inner, row, &mut marks);
         if count == 0 {
             return Outcome::Open;
