@@ -26,7 +26,7 @@ use Rattle.script_text.specs.Reads.{holds}
 use Rattle.script_text.specs.Table.{word_at, row_fields, last_of, own_fields, later_fields, fits, nothing, what_of, sort_fields, sort_at, kind_of}
 use Rattle.script_text.specs.Faults.{when, each_field, new_name, region_field, field_at, kind_tests, field_tests, last_tests, word_tests, command_tests, is_full, header_tests, object_tests}
 use Rattle.script_text.specs.Kept.{known_of}
-use Rattle.script_text.specs.Readings.{◌>>=◌, refuse, found_or, each_at, new_name_at, number_at, colour_set_at, text_at, pair_at, digits_at, object_at, with_one, with_two}
+use Rattle.script_text.specs.Readings.{◌>>=◌, refuse, found_or, each_at, new_name_at, number_at, colours_set_at, text_at, pair_at, digits_at, object_at, with_one, with_two}
 use Rattle.script_text.specs.HeaderReadings.{regions_at, colour_line_at, rows_at, client_named_at, client_at, object_name_at, sorted_at, declared_at, headed_at, header_at}
 use Rattle.script_text.specs.CommandReadings.{taken_at, given_at, ended_well, what_at, worded_at, asked_at, caller_at, command_at}
 use Rattle.script_text.proofs.EachLemmas.{bind_ok, refused_ok, ok_is}
@@ -167,10 +167,10 @@ steps_given before own given next e =
 
 cols_given : (before : List Item) (own : List (List ℕ)) (given next : Given) → taken_at (known_of before) fields.Cols own given ≡ Ok next
     → (next.number ≡ given.number) × (next.count ≡ length (names_in (first_in own)))
-unfolding taken_at colour_set_at put_colours put_set
+unfolding taken_at colours_set_at put_colours put_set
 cols_given before own given next e =
     let f = first_in own in
-    let a = bind_ok (colour_set_at (colour_names before) f) (λ s. Ok (put_set given s)) next e in
+    let a = bind_ok (colours_set_at (colour_names before) (names_in f)) (λ s. Ok (put_set given s)) next e in
     let b = bind_ok (order_at before f) (λ ns. Ok (set_of ns, length ns)) a.0 a.1 in
     let o = order_ok before f b.0 b.1 in
     let s = ok_is (set_of b.0, length b.0) a.0 b.2 in

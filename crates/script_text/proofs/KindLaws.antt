@@ -21,7 +21,7 @@ use Rattle.script_text.specs.Table.{own_in, later_in, at_most, own_fields, later
 use Rattle.script_text.specs.Grammar.{Spells, SpellAll, are_colours, are_keys, are_pairs, are_new_keys, are_new_numbers, is_colour, has_equals, key_in, value_in, pair_of, is_one_of}
 use Rattle.script_text.specs.Faults.{when, kind_tests, colour_fields, key_field, pair_field}
 use Rattle.script_text.specs.Kept.{known_of}
-use Rattle.script_text.specs.Readings.{each_at, number_at, colours_at, colour_set_at, text_at, value_at, key_at, pair_at, digits_at, object_at}
+use Rattle.script_text.specs.Readings.{each_at, number_at, colours_at, colours_set_at, text_at, value_at, key_at, pair_at, digits_at, object_at}
 use Rattle.script_text.specs.CommandReadings.{taken_at, given_at}
 use Rattle.script_text.proofs.EachLemmas.{refused_ok, bind_ok, ok_is}
 use Rattle.script_text.proofs.NameLemmas.{named, number_ok, number_at_again, colours_ok, colours_again}
@@ -135,7 +135,7 @@ single (a ∷ args) h = refl
 
 pub kind_ok : (before : List Item) (field : Field) (args : List (List ℕ)) (given next : Given) → has field (own_fields field args) ≡ true
     → taken_at (known_of before) field (own_fields field args) given ≡ Ok next → Spells before field (own_fields field args) given next
-unfolding taken_at colour_set_at put_number put_colours put_set put_colour put_region put_object put_text put_key put_value put_keys put_pairs put_order
+unfolding taken_at colours_set_at put_number put_colours put_set put_colour put_region put_object put_text put_key put_value put_keys put_pairs put_order
 kind_ok before fields.Steps args given next h e =
     let f = first_in (take 1 args) in
     let b = bind_ok (digits_at 3 f) (λ n. Ok (put_number given n)) next e in
@@ -143,7 +143,7 @@ kind_ok before fields.Steps args given next h e =
     (f, single args h, d.digits, sym (ok_is (put_number given b.0) next b.2) ∙ ap (put_number given) d.value)
 kind_ok before fields.Cols args given next h e =
     let f = first_in (take 1 args) in
-    let a = bind_ok (colour_set_at (colour_names before) f) (λ s. Ok (put_set given s)) next e in
+    let a = bind_ok (colours_set_at (colour_names before) (names_in f)) (λ s. Ok (put_set given s)) next e in
     let b = bind_ok (order_at before f) (λ ns. Ok (set_of ns, length ns)) a.0 a.1 in
     let o = order_ok before f b.0 b.1 in
     let s = ok_is (set_of b.0, length b.0) a.0 b.2 in
@@ -198,7 +198,7 @@ kind_ok before (fields.Colours most) args given next h e =
 
 pub kind_again : (before : List Item) (field : Field) (own : List (List ℕ)) (given next : Given) → IsLawful (known_of before) → Spells before field own given next
     → (has field own ≡ true) × (taken_at (known_of before) field own given ≡ Ok next)
-unfolding taken_at colour_set_at
+unfolding taken_at colours_set_at
 kind_again before fields.Steps own given next l s = (rw s.1 refl, rw (s.1, digits_again 3 s.0 (number_value s.0) (record { digits = s.2; value = refl }), s.3) refl)
 kind_again before fields.Cols own given next l s =
     let o = s.2 in
@@ -240,7 +240,7 @@ kind_full before (fields.Colours most) own given next l s =
 
 -- the first test that fails is the reason of the reading
 pub kind_faults : (before : List Item) (field : Field) (own : List (List ℕ)) (given : Given) → Tests (kind_tests before field own) (taken_at (known_of before) field own given)
-unfolding taken_at colour_set_at digits_at put_number put_colours put_set put_colour put_region put_object put_text put_key put_value put_keys put_pairs put_order
+unfolding taken_at colours_set_at digits_at put_number put_colours put_set put_colour put_region put_object put_text put_key put_value put_keys put_pairs put_order
 kind_faults before fields.Steps own given =
     let f = first_in own in
     tests_last (when (not (is_number 3 f)) reasons.BadNumber ∷ []) (digits_at 3 f) (put_number given)
@@ -248,7 +248,7 @@ kind_faults before fields.Steps own given =
 kind_faults before fields.Cols own given =
     let f = first_in own in
     let order = tests_last (colour_fields before (names_in f)) (order_at before f) (λ ns. (set_of ns, length ns)) (colours_tests before (names_in f)) in
-    tests_last (colour_fields before (names_in f)) (colour_set_at (colour_names before) f) (put_set given) order
+    tests_last (colour_fields before (names_in f)) (colours_set_at (colour_names before) (names_in f)) (put_set given) order
 kind_faults before fields.Colour own given = tests_last (kind_tests before fields.Colour own) (number_at reasons.UnknownColour (colour_names before) (first_in own)) (put_colour given) (number_tests reasons.UnknownColour (colour_names before) (first_in own))
 kind_faults before fields.Region own given = tests_last (kind_tests before fields.Region own) (number_at reasons.UnknownRegion (region_names before) (first_in own)) (put_region given) (number_tests reasons.UnknownRegion (region_names before) (first_in own))
 kind_faults before fields.Text own given = tests_last (kind_tests before fields.Text own) (text_at (first_in own)) (put_text given) (text_tests (first_in own))

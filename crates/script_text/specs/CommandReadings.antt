@@ -14,15 +14,15 @@ use Rattle.script_text.specs.declared.table.Last.{Last}
 use Rattle.script_text.specs.declared.table.Last.TheVariants as lasts
 use Rattle.script_text.specs.declared.script.Word.{Word}
 use Rattle.script_text.specs.declared.limits.TheConstants.{STEPS_DIGITS}
-use Rattle.script_text.specs.Pieces.{first_in}
+use Rattle.script_text.specs.Pieces.{first_in, names_in}
 use Rattle.script_text.specs.Reads.{holds}
 use Rattle.script_text.specs.Table.{word_at, row_fields, last_of, own_fields, later_fields, fits, nothing, what_of}
-use Rattle.script_text.specs.Readings.{◌>>=◌, refuse, number_at, each_at, colours_at, colour_set_at, text_at, value_at, key_at, pair_at, digits_at, object_at}
+use Rattle.script_text.specs.Readings.{◌>>=◌, refuse, number_at, each_at, colours_at, colours_set_at, text_at, value_at, key_at, pair_at, digits_at, object_at}
 
 -- what is given after the fields of one kind
 unfoldable pub taken_at : Known → Field → List (List ℕ) → Given → Result Given Reason
 taken_at known fields.Steps own given = digits_at STEPS_DIGITS (first_in own) >>= λ n. Ok (record given { number = n })
-taken_at known fields.Cols own given = colour_set_at known.script.colours (first_in own) >>= λ s. Ok (record given { colours = s.0; count = s.1 })
+taken_at known fields.Cols own given = colours_set_at known.script.colours (names_in (first_in own)) >>= λ s. Ok (record given { colours = s.0; count = s.1 })
 taken_at known fields.Colour own given = number_at reasons.UnknownColour known.script.colours (first_in own) >>= λ c. Ok (record given { colour = c })
 taken_at known fields.Region own given = number_at reasons.UnknownRegion known.script.regions (first_in own) >>= λ r. Ok (record given { region = r })
 taken_at known fields.Text own given = text_at (first_in own) >>= λ t. Ok (record given { text = t })

@@ -10,7 +10,7 @@ use Rattle.script_text.specs.declared.script.Reason.TheVariants as reasons
 use Rattle.script_text.specs.declared.fault.Fault.{Fault}
 use Rattle.script_text.specs.declared.fault.Fault.TheVariants as faults
 use Rattle.script_text.specs.declared.table.Kinds.{Kinds}
-use Rattle.script_text.specs.Pieces.{is_name, is_key, is_text, is_number, number_value, is_among, number_of, names_in}
+use Rattle.script_text.specs.Pieces.{is_name, is_key, is_text, is_number, number_value, is_among, number_of}
 use Rattle.script_text.specs.Items.{set_of}
 use Rattle.script_text.specs.Table.{is_of}
 use Rattle.script_text.specs.Grammar.{has_equals, key_in, value_in}
@@ -75,10 +75,10 @@ colour_at names earlier field = do
 abbrev pub colours_at : List (List ℕ) → List (List ℕ) → Result (List ℕ) Reason
 colours_at names fields = each_at (colour_at names) [] fields
 
--- the set of the colours that a field names, and their number
-unfoldable pub colour_set_at : List (List ℕ) → List ℕ → Result (Colours × ℕ) Reason
-colour_set_at names cols = do
-  order ← colours_at names (names_in cols)
+-- the set of the colours that these fields name, and their number
+unfoldable pub colours_set_at : List (List ℕ) → List (List ℕ) → Result (Colours × ℕ) Reason
+colours_set_at names fields = do
+  order ← colours_at names fields
   Ok (set_of order, length order)
 
 unfoldable pub text_at : List ℕ → Result (List ℕ) Reason

@@ -3,7 +3,7 @@ ghost use Rattle.std.specs.Prelude.{◌≡◌, ◌≤◌, ◌<◌, [], length, A
 ghost use Rattle.script_text.specs.declared.limits.TheConstants.{VERSION_1};
 ghost use Rattle.script_text.specs.Pieces.{is_among, names_in};
 ghost use Rattle.script_text.specs.Items.{set_of};
-ghost use Rattle.script_text.specs.Readings.{Gives, fields_in, number_at, new_name_at, new_names_at, colour_at, colours_at, colour_set_at, text_at};
+ghost use Rattle.script_text.specs.Readings.{Gives, fields_in, number_at, new_name_at, new_names_at, colour_at, colours_at, colours_set_at, text_at};
 
 use crate::fault::Fault;
 use crate::pieces::{is_among, is_name, is_text, number_of, parts_of};
@@ -59,7 +59,8 @@ fn is_repeated(earlier: &[&[u8]], field: &[u8]) -> bool
 #[tactic(auto, unfolding(crate::specs::Readings::colour_at))]
 fn colour_at(names: &[Text], earlier: &[&[u8]], field: &[u8]) -> Result<u8, Fault>
     requires { length names.now ≤ 256 }
-    ensures { Gives result (colour_at names.now (fields_in earlier.now) field.now) }
+    ensures value { Gives result (colour_at names.now (fields_in earlier.now) field.now) }
+    ensures below { IfOk result (λ c. c < length names.now) }
 {
     let colour = number_at(names, field, Reason::UnknownColour)?;
     if is_repeated(earlier, field) {
@@ -81,38 +82,29 @@ pub fn colour_numbers(alloc: Global, names: &[Text], fields: &[&[u8]]) -> Result
     Ok(colours)
 }
 
-/// The set of these colours.
-fn set_of(colours: &[u8]) -> Colours
-    requires { All (λ c. c < VERSION_1.colours) colours.now }
-    ensures { result ≡ set_of colours.now }
+/// The set of the colours that the fields name, and their number.
+#[tactic(auto, unfolding(crate::specs::Readings::colours_set_at))]
+fn colours_set(names: &[Text], fields: &[&[u8]]) -> Result<(Colours, usize), Fault>
+    requires { length names.now ≤ VERSION_1.colours }
+    ensures value { Gives result (colours_set_at names.now (fields_in fields.now)) }
+    ensures few { IfOk result (λ s. s.1 ≤ VERSION_1.colours) }
 {
     let mut set = 0;
-    for colour in colours {
-        set |= 1 << *colour;
+    for (place, field) in fields.iter().enumerate() {
+        let colour = colour_at(names, &fields[..place], field)?;
+        set |= 1 << colour;
     }
-    Colours(set)
-}
-
-/// The numbers of the colours whose names stand between commas.
-fn cols_at(alloc: Global, names: &[Text], cols: &[u8]) -> Result<ColourList, Fault>
-    requires { length names.now ≤ VERSION_1.colours }
-    ensures value { Gives result (colours_at names.now (names_in cols.now)) }
-    ensures below { IfOk result (All (λ c. c < VERSION_1.colours)) }
-    ensures few { IfOk result (λ colours. length colours ≤ VERSION_1.colours) }
-{
-    let fields = parts_of(alloc, cols, b',')?;
-    colour_numbers(alloc, names, &fields)
+    Ok((Colours(set), fields.len()))
 }
 
 /// The set of the colours whose names stand between commas, and their number.
-#[tactic(auto, unfolding(crate::specs::Readings::colour_set_at))]
 pub fn colour_set(alloc: Global, names: &[Text], cols: &[u8]) -> Result<(Colours, usize), Fault>
     requires { length names.now ≤ VERSION_1.colours }
-    ensures value { Gives result (colour_set_at names.now cols.now) }
+    ensures value { Gives result (colours_set_at names.now (names_in cols.now)) }
     ensures few { IfOk result (λ s. s.1 ≤ VERSION_1.colours) }
 {
-    let colours = cols_at(alloc, names, cols)?;
-    Ok((set_of(colours.as_slice()), colours.len()))
+    let fields = parts_of(alloc, cols, b',')?;
+    colours_set(names, &fields)
 }
 
 /// A node's text.

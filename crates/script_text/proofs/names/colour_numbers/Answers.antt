@@ -11,7 +11,7 @@ returns-in_err-colour c =
     let i = c.loop-place.place in
     let p = err_from_is_err_and c.from_residual.result c.from_residual.ensures.1 in
     let within : i < length all = omega (arith, length-fields_in c.args.fields.now) in
-    let failed = rw fields_take at c.in_err-colour.ensures in
+    let failed = rw fields_take at c.in_err-colour.ensures.value in
     rw (p.1, p.2) (each_ends (colour_at c.args.names.now) (take i all) all c.loop-place.colours i _ c.in_err-colour.field-0.0 (colours_at c.args.names.now all) within (fields_get c.args.fields.now i _ c.loop-place-test.true) failed c.loop-place.invariant)
 
 pub loop-place-preserved : goal.loop-place-preserved
@@ -19,7 +19,7 @@ loop-place-preserved c =
     let all = fields_in c.args.fields.now in
     let i = c.loop-place.place in
     let within : i < length all = omega (arith, length-fields_in c.args.fields.now) in
-    let read = rw fields_take at c.in_ok-colour.ensures in
+    let read = rw fields_take at c.in_ok-colour.ensures.value in
     let at_place = fields_get c.args.fields.now i _ c.loop-place-test.true in
     rw (c.in_ok-push.ensures.ok, take_more all i [] within, at_place) (each_more (colour_at c.args.names.now) (take i all) all c.loop-place.colours i _ c.in_ok-colour.colour (colours_at c.args.names.now all) within at_place read c.loop-place.invariant)
 
