@@ -64,7 +64,7 @@ outcome_stays old new l node outcome kept h =
     (row.0, record { begun = row.1; of_node = row.2.node ∙ h.1.of_node }, row.2.last (subst (λ (o : Outcome). o ≢ Open) (sym h.2) kept) ∙ h.2)
 
 -- the dates of a longer history begin as before
-dates_longer : (own : ℕ) (history more : List Entry) → dated own (history ++ more) ≡ dated own history ++ later own (dated own history) more
+pub dates_longer : (own : ℕ) (history more : List Entry) → dated own (history ++ more) ≡ dated own history ++ later own (dated own history) more
 dates_longer own history more = fold-append (with_date own) [] history more ∙ fold-later own (dated own history) more
 
 entries_dated : (own : ℕ) (history : List Entry) → entries_of (dated own history) ≡ history

@@ -160,7 +160,7 @@ module _ (chains : Chains) (from to : Counts) (reached : Reachable chains to) wh
         there (h ∷ hs) zero lt = (h, refl)
         there (h ∷ hs) (suc n) lt = there hs n (omega (arith, lt))
 
-  in_order-between : (order : List Place) → IsPlayOrder chains from to order → (i : ℕ) (p : Place) → slice_get order i ≡ Some p → Between from to p
+  pub in_order-between : (order : List Place) → IsPlayOrder chains from to order → (i : ℕ) (p : Place) → slice_get order i ≡ Some p → Between from to p
   in_order-between order o i p h =
       let c = counted_some (same_place p) order i p h (same_place-itself p) in
       between_is from to p (one_or_none (is_between from to p) (subst (λ n. 0 < n) (o.each_once p) c))
@@ -171,7 +171,7 @@ module _ (chains : Chains) (from to : Counts) (reached : Reachable chains to) wh
       let r = some_counted (same_place p) order (omega (arith, n)) in
       (r.0, r.2 ∙ ap Some (sym (same_place-is p r.1 r.3)))
 
-  once : (order : List Place) → IsPlayOrder chains from to order → (i j : ℕ) (p : Place) → slice_get order i ≡ Some p → slice_get order j ≡ Some p → i ≡ j
+  pub once : (order : List Place) → IsPlayOrder chains from to order → (i j : ℕ) (p : Place) → slice_get order i ≡ Some p → slice_get order j ≡ Some p → i ≡ j
   once order o i j p a b =
       let m = at_most_one (is_between from to p) in
       let e = o.each_once p in

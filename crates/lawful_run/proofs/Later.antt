@@ -45,10 +45,13 @@ module _ (old new : Log) (later : IsLater old new) (caller : Caller) where
   too_low_later : (region colour place : ℕ) → GivesTooLow old caller region colour place
       → GivesTooLow new caller region colour place
   too_low_later region colour place g =
-      let l = place_there old new later region colour place _ g.1 in
-      (g.0, gives_later region colour place g.0 g.1, subst
-          (λ (h : List Dated). g.0 < at (base region caller.regions h) region)
-              (sym (first_same old new later region colour place (omega (arith, l)))) g.2)
+      let l = place_there old new later region colour place _ g.1 in (
+        g.0,
+        gives_later region colour place g.0 g.1,
+        subst
+            (λ (h : List Dated). g.0 < at (base region caller.regions h) region)
+            (sym (first_same old new later region colour place (omega (arith, l)))) g.2,
+      )
 
   carries_later : (kept : Kept) (region colour nodes : ℕ) (at : At)
       → CarriesAt old caller kept region colour nodes at → CarriesAt new caller kept region colour nodes at
@@ -60,14 +63,14 @@ module _ (old new : Log) (later : IsLater old new) (caller : Caller) where
   -- what was seen, and what a carry has seen, were there
   carry_there : (kept : Kept) (region colour nodes : ℕ) (at : At) → CarriesAt old caller kept region colour nodes at
       → (kept.seen caller.own colour ≤ length (old.histories caller.own colour))
-          × (seen_after at ≤ length (old.histories caller.own colour))
+      × (seen_after at ≤ length (old.histories caller.own colour))
   carry_there kept region colour nodes (Event place) c = let l =
       place_there old new later caller.own colour place _ c.3 in let s = c.0 in (omega (arith, l, s), omega (arith, l))
   carry_there kept region colour nodes (Look events) c = let l = c.1 in let s = c.0 in (omega (arith, l, s), l)
 
   pulls_later : (kept : Kept) (region colour nodes place : ℕ) (carry : At) (too_low : List ℕ)
       → Pulls old caller kept region colour nodes place carry too_low
-          → Pulls new caller kept region colour nodes place carry too_low
+      → Pulls new caller kept region colour nodes place carry too_low
   pulls_later kept region colour nodes place carry too_low p =
       let l = place_there old new later region colour place _ p.gives in
       let c = carry_there kept region colour nodes carry p.carries in
@@ -83,14 +86,14 @@ module _ (old new : Log) (later : IsLater old new) (caller : Caller) where
             (length (chain caller.own h region)) ≤ p.from)
             (sym (first_same old new later caller.own colour (kept.seen caller.own colour) c.0))
             (subst (λ (h : List Entry). min (length (line h))
-                (length (chain caller.own (first old caller.own colour
-                    (kept.seen caller.own colour)) region)) ≤ p.from) (sym line_same) p.asks_on);
+            (length (chain caller.own (first old caller.own colour
+            (kept.seen caller.own colour)) region)) ≤ p.from) (sym line_same) p.asks_on);
         carries = carries_later kept region colour nodes carry p.carries;
         holds = subst (λ (h : List Dated). length (line (take place (new.histories region colour))) ≤ length
             (chain caller.own h region))
             (sym (first_same old new later caller.own colour (seen_after carry) c.1))
             (subst (λ (h : List Entry). length (line h) ≤ length
-                (chain caller.own (first old caller.own colour (seen_after carry)) region)) (sym line_same) p.holds);
+            (chain caller.own (first old caller.own colour (seen_after carry)) region)) (sym line_same) p.holds);
       }
 
   trims_later : (kept : Kept) (colour place : ℕ) (shown : Counts) → Trims old caller kept colour place shown
@@ -118,7 +121,7 @@ module _ (old new : Log) (later : IsLater old new) (caller : Caller) where
   chain_node_later : (sync : SyncPiece) → sync.events ≤ length (old.histories caller.own sync.colour)
       → (place : Place) (node : ChainNode)
       → IsChainNode old (chain caller.own (first old caller.own sync.colour sync.events)) place node
-          → IsChainNode new (chain caller.own (first new caller.own sync.colour sync.events)) place node
+      → IsChainNode new (chain caller.own (first new caller.own sync.colour sync.events)) place node
   chain_node_later sync there place node n = record {
     head = n.head;
     stands = subst (λ (h : List Dated). Stands (chain caller.own h) place n.head)
@@ -140,20 +143,20 @@ module _ (old new : Log) (later : IsLater old new) (caller : Caller) where
 
   takes_later : (point : PointPiece) (value : Value)
       → point.position ≤ length (line (old.histories caller.own point.colour)) → Takes old caller point value
-          → Takes new caller point value
+      → Takes new caller point value
   takes_later point value there t = record {
     nodes = t.nodes;
     before = subst (λ (keys : List Key). AreObjectNodes new keys t.nodes)
         (sym (prefix_take _ _ point.position (later.lines caller.own point.colour) there))
         (objects_later old new later (take point.position
-            (line (old.histories caller.own point.colour))) t.nodes t.before);
+        (line (old.histories caller.own point.colour))) t.nodes t.before);
     value_is = t.value_is;
   }
 
   -- a point's position is within its line
   point_there : (kept : Kept) (node : Node) (stamp : ℕ) (point : PointPiece) (after : Kept)
       → Appends old caller kept node stamp None (point ∷ []) after
-          → point.position ≤ length (line (old.histories caller.own point.colour))
+      → point.position ≤ length (line (old.histories caller.own point.colour))
   point_there kept node stamp point after a = let l =
       get_within (line (old.histories caller.own point.colour)) point.position _ a.3.stands in omega (arith, l)
 
@@ -162,10 +165,10 @@ module _ (old new : Log) (later : IsLater old new) (caller : Caller) where
   memory_later kept what after nothing = nothing
   memory_later kept what after (gone colours text places asks g) =
       gone colours text places asks (for_memory_later old new later caller kept
-          (node_of caller kept colours text) places g)
+      (node_of caller kept colours text) places g)
   memory_later kept what after (gave region colour too_low gives is low few all) =
       gave region colour too_low gives is (all_of (GivesTooLow old caller region colour)
-          (GivesTooLow new caller region colour) (too_low_later region colour) too_low low) few
+      (GivesTooLow new caller region colour) (too_low_later region colour) too_low low) few
       (λ k d lt. let g = all k d lt in (g.0, gives_later region colour _ g.0 g.1))
   memory_later kept what after (hidden then h) = hidden then
       (hides_later old new later caller kept (colours_synced caller what) (manner_of what) then h)
@@ -173,12 +176,28 @@ module _ (old new : Log) (later : IsLater old new) (caller : Caller) where
   explains_later : (kept : Kept) (what : What) (answer : Answer) (nodes : List PlacedNode) (after : Kept)
       → Explains old caller kept what answer nodes after → Explains new caller kept what answer nodes after
   explains_later kept what answers.NoMemory nodes after e = (e.0, memory_later kept what after e.1)
-  explains_later kept what (answers.Stood stamp row points) nodes after e =
-      (e.0, e.1, (e.2.0, e.2.1, e.2.2, append_later old new later caller kept
-          (node_of caller kept e.2.0 e.2.1) stamp row points after e.2.3))
-  explains_later kept what (answers.StampEnd colour) nodes after e =
-      (e.0, e.1, (e.2.0, e.2.1, e.2.2, has_no_stamp_later old new later caller kept
-          (node_of caller kept e.2.0 e.2.1) colour after e.2.3))
+  explains_later kept what (answers.Stood stamp row points) nodes after e = (
+    e.0,
+    e.1,
+    (
+      e.2.0,
+      e.2.1,
+      e.2.2,
+      append_later old new later caller kept
+          (node_of caller kept e.2.0 e.2.1) stamp row points after e.2.3,
+    ),
+  )
+  explains_later kept what (answers.StampEnd colour) nodes after e = (
+    e.0,
+    e.1,
+    (
+      e.2.0,
+      e.2.1,
+      e.2.2,
+      has_no_stamp_later old new later caller kept
+          (node_of caller kept e.2.0 e.2.1) colour after e.2.3,
+    ),
+  )
   explains_later kept what (answers.Full used) nodes after e = e
   explains_later kept what (answers.Stopped steps) nodes after e =
       (e.0, e.1, e.2, e.3, stops_later old new later caller kept (node_of caller kept e.1 e.2) steps after e.4)
@@ -308,14 +327,19 @@ module _ (old new : Log) (later : IsLater old new) (caller : Caller) where
           ),
         ),
       )
-  explains_later kept what (answers.Trimmed colour base) nodes after e =
-      (e.0, e.1, e.2, trimmed_later old new later caller kept colour base e.3, hides_later old new later caller kept
-          (colours_synced caller what) (manner_of what) after e.4)
+  explains_later kept what (answers.Trimmed colour base) nodes after e = (
+    e.0,
+    e.1,
+    e.2,
+    trimmed_later old new later caller kept colour base e.3,
+    hides_later old new later caller kept
+        (colours_synced caller what) (manner_of what) after e.4,
+  )
   explains_later kept what (answers.NotHome home) nodes after e = e
 
 answers_later : (old new : Log) → IsLater old new → (caller : Caller) (kept : Kept) (command : Command)
     (reply : ReplyLine) (after : Kept) → Answers old caller kept command reply after
-        → Answers new caller kept command reply after
+    → Answers new caller kept command reply after
 answers_later old new later caller kept command reply after a = record {
   line = a.line;
   word = a.word;
@@ -329,8 +353,8 @@ answers_later old new later caller kept command reply after a = record {
 -- what is explained stays so when the log grows
 pub explained_later : (old new : Log) → IsLater old new
     → (caller : Caller) {commands : List Command} {replies : List ReplyLine} {kept : Kept}
-        → Explained old caller commands replies kept → Explained new caller commands replies kept
+    → Explained old caller commands replies kept → Explained new caller commands replies kept
 explained_later old new later caller start = start
 explained_later old new later caller (next command reply before last) =
     next command reply (explained_later old new later caller before)
-        (answers_later old new later caller _ command reply _ last)
+    (answers_later old new later caller _ command reply _ last)

@@ -25,7 +25,7 @@ use Rattle.lawful_run.proofs.LaterFacts.{all_of, taken_same, still_there, entry_
 module _ (old new : Log) (later : IsLater old new) (caller : Caller) (kept : Kept) where
   pub appends_later : (node : Node) (colour stamp place position : ℕ)
       → AppendsOne old caller kept node colour stamp place position
-          → AppendsOne new caller kept node colour stamp place position
+      → AppendsOne new caller kept node colour stamp place position
   appends_later node colour stamp place position a = record {
     next = prefix_get _ _ _ _ (later.nodes caller.client) a.next;
     entered = entry_later old new later caller.own colour place _ a.entered;
@@ -78,7 +78,7 @@ module _ (old new : Log) (later : IsLater old new) (caller : Caller) (kept : Kep
 
   pub several_later : (node : Node) (stamp : ℕ) (points : List PointPiece) (places : ℕ → List ℕ)
       → AppendsSeveral old caller kept node stamp points places
-          → AppendsSeveral new caller kept node stamp points places
+      → AppendsSeveral new caller kept node stamp points places
   several_later node stamp points places s = record {
     begins = begins_later node places s.begins;
     outcome = final_later old new later node stamp s.outcome;
@@ -116,7 +116,7 @@ module _ (old new : Log) (later : IsLater old new) (caller : Caller) (kept : Kep
     good : ((why : Why) × HasMark old node colour (marks.Fenced why))
         ⊎ IsTrue (has_entered node.id (take s.events (old.histories caller.own colour)))
         → ((why : Why) × HasMark new node colour (marks.Fenced why))
-            ⊎ IsTrue (has_entered node.id (take s.events (new.histories caller.own colour)))
+        ⊎ IsTrue (has_entered node.id (take s.events (new.histories caller.own colour)))
     good (inl m) = inl (m.0, mark_stays old new later node colour (marks.Fenced m.0) (λ e. absurd cc) m.1)
     good (inr e) = inr (subst (λ (events : List Entry). IsTrue (has_entered node.id events))
         (sym (taken_same old new later caller.own colour s.events s.there)) e)

@@ -66,12 +66,17 @@ module _ (old new : Log) (later : IsLater old new) where
 
   pub line_later : (region colour position : ℕ) (key : Key)
       → slice_get (line (old.histories region colour)) position ≡ Some key
-          → slice_get (line (new.histories region colour)) position ≡ Some key
+      → slice_get (line (new.histories region colour)) position ≡ Some key
   line_later region colour position key h = prefix_get _ _ _ _ (later.lines region colour) h
 
   pub text_later : (id : Id) (text : List ℕ) → HasText old id text → HasText new id text
-  text_later id text t = (t.0, prefix_get (old.nodes id.client) (new.nodes id.client) id.count t.0
-      (later.nodes id.client) t.1, t.2, t.3)
+  text_later id text t = (
+    t.0,
+    prefix_get (old.nodes id.client) (new.nodes id.client) id.count t.0
+        (later.nodes id.client) t.1,
+    t.2,
+    t.3,
+  )
 
   pub object_later : (key : Key) (node : ObjectNode) → IsObjectNode old key node → IsObjectNode new key node
   object_later key node o = record {

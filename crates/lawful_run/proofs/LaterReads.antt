@@ -28,17 +28,17 @@ module _ (old new : Log) (later : IsLater old new) (caller : Caller) where
       → Syncs old caller kept colour events snapshot → Syncs new caller kept colour events snapshot
   syncs_later kept colour events snapshot s = let same =
       sym (first_same old new later caller.own colour events s.there) in record {
-    unseen = s.unseen;
-    there = still_there old new later caller.own colour events s.there;
-    cut = subst (λ (h : List Dated). IsGreatestReachable (chain caller.own h) snapshot) same s.cut;
-    not_trimmed = subst (λ (h : List Dated). IsWithin (base caller.own caller.regions h)
-        (kept.starts colour)) same s.not_trimmed;
-    within = s.within;
-  }
+        unseen = s.unseen;
+        there = still_there old new later caller.own colour events s.there;
+        cut = subst (λ (h : List Dated). IsGreatestReachable (chain caller.own h) snapshot) same s.cut;
+        not_trimmed = subst (λ (h : List Dated). IsWithin (base caller.own caller.regions h)
+            (kept.starts colour)) same s.not_trimmed;
+        within = s.within;
+      }
 
   pub shows_later : (colour events : ℕ) → events ≤ length (old.histories caller.own colour)
       → (place : Place) (item : PlacedNode) → ShowsNode old caller colour events place item
-          → ShowsNode new caller colour events place item
+      → ShowsNode new caller colour events place item
   shows_later colour events there place item s = record {
     head = s.head;
     stands = subst (λ (h : List Dated). Stands (chain caller.own h) place s.head)
@@ -49,7 +49,7 @@ module _ (old new : Log) (later : IsLater old new) (caller : Caller) where
 
   pub played_later : (kept : Kept) (colour events : ℕ) (snapshot : Counts) (nodes : List PlacedNode)
       → events ≤ length (old.histories caller.own colour) → ShowsPlayed old caller kept colour events snapshot nodes
-          → ShowsPlayed new caller kept colour events snapshot nodes
+      → ShowsPlayed new caller kept colour events snapshot nodes
   played_later kept colour events snapshot nodes there s = record {
     order = s.order;
     played = subst (λ (h : List Dated). IsPlayOrder (chain caller.own h) (kept.starts colour) snapshot s.order)
@@ -60,10 +60,10 @@ module _ (old new : Log) (later : IsLater old new) (caller : Caller) where
 
   pub stamp_same : (kept : Kept) (colour events : ℕ) (snapshot : Counts)
       → events ≤ length (old.histories caller.own colour)
-          → played_stamp new caller kept colour events snapshot ≡ played_stamp old caller kept colour events snapshot
+      → played_stamp new caller kept colour events snapshot ≡ played_stamp old caller kept colour events snapshot
   stamp_same kept colour events snapshot there = ap
       (λ (h : List Dated). greatest_between (chain caller.own h) (kept.starts colour) snapshot)
-          (first_same old new later caller.own colour events there)
+      (first_same old new later caller.own colour events there)
 
   pub piece_same : (kept : Kept) (sync : SyncPiece) → sync.events ≤ length (old.histories caller.own sync.colour)
       → kept_after_piece new caller kept sync ≡ kept_after_piece old caller kept sync
@@ -84,23 +84,32 @@ module _ (old new : Log) (later : IsLater old new) (caller : Caller) where
   pub raise_later : (kept : Kept) (stamp colour : ℕ) (at : At) → RaisesAt old caller kept stamp colour at
       → RaisesAt new caller kept stamp colour at
   raise_later kept stamp colour (Event place) r =
-      let l = place_there old new later caller.own colour place _ r.2 in
-      (r.0, subst (λ (h : List Entry). kept.known colour ≤ length (line h))
-          (sym (taken_same old new later caller.own colour place
-              (omega (arith, l)))) r.1, entry_later old new later caller.own colour place _ r.2)
-  raise_later kept stamp colour (Look events) r =
-      (r.0, still_there old new later caller.own colour events r.1, subst
-          (λ (h : List Entry). kept.known colour ≤ length (line h))
-              (sym (taken_same old new later caller.own colour events r.1)) r.2, subst
-                  (λ (h : List Entry). stamp ≤ clock h)
-                      (sym (taken_same old new later caller.own colour events r.1)) r.3)
+      let l = place_there old new later caller.own colour place _ r.2 in (
+        r.0,
+        subst (λ (h : List Entry). kept.known colour ≤ length (line h))
+            (sym (taken_same old new later caller.own colour place
+            (omega (arith, l)))) r.1,
+        entry_later old new later caller.own colour place _ r.2,
+      )
+  raise_later kept stamp colour (Look events) r = (
+    r.0,
+    still_there old new later caller.own colour events r.1,
+    subst
+        (λ (h : List Entry). kept.known colour ≤ length (line h))
+        (sym (taken_same old new later caller.own colour events r.1)) r.2,
+    subst
+        (λ (h : List Entry). stamp ≤ clock h)
+        (sym (taken_same old new later caller.own colour events r.1)) r.3,
+  )
 
   pub raises_later : (stamp : ℕ) (kept : Kept) (raises : List RaisePiece) (after : Kept)
       → Raises old caller stamp kept raises after → Raises new caller stamp kept raises after
   raises_later stamp kept [] after r = r
-  raises_later stamp kept (raise ∷ raises) after r =
-      (raise_later kept stamp raise.colour raise.at r.0, raises_later stamp
-          (kept_after_place kept caller.own raise.colour raise.at) raises after r.1)
+  raises_later stamp kept (raise ∷ raises) after r = (
+    raise_later kept stamp raise.colour raise.at r.0,
+    raises_later stamp
+        (kept_after_place kept caller.own raise.colour raise.at) raises after r.1,
+  )
 
   -- the events before a raise were there
   pub raise_there : (kept : Kept) (stamp colour : ℕ) (at : At) → RaisesAt old caller kept stamp colour at
@@ -112,14 +121,14 @@ module _ (old new : Log) (later : IsLater old new) (caller : Caller) where
   pub each_there : (stamp : ℕ) (kept : Kept) (raises : List RaisePiece) (after : Kept)
       → Raises old caller stamp kept raises after
       → (raise : RaisePiece) (k : ℕ) → k < length raises → slice_index_or raises k raise ≡ raise
-          → events_until raise.at ≤ length (old.histories caller.own raise.colour)
+      → events_until raise.at ≤ length (old.histories caller.own raise.colour)
   each_there stamp kept [] after r raise k lt e = absurd (omega (arith, lt))
   each_there stamp kept (one ∷ raises) after r raise zero lt e =
       subst (λ (x : RaisePiece). events_until x.at ≤ length (old.histories caller.own x.colour)) e
-          (raise_there kept stamp one.colour one.at r.0)
+      (raise_there kept stamp one.colour one.at r.0)
   each_there stamp kept (one ∷ raises) after r raise (suc k) lt e =
       each_there stamp (kept_after_place kept caller.own one.colour one.at) raises after r.1 raise k
-          (omega (arith, lt)) e
+      (omega (arith, lt)) e
 
   pub clear_later : (stamp : ℕ) (kept : Kept) (syncs : List SyncPiece) (after : Kept)
       → ClearSyncs old caller stamp kept syncs after → ClearSyncs new caller stamp kept syncs after
@@ -136,30 +145,39 @@ module _ (old new : Log) (later : IsLater old new) (caller : Caller) where
   lines_same stamp kept [] after c = refl
   lines_same stamp kept (sync ∷ syncs) after c =
       ap (λ (h : List Entry). line h ∷ lines_read new caller syncs)
-          (taken_same old new later caller.own sync.colour sync.events c.0.there)
+      (taken_same old new later caller.own sync.colour sync.events c.0.there)
       ∙ ap (λ (ls : List (List Key)). line (take sync.events (old.histories caller.own sync.colour)) ∷ ls)
-          (lines_same stamp (kept_after_piece old caller kept sync) syncs after c.2)
+      (lines_same stamp (kept_after_piece old caller kept sync) syncs after c.2)
 
   pub chosen_later : (kept : Kept) (raises : List RaisePiece) (stamp : ℕ)
       → ((raise : RaisePiece) → Contains raises raise
-          → events_until raise.at ≤ length (old.histories caller.own raise.colour))
+      → events_until raise.at ≤ length (old.histories caller.own raise.colour))
       → IsReadStamp old caller kept raises stamp → IsReadStamp new caller kept raises stamp
   chosen_later kept raises stamp there (inl e) = inl e
   chosen_later kept raises stamp there (inr (raise, among, events, seen, until, is)) =
       let l = there raise among in
-      inr (raise, among, events, seen, until, is ∙ ap clock
-          (sym (taken_same old new later caller.own raise.colour events (omega (arith, until, l)))))
+      inr (
+        raise,
+        among,
+        events,
+        seen,
+        until,
+        is ∙ ap clock
+            (sym (taken_same old new later caller.own raise.colour events (omega (arith, until, l)))),
+      )
 
   pub above_later : (kept : Kept) (colours : List ℕ) (stamp : ℕ) → IsAboveClocks old caller kept colours stamp
       → IsAboveClocks new caller kept colours stamp
   above_later kept colours stamp above k d lt =
-      let a = above k d lt in
-      (still_there old new later caller.own _ _ a.0, subst (λ (h : List Entry). clock h ≤ stamp)
-          (sym (taken_same old new later caller.own _ _ a.0)) a.1)
+      let a = above k d lt in (
+        still_there old new later caller.own _ _ a.0,
+        subst (λ (h : List Entry). clock h ≤ stamp)
+            (sym (taken_same old new later caller.own _ _ a.0)) a.1,
+      )
 
   pub read_later : (kept : Kept) (colours : List ℕ) (stamp : ℕ) (raises : List RaisePiece) (syncs : List SyncPiece)
       (after : Kept) → ReadsAt old caller kept colours stamp raises syncs after
-          → ReadsAt new caller kept colours stamp raises syncs after
+      → ReadsAt new caller kept colours stamp raises syncs after
   read_later kept colours stamp raises syncs after r = record {
     raised_colours = r.raised_colours;
     synced_colours = r.synced_colours;
@@ -179,7 +197,7 @@ module _ (old new : Log) (later : IsLater old new) (caller : Caller) where
       → AreRead old caller stamp syncs keys → AreRead new caller stamp syncs keys
   keys_later kept colours stamp raises syncs after keys r a =
       subst (λ (ls : List (List Key)). IsRegionOrder ls stamp keys)
-          (sym (lines_same stamp r.raised syncs r.synced r.syncing)) a
+      (sym (lines_same stamp r.raised syncs r.synced r.syncing)) a
 
   pub shows_key_later : (key : Key) (item : PlacedNode) → ShowsKey old key item → ShowsKey new key item
   shows_key_later key item s = (s.0, text_later old new later _ _ s.1)
@@ -189,15 +207,19 @@ module _ (old new : Log) (later : IsLater old new) (caller : Caller) where
   hides_sync_later kept colour snapshot stamp not_played = not_played
   hides_sync_later kept colour snapshot stamp (played events s syncs) =
       subst (λ (n : ℕ). HidesSync new caller kept colour snapshot n)
-          (stamp_same kept colour events snapshot syncs.there)
+      (stamp_same kept colour events snapshot syncs.there)
       (played events snapshot (syncs_later kept colour events snapshot syncs))
 
   pub hides_syncs_later : (kept : Kept) (colours : List ℕ) (after : Kept) → HidesSyncs old caller kept colours after
       → HidesSyncs new caller kept colours after
   hides_syncs_later kept [] after h = h
-  hides_syncs_later kept (colour ∷ colours) after h =
-      (h.0, h.1, hides_sync_later kept colour h.0 h.1 h.2, hides_syncs_later
-          (record kept { floor = max kept.floor h.1; starts = updated kept.starts colour h.0 }) colours after h.3)
+  hides_syncs_later kept (colour ∷ colours) after h = (
+    h.0,
+    h.1,
+    hides_sync_later kept colour h.0 h.1 h.2,
+    hides_syncs_later
+        (record kept { floor = max kept.floor h.1; starts = updated kept.starts colour h.0 }) colours after h.3,
+  )
 
   pub hides_read_later : (kept : Kept) (colours : List ℕ) (after : Kept) → HidesRead old caller kept colours after
       → HidesRead new caller kept colours after
@@ -217,15 +239,23 @@ module _ (old new : Log) (later : IsLater old new) (caller : Caller) where
     chosen : (h.stamp ≡ kept.floor) ⊎ ((colour : ℕ) × Contains colours colour × (events : ℕ)
         × (kept.seen caller.own colour ≤ events) × (events ≤ length (old.histories caller.own colour))
         × All (λ place. events ≤ place) (h.places colour)
-            × (h.stamp ≡ clock (take events (old.histories caller.own colour))))
+        × (h.stamp ≡ clock (take events (old.histories caller.own colour))))
         → (h.stamp ≡ kept.floor) ⊎ ((colour : ℕ) × Contains colours colour × (events : ℕ)
-            × (kept.seen caller.own colour ≤ events) × (events ≤ length (new.histories caller.own colour))
+        × (kept.seen caller.own colour ≤ events) × (events ≤ length (new.histories caller.own colour))
         × All (λ place. events ≤ place) (h.places colour)
-            × (h.stamp ≡ clock (take events (new.histories caller.own colour))))
+        × (h.stamp ≡ clock (take events (new.histories caller.own colour))))
     chosen (inl e) = inl e
     chosen (inr (colour, among, events, seen, there, before, is)) =
-        inr (colour, among, events, seen, still_there old new later caller.own colour events there, before, is
-            ∙ ap clock (sym (taken_same old new later caller.own colour events there)))
+        inr (
+          colour,
+          among,
+          events,
+          seen,
+          still_there old new later caller.own colour events there,
+          before,
+          is
+              ∙ ap clock (sym (taken_same old new later caller.own colour events there)),
+        )
 
   pub hides_later : (kept : Kept) (colours : List ℕ) (manner : Manner) (after : Kept)
       → Hides old caller kept colours manner after → Hides new caller kept colours manner after

@@ -10,6 +10,10 @@ pub mod Replies
 pub mod Traces
 pub mod Uses
 pub mod Origins
+pub mod Clients
 pub mod Standing
 pub mod Returned
 pub mod Lines
+pub mod Onward
+pub mod Shown
+pub mod Once

@@ -63,7 +63,7 @@ module _ (script : Script) (report : Report) (fits : IsFitting script) (run : La
       (subst (λ (es : List Entry). All (λ (e : Entry). e.by < length script.clients) es) c.history c.makers)
       key (subst (λ (ks : List Key). In key ks) (c.closing.line_shown ∙ ap line c.history) inside)
 
-  node_there : (region colour : ℕ) (key : Key) (s : Stands run region colour key)
+  pub node_there : (region colour : ℕ) (key : Key) (s : Stands run region colour key)
       → slice_get (run.log.nodes key.id.client) key.id.count ≡ Some (node_of (caller_of script key.id.client) s.origin.kept s.origin.colours s.origin.text)
   node_there region colour key s = ap (λ (i : Id). slice_get (run.log.nodes key.id.client) i.count) s.origin.id_is ∙ s.origin.node
 
@@ -136,6 +136,21 @@ module _ (script : Script) (report : Report) (fits : IsFitting script) (run : La
             let g : k.stamp ≡ l.stamp = cc (f) in
             ap (λ (n : ℕ). entry_key n k.id) g ∙ ap (λ (i : Id). entry_key l.stamp i) same
 
+  -- the command of a key that stands
+  pub append_of : (region colour : ℕ) (key : Key) (s : Stands run region colour key)
+      → IsAppend run key.id.client s.origin.k s.origin.step.reply key.id s.origin.colours s.origin.text
+  append_of region colour key s =
+      let o = s.origin in
+      let same = o.kept_is ∙ sym (s.client.numbered o.k) in record {
+        shown = s.client.shown;
+        of_client = s.client.of_client;
+        replied = o.step.replied;
+        command = o.step.command;
+        asked = o.step.asked;
+        asks = subst (λ (kept : Kept). AsksToAppend (caller_of script key.id.client) kept o.step.command.what o.colours o.text) same o.asks;
+        id_is = o.id_is ∙ ap (λ (kept : Kept). record { client = key.id.client; count = kept.ids }) same;
+      }
+
 pub one_key : OneKey
 one_key script report fits run a b k l there there' i j same =
     one script report fits run a b k l there there' (to_in a.line k i) (to_in b.line l j) same
@@ -170,15 +185,7 @@ nothing_else_stands script report fits run column key there inside =
       o.step.reply,
       o.colours,
       o.text,
-      record {
-        shown = s.shown;
-        of_client = s.of_client;
-        replied = o.step.replied;
-        command = o.step.command;
-        asked = o.step.asked;
-        asks = subst (λ (kept : _). AsksToAppend (caller_of script key.id.client) kept o.step.command.what o.colours o.text) o.kept_is o.asks;
-        id_is = o.id_is ∙ ap (λ (kept : Kept). record { client = key.id.client; count = kept.ids }) o.kept_is;
-      },
+      append_of script report fits run column.region column.colour key s,
       from_in (members o.colours) column.colour s.among,
       s.own,
       s.stands,

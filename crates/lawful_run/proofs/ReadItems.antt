@@ -38,8 +38,11 @@ record Keeps (w : ℕ) (before after : List Standing) : Type 0 where
 -- an entry that comes in above the stamp
 comes_in : (w : ℕ) (es : List Standing) (x : Standing) → w < x.key.stamp → IsClear w es → Keeps w es (with_entry x es)
 comes_in w es x above c = record {
-  clear = λ e i o. elim (in_with e x es i) [ inl t ↦ subst
-      (λ (y : Standing). w < y.key.stamp) t above | inr t ↦ c e t o ];
+  clear = λ e i o. elim (in_with e x es i) [
+    | inl t ↦ subst
+        (λ (y : Standing). w < y.key.stamp) t above
+    | inr t ↦ c e t o
+  ];
   among = λ e i le. elim (in_with e x es i) [
     | inl t ↦ absurd (let a = subst (λ (y : Standing). w < y.key.stamp) t above in omega (arith, a, le))
     | inr t ↦ t
@@ -69,22 +72,22 @@ open_above : (w : ℕ) (past : List Entry) → IsLawfulPast past → IsClear w (
     → status id past ≡ Waits s → w < s
 open_above w past l c id s is =
     c (record { key = entry_key s id; settled = false })
-        (stands past l id (record { key = entry_key s id; settled = false }) (ap (standing_of id) is)) refl
+    (stands past l id (record { key = entry_key s id; settled = false }) (ap (standing_of id) is)) refl
 
 event_keeps : (w : ℕ) (past : List Entry) → IsLawfulPast past → w ≤ clock past → IsClear w (entries past)
     → (ev : Event) (stamp : ℕ) → IsLawfulNext past ev stamp
-        → Keeps w (entries past) (with_event (entries past) ev stamp)
+    → Keeps w (entries past) (with_event (entries past) ev stamp)
 event_keeps w past l le c (events.Single id floor wants) stamp n =
     comes_in w (entries past) (record { key = entry_key stamp id; settled = true })
-        (let s = n.stamped in omega (arith, s, le)) c
+    (let s = n.stamped in omega (arith, s, le)) c
 event_keeps w past l le c (events.Propose id floor wants) stamp n =
     comes_in w (entries past) (record { key = entry_key stamp id; settled = false })
-        (let s = n.stamped in omega (arith, s, le)) c
+    (let s = n.stamped in omega (arith, s, le)) c
 event_keeps w past l le c (events.Settle id Open) stamp n = absurd n.settling
 event_keeps w past l le c (events.Settle id (Gone why)) stamp n = goes w id (entries past) c
 event_keeps w past l le c (events.Settle id (Final f)) stamp n =
     becomes_final w id f (entries past) (let a = open_above w past l c id n.stamp n.waits in let b = n.settling.0 in
-        omega (arith, a, b)) c
+    omega (arith, a, b)) c
 event_keeps w past l le c (events.Raise to) stamp n = as_before w (entries past) c
 event_keeps w past l le c (events.Give region from) stamp n = as_before w (entries past) c
 event_keeps w past l le c (events.Carry region start heads) stamp n = as_before w (entries past) c
@@ -108,10 +111,10 @@ all_below : (w : ℕ) (k : Key) → k.stamp ≤ w → (es : List Standing) → I
 all_below w k le [] c = refl
 all_below w k le (f ∷ es) c = and_from (f.settled || key_below k f.key) _ (one f.settled refl)
     (all_below w k le es (λ e i o. c e (inr i) o)) where
-  one : (b : Bool) → f.settled ≡ b → (f.settled || key_below k f.key) ≡ true
-  one true is = or_left f.settled _ is
-  one false is = or_right f.settled _ (or_left _ _
-      (lt-ltb k.stamp f.key.stamp (let a = c f (inl refl) is in omega (arith, a, le))))
+      one : (b : Bool) → f.settled ≡ b → (f.settled || key_below k f.key) ≡ true
+      one true is = or_left f.settled _ is
+      one false is = or_right f.settled _ (or_left _ _
+          (lt-ltb k.stamp f.key.stamp (let a = c f (inl refl) is in omega (arith, a, le))))
 
 in_keys : (es : List Standing) (e : Standing) → In e es → In e.key (map (λ (x : Standing). x.key) es)
 in_keys [] e i = absurd i
@@ -122,7 +125,7 @@ in_line_back : (w : ℕ) (es : List Standing) (e : Standing) → In e es → e.s
     → IsClear w es → In e.key (line_of es)
 in_line_back w es e i settled le c =
     in_keys (filter (is_delivered es) es) e (in_filter-back (is_delivered es) e es i
-        (and_from e.settled _ settled (all_below w e.key le es c)))
+    (and_from e.settled _ settled (all_below w e.key le es c)))
 
 pub line_stays : (w : ℕ) (newer past : List Entry) → IsLawfulPast (newer ++ past) → w ≤ clock past
     → IsClear w (entries past)
@@ -132,7 +135,7 @@ line_stays w newer past l le c k low i =
     let same : e.0.key.stamp ≡ k.stamp = ap (λ (x : Key). x.stamp) e.2 in
     let there = (keeps_later w newer past l le c).among e.0 e.1 (omega (arith, same, low)) in
     subst (λ (x : Key). In x (line_of (entries past))) e.2
-        (in_line_back w (entries past) e.0 there e.3 (omega (arith, same, low)) c)
+    (in_line_back w (entries past) e.0 there e.3 (omega (arith, same, low)) c)
 
 -- LISTS BY INDEX
 in_contains : {A : Type 0} (x : A) (xs : List A) → In x xs → Contains xs x
@@ -157,16 +160,16 @@ pub read_items_stay : (own regions : ℕ) (h more : List Entry) (stamp : ℕ)
 read_items_stay own regions h more stamp lawful at clear key low c =
     let same = (dated-is_dated own (h ++ more)).same in
     let l : IsLawfulPast (reverse (h ++ more)) = subst (λ (es : List Entry). IsLawfulPast (reverse es)) same
-        (lawful_past own regions (dated own (h ++ more)) lawful) in
+    (lawful_past own regions (dated own (h ++ more)) lawful) in
     let l' : IsLawfulPast (reverse more ++ reverse h) = subst IsLawfulPast (reverse-append h more) l in
     let whole : history.entries (h ++ more) ≡ entries (reverse more ++ reverse h) =
-        entries-of (h ++ more) ∙ ap entries (reverse-append h more) in
+    entries-of (h ++ more) ∙ ap entries (reverse-append h more) in
     let inside : In key (line_of (entries (reverse more ++ reverse h))) =
-        subst (λ (es : List Standing). In key (line_of es)) whole
-            (contains_in key (history.line (h ++ more)) c.0 c.1 c.2) in
+    subst (λ (es : List Standing). In key (line_of es)) whole
+    (contains_in key (history.line (h ++ more)) c.0 c.1 c.2) in
     let cleared : IsClear stamp (entries (reverse h)) =
-        subst (IsClear stamp) (entries-of h) (λ e i o. all_in
-            (λ (x : Standing). x.settled ≡ false → stamp < x.key.stamp) (history.entries h) clear e i o) in
+    subst (IsClear stamp) (entries-of h) (λ e i o. all_in
+    (λ (x : Standing). x.settled ≡ false → stamp < x.key.stamp) (history.entries h) clear e i o) in
     let le : stamp ≤ clock (reverse h) = subst (λ n. stamp ≤ n) (clock-of h) at in
     in_contains key (history.line h) (subst (λ (es : List Standing). In key (line_of es)) (sym (entries-of h))
-        (line_stays stamp (reverse more) (reverse h) l' le cleared key low inside))
+    (line_stays stamp (reverse more) (reverse h) l' le cleared key low inside))

@@ -29,28 +29,30 @@ use Rattle.lawful_run.specs.Columns.{IsColumnReport}
 use Rattle.lawful_run.specs.Refusals.{kept_before}
 use Rattle.lawful_run.specs.Explains.{Explains}
 use Rattle.lawful_run.specs.Lawful.{LawfulRun}
-use Rattle.lawful_run.specs.Readings.{kept_at, Told, Nowhere, UnderAt, StoodAt, Under, Perhaps, told, IsAppend, StandsAtEnd, StandsAtPoints, StandsAs, ReturnedAppendsStand}
+use Rattle.lawful_run.specs.Readings.{kept_at, kept_of, Told, Nowhere, UnderAt, StoodAt, Under, Perhaps, told, IsAppend, StandsAtEnd, StandsAtPoints, StandsAs, ReturnedAppendsStand}
 use Rattle.lawful_run.proofs.Replies.{Step, step_of}
 use Rattle.lawful_run.proofs.Traces.{one_of}
+use Rattle.lawful_run.proofs.Uses.{before_ids}
+use Rattle.lawful_run.proofs.Clients.{IsShown, shown_there}
 
 -- what a command asks does not rest on a read that it lets go
-asks_before : (caller : Caller) (what : What) (kept : Kept) (colours : Colours) (text : List ℕ) → AsksToAppend caller (kept_before what kept) what colours text
-    → AsksToAppend caller kept what colours text × ((kept_before what kept).ids ≡ kept.ids)
-asks_before caller (whats.Append asked given) kept colours text a = (a, refl)
-asks_before caller (whats.Stop steps asked given) kept colours text a = (a, refl)
+asks_before : (caller : Caller) (what : What) (kept : Kept) (colours : Colours) (text : List ℕ)
+    → AsksToAppend caller (kept_before what kept) what colours text → AsksToAppend caller kept what colours text
+asks_before caller (whats.Append asked given) kept colours text a = a
+asks_before caller (whats.Stop steps asked given) kept colours text a = a
 asks_before caller (whats.Sync colour) kept colours text a = absurd a
 asks_before caller (whats.Scan asked) kept colours text a = absurd a
 asks_before caller (whats.Pull region colour) kept colours text a = absurd a
 asks_before caller (whats.Trim colour) kept colours text a = absurd a
-asks_before caller (whats.Put object key value) kept colours text a = (a, refl)
+asks_before caller (whats.Put object key value) kept colours text a = a
 asks_before caller (whats.Get object key) kept colours text a = absurd a
-asks_before caller (whats.Del object key) kept colours text a = (a, refl)
-asks_before caller (whats.PutAll object pairs) kept colours text a = (a, refl)
+asks_before caller (whats.Del object key) kept colours text a = a
+asks_before caller (whats.PutAll object pairs) kept colours text a = a
 asks_before caller (whats.GetAll object keys) kept colours text a = absurd a
 asks_before caller (whats.Read object keys) kept colours text a = absurd a
-asks_before caller (whats.Commit object pairs) kept colours text a = (a, refl)
-asks_before caller (whats.Enq object value) kept colours text a = (a, refl)
-asks_before caller (whats.Deq object) kept colours text a = (a, refl)
+asks_before caller (whats.Commit object pairs) kept colours text a = a
+asks_before caller (whats.Enq object value) kept colours text a = a
+asks_before caller (whats.Deq object) kept colours text a = a
 
 module _ (script : Script) (report : Report) (run : LawfulRun script report) (client : ℕ) (kept : Kept) where
   abbrev caller : Caller
@@ -106,7 +108,8 @@ module _ (script : Script) (report : Report) (run : LawfulRun script report) (cl
       (e.2.0, e.2.1, e.2.2, at_points e.2.0 e.2.1 stamp row points after e.2.3)
   returned what (answers.StampEnd colour) nodes after e n = absurd (n refl)
   returned what (answers.Full used) nodes after e n = absurd (n refl)
-  returned what (answers.Stopped steps) nodes after e n =
+  returned what (answers.Stopped zero) nodes after e n = absurd (n refl)
+  returned what (answers.Stopped (suc steps)) nodes after e n =
       (e.1, e.2, subst (λ (w : What). AsksToAppend caller kept w e.1 e.2) (sym e.3) (refl, refl), tt)
   returned what (answers.Synced sync plays) nodes after e n = absurd (n refl)
   returned what (answers.Scanned stamp count raises syncs) nodes after e n = absurd (n refl)
@@ -138,17 +141,30 @@ module _ (script : Script) (report : Report) (run : LawfulRun script report) (cl
 
 pub returned_appends_stand : ReturnedAppendsStand
 returned_appends_stand script report run client k shown reply of_client there n =
-    let s = step_of (run.clients client shown of_client).explained k reply there in
+    let c = shown_there run client shown of_client in
+    let replied : slice_get c.0.shown.replies k ≡ Some reply = ap (λ (x : ClientReport). slice_get x.replies k) c.1 ∙ there in
+    let s = step_of (run.clients client c.0.shown c.0.of_client).explained k reply replied in
     let step = s.0 in
     let is = s.1 in
-    let kept = kept_at (run.clients client shown of_client).explained k in
+    let kept = kept_at (run.clients client c.0.shown c.0.of_client).explained k in
+    let same = c.0.numbered k in
+    let own = (caller_of script client).own in
     let r = returned script report run client (kept_before step.command.what kept) step.command.what step.reply.answer step.reply.nodes
     step.answers.answered step.answers.explained (subst (λ (x : ReplyLine). told x.answer ≢ Nowhere) (sym is) n) in
     let asks = asks_before (caller_of script client) step.command.what kept r.0 r.1 r.2 in (
-      record { client = client; count = kept.ids },
+      record { client = client; count = (kept_of run client k).ids },
       r.0,
       r.1,
-      record { shown = shown; of_client = of_client; replied = there; command = step.command; asked = step.asked; asks = asks.0; id_is = refl },
-      subst (λ (x : ReplyLine). StandsAs report (caller_of script client).own (record { client = client; count = kept.ids }) r.0 (told x.answer)) is
-          (subst (λ (c : ℕ). StandsAs report (caller_of script client).own (record { client = client; count = c }) r.0 (told step.reply.answer)) asks.1 r.3),
+      record {
+        shown = c.0.shown;
+        of_client = c.0.of_client;
+        replied = replied;
+        command = step.command;
+        asked = step.asked;
+        asks = subst (λ (x : Kept). AsksToAppend (caller_of script client) x step.command.what r.0 r.1) (sym same) asks;
+        id_is = refl;
+      },
+      subst (λ (x : ReplyLine). StandsAs report own (record { client = client; count = (kept_of run client k).ids }) r.0 (told x.answer)) is
+          (subst (λ (m : ℕ). StandsAs report own (record { client = client; count = m }) r.0 (told step.reply.answer))
+          (before_ids step.command.what kept ∙ ap (λ (x : Kept). x.ids) (sym same)) r.3),
     )

@@ -35,6 +35,7 @@ use Rattle.lawful_run.proofs.Prefixes.{get_within}
 use Rattle.lawful_run.proofs.Listed.{to_in, from_in, in_get, get_in, same_one, in_map, in_map_back, in_flat_map, in_range}
 use Rattle.lawful_run.proofs.Entered.{HasSingle, HasProposal, HasSettling, CameIn, by_single, by_settling, came_in, one_in_line}
 use Rattle.lawful_run.proofs.Traces.{IsSingleAt}
+use Rattle.lawful_run.proofs.Clients.{IsShown, shown_there, get_there}
 use Rattle.lawful_run.proofs.Origins.{Origin, AloneAt, id_origin, alone_origin}
 
 -- the places of a client's own events have them
@@ -53,27 +54,22 @@ places_there client (d ∷ h) p (suc n) e there own =
     choice (λ (l : List ℕ). In (p + suc n) l) ((d.by == client) && is_own client d.event) (p ∷ places_from (p + 1) client h) (places_from (p + 1) client h)
     (λ t. inr moved) (λ f. moved)
 
-get_there : {A : Type 0} (xs : List A) (n : ℕ) → n < length xs → (x : A) × (slice_get xs n ≡ Some x)
-get_there [] n lt = absurd (let f : ⊥ = omega (arith, lt) in f)
-get_there (x ∷ xs) zero lt = (x, refl)
-get_there (x ∷ xs) (suc n) lt = get_there xs n (omega (arith, lt))
-
 -- the command of a key in a line, and how the key came in
 pub record Stands {script : Script} {report : Report} (run : LawfulRun script report) (region colour : ℕ) (key : Key) : Type 0 where
   pub own : (caller_of script key.id.client).own ≡ region
-  pub shown : ClientReport
-  pub of_client : slice_get report.clients key.id.client ≡ Some shown
-  pub origin : Origin (run.clients key.id.client shown of_client).explained key.id
+  pub client : IsShown run key.id.client
+  pub origin : Origin (run.clients key.id.client client.shown client.of_client).explained key.id
   pub among : In colour (members origin.colours)
   pub stands : told origin.step.reply.answer ≢ Nowhere
   pub came : (HasSingle (run.log.histories region colour) key.id × (members origin.colours ≡ colour ∷ []))
       ⊎ ((r : BegunRow) × In r (run.log.rows region) × (r.node.id ≡ key.id) × (r.last ≡ Final key.stamp))
 
 module _ (script : Script) (report : Report) (fits : IsFitting script) (run : LawfulRun script report) where
-  client_shown : (n : ℕ) → n < length script.clients → (c : ClientReport) × (slice_get report.clients n ≡ Some c)
+  client_shown : (n : ℕ) → n < length script.clients → IsShown run n
   client_shown n lt =
       let long : length report.clients ≡ length script.clients = sym (length-map report.clients (λ (c : ClientReport). c.name)) ∙ ap length run.names in
-      get_there report.clients n (omega (arith, lt, long))
+      let c = get_there report.clients n (omega (arith, lt, long)) in
+      (shown_there run n c.0 c.1).0
 
   pub column_is : (column : ColumnReport) → Contains report.columns column → IsColumnReport run.log script column
   column_is column there = All-contains (IsColumnReport run.log script) report.columns column run.columns.each there
@@ -96,7 +92,7 @@ module _ (script : Script) (report : Report) (fits : IsFitting script) (run : La
   -- singles
   abbrev Alone : ℕ → ℕ → Id → ℕ → Type 0
   Alone region colour id n =
-      (shown : ClientReport) × (of_client : slice_get report.clients n ≡ Some shown) × AloneAt (run.clients n shown of_client).explained region colour id
+      (c : IsShown run n) × AloneAt (run.clients n c.shown c.of_client).explained region colour id
 
   single_of : (region colour : ℕ) → region < script.shape.regions → colour < script.shape.colours
       → All (λ (e : Entry). e.by < length script.clients) (run.log.histories region colour) → (id : Id) → HasSingle (run.log.histories region colour) id
@@ -109,17 +105,17 @@ module _ (script : Script) (report : Report) (fits : IsFitting script) (run : La
       let is = s.is in
       let own : ((by == by) && is_own by s.entry.event) ≡ true =
       ap (λ b. b && is_own by s.entry.event) (eq-eqb by by refl) ∙ ap (is_own by) is in
-      let made = subst (λ (l : List ℕ). In at.0 l) ((run.clients by c.0 c.1).made region colour lr lc)
+      let made = subst (λ (l : List ℕ). In at.0 l) ((run.clients by c.shown c.of_client).made region colour lr lc)
       (subst (λ m. In m (places_of by h)) (let g : 0 + at.0 ≡ at.0 = omega arith in g) (places_there by h 0 at.0 s.entry at.1 own)) in
-      let alone = alone_origin (run.clients by c.0 c.1).explained region colour at.0 id
+      let alone = alone_origin (run.clients by c.shown c.of_client).explained region colour at.0 id
       (record { entry = s.entry; floor = s.floor; wants = s.wants; there = at.1; single = is }) (from_in _ at.0 made) in
       let client : id.client ≡ by = ap (λ (i : Id). i.client) alone.origin.id_is in
-      subst (Alone region colour id) (sym client) (c.0, c.1, alone)
+      subst (Alone region colour id) (sym client) (c, alone)
 
   -- rows
   abbrev RowOf : BegunRow → ℕ → Type 0
   RowOf r n =
-      (shown : ClientReport) × (of_client : slice_get report.clients n ≡ Some shown) × Origin (run.clients n shown of_client).explained r.node.id
+      (c : IsShown run n) × Origin (run.clients n c.shown c.of_client).explained r.node.id
 
   row_of : (region : ℕ) → region < script.shape.regions → (r : BegunRow) → In r (run.log.rows region)
       → ((caller_of script r.node.id.client).own ≡ region) × RowOf r r.node.id.client
@@ -132,14 +128,14 @@ module _ (script : Script) (report : Report) (fits : IsFitting script) (run : La
       let less = o.0 in
       let long = fits.clients in
       let c = client_shown n (omega (arith, less, long)) in
-      let k = run.clients n c.0 c.1 in
+      let k = run.clients n c.shown c.of_client in
       let node = k.row_nodes r (subst (λ (x : ℕ). Contains (run.log.rows x) r) (sym o.1) there) refl in
       let within = get_within (run.log.nodes n) r.node.id.count r.node node in
       let all = k.nodes in
       let origin = id_origin k.explained r.node.id.count (omega (arith, within, all)) in
       let client = fit.client in (
         ap (λ (m : ℕ). (caller_of script m).own) client ∙ o.1,
-        subst (RowOf r) (sym client) (c.0, c.1, subst (λ (i : Id). Origin k.explained i) (ap (λ (m : ℕ). record { client = m; count = r.node.id.count }) (sym client)) origin),
+        subst (RowOf r) (sym client) (c, subst (λ (i : Id). Origin k.explained i) (ap (λ (m : ℕ). record { client = m; count = r.node.id.count }) (sym client)) origin),
       )
 
   -- the node of an origin
@@ -166,13 +162,12 @@ module _ (script : Script) (report : Report) (fits : IsFitting script) (run : La
     turn : CameIn (run.log.histories region colour) key → Stands run region colour key
     turn (by_single s) =
         let a = single_of region colour lr lc makers key.id s in record {
-          own = sym a.2.own;
-          shown = a.0;
-          of_client = a.1;
-          origin = a.2.origin;
-          among = subst (λ (l : List ℕ). In colour l) (sym a.2.only) (inl refl);
-          stands = a.2.stands;
-          came = inl (s, a.2.only);
+          own = sym a.1.own;
+          client = a.0;
+          origin = a.1.origin;
+          among = subst (λ (l : List ℕ). In colour l) (sym a.1.only) (inl refl);
+          stands = a.1.stands;
+          came = inl (s, a.1.only);
         }
     turn (by_settling p s) =
         let rows = run.log.rows region in
@@ -182,11 +177,10 @@ module _ (script : Script) (report : Report) (fits : IsFitting script) (run : La
         let r = f.1 in
         let one : g.1 ≡ r = same_one (λ (x : BegunRow). x.node.id) rows lawful.ids_differ g.0 f.0 g.1 r g.2 f.2 (g.3 ∙ sym f.3) in
         let o = row_of region lr r (get_in rows f.0 r f.2) in
-        let o' = subst (λ (i : Id). ((caller_of script i.client).own ≡ region) × (shown : ClientReport)
-        × (of_client : slice_get report.clients i.client ≡ Some shown) × Origin (run.clients i.client shown of_client).explained i) f.3
-        (o.0, o.1.0, o.1.1, o.1.2) in
-        let origin = o'.3 in
-        let kept_node = origin_node key.id.client o'.1 o'.2 key.id refl origin in
+        let o' = subst (λ (i : Id). ((caller_of script i.client).own ≡ region)
+        × (c : IsShown run i.client) × Origin (run.clients i.client c.shown c.of_client).explained i) f.3 (o.0, o.1.0, o.1.1) in
+        let origin = o'.2 in
+        let kept_node = origin_node key.id.client o'.1.shown o'.1.of_client key.id refl origin in
         let there : slice_get (run.log.nodes r.node.id.client) r.node.id.count ≡ Some r.node = row_node r (get_in rows f.0 r f.2) in
         let there' : slice_get (run.log.nodes key.id.client) key.id.count ≡ Some r.node =
         subst (λ (i : Id). slice_get (run.log.nodes i.client) i.count ≡ Some r.node) f.3 there in
@@ -196,8 +190,7 @@ module _ (script : Script) (report : Report) (fits : IsFitting script) (run : La
         ap (λ (x : BegunRow). members x.node.colours) one ∙ ap (λ (x : Node). members x.colours) node in
         record {
           own = o'.0;
-          shown = o'.1;
-          of_client = o'.2;
+          client = o'.1;
           origin = origin;
           among = subst (λ (l : List ℕ). In colour l) colours (get_in (members g.1.node.colours) g.6 colour g.7);
           stands = stood r (get_in rows f.0 r f.2) f.4 origin.fate (ap (λ (x : Node). x.id) node) o'.0;
@@ -212,7 +205,7 @@ module _ (script : Script) (report : Report) (fits : IsFitting script) (run : La
               let long = fits.clients in
               let c = client_shown r.row.client (omega (arith, less, long)) in
               ap (λ (m : ℕ). slice_get (run.log.nodes m) r.node.id.count) fit.client
-              ∙ (run.clients r.row.client c.0 c.1).row_nodes r (subst (λ (x : ℕ). Contains (run.log.rows x) r) (sym o.1) there) refl
+              ∙ (run.clients r.row.client c.shown c.of_client).row_nodes r (subst (λ (x : ℕ). Contains (run.log.rows x) r) (sym o.1) there) refl
 
           stood : {tells : _} (r : BegunRow) → In r (run.log.rows region) → r.last ≡ Final key.stamp
               → {node : Node} → (tells ≢ Nowhere) ⊎ ((why : _) × HasOutcome run.log node (Gone why)) → r.node.id ≡ node.id → node.region ≡ region → tells ≢ Nowhere

@@ -188,7 +188,7 @@ module _ (log : Log) (caller : Caller) where
     none : (colour place : ℕ) (id : Id) → Contains (h.places colour) place → IsSingleAt log caller.own colour place id → ⊥
     none colour place id i =
         let r = All-contains (λ (p : ℕ). Contains colours colour × RaisesAt log caller kept h.stamp colour (ats.Event p))
-            (h.places colour) place (h.raises colour) i in
+        (h.places colour) place (h.raises colour) i in
         no_single log caller.own colour place id _ r.1.2 tt
 
     before : Quiet log kept h.synced

@@ -199,9 +199,14 @@ module _ (log : Log) (caller : Caller) (kept : Kept) (what : What) (colours : Co
   no_stamp_use tells colour after (none_for_several places g) =
       inr (uses_row tells places (with_row kept) refl refl (inr (StampEnd, g.outcome)) g.begins)
 
-  stop_use : (tells : Told) (steps : ℕ) (after : Kept) → tells ≢ Nowhere → Stops log caller kept node steps after → Leaves log caller kept what tells after
+  stop_use : (tells : Told) (steps : ℕ) (after : Kept) → (0 < steps → tells ≢ Nowhere) → Stops log caller kept node steps after → Leaves log caller kept what tells after
   stop_use tells steps after stands stopped_at_once = inl (quiet_self log kept)
-  stop_use tells steps after stands (stopped_after n places s) = inr (uses_row tells places (with_row kept) refl refl (inl stands) s.begins)
+  stop_use tells steps after stands (stopped_after n places s) =
+      inr (uses_row tells places (with_row kept) refl refl (inl (stands (omega arith))) s.begins)
+
+  pub stop_used : (steps : ℕ) (after : Kept) → 0 < steps → Stops log caller kept node steps after → after.ids ≡ kept.ids + 1
+  stop_used steps after more stopped_at_once = absurd (let f : ⊥ = omega (arith, more) in f)
+  stop_used steps after more (stopped_after n places s) = refl
 
 memory_use : (log : Log) (caller : Caller) (kept : Kept) (what : What) (tells : Told) (after : Kept) → FindsNoMemory log caller kept what after → Leaves log caller kept what tells after
 memory_use log caller kept what tells after nothing = inl (quiet_self log kept)
@@ -223,9 +228,12 @@ explained_use log caller kept what (answers.Stood stamp row points) nodes after 
 explained_use log caller kept what (answers.StampEnd colour) nodes after e =
     no_stamp_use log caller kept what e.2.0 e.2.1 e.2.2 _ colour after e.2.3
 explained_use log caller kept what (answers.Full used) nodes after e = inl (quiet_is e.2)
-explained_use log caller kept what (answers.Stopped steps) nodes after e =
+explained_use log caller kept what (answers.Stopped zero) nodes after e =
     stop_use log caller kept what e.1 e.2
-    (subst (λ (w : What). AsksToAppend caller kept w e.1 e.2) (sym e.3) (refl, refl)) _ steps after (λ f. absurd cc) e.4
+    (subst (λ (w : What). AsksToAppend caller kept w e.1 e.2) (sym e.3) (refl, refl)) _ 0 after (λ lt. absurd (let f : ⊥ = omega (arith, lt) in f)) e.4
+explained_use log caller kept what (answers.Stopped (suc steps)) nodes after e =
+    stop_use log caller kept what e.1 e.2
+    (subst (λ (w : What). AsksToAppend caller kept w e.1 e.2) (sym e.3) (refl, refl)) _ (suc steps) after (λ _ f. absurd cc) e.4
 explained_use log caller kept what (answers.Synced sync plays) nodes after e = inl (quiet_to _ after e.4 (quiet_same log kept _ refl refl))
 explained_use log caller kept what (answers.Scanned stamp count raises syncs) nodes after e = inl (read log caller kept _ stamp raises syncs after e.3)
 explained_use log caller kept what (answers.Pulled count give carry) nodes after e = inl (pulls log caller kept e.1 e.2 count e.4 carry e.6 after e.7 e.8)
@@ -262,6 +270,46 @@ explained_use log caller kept what (answers.UnreadNoMemory stamp) nodes after e 
 explained_use log caller kept what (answers.Trimmed colour base) nodes after e = inl (hides log caller kept _ _ after e.4)
 explained_use log caller kept what (answers.NotHome home) nodes after e = inl (quiet_is e.1)
 
+-- an answer that tells of a node has used an id
+explained_used : (log : Log) (caller : Caller) (kept : Kept) (what : What) (answer : Answer) (nodes : List PlacedNode) (after : Kept)
+    → Explains log caller kept what answer nodes after → told answer ≢ Nowhere → after.ids ≡ kept.ids + 1
+explained_used log caller kept what answers.NoMemory nodes after e n = absurd (n refl)
+explained_used log caller kept what (answers.Stood stamp row points) nodes after e n =
+    (appends_use log caller kept what e.2.0 e.2.1 e.2.2 _ stamp row points after n e.2.3).ids
+explained_used log caller kept what (answers.StampEnd colour) nodes after e n = absurd (n refl)
+explained_used log caller kept what (answers.Full used) nodes after e n = absurd (n refl)
+explained_used log caller kept what (answers.Stopped zero) nodes after e n = absurd (n refl)
+explained_used log caller kept what (answers.Stopped (suc steps)) nodes after e n =
+    stop_used log caller kept what e.1 e.2
+    (subst (λ (w : What). AsksToAppend caller kept w e.1 e.2) (sym e.3) (refl, refl)) (suc steps) after (omega arith) e.4
+explained_used log caller kept what (answers.Synced sync plays) nodes after e n = absurd (n refl)
+explained_used log caller kept what (answers.Scanned stamp count raises syncs) nodes after e n = absurd (n refl)
+explained_used log caller kept what (answers.Pulled count give carry) nodes after e n = absurd (n refl)
+explained_used log caller kept what answers.SameRegion nodes after e n = absurd (n refl)
+explained_used log caller kept what (answers.Based shown base) nodes after e n = absurd (n refl)
+explained_used log caller kept what (answers.Got value sync) nodes after e n = absurd (n refl)
+explained_used log caller kept what (answers.GotMany values sync) nodes after e n = absurd (n refl)
+explained_used log caller kept what (answers.GotKeys stamp shown raises syncs) nodes after e n = absurd (n refl)
+explained_used log caller kept what (answers.Ruled conflict stamp row points read_stamp raises syncs) nodes after e n =
+    let a = e.2 in
+    let s = a.3 in
+    (uses_then (appends_use log caller kept what a.0 a.1 a.2 _ s.0 row points s.1 n s.2) (read log caller s.1 _ read_stamp raises syncs after s.3)).ids
+explained_used log caller kept what answers.NoTx nodes after e n = absurd (n refl)
+explained_used log caller kept what (answers.Took value point sync) nodes after e n =
+    let a = e.3 in
+    let s = a.3 in
+    ap (λ (k : Kept). k.ids) s.5 ∙ (appends_use log caller kept what a.0 a.1 a.2 _ s.0 None (point ∷ []) s.1 n s.2).ids
+explained_used log caller kept what (answers.UnreadTrimmed stamp colour base) nodes after e n =
+    let a = e.3 in
+    let s = a.3 in
+    (uses_then (unshown_use log caller kept what a.0 a.1 a.2 _ stamp s.0 n s.1) (hides log caller s.0 _ _ after s.3)).ids
+explained_used log caller kept what (answers.UnreadNoMemory stamp) nodes after e n =
+    let a = e.2 in
+    let s = a.3 in
+    (uses_then (unshown_use log caller kept what a.0 a.1 a.2 _ stamp s.0 n s.1) (hides log caller s.0 _ _ after s.2)).ids
+explained_used log caller kept what (answers.Trimmed colour base) nodes after e n = absurd (n refl)
+explained_used log caller kept what (answers.NotHome home) nodes after e n = absurd (n refl)
+
 -- a read that lets an earlier one go uses no id
 before_use : (log : Log) (caller : Caller) (what : What) (kept : Kept) (tells : Told) (after : Kept)
     → Leaves log caller (kept_before what kept) what tells after → Leaves log caller kept what tells after
@@ -281,6 +329,23 @@ before_use log caller (whats.Read object keys) kept tells after (inr u) = absurd
 before_use log caller (whats.Commit object pairs) kept tells after l = l
 before_use log caller (whats.Enq object value) kept tells after l = l
 before_use log caller (whats.Deq object) kept tells after l = l
+
+pub before_ids : (what : What) (kept : Kept) → (kept_before what kept).ids ≡ kept.ids
+before_ids (whats.Append colours text) kept = refl
+before_ids (whats.Stop steps colours text) kept = refl
+before_ids (whats.Sync colour) kept = refl
+before_ids (whats.Scan colours) kept = refl
+before_ids (whats.Pull region colour) kept = refl
+before_ids (whats.Trim colour) kept = refl
+before_ids (whats.Put object key value) kept = refl
+before_ids (whats.Get object key) kept = refl
+before_ids (whats.Del object key) kept = refl
+before_ids (whats.PutAll object pairs) kept = refl
+before_ids (whats.GetAll object keys) kept = refl
+before_ids (whats.Read object keys) kept = refl
+before_ids (whats.Commit object pairs) kept = refl
+before_ids (whats.Enq object value) kept = refl
+before_ids (whats.Deq object) kept = refl
 
 behind_quiet : (log : Log) (what : What) (kept : Kept) → Quiet log kept (kept_behind what kept)
 behind_quiet log (whats.Append colours text) kept = quiet_self log kept
@@ -312,3 +377,11 @@ answer_use log caller kept command reply after a =
           → Leaves log caller (kept_before command.what kept) command.what (told reply.answer) after
       turn (inl q) = inl (quiet_then q last)
       turn (inr u) = inr (uses_then u last)
+
+-- a read that lets an earlier one go, and a commit that uses its read up, use no id
+pub answer_used : (log : Log) (caller : Caller) (kept : Kept) (command : Command) (reply : ReplyLine) (after : Kept) → Answers log caller kept command reply after
+    → told reply.answer ≢ Nowhere → after.ids ≡ kept.ids + 1
+answer_used log caller kept command reply after a n =
+    let last = behind_quiet log command.what a.answered in
+    let used = explained_used log caller (kept_before command.what kept) command.what reply.answer reply.nodes a.answered a.explained n in
+    ap (λ (k : Kept). k.ids) a.after_is ∙ (last.ids ∙ (used ∙ ap (λ i. i + 1) (before_ids command.what kept)))

@@ -154,7 +154,7 @@ pub record IsGoneAtEnd (log : Log) (caller : Caller) (kept : Kept) (node : Node)
   pub fence : HasMark log node colour (marks.Fenced StampEnd)
   pub least : All (λ other. other < colour
       → (mark : Mark) × (mark ≢ marks.None) × (mark ≢ marks.Fenced StampEnd) × HasMark log node other mark)
-          (members node.colours)
+      (members node.colours)
   pub settled : IsSettled log caller node
 
 -- No stamp was left for the append in this colour; and what the client then keeps.

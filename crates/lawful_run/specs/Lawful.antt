@@ -64,7 +64,7 @@ pub record HasStopped (report : Report) (client : ℕ) : Type 0 where
 pub record LeavesOpen (log : Log) (script : Script) (report : Report) : Type 0 where
   pub ids : (region colour : ℕ) → region < script.shape.regions → colour < script.shape.colours
       → All (λ (e : Standing). IsTrue e.settled ⊎ HasStopped report e.key.id.client)
-          (entries (log.histories region colour))
+      (entries (log.histories region colour))
   pub rows : (region : ℕ) → region < script.shape.regions
       → All (λ (r : BegunRow). r.last ≡ Open → HasStopped report r.row.client) (log.rows region)
 

@@ -18,7 +18,7 @@ use Rattle.lawful_run.specs.Explains.{Explained}
 abbrev pub ExplanationsLast : Type 0
 ExplanationsLast =
     (old new : Log) → IsLater old new → (caller : Caller) (commands : List Command) (replies : List ReplyLine)
-        (kept : Kept)
+    (kept : Kept)
     → Explained old caller commands replies kept → Explained new caller commands replies kept
 
 -- Where the clock is at a stamp and no open entry up to it is left, no key up to it comes into the line any more: what

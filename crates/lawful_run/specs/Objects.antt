@@ -66,7 +66,7 @@ shown_verdict (Some key) stamp = Conflict key stamp
 abbrev pub places_within : Counts → List Place
 places_within snapshot =
     flat_map (λ region. map (λ position. record { region = region; position = position })
-        (range_with_len 0 (at snapshot region))) all_regions
+    (range_with_len 0 (at snapshot region))) all_regions
 
 -- the node at the place, with its needs and its text
 pub record IsChainNode (log : Log) (chains : Chains) (place : Place) (node : ChainNode) : Type 0 where

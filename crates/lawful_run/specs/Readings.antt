@@ -1,5 +1,5 @@
 -- What a reader takes from the report of a lawful run.
-use Rattle.std.specs.Prelude.{◌≡◌, ◌≢◌, IsTrue, ℕ, ◌+◌, ◌==◌, ◌<◌, ◌≤◌, List, [], ◌∷◌, length, map, Some, slice_get, if◌then◌else◌}
+use Rattle.std.specs.Prelude.{◌≡◌, ◌≢◌, IsTrue, ℕ, zero, suc, ◌+◌, ◌==◌, ◌<◌, ◌≤◌, List, [], ◌∷◌, length, map, Option, Some, None, slice_get, refl, if◌then◌else◌}
 use Rattle.std.specs.List.{Contains}
 use Rattle.log_node.specs.declared.ids.Id.{Id}
 use Rattle.log_node.specs.declared.ids.Key.{Key}
@@ -26,12 +26,21 @@ use Rattle.lawful_run.specs.Asks.{AsksToAppend}
 use Rattle.lawful_run.specs.Explains.{Explained, start, next}
 use Rattle.lawful_run.specs.Lawful.{LawfulRun}
 
--- what a client keeps after so many of its commands
+-- what a client whose replies are explained keeps after so many of its commands
 abbrev pub kept_at : {log : Log} {caller : Caller} {commands : List Command} {replies : List ReplyLine} {kept : Kept}
     → Explained log caller commands replies kept → ℕ → Kept
 kept_at start k = nothing_kept
 kept_at (next {commands} {replies} {kept} {after} command reply before answers) k =
     if k == length replies + 1 then after else kept_at before k
+
+-- what a client of the report keeps after so many of its commands
+abbrev pub kept_in : {script : Script} {report : Report} → LawfulRun script report → (client : ℕ) (shown : Option ClientReport)
+    → slice_get report.clients client ≡ shown → ℕ → Kept
+kept_in run client None there k = nothing_kept
+kept_in run client (Some shown) there k = kept_at (run.clients client shown there).explained k
+
+abbrev pub kept_of : {script : Script} {report : Report} → LawfulRun script report → ℕ → ℕ → Kept
+kept_of {script} {report} run client k = kept_in run client (slice_get report.clients client) refl k
 
 -- The client's command number k asks for a node with this id, on these colours and with this text, and has this reply.
 pub record IsAppend {script : Script} {report : Report} (run : LawfulRun script report) (client k : ℕ) (reply : ReplyLine)
@@ -41,8 +50,8 @@ pub record IsAppend {script : Script} {report : Report} (run : LawfulRun script 
   pub replied : slice_get shown.replies k ≡ Some reply
   pub command : Command
   pub asked : slice_get (commands_of script client) k ≡ Some command
-  pub asks : AsksToAppend (caller_of script client) (kept_at (run.clients client shown of_client).explained k) command.what colours text
-  pub id_is : id ≡ record { client = client; count = (kept_at (run.clients client shown of_client).explained k).ids }
+  pub asks : AsksToAppend (caller_of script client) (kept_of run client k) command.what colours text
+  pub id_is : id ≡ record { client = client; count = (kept_of run client k).ids }
 
 -- what an answer tells of a node that its command appended
 pub data Told : Type 0 where
@@ -63,7 +72,8 @@ told (answers.Ruled conflict stamp row points read_stamp raises syncs) = StoodAt
 told (answers.Took value point sync) = StoodAt (point ∷ [])
 told (answers.UnreadTrimmed stamp colour base) = Under stamp
 told (answers.UnreadNoMemory stamp) = Under stamp
-told (answers.Stopped steps) = Perhaps
+told (answers.Stopped zero) = Nowhere
+told (answers.Stopped (suc steps)) = Perhaps
 told answers.NoMemory = Nowhere
 told (answers.StampEnd colour) = Nowhere
 told (answers.Full used) = Nowhere
@@ -140,14 +150,21 @@ NothingElseStands =
     × IsAppend run key.id.client k reply key.id colours text × Contains (members colours) column.colour
     × ((caller_of script key.id.client).own ≡ column.region) × (told reply.answer ≢ Nowhere)
 
--- A node line shows the text that the command of its id appended.
+-- A node line shows the text that the command of its id appended, whose answer does not say that there is none.
 abbrev pub ShownAsAppended : Type 0
 ShownAsAppended =
     (script : Script) (report : Report) → IsFitting script → (run : LawfulRun script report) (client : ℕ) (shown : ClientReport)
     (reply : ReplyLine) (item : PlacedNode) → slice_get report.clients client ≡ Some shown → Contains shown.replies reply
     → Contains reply.nodes item
     → (k : ℕ) × (other : ReplyLine) × (colours : Colours)
-    × IsAppend run item.head.key.id.client k other item.head.key.id colours item.node.text
+    × IsAppend run item.head.key.id.client k other item.head.key.id colours item.node.text × (told other.answer ≢ Nowhere)
+
+-- An id is of one command alone.
+abbrev pub OneCommand : Type 0
+OneCommand =
+    (script : Script) (report : Report) (run : LawfulRun script report) (client k m : ℕ) (reply other : ReplyLine) (id : Id)
+    (colours set : Colours) (text words : List ℕ) → IsAppend run client k reply id colours text
+    → IsAppend run client m other id set words → told reply.answer ≢ Nowhere → told other.answer ≢ Nowhere → k ≡ m
 
 -- No id is shown twice among the node lines of a client's syncs of one colour.
 abbrev pub ShownOnce : Type 0

@@ -69,13 +69,13 @@ pub record IsTrimmed (log : Log) (caller : Caller) (kept : Kept) (colour : ℕ) 
   pub below : IsFalse (is_within shown (kept.starts colour))
 
 -- A raise to a stamp is the client's own event at the place, which was not seen before; or after so many events, no
--- fewer than were seen, the clock is at the stamp already.
+-- fewer than were seen, the clock is at the stamp already. The nodes that the client knew to stand there stand by then.
 abbrev pub RaisesAt : Log → Caller → Kept → ℕ → ℕ → At → Type 0
 RaisesAt log caller kept stamp colour (Event place) =
     (kept.seen caller.own colour ≤ place)
     × (kept.known colour ≤ length (line (take place (log.histories caller.own colour))))
     × (slice_get (log.histories caller.own colour) place
-        ≡ Some (record { by = caller.client; event = Raise stamp; stamp = 0 }))
+    ≡ Some (record { by = caller.client; event = Raise stamp; stamp = 0 }))
 RaisesAt log caller kept stamp colour (Look events) =
     (kept.seen caller.own colour ≤ events) × (events ≤ length (log.histories caller.own colour))
     × (kept.known colour ≤ length (line (take events (log.histories caller.own colour))))

@@ -1,6 +1,6 @@
 // Laws of explanations, and of what a reader takes from a report.
 ghost use Rattle.lawful_run.specs.Laws.{ExplanationsLast, ReadItemsLast};
-ghost use Rattle.lawful_run.specs.Readings.{ClosingLinesRise, NothingElseStands, OneKey, OneOrder, ReturnedAppendsStand};
+ghost use Rattle.lawful_run.specs.Readings.{ClosingLinesRise, NothingElseStands, OneCommand, OneKey, OneOrder, ReturnedAppendsStand, ShownAsAppended, ShownOnce};
 
 /// What a log explains to a client, each later log explains as well.
 pub fn explanations_last()
@@ -28,6 +28,11 @@ pub fn one_key()
     ensures { OneKey }
 {}
 
+/// An id is of one command alone.
+pub fn one_command()
+    ensures { OneCommand }
+{}
+
 /// Two nodes stand in one order in each closing line that has both.
 pub fn one_order()
     ensures { OneOrder }
@@ -36,4 +41,14 @@ pub fn one_order()
 /// Each key of a closing line is of a command of its client that asked for the colour.
 pub fn nothing_else_stands()
     ensures { NothingElseStands }
+{}
+
+/// A node line shows the text that the command of its id appended.
+pub fn shown_as_appended()
+    ensures { ShownAsAppended }
+{}
+
+/// No id is shown twice among the node lines of a client's syncs of one colour.
+pub fn shown_once()
+    ensures { ShownOnce }
 {}
