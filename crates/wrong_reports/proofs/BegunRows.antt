@@ -53,7 +53,7 @@ pub second_row : (first second : List BegunRow) (shown : RowReport) → shown.re
 second_row [] second shown is h = one_row 1 second shown h
 second_row (r ∷ rs) second shown is h =
     absurd (let s : row_report 0 r ≡ shown = cc (h) in let f : 0 ≡ shown.region =
-        ap (λ (t : RowReport). t.region) s in omega (arith, f, is))
+    ap (λ (t : RowReport). t.region) s in omega (arith, f, is))
 
 -- what holds of all rows holds of the one
 pub at_row : {rows : List BegunRow} {shown : RowReport} (P : BegunRow → Type 0) (one : OneRow rows shown)

@@ -12,3 +12,4 @@ pub mod WrongEvents
 pub mod WrongMoves
 pub mod WrongObjects
 pub mod WrongHelping
+pub mod WrongVerdict

@@ -37,7 +37,7 @@ module _ (log : Log) (caller : Caller) where
   -- a trim
   pub trim_says : (kept after : Kept) (line client colour place : ℕ) (base : Counts)
       → Answers log caller kept (asks line client (whats.Trim colour)) (replies line words.Trim (answers.Based
-          (Event place) base)) after
+      (Event place) base)) after
       → Trims log caller kept colour place base × (after ≡ kept_after_event kept caller.own colour place)
   trim_says kept after line client colour place base a =
       let said = a.explained in
@@ -65,7 +65,7 @@ module _ (log : Log) (caller : Caller) where
         subst (λ q. AppendsOne log caller kept (node_of caller kept colours text) colour stamp q position) p
             (subst (λ s. AppendsOne log caller kept (node_of caller kept colours s) colour stamp appends.1 position) t
             (subst (λ cs. AppendsOne log caller kept
-                (node_of caller kept cs said.1) colour stamp appends.1 position) c appends.3)),
+            (node_of caller kept cs said.1) colour stamp appends.1 position) c appends.3)),
         a.after_is ∙ appends.4 ∙ ap (λ q. kept_after_single kept caller.own colour q stamp position) p,
       )
 
@@ -86,7 +86,7 @@ module _ (log : Log) (caller : Caller) where
         appends.1,
         subst (λ s. AppendsSeveral log caller kept (node_of caller kept colours s) stamp points appends.1) t
             (subst (λ cs. AppendsSeveral log caller kept
-                (node_of caller kept cs said.1) stamp points appends.1) c appends.2),
+            (node_of caller kept cs said.1) stamp points appends.1) c appends.2),
         a.after_is ∙ appends.3,
       )
 

@@ -54,7 +54,7 @@ copy : (reply : ReplyLine) (more entries : List Entry) (cut : Counts) (run : Law
     → IsTrueCopy 0 1 (dated 0 (single ∷ more)) (dated 1 entries)
 copy reply more entries cut run =
     let of_e : single ∷ more ≡ run.log.histories 0 0 =
-        (column_at (carries reply more entries cut) run 0 _ refl).history in
+    (column_at (carries reply more entries cut) run 0 _ refl).history in
     let of_w : entries ≡ run.log.histories 1 0 = (column_at (carries reply more entries cut) run 1 _ refl).history in
     subst (λ (es : List Entry). IsTrueCopy 0 1 (dated 0 (single ∷ more)) (dated 1 es)) (sym of_w)
     (subst (λ (es : List Entry). IsTrueCopy 0 1 (dated 0 es) (dated 1 (run.log.histories 1 0))) (sym of_e)

@@ -55,8 +55,12 @@ record Stopped (log : Log) (caller : Caller) (kept : Kept) (node : Node) (steps 
 stopped_says : (log : Log) (caller : Caller) (kept : Kept) (node : Node) (steps : ℕ) (after : Kept) → 0 < steps
     → Stops log caller kept node steps after → Stopped log caller kept node steps after
 stopped_says log caller kept node steps after some stopped_at_once = absurd (omega (arith, some))
-stopped_says log caller kept node steps after some (stopped_after n places s) = record { places =
-    places; says = s; after_is = refl }
+stopped_says log caller kept node steps after some (stopped_after n places s) = record {
+  places =
+      places;
+  says = s;
+  after_is = refl;
+}
 
 pub goes_on : IsUnlawful a_stopped_append_that_goes_on
 goes_on run =
@@ -77,7 +81,7 @@ goes_on run =
     let e : Some (proposes a (id a 0) 0 1) ≡ Some at.0 = ap (λ (es : List Entry). slice_get es 0) h ∙ at.1 in
     let same : proposes a (id a 0) 0 1 ≡ at.0 = cc (e) in
     let late : 0 + 1 < 1 =
-        subst (λ (en : Entry). IsStepWithin 0 (length (members said.1)) 1 en.event) (sym same) at.2 in
+    subst (λ (en : Entry). IsStepWithin 0 (length (members said.1)) 1 en.event) (sym same) at.2 in
     omega (arith, late)
 
 pub before_its_steps : IsUnlawful a_stop_before_its_steps
@@ -93,12 +97,18 @@ before_its_steps run =
     unset m.0 m.1 among where
       unset : (mark : Mark) → mark ≢ marks.None
           → Contains {X = ColourMark} (record { colour = 0; mark = marks.None }
-              ∷ record { colour = 1; mark = marks.None } ∷ []) (record { colour = 0; mark = mark }) → ⊥
-      unset mark set (zero, lt, same) = set (let s : record { colour = 0; mark =
-          marks.None } ≡ record { colour = 0; mark = mark } = same in sym (ap (λ (m : ColourMark). m.mark) s))
-      unset mark set (suc zero, lt, same) = let s : record { colour = 1; mark =
-          marks.None } ≡ record { colour = 0; mark = mark } = same in let f : 1 ≡ 0 =
-              ap (λ (m : ColourMark). m.colour) s in omega (arith, f)
+          ∷ record { colour = 1; mark = marks.None } ∷ []) (record { colour = 0; mark = mark }) → ⊥
+      unset mark set (zero, lt, same) = set (let s : record {
+        colour = 0;
+        mark =
+            marks.None;
+      } ≡ record { colour = 0; mark = mark } = same in sym (ap (λ (m : ColourMark). m.mark) s))
+      unset mark set (suc zero, lt, same) = let s : record {
+        colour = 1;
+        mark =
+            marks.None;
+      } ≡ record { colour = 0; mark = mark } = same in let f : 1 ≡ 0 =
+          ap (λ (m : ColourMark). m.colour) s in omega (arith, f)
       unset mark set (suc (suc k), lt, same) = let f : ⊥ = omega (arith, lt) in f
 
 pub other_steps : IsUnlawful a_stop_after_other_steps
@@ -109,7 +119,7 @@ other_steps run =
 -- a client whose second reply is to a sync, and the last, has not stopped
 not_stopped : (case : Case) (shown : ClientReport) (one other : ReplyLine) (sync : SyncPiece) (count : ℕ)
     → slice_get case.report.clients 0 ≡ Some shown → shown.replies ≡ one ∷ other ∷ []
-        → other.answer ≡ answers.Synced sync count
+    → other.answer ≡ answers.Synced sync count
     → HasStopped case.report 0 → ⊥
 not_stopped case shown one other sync count is replies synced s =
     let same : shown ≡ s.shown = some_same _ _ (sym is ∙ s.of_client) in
@@ -118,10 +128,10 @@ not_stopped case shown one other sync count is replies synced s =
     let len : 2 ≡ length s.shown.replies = ap (λ (rs : List ReplyLine). length rs) lines in
     let n : s.before ≡ 1 = omega (arith, l, len) in
     let there = ap (λ (rs : List ReplyLine). slice_get rs 1) lines
-        ∙ subst (λ k. slice_get s.shown.replies k ≡ Some s.reply) n s.there in
+    ∙ subst (λ k. slice_get s.shown.replies k ≡ Some s.reply) n s.there in
     let r : other ≡ s.reply = some_same _ _ there in
     let f : answers.Synced sync count ≡ answers.Stopped s.steps = sym synced
-        ∙ ap (λ (r : ReplyLine). r.answer) r ∙ s.stopped in
+    ∙ ap (λ (r : ReplyLine). r.answer) r ∙ s.stopped in
     cc (f)
 
 pub did_not_stop : IsUnlawful left_open_by_one_who_did_not_stop
@@ -169,7 +179,7 @@ left_open run =
     let among = subst (λ (es : List Entry). Contains es proposal) h (1, lit< tt, refl) in
     let one = one_row 0 (run.log.rows 0) _ run.begun.all in
     (run.helped 0 1 proposal _ (lit< tt) (lit< tt) among (λ i. let f : 0 ≡ 1 =
-        i in cc (f)) (in_rows one) (sym one.id_is)).decided refl
+    i in cc (f)) (in_rows one) (sym one.id_is)).decided refl
 
 pub stamps_end : IsUnlawful a_stop_for_the_stamps_end
 stamps_end run = (only run.log _ _ _ _ (run.clients 0 _ refl).explained).explained.1 refl

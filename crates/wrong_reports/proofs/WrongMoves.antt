@@ -26,7 +26,7 @@ base_not_there run =
     let t = (trim_says run.log _ _ _ _ _ _ _ _ (only run.log _ _ _ _ (run.clients 0 _ refl).explained)).0.is_base in
     let h = (column_at a_base_that_is_not_there run 0 (trimmed (trim ∷ [])) refl).history in
     let f : 1 ≡ 0 = ap (λ (v : Counts). at v 0) (t
-        ∙ ap (λ (es : List Entry). base 0 1 (dated 0 (take 1 es))) (sym h)) in
+    ∙ ap (λ (es : List Entry). base 0 1 (dated 0 (take 1 es))) (sym h)) in
     omega (arith, f)
 
 trim_counts : (one other : Counts) → made.Trim one ≡ made.Trim other → one ≡ other
@@ -36,8 +36,12 @@ pub beyond_snapshot : IsUnlawful a_trim_beyond_the_snapshot
 beyond_snapshot run =
     let t = (trim_says run.log _ _ _ _ _ _ _ _ (only run.log _ _ _ _ (run.clients 0 _ refl).explained)).0.trimmed in
     let h = (column_at a_trim_beyond_the_snapshot run 0 _ refl).history in
-    let same = some_same (record { by = 0; event = made.Trim (counts 1 0); stamp =
-        0 }) _ (ap (λ (es : List Entry). slice_get es 0) h ∙ t) in
+    let same = some_same (record {
+      by = 0;
+      event = made.Trim (counts 1 0);
+      stamp =
+          0;
+    }) _ (ap (λ (es : List Entry). slice_get es 0) h ∙ t) in
     let c = trim_counts _ _ (ap (λ (en : Entry). en.event) same) in
     let f : 1 ≡ 0 = ap (λ (v : Counts). at v 0) c in
     omega (arith, f)
@@ -82,13 +86,13 @@ leaves_a_node run =
     let p = (pull_says run.log _ _ _ _ _ _ _ _ (only run.log _ _ _ _ (run.clients 1 _ refl).explained)).says.holds in
     let h = (column_at a_pull_that_leaves_a_node run 0 _ refl).history in
     let n : 1 ≡ length (line (take 1 (run.log.histories 0 0))) =
-        ap (λ (es : List Entry). length (line (take 1 es))) h in
+    ap (λ (es : List Entry). length (line (take 1 es))) h in
     omega (arith, p, n)
 
 pub more_carried : IsUnlawful a_pull_of_more_nodes
 more_carried run =
     let c = (pull_says run.log _ _ _ _ _ _ _ _ (only run.log _ _ _ _
-        (run.clients 1 _ refl).explained)).says.carries in
+    (run.clients 1 _ refl).explained)).says.carries in
     let h = (column_at a_pull_of_more_nodes run 1 _ refl).history in
     let same = some_same carried_one _ (ap (λ (es : List Entry). slice_get es 0) h ∙ c.3) in
     let heads = carried_heads _ _ _ _ _ _ (ap (λ (en : Entry). en.event) same) in
@@ -111,7 +115,7 @@ asks_again run =
     let same = some_same (given_from 0) _ (ap (λ (es : List Entry). slice_get es 2) of_e ∙ p.gives) in
     let from : 0 ≡ p.from = given_number _ _ _ _ (ap (λ (en : Entry). en.event) same) in
     let l : 1 ≡ length (line (take 2 (run.log.histories 0 0))) =
-        ap (λ (es : List Entry). length (line (take 2 es))) of_e in
+    ap (λ (es : List Entry). length (line (take 2 es))) of_e in
     let m : length (chain 1 (first run.log 1 0 (t.kept.seen 1 0)) 0) ≡ 1 =
     ap (λ n. length (chain 1 (first run.log 1 0 n) 0)) k
     ∙ ap (λ (es : List Entry). length (chain 1 (dated 1 (take 1 es)) 0)) (sym of_w) in

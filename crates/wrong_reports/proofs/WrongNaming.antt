@@ -109,7 +109,7 @@ of_nobody run =
     let s = only run.log _ _ _ _ (run.clients 0 _ refl).explained in
     let t = (stood_says run.log _ _ _ _ _ _ _ _ _ _ _ s).0.entered in
     let h = history_is _ _ (column e x (enters a (id a 1) 0 1 ∷ []) 1 (key 1 (id a 1)
-        ∷ []) [] (counts 1 0) (counts 0 0)) run in
+    ∷ []) [] (counts 1 0) (counts 0 0)) run in
     let same = some_same (enters a (id a 1) 0 1) _ (ap (λ (es : List Entry). slice_get es 0) h ∙ t) in
     let i = single_id _ _ _ _ _ _ (ap (λ (en : Entry). en.event) same) in
     let f : 1 ≡ 0 = ap (λ (i : Id). i.count) i in
@@ -153,14 +153,14 @@ unnamed : (journal : List Entry) (column : ColumnReport) → column.journal ≡ 
     → column.colour ≡ 0
     → places_of 0 journal ≡ 0 ∷ []
     → LawfulRun (alone (asks 6 a (Sync x) ∷ [])) (case (asks 6 a (Sync x) ∷ []) (synced_at 6 0
-        ∷ []) column).report → ⊥
+    ∷ []) column).report → ⊥
 unnamed journal column is region colour places run =
     let client = run.clients 0 _ refl in
     let s = only run.log _ _ _ _ client.explained in
     let h : journal ≡ run.log.histories 0 0 = (let g = history_is _ _ column run in cc (is, region, colour, g)) in
     let m = client.made 0 0 (lit< tt) (lit< tt) in
     let both : 0 ∷ [] ≡ [] = sym places ∙ ap (places_of 0) h ∙ m
-        ∙ ap (λ (kept : Kept). kept.made 0 0) (s.after_is ∙ s.explained.4) in
+    ∙ ap (λ (kept : Kept). kept.made 0 0) (s.after_is ∙ s.explained.4) in
     cc (both)
 
 pub raise_unnamed : IsUnlawful a_raise_that_no_reply_names

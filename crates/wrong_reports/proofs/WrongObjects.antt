@@ -28,7 +28,7 @@ at_home run =
 pub away : IsUnlawful answered_away_from_home
 away run =
     let s = (only run.log _ _ _ _ (run.clients 1 _ refl).explained).away (λ f. let g : 1 ≡ 0 =
-        f in omega (arith, g)) in
+    f in omega (arith, g)) in
     elim s [
       | inl f ↦ cc (f)
       | inr f ↦ let g = f.1 in cc (g)
@@ -103,7 +103,7 @@ forgotten run =
       | inr f ↦
           let p : f.0 ≡ 0 = (let w = f.2 in cc (w)) in
           let k = ap (λ (k : Kept). k.reads 0) (t.first.after_is ∙ f.4
-              ∙ ap (λ o. with_read t.first.explained.1 o (Some (versions_after t.first.explained.5 f.1))) p) in
+          ∙ ap (λ o. with_read t.first.explained.1 o (Some (versions_after t.first.explained.5 f.1))) p) in
           let g : None ≡ Some _ = sym n ∙ k in
           cc (g)
     ]

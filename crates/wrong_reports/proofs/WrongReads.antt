@@ -38,7 +38,7 @@ scan_says : (log : Log) (caller : Caller) (kept after : Kept) (line client : ℕ
     (stamp : ℕ) (raises : List RaisePiece)
     (syncs : List SyncPiece) (count : ℕ) (nodes : List PlacedNode)
     → (a : Answers log caller kept (asks line client (Scan colours))
-        (scanned line stamp raises syncs count nodes) after)
+    (scanned line stamp raises syncs count nodes) after)
     → Scans log caller kept colours stamp raises syncs nodes a.answered
 scan_says log caller kept after line client colours stamp raises syncs count nodes a =
     let said = a.explained in
@@ -56,30 +56,30 @@ more_nodes run = let c = (only run.log _ _ _ _ (run.clients 0 _ refl).explained)
 pub without_raise : IsUnlawful a_scan_without_a_raise
 without_raise run =
     let c = (scan_says run.log _ _ _ _ _ _ _ _ _ _ _ (only run.log _ _ _ _
-        (run.clients 0 _ refl).explained)).reads.raised_colours in
+    (run.clients 0 _ refl).explained)).reads.raised_colours in
     cc (c)
 
 pub without_sync : IsUnlawful a_scan_without_a_sync
 without_sync run =
     let c = (scan_says run.log _ _ _ _ _ _ _ _ _ _ _ (only run.log _ _ _ _
-        (run.clients 0 _ refl).explained)).reads.synced_colours in
+    (run.clients 0 _ refl).explained)).reads.synced_colours in
     cc (c)
 
 pub of_nothing : IsUnlawful a_read_stamp_of_nothing
 of_nothing run = by (scan_says run.log _ _ _ _ _ _ _ _ _ _ _ (only run.log _ _ _ _
     (run.clients 0 _ refl).explained)).reads.chosen where
-  by : ((◌≡◌ {A = ℕ} 5 0) ⊎ ((r : RaisePiece)
-      × Contains (raise x (Rattle.log_node.specs.declared.node.At.TheVariants.Event 0) ∷ []) r
-      × (events : ℕ) × (0 ≤ events) × (events ≤ Rattle.lawful_run.specs.Reads.events_until r.at)
-      × (◌≡◌ {A = ℕ} 5 (clock (take events (run.log.histories 0 r.colour)))))) → ⊥
-  by (inl f) = omega (arith, f)
-  by (inr (r, (zero, lt, same), events, le, before, is)) =
-      let e : events ≤ 0 = subst (λ
+      by : ((◌≡◌ {A = ℕ} 5 0) ⊎ ((r : RaisePiece)
+          × Contains (raise x (Rattle.log_node.specs.declared.node.At.TheVariants.Event 0) ∷ []) r
+          × (events : ℕ) × (0 ≤ events) × (events ≤ Rattle.lawful_run.specs.Reads.events_until r.at)
+          × (◌≡◌ {A = ℕ} 5 (clock (take events (run.log.histories 0 r.colour)))))) → ⊥
+      by (inl f) = omega (arith, f)
+      by (inr (r, (zero, lt, same), events, le, before, is)) =
+          let e : events ≤ 0 = subst (λ
           (r : RaisePiece). events ≤ Rattle.lawful_run.specs.Reads.events_until r.at) (sym same) before in
-      let z : events ≡ 0 = omega (arith, e) in
-      let f : 5 ≡ 0 = is ∙ ap (λ n. clock (take n (run.log.histories 0 r.colour))) z in
-      omega (arith, f)
-  by (inr (r, (suc k, lt, same), events, le, before, is)) = let f : ⊥ = omega (arith, lt) in f
+          let z : events ≡ 0 = omega (arith, e) in
+          let f : 5 ≡ 0 = is ∙ ap (λ n. clock (take n (run.log.histories 0 r.colour))) z in
+          omega (arith, f)
+      by (inr (r, (suc k, lt, same), events, le, before, is)) = let f : ⊥ = omega (arith, lt) in f
 
 pub below_floor : IsUnlawful a_read_below_the_floor
 below_floor run =
@@ -93,15 +93,15 @@ leaves_out run =
     let t = two run.log _ _ _ _ _ _ (run.clients 0 _ refl).explained in
     let said = scan_says run.log _ _ _ _ _ _ _ _ _ _ _ t.second in
     let h : one_node.journal ≡ run.log.histories 0 0 =
-        (column_at a_scan_that_leaves_a_node_out run 0 one_node refl).history in
+    (column_at a_scan_that_leaves_a_node_out run 0 one_node refl).history in
     let order = subst (λ (es : List Entry). IsRegionOrder (line (take 1 es)
-        ∷ []) 1 said.keys) (sym h) said.are_read in
+    ∷ []) 1 said.keys) (sym h) said.are_read in
     by said.keys order said.lines where
       by : (keys : List Key) → IsRegionOrder (line (take 1 one_node.journal) ∷ []) 1 keys
           → AllZip (ShowsKey run.log) keys [] → ⊥
       by [] order z =
           let c = order.all (line one_node.journal) (key 1 (id a 0)) (0, lit< tt, refl) (0, lit< tt, refl)
-              (lit≤ tt) in
+          (lit≤ tt) in
           let l = c.1 in
           omega (arith, l)
       by (k ∷ keys) order z = z
@@ -119,7 +119,7 @@ before_nodes run =
     let r = (scan_says run.log _ _ _ _ _ _ _ _ _ _ _ t.second).reads.raising.0.2 in
     let h = (column_at a_raise_before_its_clients_nodes run 0 (complete x) refl).history in
     let l : 0 ≡ length (line (take 1 (run.log.histories 0 0))) =
-        ap (λ (es : List Entry). length (line (take 1 es))) h in
+    ap (λ (es : List Entry). length (line (take 1 es))) h in
     omega (arith, k, r, l)
 
 pub over_open : IsUnlawful a_read_over_an_open_entry

@@ -41,7 +41,7 @@ module _ (rows : List RowReport) (run : LawfulRun one_append (has_rows rows).rep
       → FitsRows (run.log.rows 0) 0 (Rattle.std.specs.Prelude.slice_index_or (complete x).journal k en).event
   fits k en lt =
       subst (λ (es : List Entry). All (λ (en : Entry). FitsRows (run.log.rows 0) 0 en.event) es) (sym history)
-          (lawful.events 0 (lit< tt)) k en lt
+      (lawful.events 0 (lit< tt)) k en lt
 
 module _ (shown : RowReport) (run : LawfulRun one_append (has_rows (shown ∷ [])).report) where
   one : OneRow (run.log.rows 0) shown
@@ -75,13 +75,13 @@ one_node_twice run =
     let two = two_rows 0 (run.log.rows 0) _ _ run.begun.all in
     let l = subst (AreLawfulRows 0 2 (run.log.histories 0)) two.rows_are (run.begun.lawful 0 (lit< tt)) in
     l.ids_differ 0 1 (begun (row e a 0 (id a 0) (marks.Number 1) (marks.Number 1) (Final 1)) two.node)
-        (lit< tt) (lit< tt) (two.id_is ∙ sym two.next_is)
+    (lit< tt) (lit< tt) (two.id_is ∙ sym two.next_is)
 
 -- no stamp 2 in the column
 one_stamp : (n : ℕ) (en : Entry) → slice_get (complete x).journal n ≡ Some en → en.stamp ≡ 2 → ⊥
 one_stamp zero en h two = let s : (complete x).journal ≡ _
     ∷ _ = refl in let t : Some (Rattle.wrong_reports.specs.Cases.proposes a (id a 0) 0 1) ≡ Some en =
-        h in let u : 1 ≡ en.stamp = cc (t) in omega (arith, u, two)
+    h in let u : 1 ≡ en.stamp = cc (t) in omega (arith, u, two)
 one_stamp (suc zero) en h two = let t : Some (settles a (id a 0) 1) ≡ Some en = h in let u : 0 ≡ en.stamp =
     cc (t) in omega (arith, u, two)
 one_stamp (suc (suc n)) en h two = let t : None ≡ Some en = h in cc (t)
@@ -108,7 +108,7 @@ without_mark run =
 pub other_outcome : IsUnlawful an_outcome_of_other_marks
 other_outcome run = let k =
     at_row (λ (r : BegunRow). IsKept (map (λ (m : ColourMark). m.mark) r.marks) r.last) (one _ run)
-        (lawful _ run).kept in cc (k)
+    (lawful _ run).kept in cc (k)
 
 -- no row of these settles so
 pub unlike_outcome : IsUnlawful a_settling_unlike_the_outcome
@@ -118,11 +118,11 @@ unlike_outcome run =
     none (one _ run).node g.0 g.1 g.2 g.4 where
       none : (node : Node) (n : ℕ) (r : BegunRow)
           → slice_get (begun (row e a 0 (id a 0) (marks.Number 1) (marks.Number 1) Open) node
-              ∷ []) n ≡ Some r → r.last ≡ Final 1 → ⊥
+          ∷ []) n ≡ Some r → r.last ≡ Final 1 → ⊥
       none node zero r h l = let o : Open ≡ r.last =
           (let t : Some (begun (row e a 0 (id a 0) (marks.Number 1) (marks.Number 1) Open) node) ≡ Some r =
-              h in let s : begun (row e a 0 (id a 0) (marks.Number 1) (marks.Number 1) Open) node ≡ r =
-                  cc (t) in ap (λ (r : BegunRow). r.last) s) in cc (o, l)
+          h in let s : begun (row e a 0 (id a 0) (marks.Number 1) (marks.Number 1) Open) node ≡ r =
+          cc (t) in ap (λ (r : BegunRow). r.last) s) in cc (o, l)
       none node (suc n) r h l = let t : None ≡ Some r = h in cc (t)
 
 pub without_row : IsUnlawful a_proposal_without_a_row
@@ -136,7 +136,7 @@ pub rows_order : IsUnlawful rows_out_of_order
 rows_order run =
     let two = two_rows 0 (run.log.rows 0) _ _ run.begun.all in
     let s = subst (λ (rows : List BegunRow). Rattle.std.specs.List.Sorted.IsNonDecreasing (map (λ
-        (r : BegunRow). r.row.client) rows)) two.rows_are (run.begun.by_client 0 (lit< tt)) in
+    (r : BegunRow). r.row.client) rows)) two.rows_are (run.begun.by_client 0 (lit< tt)) in
     let l = s 0 1 0 (lit≤ tt) (lit< tt) in
     omega (arith, l)
 
@@ -157,7 +157,7 @@ orders run =
     let h = (column_at two_orders run 1 _ refl).history in
     let l = run.begun.lawful 0 (lit< tt) in
     let f = subst (λ (es : List Entry). All (λ (en : Entry). FitsRows (run.log.rows 0) 1 en.event) es) (sym h)
-        (l.events 1 (lit< tt)) 3 (settles a (id a 0) 3) (lit< tt) in
+    (l.events 1 (lit< tt)) 3 (settles a (id a 0) 3) (lit< tt) in
     let g = subst (λ (rows : List BegunRow). FitsRows rows 1 (Settle (id a 0) (Final 3))) two.rows_are f in
     none two.node two.next two.next_is g.0 g.1 g.2 g.3 g.4 where
       none : (node next : Node) → next.id ≡ id b 0 → (n : ℕ) (r : BegunRow)
@@ -183,19 +183,22 @@ pub fence : IsUnlawful a_fence_with_stamps_left
 fence run =
     let said = (only run.log _ _ _ _ (run.clients 0 _ refl).explained).explained.2 in
     let two : 2 ≤ length (members said.0) =
-        subst (λ (cs : Colours). 2 ≤ length (members cs)) (sym said.2.0) (lit≤ tt) in
+    subst (λ (cs : Colours). 2 ≤ length (members cs)) (sym said.2.0) (lit≤ tt) in
     let gone = (gone_at_end run.log _ _ _ _ two said.3).1 in
     let one = one_row 0 (run.log.rows 0) _ run.begun.all in
     let r = only_row _ gone.begins.row (subst (λ
-        (rows : List BegunRow). Contains rows gone.begins.row) one.rows_are gone.begins.begun.begun) in
+    (rows : List BegunRow). Contains rows gone.begins.row) one.rows_are gone.begins.begun.begun) in
     let floor : one.node.floor ≡ 0 = ap (λ (r : BegunRow). r.node.floor) r
-        ∙ ap (λ (n : Node). n.floor) gone.begins.begun.of_node in
+    ∙ ap (λ (n : Node). n.floor) gone.begins.begun.of_node in
     let P = λ (r : BegunRow). All (λ (m : ColourMark). IsMarkOf
-        (run.log.histories 0 m.colour) r.node m.mark) r.marks in
-    let ended = (at_row P one (run.begun.lawful 0 (lit< tt)).marks 0 (record { colour = 0; mark =
-        marks.Fenced StampEnd }) (lit< tt)).1 in
+    (run.log.histories 0 m.colour) r.node m.mark) r.marks in
+    let ended = (at_row P one (run.begun.lawful 0 (lit< tt)).marks 0 (record {
+      colour = 0;
+      mark =
+          marks.Fenced StampEnd;
+    }) (lit< tt)).1 in
     let h = (column_at a_fence_with_stamps_left run 0 (empty e x) refl).history in
     let none : max (clock []) one.node.floor ≡ last_stamp =
-        subst (λ (es : List Entry). max (clock es) one.node.floor ≡ last_stamp) (sym h) ended in
+    subst (λ (es : List Entry). max (clock es) one.node.floor ≡ last_stamp) (sym h) ended in
     let f : 0 ≡ last_stamp = ap (λ n. max 0 n) (sym floor) ∙ none in
     omega (arith, f)

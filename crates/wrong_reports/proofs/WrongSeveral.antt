@@ -102,7 +102,7 @@ told_as_look run =
     let z : en.2 ≡ 0 = (let lt = en.3 in omega (arith, lt)) in
     let h = (column_at its_own_proposal_told_as_a_look run 0 (complete x) refl).history in
     let there : slice_get (run.log.histories 0 0) 0 ≡ Some en.4 =
-        subst (λ n. slice_get (run.log.histories 0 0) n ≡ Some en.4) z en.5 in
+    subst (λ n. slice_get (run.log.histories 0 0) n ≡ Some en.4) z en.5 in
     let same = some_same (proposes a (id a 0) 0 1) _ (ap (λ (es : List Entry). slice_get es 0) h ∙ there) in
     en.6 (ap (λ (en : Entry). en.by) (sym same))
 
@@ -114,17 +114,17 @@ module _ (run : LawfulRun no_memory_for_what_stands.script no_memory_for_what_st
   not_begun : (kept : Kept) → kept.rows ≡ 0 → length (filter (is_of 0) (run.log.rows 0)) ≡ kept.rows → ⊥
   not_begun kept none is =
       let f : 1 ≡ 0 = ap (λ (rows : List BegunRow). length (filter (is_of 0) rows)) (sym one_begun.rows_are)
-          ∙ is ∙ none in
+      ∙ is ∙ none in
       omega (arith, f)
 
   found_none : (after : Kept)
       → FindsNoMemory run.log (caller_of no_memory_for_what_stands.script 0) nothing_kept (Append on_both
-          (codes "s")) after
+      (codes "s")) after
       → length (filter (is_of 0) (run.log.rows 0)) ≡ after.rows → ⊥
   found_none after nothing rows = not_begun nothing_kept refl rows
   found_none after (gone colours text places asks is) rows =
       let r = only_row _ is.outcome.0 (subst (λ
-          (rows : List BegunRow). Contains rows is.outcome.0) one_begun.rows_are is.outcome.1.begun) in
+      (rows : List BegunRow). Contains rows is.outcome.0) one_begun.rows_are is.outcome.1.begun) in
       let f : Final 1 ≡ Gone Memory = ap (λ (r : BegunRow). r.last) r ∙ is.outcome.2 in
       cc (f)
   found_none after (gave region colour too_low gives pull low few all) rows = cc (pull)
@@ -135,4 +135,4 @@ without_memory run =
     let client = run.clients 0 _ refl in
     let s = only run.log _ _ _ _ client.explained in
     found_none run _ (subst (FindsNoMemory run.log (caller_of no_memory_for_what_stands.script 0) nothing_kept
-        (Append on_both (codes "s"))) (sym s.after_is) s.explained.1) client.rows
+    (Append on_both (codes "s"))) (sym s.after_is) s.explained.1) client.rows

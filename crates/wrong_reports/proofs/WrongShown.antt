@@ -70,9 +70,9 @@ plays nodes count run =
     let stood = stood_says run.log _ _ _ _ _ _ _ _ _ _ _ t.first in
     let shows = t.second.explained.3 in
     let h : one_node.journal ≡ run.log.histories 0 0 =
-        (column_at (plays_nodes nodes count) run 0 one_node refl).history in
+    (column_at (plays_nodes nodes count) run 0 one_node refl).history in
     let chains : chain 0 (first run.log 0 0 1) ≡ one_chain =
-        ap (λ (es : List Entry). chain 0 (dated 0 (take 1 es))) (sym h) in
+    ap (λ (es : List Entry). chain 0 (dated 0 (take 1 es))) (sym h) in
     let starts : t.kept.starts 0 ≡ counts 0 0 = ap (λ (k : Kept). k.starts 0) stood.1 in
     record {
       text = [];
@@ -85,7 +85,7 @@ plays nodes count run =
       lines = shows.lines;
       head_is = λ p item s.
           let l = lone p s.head (subst (λ (c : Chains). slice_get
-              (c p.region) p.position ≡ Some s.head) chains s.stands) in
+          (c p.region) p.position ≡ Some s.head) chains s.stands) in
           (l.0, s.key ∙ ap (λ (head : Head). head.key) l.1);
     }
 
@@ -96,13 +96,13 @@ another_text run = by p.order p.lines where
 
   by : (order : List Place)
       → AllZip (ShowsNode run.log (caller_of a_node_with_another_text.script 0) 0 1) order (shown 1
-          (codes "t") ∷ []) → ⊥
+      (codes "t") ∷ []) → ⊥
   by [] z = z
   by (q ∷ qs) z =
       let has = z.0.text in
       let i : z.0.head.key.id ≡ id a 0 = ap (λ (k : Key). k.id) (sym z.0.key) in
       let there : slice_get (run.log.nodes 0) 0 ≡ Some has.0 =
-          subst (λ (i : Id). slice_get (run.log.nodes i.client) i.count ≡ Some has.0) i has.1 in
+      subst (λ (i : Id). slice_get (run.log.nodes i.client) i.count ≡ Some has.0) i has.1 in
       let same = some_same p.node has.0 (sym p.appended ∙ there) in
       let f : codes "s" ≡ codes "t" = sym p.text_is ∙ ap (λ (n : Node). n.text) same ∙ has.3 in
       let g : 115 ≡ 116 = ap (λ (t : List ℕ). slice_index t 0) f in
@@ -125,7 +125,7 @@ under_another_stamp run = by p.order p.lines where
 
   by : (order : List Place)
       → AllZip (ShowsNode run.log (caller_of a_node_under_another_stamp.script 0) 0 1) order (shown 2
-          (codes "s") ∷ []) → ⊥
+      (codes "s") ∷ []) → ⊥
   by [] z = z
   by (q ∷ qs) z =
       let f : 2 ≡ 1 = ap (λ (k : Key). k.stamp) (p.head_is q (shown 2 (codes "s")) z.0).1 in
@@ -141,7 +141,7 @@ shown_twice run = by p.order p.played p.lines where
 
   by : (order : List Place) → IsPlayOrder one_chain (counts 0 0) (counts 1 0) order
       → AllZip (ShowsNode run.log (caller_of a_node_shown_twice.script 0) 0 1) order (shown 1 (codes "s")
-          ∷ shown 1 (codes "s") ∷ []) → ⊥
+      ∷ shown 1 (codes "s") ∷ []) → ⊥
   by [] played z = z
   by (q ∷ []) played z = z.1
   by (q ∷ r ∷ []) played z =
@@ -179,43 +179,43 @@ later = record (shown 2 (codes "s")) { head = record { key = key 2 (id a 1); nee
 pub another_order : IsUnlawful nodes_in_another_order
 another_order run = by said.order said.lines (subst (λ c. IsPlayOrder c (last.kept.starts 0)
     (counts 2 0) said.order) chains said.played) where
-  last : EndsWith run.log (caller_of nodes_in_another_order.script 0) (append 6 ∷ append 7
-      ∷ []) (stood_at 6 1 0 0 ∷ stood_at 7 2 1 1 ∷ [])
-      (asks 8 a (Sync x)) two_plays (run.clients 0 _ refl).kept
-  last = ends_with run.log _ _ _ _ _ _ (run.clients 0 _ refl).explained
+      last : EndsWith run.log (caller_of nodes_in_another_order.script 0) (append 6 ∷ append 7
+          ∷ []) (stood_at 6 1 0 0 ∷ stood_at 7 2 1 1 ∷ [])
+          (asks 8 a (Sync x)) two_plays (run.clients 0 _ refl).kept
+      last = ends_with run.log _ _ _ _ _ _ (run.clients 0 _ refl).explained
 
-  said : ShowsPlayed run.log (caller_of nodes_in_another_order.script 0) last.kept 0 2 (counts 2 0) (later
-      ∷ shown 1 (codes "s") ∷ [])
-  said = last.last.explained.3
-
-  history : two_entries ≡ run.log.histories 0 0
-  history = (column_at nodes_in_another_order run 0 _ refl).history
-
-  chains : chain 0 (first run.log 0 0 2) ≡ two_chain
-  chains = ap (λ (es : List Entry). chain 0 (dated 0 (take 2 es))) (sym history)
-
-  at_place : (p : Place) (item : PlacedNode)
-      → ShowsNode run.log (caller_of nodes_in_another_order.script 0) 0 2 p item
-      → (p.region ≡ 0) × (p.position ≡ item.head.key.id.count)
-  at_place p item s =
-      let l = stands p s.head (subst (λ (c : Chains). slice_get
-          (c p.region) p.position ≡ Some s.head) chains s.stands) in
-      (l.0, l.1 ∙ ap (λ (k : Key). k.id.count) (sym s.key))
-
-  by : (order : List Place)
-      → AllZip (ShowsNode run.log (caller_of nodes_in_another_order.script 0) 0 2) order (later
+      said : ShowsPlayed run.log (caller_of nodes_in_another_order.script 0) last.kept 0 2 (counts 2 0) (later
           ∷ shown 1 (codes "s") ∷ [])
-      → IsPlayOrder two_chain (last.kept.starts 0) (counts 2 0) order → ⊥
-  by [] z played = z
-  by (p ∷ []) z played = z.1
-  by (p ∷ q ∷ []) z played =
-      let l = at_place p later z.0 in
-      let m = at_place q (shown 1 (codes "s")) z.1.0 in
-      let there : slice_get (two_chain p.region) p.position ≡ Some (head_of 1) = rw (l.0, l.1) refl in
-      let next : p.position ≡ q.position + 1 = (let f = l.1 in let g = m.1 in omega (arith, f, g)) in
-      let before = played.after_needed 1 0 q p (head_of 1) refl refl there (inl (l.0 ∙ sym m.0, next)) in
-      omega (arith, before)
-  by (p ∷ q ∷ r ∷ order) z played = z.1.1
+      said = last.last.explained.3
+
+      history : two_entries ≡ run.log.histories 0 0
+      history = (column_at nodes_in_another_order run 0 _ refl).history
+
+      chains : chain 0 (first run.log 0 0 2) ≡ two_chain
+      chains = ap (λ (es : List Entry). chain 0 (dated 0 (take 2 es))) (sym history)
+
+      at_place : (p : Place) (item : PlacedNode)
+          → ShowsNode run.log (caller_of nodes_in_another_order.script 0) 0 2 p item
+          → (p.region ≡ 0) × (p.position ≡ item.head.key.id.count)
+      at_place p item s =
+          let l = stands p s.head (subst (λ (c : Chains). slice_get
+          (c p.region) p.position ≡ Some s.head) chains s.stands) in
+          (l.0, l.1 ∙ ap (λ (k : Key). k.id.count) (sym s.key))
+
+      by : (order : List Place)
+          → AllZip (ShowsNode run.log (caller_of nodes_in_another_order.script 0) 0 2) order (later
+          ∷ shown 1 (codes "s") ∷ [])
+          → IsPlayOrder two_chain (last.kept.starts 0) (counts 2 0) order → ⊥
+      by [] z played = z
+      by (p ∷ []) z played = z.1
+      by (p ∷ q ∷ []) z played =
+          let l = at_place p later z.0 in
+          let m = at_place q (shown 1 (codes "s")) z.1.0 in
+          let there : slice_get (two_chain p.region) p.position ≡ Some (head_of 1) = rw (l.0, l.1) refl in
+          let next : p.position ≡ q.position + 1 = (let f = l.1 in let g = m.1 in omega (arith, f, g)) in
+          let before = played.after_needed 1 0 q p (head_of 1) refl refl there (inl (l.0 ∙ sym m.0, next)) in
+          omega (arith, before)
+      by (p ∷ q ∷ r ∷ order) z played = z.1.1
 
 single_wants : (i j : Id) (floor other : ℕ) (wants more : Counts)
     → Single i floor wants ≡ Single j other more → wants ≡ more
@@ -225,12 +225,12 @@ pub wants_less : IsUnlawful a_node_that_wants_too_little
 wants_less run =
     let script = a_node_that_wants_too_little.script in
     let last = ends_with run.log (caller_of script 0) (append 6 ∷ asks 7 a (Sync x) ∷ []) (stood_at 6 1 0 0
-        ∷ one_play ∷ []) (append 8) (stood_at 8 2 1 1)
+    ∷ one_play ∷ []) (append 8) (stood_at 8 2 1 1)
     _ (run.clients 0 _ refl).explained in
     let second = ends_with run.log (caller_of script 0) (append 6 ∷ []) (stood_at 6 1 0 0
-        ∷ []) (asks 7 a (Sync x)) one_play _ last.before in
+    ∷ []) (asks 7 a (Sync x)) one_play _ last.before in
     let starts : last.kept.starts 0 ≡ counts 1 0 = ap (λ (k : Kept). k.starts 0) (second.last.after_is
-        ∙ second.last.explained.4) in
+    ∙ second.last.explained.4) in
     let entered = (stood_says run.log _ _ _ _ _ _ _ _ _ _ _ last.last).0.entered in
     let h = (column_at a_node_that_wants_too_little run 0 _ refl).history in
     let same = some_same (enters a (id a 1) 1 2) _ (ap (λ (es : List Entry). slice_get es 1) h ∙ entered) in

@@ -22,8 +22,12 @@ use Rattle.wrong_reports.specs.Columns.{one_append, stood, shows_columns, single
 
 -- EVENTS THAT MAY NOT COME: one event more, and the closing line after it
 abbrev pub also : Entry → ℕ → List Key → Case
-also entry clock line = shows_columns (record one_node { journal = single ∷ entry
-    ∷ []; clock = clock; line = line } ∷ [])
+also entry clock line = shows_columns (record one_node {
+  journal = single ∷ entry
+      ∷ [];
+  clock = clock;
+  line = line;
+} ∷ [])
 
 -- 0 a single a.0 floor 0 wants 0 stamp 2
 -- = clock 2 line a.0:2 queue - cut 1 base 0
@@ -162,8 +166,13 @@ abbrev pub a_base_that_forgets_another_region : Case
 a_base_that_forgets_another_region = record {
   script = apart (asks 8 a (Append on_x (codes "s")) ∷ asks 9 a (Sync x) ∷ asks 10 a (whats.Trim x) ∷ []);
   report = shows (to_both (record stood { line = 8 }
-      ∷ record { line = 9; word = words.Sync; answer = answers.Synced (look x 1 (counts 1 0)) 1; nodes =
-          shown 1 (codes "s") ∷ [] }
+      ∷ record {
+        line = 9;
+        word = words.Sync;
+        answer = answers.Synced (look x 1 (counts 1 0)) 1;
+        nodes =
+            shown 1 (codes "s") ∷ [];
+      }
       ∷ replies 10 words.Trim (answers.Based (Event 1) (counts 0 0)) ∷ []) []) []
       (record one_node { journal = single ∷ by a (Trim (counts 1 0)) 0 ∷ []; base = counts 1 0 } ∷ empty w x ∷ []);
 }

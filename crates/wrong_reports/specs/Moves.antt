@@ -23,7 +23,7 @@ use Rattle.wrong_reports.specs.Shown.{shown}
 abbrev pub a_base_that_is_not_there : Case
 a_base_that_is_not_there =
     case (asks 6 a (whats.Trim x) ∷ []) (replies 6 words.Trim (answers.Based (Event 0) (counts 1 0))
-        ∷ []) (trimmed (trim ∷ []))
+    ∷ []) (trimmed (trim ∷ []))
 
 -- 6 trim ok !0 base 0
 -- column e x
@@ -106,10 +106,20 @@ a_sync_of_what_was_trimmed = record {
       ∷ asks 10 b (Sync x) ∷ []);
   report = shows
       (to_both (stood_at 7 1 0 0
-      ∷ record { line = 8; word = words.Sync; answer = answers.Synced (look x 1 (counts 1 0)) 1; nodes =
-          shown 1 (codes "s") ∷ [] }
+      ∷ record {
+        line = 8;
+        word = words.Sync;
+        answer = answers.Synced (look x 1 (counts 1 0)) 1;
+        nodes =
+            shown 1 (codes "s") ∷ [];
+      }
       ∷ replies 9 words.Trim (answers.Based (Event 1) (counts 1 0)) ∷ [])
-      (record { line = 10; word = words.Sync; answer = answers.Synced (look x 2 (counts 1 0)) 1; nodes =
-          shown 1 (codes "s") ∷ [] } ∷ []))
+      (record {
+        line = 10;
+        word = words.Sync;
+        answer = answers.Synced (look x 2 (counts 1 0)) 1;
+        nodes =
+            shown 1 (codes "s") ∷ [];
+      } ∷ []))
       [] (record one_node { journal = single ∷ by a (Trim (counts 1 0)) 0 ∷ []; base = counts 1 0 } ∷ []);
 }

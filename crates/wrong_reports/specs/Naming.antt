@@ -53,7 +53,7 @@ an_event_named_twice =
 abbrev pub events_named_out_of_order : Case
 events_named_out_of_order =
     case (asks 6 a (Trim x) ∷ asks 7 a (Trim x) ∷ []) (trimmed_at 6 1 ∷ trimmed_at 7 0 ∷ []) (trimmed (trim
-        ∷ trim ∷ []))
+    ∷ trim ∷ []))
 
 -- 6 sync ok x?1/0 plays 0
 -- 7 trim ok !0 base 0
@@ -143,7 +143,7 @@ a_full_that_needs_no_row = case (append 6 ∷ []) (replies 6 words.Append (answe
 abbrev pub a_floor_that_is_forgotten : Case
 a_floor_that_is_forgotten = case (append 6 ∷ append 7 ∷ []) (stood_at 6 1 0 0 ∷ stood_at 7 2 1 1 ∷ [])
     (column e x (enters a (id a 0) 0 1 ∷ enters a (id a 1) 0 2 ∷ []) 2 (key 1 (id a 0) ∷ key 2 (id a 1)
-        ∷ []) [] (counts 2 0) (counts 0 0))
+    ∷ []) [] (counts 2 0) (counts 0 0))
 
 -- EVENTS THAT NO REPLY NAMES
 -- 6 sync ok x?0/0 plays 0

@@ -36,7 +36,7 @@ queue = kinds.Queue e x
 abbrev pub refused_at_home : Case
 refused_at_home =
     over map (asks 7 a (whats.Put 0 (codes "k") (codes "v")) ∷ []) (replies 7 words.Put (answers.NotHome e)
-        ∷ []) (empty e x)
+    ∷ []) (empty e x)
 
 -- map o e x, and the client b of the region w
 abbrev pub away : Answer → List ColumnReport → Case
@@ -85,7 +85,7 @@ a_causal_value_of_nothing =
 abbrev pub a_dequeue_answered_as_an_append : Case
 a_dequeue_answered_as_an_append =
     over queue (asks 7 a (whats.Deq 0) ∷ []) (replies 7 words.Deq (answers.Stood 1 None (point x 0 0 ∷ []))
-        ∷ []) one_node
+    ∷ []) one_node
 
 -- 7 deq ok v x!0@0 x?1/1
 abbrev pub a_dequeue_of_nothing : Case
@@ -121,6 +121,23 @@ a_read_that_is_forgotten =
 abbrev pub a_commit_that_keeps_its_read : Case
 a_commit_that_keeps_its_read =
     over tx (asks 7 a (whats.Read 0 (codes "k" ∷ [])) ∷ asks 8 a (whats.Commit 0 one_pair)
-        ∷ asks 9 a (whats.Commit 0 one_pair) ∷ [])
+    ∷ asks 9 a (whats.Commit 0 one_pair) ∷ [])
     (read_at 7 ∷ replies 8 words.Commit answers.NoMemory ∷ replies 9 words.Commit (answers.UnreadNoMemory 1)
-        ∷ []) (empty e x)
+    ∷ []) (empty e x)
+
+abbrev pub conflicts : ReplyLine
+conflicts = replies 8 words.Commit (answers.Ruled (Some (codes "k")) 0 None (point x 0 0 ∷ []) 1
+    (raise x (Look 1) ∷ []) (look x 1 (counts 1 0) ∷ []))
+
+-- tx o e x
+-- 7 a read o k
+-- 8 a commit o k=v
+-- 7 read ok 0 k=- x?0 x?0/0
+-- 8 commit ok 1 x!0@0 conflict k 0 read 1 x?1 x?1/1
+-- column e x
+-- 0 a single a.0 floor 0 wants 0 stamp 1
+-- = clock 1 line a.0:1 queue - cut 1 base 0
+abbrev pub a_conflict_with_nothing : Case
+a_conflict_with_nothing =
+    over tx (asks 7 a (whats.Read 0 (codes "k" ∷ [])) ∷ asks 8 a (whats.Commit 0 one_pair) ∷ [])
+    (read_at 7 ∷ conflicts ∷ []) one_node

@@ -37,8 +37,11 @@ a_wrong_word = of_one_sync (to_a (replies 6 words.Scan (answers.Synced (look x 0
 -- 6 sync ok x?0/0 plays 0
 abbrev pub a_wrong_name : Case
 a_wrong_name =
-    of_one_sync (record { name = codes "b"; replies =
-        replies 6 words.Sync (answers.Synced (look x 0 (counts 0 0)) 0) ∷ [] } ∷ [])
+    of_one_sync (record {
+      name = codes "b";
+      replies =
+          replies 6 words.Sync (answers.Synced (look x 0 (counts 0 0)) 0) ∷ [];
+    } ∷ [])
 
 -- 6 sync ok 1 x!0@0
 abbrev pub another_commands_answer : Case

@@ -142,10 +142,10 @@ two_orders = record {
       (row e a 0 (id a 0) (marks.Number 1) (marks.Number 1) (Final 1)
       ∷ row e b 0 (id b 0) (marks.Number 2) (marks.Number 2) (Final 2) ∷ [])
       (column e x (proposes a (id a 0) 0 1 ∷ settles a (id a 0) 1 ∷ proposes b (id b 0) 0 2
-          ∷ settles b (id b 0) 2 ∷ [])
+      ∷ settles b (id b 0) 2 ∷ [])
       2 (key 1 (id a 0) ∷ key 2 (id b 0) ∷ []) [] (counts 2 0) (counts 0 0)
       ∷ column e y (proposes a (id a 0) 0 1 ∷ proposes b (id b 0) 0 2 ∷ settles b (id b 0) 2
-          ∷ settles a (id a 0) 3 ∷ [])
+      ∷ settles a (id a 0) 3 ∷ [])
       3 (key 2 (id b 0) ∷ key 3 (id a 0) ∷ []) [] (counts 2 0) (counts 0 0) ∷ []);
 }
 

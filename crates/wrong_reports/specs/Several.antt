@@ -82,7 +82,7 @@ a_look_before_its_own_settling = record {
 abbrev pub its_own_proposal_told_as_a_look : Case
 its_own_proposal_told_as_a_look =
     answered (answers.Stood 1 (Some 0) (record { colour = x; at = Look 1; position = 0 } ∷ point y 0 0
-        ∷ [])) (Final 1) (complete x ∷ complete y ∷ [])
+    ∷ [])) (Final 1) (complete x ∷ complete y ∷ [])
 
 -- 8 append nomemory
 -- row e a.0 a.0 x=1 y=1 final 1

@@ -29,8 +29,13 @@ two_entries = enters a (id a 0) 0 1 ∷ enters a (id a 1) 1 2 ∷ []
 abbrev pub plays_nodes : List PlacedNode → ℕ → Case
 plays_nodes nodes count = case (append 6 ∷ asks 7 a (Sync x) ∷ [])
     (stood_at 6 1 0 0
-    ∷ record { line = 7; word = words.Sync; answer = answers.Synced (look x 1 (counts 1 0)) count; nodes =
-        nodes } ∷ [])
+    ∷ record {
+      line = 7;
+      word = words.Sync;
+      answer = answers.Synced (look x 1 (counts 1 0)) count;
+      nodes =
+          nodes;
+    } ∷ [])
     one_node
 
 -- 6 append ok 1 x!0@0
@@ -93,8 +98,13 @@ abbrev pub a_node_shown_twice : Case
 a_node_shown_twice = plays_nodes (shown 1 (codes "s") ∷ shown 1 (codes "s") ∷ []) 2
 
 abbrev pub one_play : ReplyLine
-one_play = record { line = 7; word = words.Sync; answer = answers.Synced (look x 1 (counts 1 0)) 1; nodes =
-    shown 1 (codes "s") ∷ [] }
+one_play = record {
+  line = 7;
+  word = words.Sync;
+  answer = answers.Synced (look x 1 (counts 1 0)) 1;
+  nodes =
+      shown 1 (codes "s") ∷ [];
+}
 
 -- 6 append ok 1 x!0@0
 -- 7 sync ok x?1/1 plays 1
