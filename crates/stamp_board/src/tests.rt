@@ -7,7 +7,7 @@ ghost use Rattle.stamp_board.specs.Seats.{IsSeatOf, IsClients, IsColumnOf, IsLat
 ghost use Rattle.stamp_board.specs.Seats.{IsFreshClient, IsFreshColumn, AreFreshClients, AreFreshColumns};
 ghost use Rattle.stamp_board.specs.declared.view.Size.{Size};
 
-use crate::{Board, ClosedRows, ColumnSeat, ColumnSeats, Seat, Seats};
+use crate::{Board, ClosedRow, ClosedRows, ColumnSeat, ColumnSeats, Seat, Seats};
 use log_node::{Colours, Id, ListOf, Node, Row, Text, Wants};
 use skeen_core::{ColourMark, Full, Mark, Marked, Outcome, Why};
 use std::alloc::{AllocError, Global};
@@ -235,6 +235,48 @@ fn a_client_has_its_rows_alone(rt: HostRuntime) -> Result<(), Fail> {
     Ok(())
 }
 
+// Sets the column's mark, where the number is not 0.
+fn mark_with(board: &Board, column: &mut ColumnSeat, row: Row, number: u8)
+    requires column { IsColumnOf board.now column.old × IsRow board.now.size row }
+    requires begun { KnowsColour (column_seen column.old) row column.old.colour }
+    ensures { IsLaterColumn column.old column.new }
+{
+    if number != 0 {
+        board.mark(column, row, u64::from(number));
+    }
+}
+
+// Begins the client's next row, sets the marks whose numbers are not 0, and decides the row where that is asked.
+fn add_row(
+    board: &Board,
+    one: &mut Seat,
+    x: &mut ColumnSeat,
+    y: &mut ColumnSeat,
+    node: &Arc<Node, Global>,
+    marks: (u8, u8),
+    decides: bool,
+)
+    requires one { IsSeatOf board.now one.old × IsClients board.now one.old }
+    requires x { IsColumnOf board.now x.old × (x.old.colour ≡ 0) }
+    requires y { IsColumnOf board.now y.old × (y.old.colour ≡ 1) }
+    requires each { (has node.now.value.colours 0 ≡ true) × (has node.now.value.colours 1 ≡ true) }
+    requires both { AreColours board.now.size node.now.value.colours }
+    ensures one { IsSeatOf board.now one.new × IsClients board.now one.new × (one.new.client ≡ one.old.client) }
+    ensures x { IsColumnOf board.now x.new × (x.new.colour ≡ 0) }
+    ensures y { IsColumnOf board.now y.new × (y.new.colour ≡ 1) }
+{
+    let Ok(row) = board.begin(one, node) else {
+        return;
+    };
+    teach(board, one, x, row, node);
+    teach(board, one, y, row, node);
+    mark_with(board, x, row, marks.0);
+    mark_with(board, y, row, marks.1);
+    if decides {
+        board.decide(one, row);
+    }
+}
+
 // Closes a board of two clients and two columns.
 fn closed(
     alloc: Global,
@@ -244,7 +286,7 @@ fn closed(
     x: ColumnSeat,
     y: ColumnSeat,
 ) -> Result<ClosedRows, AllocError>
-    requires size { board.size ≡ record { clients = 2; colours = 2; rows = 1 } }
+    requires size { (board.size.clients ≡ 2) × (board.size.colours ≡ 2) }
     requires one { IsSeatOf board one × IsClients board one × (one.client ≡ 0) }
     requires two { IsSeatOf board two × IsClients board two × (two.client ≡ 1) }
     requires x { IsColumnOf board x × (x.colour ≡ 0) }
@@ -259,32 +301,46 @@ fn closed(
     board.close(alloc, seats, columns)
 }
 
-#[test]
-fn a_board_closes_with_its_rows(rt: HostRuntime) -> Result<(), Fail> {
-    let alloc = rt.alloc();
-    let Start {
-        board,
-        one,
-        two,
-        x,
-        mut y,
-        row,
-    } = begun_board(alloc)?;
-    board.mark(&mut y, row, 5);
-    let rows = closed(alloc, board, one, two, x, y)?;
-    let rows = rows.as_slice();
+// Whether the client 0's row with this number closed with these marks and this outcome.
+fn shows(rows: &[ClosedRow], number: u32, first: Mark, second: Mark, last: Outcome) -> bool {
     let marks = [
         ColourMark {
             colour: 0,
-            mark: Mark::None,
+            mark: first,
         },
         ColourMark {
             colour: 1,
-            mark: Mark::Number(5),
+            mark: second,
         },
     ];
-    assert!(rt; rows.len() == 1 && rows[0].row == row && rows[0].last == Outcome::Open);
-    assert!(rt; rows[0].marks.as_slice() == marks.as_slice());
+    match rows.get(number as usize) {
+        Some(closed) => {
+            closed.row == Row { client: 0, number }
+                && closed.marks.as_slice() == marks.as_slice()
+                && closed.last == last
+        }
+        None => false,
+    }
+}
+
+#[test]
+fn a_board_closes_with_its_open_rows_and_its_decided_ones(rt: HostRuntime) -> Result<(), Fail> {
+    let alloc = rt.alloc();
+    let node = node(alloc)?;
+    let (board, seats, columns) = Board::open(alloc, 2, 2, 8)?;
+    let (mut one, two) = two_clients(&board, seats);
+    let (mut x, mut y) = two_columns(&board, columns);
+    add_row(&board, &mut one, &mut x, &mut y, &node, (0, 0), false);
+    add_row(&board, &mut one, &mut x, &mut y, &node, (0, 5), true);
+    add_row(&board, &mut one, &mut x, &mut y, &node, (3, 4), false);
+    add_row(&board, &mut one, &mut x, &mut y, &node, (3, 7), true);
+    let rows = closed(alloc, board, one, two, x, y)?;
+    let rows = rows.as_slice();
+    assert!(rt; rows.len() == 4);
+    assert!(rt; shows(rows, 0, Mark::None, Mark::None, Outcome::Open));
+    assert!(rt; shows(rows, 1, Mark::None, Mark::Number(5), Outcome::Open));
+    assert!(rt; shows(rows, 2, Mark::Number(3), Mark::Number(4), Outcome::Open));
+    assert!(rt; shows(rows, 3, Mark::Number(3), Mark::Number(7), Outcome::Final(7)));
     Ok(())
 }
 

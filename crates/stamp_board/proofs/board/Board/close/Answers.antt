@@ -17,8 +17,10 @@ rows-rows-requires c =
     let gathered = same_seats b.size v c.into_vec.ensures c.into_vec-2.ensures g.ensures.gathered in
     let all = closes_with b ws ss cs v q.counts q.seats q.columns w.ensures.words gathered g.ensures.parts in
     subst (λ (z : List Row × Size). All (λ row. IsRow z.1 row × AreColours z.1 (colours_in z.1 ws row)) z.0)
-    (λ i. (sym (c.as_slice-2.ensures.value ∙ c.in_ok-begun.ensures ∙ ap all_begun c.as_slice.ensures) i,
-        sym w.ensures.size i)) (closed_rows b ws ss cs v q.counts q.seats all)
+    (λ i. (
+      sym (c.as_slice-2.ensures.value ∙ c.in_ok-begun.ensures ∙ ap all_begun c.as_slice.ensures) i,
+      sym w.ensures.size i,
+    )) (closed_rows b ws ss cs v q.counts q.seats all)
 
 pub returns : goal.returns
 returns c =
@@ -29,5 +31,10 @@ returns c =
     let all = closes_with b ws ss cs v q.counts q.seats q.columns w.ensures.words gathered g.ensures.parts in
     ok_also c.rows-rows.result (λ r. r ≡ map (closed_row w.result.size ws) c.as_slice-2.result.now)
     (λ r. (x : List ℕ) × (u : View) × Closes b.size x u ss cs × (r ≡ map (closed_row b.size x) (all_begun ss)))
-    (λ r is. (ws, v, all, is ∙ (λ i. map (closed_row (w.ensures.size i) ws) ((c.as_slice-2.ensures.value
-        ∙ c.in_ok-begun.ensures ∙ ap all_begun c.as_slice.ensures) i)))) c.rows-rows.ensures
+    (λ r is. (
+      ws,
+      v,
+      all,
+      is ∙ (λ i. map (closed_row (w.ensures.size i) ws) ((c.as_slice-2.ensures.value
+          ∙ c.in_ok-begun.ensures ∙ ap all_begun c.as_slice.ensures) i)),
+    )) c.rows-rows.ensures
