@@ -14,7 +14,8 @@ use Rattle.report_text.specs.declared.report.RaisePiece.{RaisePiece}
 use Rattle.report_text.specs.declared.report.SyncPiece.{SyncPiece}
 use Rattle.report_text.specs.declared.report.ReplyLine.{ReplyLine}
 use Rattle.report_text.specs.declared.report.ColumnReport.{ColumnReport}
-use Rattle.wrong_reports.specs.Cases.{Case, a, b, e, x, y, id, key, counts, on_x, on_both, together, asks, replies, to_both, look, column, empty, by, proposes, shows}
+use Rattle.wrong_reports.specs.Cases.{Case, a, b, e, x, y, id, key, counts, on_x, on_both, together, asks, replies}
+use Rattle.wrong_reports.specs.Cases.{to_both, look, column, empty, by, proposes, shows}
 use Rattle.wrong_reports.specs.Naming.{case, append, stood_at, one_node}
 use Rattle.wrong_reports.specs.Shown.{shown}
 use Rattle.wrong_reports.specs.Rows.{row, stood, complete}

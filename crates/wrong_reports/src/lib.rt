@@ -63,6 +63,8 @@ pub use naming::a_single_of_nobody_is_unlawful;
 pub use naming::a_single_that_no_reply_names_is_unlawful;
 pub use naming::an_append_at_another_position_is_unlawful;
 pub use naming::an_append_not_above_the_floor_is_unlawful;
+pub use naming::an_append_refused_for_a_trim_is_unlawful;
+pub use naming::an_append_that_reads_is_unlawful;
 pub use naming::an_append_under_another_stamp_is_unlawful;
 pub use naming::an_event_named_twice_is_unlawful;
 pub use naming::an_event_seen_before_it_is_made_is_unlawful;
