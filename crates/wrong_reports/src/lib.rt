@@ -83,6 +83,7 @@ pub use objects::a_value_of_nothing_is_unlawful;
 pub use objects::another_home_is_unlawful;
 pub use objects::answered_away_from_home_is_unlawful;
 pub use objects::refused_at_home_is_unlawful;
+pub use reads::a_hidden_raise_to_nothing_is_unlawful;
 pub use reads::a_raise_before_its_clients_nodes_is_unlawful;
 pub use reads::a_raise_that_does_not_reach_is_unlawful;
 pub use reads::a_raise_that_leaves_the_clock_is_unlawful;
