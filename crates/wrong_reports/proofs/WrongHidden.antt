@@ -25,7 +25,8 @@ module _ (run : LawfulRun a_hidden_raise_to_nothing.script a_hidden_raise_to_not
   history = (column_at a_hidden_raise_to_nothing run 0 _ refl).history
 
   -- what a read that found no memory hides
-  hides_none : (after : Kept) → HidesRead run.log (caller_of a_hidden_raise_to_nothing.script 0) nothing_kept (0 ∷ []) after
+  hides_none : (after : Kept)
+      → HidesRead run.log (caller_of a_hidden_raise_to_nothing.script 0) nothing_kept (0 ∷ []) after
       → 0 ∷ [] ≡ after.made 0 0 → ⊥
   hides_none after h made = by_stamp h.chosen where
     synced : h.synced.made 0 0 ≡ []
@@ -48,7 +49,8 @@ module _ (run : LawfulRun a_hidden_raise_to_nothing.script a_hidden_raise_to_not
     raised = (subst (All P) (sym places) (h.raises 0) 0 0 (lit< tt)).1
 
     five : 5 ≡ h.stamp
-    five = raised_to _ _ (ap (λ (en : Entry). en.event) (some_same (by a (Raise 5) 0) _ (ap (λ (es : List Entry). slice_get es 0) history ∙ raised.2)))
+    five = raised_to _ _ (ap (λ (en : Entry). en.event) (some_same (by a (Raise 5) 0) _ (ap (λ
+        (es : List Entry). slice_get es 0) history ∙ raised.2)))
 
     by_stamp : (◌≡◌ {A = ℕ} h.stamp 0)
         ⊎ ((colour : ℕ) × Contains {X = ℕ} (0 ∷ []) colour
@@ -64,7 +66,8 @@ module _ (run : LawfulRun a_hidden_raise_to_nothing.script a_hidden_raise_to_not
         omega (arith, five, f)
     by_stamp (inr (colour, (suc k, lt, same), events, le, there, early, stamp)) = let f : ⊥ = omega (arith, lt) in f
 
-  found_none : (after : Kept) → FindsNoMemory run.log (caller_of a_hidden_raise_to_nothing.script 0) nothing_kept (Scan on_x) after
+  found_none : (after : Kept)
+      → FindsNoMemory run.log (caller_of a_hidden_raise_to_nothing.script 0) nothing_kept (Scan on_x) after
       → 0 ∷ [] ≡ after.made 0 0 → ⊥
   found_none after nothing made = cc (made)
   found_none after (gone colours text places asks is) made = asks
