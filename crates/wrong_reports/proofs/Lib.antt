@@ -13,3 +13,4 @@ pub mod WrongMoves
 pub mod WrongObjects
 pub mod WrongHelping
 pub mod WrongVerdict
+pub mod WrongHidden

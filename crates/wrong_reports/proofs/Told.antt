@@ -12,9 +12,11 @@ use Rattle.report_text.specs.declared.report.Answer.TheVariants as answers
 use Rattle.report_text.specs.declared.report.PointPiece.{PointPiece}
 use Rattle.report_text.specs.declared.report.ReplyLine.{ReplyLine}
 use Rattle.col_core.specs.Log.{Log}
-use Rattle.col_core.specs.Keeping.{Kept, nothing_kept, kept_after_event, kept_after_single, with_made, with_row, with_floor}
+use Rattle.col_core.specs.Keeping.{Kept, nothing_kept, kept_after_event, kept_after_single, with_made, with_row}
+use Rattle.col_core.specs.Keeping.{with_floor}
 use Rattle.lawful_run.specs.Callers.{Caller, node_of}
-use Rattle.lawful_run.specs.Appends.{AppendsOne, AppendsSeveral, kept_after_points, HadNoStamp, HasNoStamp, none_for_one, none_for_several}
+use Rattle.lawful_run.specs.Appends.{AppendsOne, AppendsSeveral, kept_after_points, HadNoStamp, HasNoStamp}
+use Rattle.lawful_run.specs.Appends.{none_for_one, none_for_several}
 use Rattle.lawful_run.specs.Moves.{Trims}
 use Rattle.lawful_run.specs.Explains.{Explained, Answers}
 use Rattle.wrong_reports.specs.Cases.{asks, replies, point}

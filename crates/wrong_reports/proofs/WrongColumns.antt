@@ -7,7 +7,8 @@ use Rattle.col_core.specs.Computed.{dated}
 use Rattle.col_core.proofs.CutLaws.{cut-is_greatest}
 use Rattle.col_core.proofs.Uniqueness.{cut_unique}
 use Rattle.wrong_reports.specs.Cases.{IsUnlawful}
-use Rattle.wrong_reports.specs.Columns.{single, another_clock, another_line, another_queue, another_cut, another_base, another_regions_name, another_colours_name, a_missing_column, single}
+use Rattle.wrong_reports.specs.Columns.{single, another_clock, another_line, another_queue, another_cut, another_base}
+use Rattle.wrong_reports.specs.Columns.{another_regions_name, another_colours_name, a_missing_column, single}
 use Rattle.wrong_reports.proofs.Tools.{column_at, some_same}
 
 pub clock : IsUnlawful another_clock

@@ -10,7 +10,12 @@ use Rattle.col_core.specs.Computed.{dated}
 use Rattle.lawful_run.specs.Lawful.{LawfulRun}
 use Rattle.wrong_reports.specs.Cases.{IsUnlawful, counts}
 use Rattle.wrong_reports.specs.Columns.{single}
-use Rattle.wrong_reports.specs.Events.{carries, a_stamp_that_is_not_next, an_id_that_enters_twice, a_settling_of_what_is_not_open, a_raise_to_the_clock, a_give_to_its_own_region, a_trim_with_a_stamp, an_event_by_nobody, a_give_beyond_the_line, a_carry_with_a_gap, a_carry_of_nothing, a_carry_of_its_own_region, a_carry_of_what_the_origin_lacks, a_carry_with_other_needs, noted_more_than_is_held, a_base_that_forgets_another_region}
+use Rattle.wrong_reports.specs.Events.{carries, a_stamp_that_is_not_next, an_id_that_enters_twice}
+use Rattle.wrong_reports.specs.Events.{a_settling_of_what_is_not_open, a_raise_to_the_clock, a_give_to_its_own_region}
+use Rattle.wrong_reports.specs.Events.{a_trim_with_a_stamp, an_event_by_nobody, a_give_beyond_the_line}
+use Rattle.wrong_reports.specs.Events.{a_carry_with_a_gap, a_carry_of_nothing, a_carry_of_its_own_region}
+use Rattle.wrong_reports.specs.Events.{a_carry_of_what_the_origin_lacks, a_carry_with_other_needs}
+use Rattle.wrong_reports.specs.Events.{noted_more_than_is_held, a_base_that_forgets_another_region}
 use Rattle.wrong_reports.proofs.Tools.{column_at}
 use Rattle.report_text.specs.declared.report.ReplyLine.{ReplyLine}
 

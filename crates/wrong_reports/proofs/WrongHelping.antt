@@ -1,5 +1,6 @@
 -- Phantoms, appends that stop and go on, and wrong helpers.
-use Rattle.std.proofs.Common.{◌≡◌, ◌≢◌, ◌⊎◌, inl, inr, ℕ, zero, suc, ◌+◌, ◌<◌, List, [], ◌∷◌, length, false, Some, refl, ap, sym, subst, ◌∙◌, arith, lit<, slice_get}
+use Rattle.std.proofs.Common.{◌≡◌, ◌≢◌, ◌⊎◌, inl, inr, ℕ, zero, suc, ◌+◌, ◌<◌, List, [], ◌∷◌, length, false, Some}
+use Rattle.std.proofs.Common.{refl, ap, sym, subst, ◌∙◌, arith, lit<, slice_get}
 use Rattle.std.specs.Prelude.{IsTrue}
 use Rattle.std.specs.List.{All, Contains}
 use Rattle.log_node.specs.declared.ids.Colours.{Colours}
@@ -27,7 +28,11 @@ use Rattle.lawful_run.specs.Columns.{IsClientIn}
 use Rattle.lawful_run.specs.Lawful.{LawfulRun, HasStopped, HasHelping}
 use Rattle.wrong_reports.specs.Cases.{Case, IsUnlawful, a, b, x, id, proposes, on_both}
 use Rattle.wrong_reports.specs.Rows.{settles, proposed}
-use Rattle.wrong_reports.specs.Helping.{a_stop_for_the_stamps_end, phantom, a_phantom_of_another_region, a_phantom_of_nobody, a_stopped_append_that_goes_on, a_stop_before_its_steps, a_stop_after_other_steps, left_open_by_one_who_did_not_stop, a_row_left_open, helped_by_b, one_who_only_syncs_helps, one_of_another_region_helps, a_helped_append_left_open}
+use Rattle.wrong_reports.specs.Helping.{a_stop_for_the_stamps_end, phantom, a_phantom_of_another_region}
+use Rattle.wrong_reports.specs.Helping.{a_phantom_of_nobody, a_stopped_append_that_goes_on, a_stop_before_its_steps}
+use Rattle.wrong_reports.specs.Helping.{a_stop_after_other_steps, left_open_by_one_who_did_not_stop, a_row_left_open}
+use Rattle.wrong_reports.specs.Helping.{helped_by_b, one_who_only_syncs_helps, one_of_another_region_helps}
+use Rattle.wrong_reports.specs.Helping.{a_helped_append_left_open}
 use Rattle.wrong_reports.proofs.Tools.{only, column_at, some_same}
 use Rattle.wrong_reports.proofs.BegunRows.{one_row, second_row, only_row, at_row, in_rows}
 

@@ -17,7 +17,10 @@ use Rattle.lawful_run.specs.Moves.{Pulls, kept_after_pull}
 use Rattle.lawful_run.specs.Explains.{Answers}
 use Rattle.wrong_reports.specs.Cases.{IsUnlawful, a, e, counts, asks}
 use Rattle.wrong_reports.specs.Naming.{trim, trimmed}
-use Rattle.wrong_reports.specs.Moves.{a_base_that_is_not_there, a_trim_beyond_the_snapshot, trimmed_where_nothing_is, pulled, given_from, carried_one, another_region_taken_for_its_own, a_pull_that_leaves_a_node, a_pull_of_more_nodes, a_pull_that_asks_again, a_sync_of_what_was_trimmed}
+use Rattle.wrong_reports.specs.Moves.{a_base_that_is_not_there, a_trim_beyond_the_snapshot, trimmed_where_nothing_is}
+use Rattle.wrong_reports.specs.Moves.{pulled, given_from, carried_one, another_region_taken_for_its_own}
+use Rattle.wrong_reports.specs.Moves.{a_pull_that_leaves_a_node, a_pull_of_more_nodes, a_pull_that_asks_again}
+use Rattle.wrong_reports.specs.Moves.{a_sync_of_what_was_trimmed}
 use Rattle.wrong_reports.proofs.Tools.{only, column_at, some_same}
 use Rattle.wrong_reports.proofs.Told.{two, trim_says}
 

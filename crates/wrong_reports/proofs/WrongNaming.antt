@@ -1,5 +1,6 @@
 -- Replies that name other events or nodes than they may.
-use Rattle.std.proofs.Common.{◌≡◌, ℕ, ◌≤◌, List, [], ◌∷◌, length, take, Some, None, refl, ap, sym, subst, ◌∙◌, arith, lit<, slice_get}
+use Rattle.std.proofs.Common.{inl, inr, ◌≡◌, ℕ, ◌≤◌, List, [], ◌∷◌, length, take, Some, None, refl, ap, sym, subst}
+use Rattle.std.proofs.Common.{◌∙◌, arith, lit<, slice_get}
 use Rattle.log_node.specs.declared.ids.Id.{Id}
 use Rattle.log_node.specs.declared.ids.Colours.{Colours}
 use Rattle.script_text.specs.declared.script.Command.{Command}
@@ -17,7 +18,14 @@ use Rattle.lawful_run.specs.Lawful.{LawfulRun}
 use Rattle.wrong_reports.specs.Cases.{IsUnlawful, alone, a, e, x, id, key, counts, empty, enters, column}
 use Rattle.script_text.specs.declared.script.What.TheVariants.{Sync}
 use Rattle.wrong_reports.specs.Cases.{asks}
-use Rattle.wrong_reports.specs.Naming.{a_floor_that_is_forgotten, a_raise_that_no_reply_names, a_single_that_no_reply_names, synced_at, trim, trimmed, case, an_own_event_that_no_reply_names, an_event_named_twice, events_named_out_of_order, an_event_seen_before_it_is_made, a_look_behind_what_was_seen, an_event_that_is_not_there, one_node, an_append_at_another_position, an_append_under_another_stamp, an_append_not_above_the_floor, a_single_of_nobody, no_stamp_with_stamps_left, a_full_that_needs_no_row}
+use Rattle.wrong_reports.specs.Naming.{an_append_that_reads, an_append_refused_for_a_trim, a_floor_that_is_forgotten}
+use Rattle.wrong_reports.specs.Naming.{a_raise_that_no_reply_names, a_single_that_no_reply_names, synced_at, trim}
+use Rattle.wrong_reports.specs.Naming.{trimmed, case, an_own_event_that_no_reply_names, an_event_named_twice}
+use Rattle.wrong_reports.specs.Naming.{events_named_out_of_order, an_event_seen_before_it_is_made}
+use Rattle.wrong_reports.specs.Naming.{a_look_behind_what_was_seen, an_event_that_is_not_there, one_node}
+use Rattle.wrong_reports.specs.Naming.{an_append_at_another_position, an_append_under_another_stamp}
+use Rattle.wrong_reports.specs.Naming.{an_append_not_above_the_floor, a_single_of_nobody, no_stamp_with_stamps_left}
+use Rattle.wrong_reports.specs.Naming.{a_full_that_needs_no_row}
 use Rattle.wrong_reports.proofs.Tools.{only, column_at, some_same}
 use Rattle.wrong_reports.proofs.Told.{two, trim_says, stood_says, no_stamp_says}
 
@@ -168,3 +176,18 @@ raise_unnamed run = unnamed _ _ refl refl refl refl run
 
 pub single_unnamed : IsUnlawful a_single_that_no_reply_names
 single_unnamed run = unnamed _ _ refl refl refl refl run
+
+pub reads_too : IsUnlawful an_append_that_reads
+reads_too run = elim (only run.log _ _ _ _ (run.clients 0 _ refl).explained).explained.1 [
+  | inl m ↦ cc (m)
+  | inr m ↦ cc (m)
+]
+
+pub refused_for_trim : IsUnlawful an_append_refused_for_a_trim
+refused_for_trim run = elim (only run.log _ _ _ _ (run.clients 0 _ refl).explained).explained.1 [
+  | inl m ↦ cc (m)
+  | inr n ↦ elim n [
+    | inl m ↦ cc (m)
+    | inr m ↦ cc (m)
+  ]
+]

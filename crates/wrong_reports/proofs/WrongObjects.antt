@@ -16,7 +16,10 @@ use Rattle.col_core.specs.Cuts.{chain}
 use Rattle.col_core.specs.Log.{first}
 use Rattle.lawful_run.specs.Objects.{IsChainNode, AreObjectNodes}
 use Rattle.wrong_reports.specs.Cases.{IsUnlawful}
-use Rattle.wrong_reports.specs.Objects.{refused_at_home, answered_away_from_home, another_home, a_value_of_nothing, a_value_of_another_key, a_causal_value_of_nothing, a_dequeue_answered_as_an_append, a_dequeue_of_nothing, a_read_that_is_forgotten, a_commit_that_keeps_its_read}
+use Rattle.wrong_reports.specs.Objects.{refused_at_home, answered_away_from_home, another_home, a_value_of_nothing}
+use Rattle.wrong_reports.specs.Objects.{a_value_of_another_key, a_causal_value_of_nothing}
+use Rattle.wrong_reports.specs.Objects.{a_dequeue_answered_as_an_append, a_dequeue_of_nothing}
+use Rattle.wrong_reports.specs.Objects.{a_read_that_is_forgotten, a_commit_that_keeps_its_read}
 use Rattle.wrong_reports.proofs.Tools.{only, ends_with}
 use Rattle.wrong_reports.proofs.Told.{two}
 

@@ -1,5 +1,6 @@
 -- Scans that are wrong.
-use Rattle.std.proofs.Common.{◌≡◌, ◌⊎◌, inl, inr, ℕ, zero, suc, ◌<◌, ◌≤◌, List, [], ◌∷◌, length, take, false, refl, ap, sym, subst, ◌∙◌, arith, lit<, lit≤}
+use Rattle.std.proofs.Common.{◌≡◌, ◌⊎◌, inl, inr, ℕ, zero, suc, ◌<◌, ◌≤◌, List, [], ◌∷◌, length, take, false, refl}
+use Rattle.std.proofs.Common.{ap, sym, subst, ◌∙◌, arith, lit<, lit≤}
 use Rattle.std.specs.List.{AllZip, Contains}
 use Rattle.log_node.specs.declared.ids.Key.{Key}
 use Rattle.log_node.specs.declared.ids.Colours.{Colours}
@@ -19,7 +20,11 @@ use Rattle.log_node.specs.Seen.{PlacedNode}
 use Rattle.wrong_reports.specs.Cases.{IsUnlawful, a, b, e, x, id, key, asks}
 use Rattle.wrong_reports.specs.Naming.{one_node}
 use Rattle.wrong_reports.specs.Rows.{complete}
-use Rattle.wrong_reports.specs.Reads.{raise, scanned, opened, a_scan_of_more_nodes, a_scan_without_a_raise, a_scan_without_a_sync, a_read_stamp_of_nothing, a_read_below_the_floor, a_scan_that_leaves_a_node_out, a_raise_that_does_not_reach, a_raise_before_its_clients_nodes, a_read_over_an_open_entry, a_read_below_a_clock_that_was_seen, a_raise_that_leaves_the_clock}
+use Rattle.wrong_reports.specs.Reads.{raise, scanned, opened, a_scan_of_more_nodes, a_scan_without_a_raise}
+use Rattle.wrong_reports.specs.Reads.{a_scan_without_a_sync, a_read_stamp_of_nothing, a_read_below_the_floor}
+use Rattle.wrong_reports.specs.Reads.{a_scan_that_leaves_a_node_out, a_raise_that_does_not_reach}
+use Rattle.wrong_reports.specs.Reads.{a_raise_before_its_clients_nodes, a_read_over_an_open_entry}
+use Rattle.wrong_reports.specs.Reads.{a_read_below_a_clock_that_was_seen, a_raise_that_leaves_the_clock}
 use Rattle.wrong_reports.proofs.Tools.{only, column_at}
 use Rattle.wrong_reports.proofs.Told.{two, stood_says, several_says}
 

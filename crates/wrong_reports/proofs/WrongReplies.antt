@@ -9,7 +9,9 @@ use Rattle.col_core.proofs.CutLaws.{cut-is_greatest}
 use Rattle.col_core.proofs.Uniqueness.{cut_unique}
 use Rattle.script_text.specs.declared.script.What.TheVariants.{Sync}
 use Rattle.wrong_reports.specs.Cases.{IsUnlawful, asks, a, e, x, empty}
-use Rattle.wrong_reports.specs.Replies.{a_missing_reply, a_wrong_line, a_wrong_word, a_wrong_name, another_commands_answer, more_plays_than_nodes, a_look_at_what_is_not_there, a_snapshot_of_what_is_not_there}
+use Rattle.wrong_reports.specs.Replies.{a_missing_reply, a_wrong_line, a_wrong_word, a_wrong_name}
+use Rattle.wrong_reports.specs.Replies.{another_commands_answer, more_plays_than_nodes, a_look_at_what_is_not_there}
+use Rattle.wrong_reports.specs.Replies.{a_snapshot_of_what_is_not_there}
 use Rattle.wrong_reports.proofs.Tools.{only, no_fewer, column_at}
 
 pub missing_reply : IsUnlawful a_missing_reply

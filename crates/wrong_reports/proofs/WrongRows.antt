@@ -1,5 +1,6 @@
 -- Rows that are not as they may be.
-use Rattle.std.proofs.Common.{◌≡◌, ℕ, zero, suc, ◌<◌, List, [], ◌∷◌, length, map, Some, None, refl, ap, sym, subst, ◌∙◌, arith, lit<, lit≤, slice_get, ◌≤◌}
+use Rattle.std.proofs.Common.{◌≡◌, ℕ, zero, suc, ◌<◌, List, [], ◌∷◌, length, map, Some, None, refl, ap, sym, subst}
+use Rattle.std.proofs.Common.{◌∙◌, arith, lit<, lit≤, slice_get, ◌≤◌}
 use Rattle.std.specs.List.{All, Contains}
 use Rattle.log_node.specs.declared.ids.Id.{Id}
 use Rattle.log_node.specs.declared.node.Node.{Node}
@@ -13,7 +14,12 @@ use Rattle.col_core.specs.Rows.{BegunRow, AreLawfulRows, FitsRow, FitsRows, IsMa
 use Rattle.report_text.specs.declared.report.RowReport.{RowReport}
 use Rattle.lawful_run.specs.Lawful.{LawfulRun}
 use Rattle.wrong_reports.specs.Cases.{Case, IsUnlawful, a, b, e, w, x, y, id, together}
-use Rattle.wrong_reports.specs.Rows.{a_fence_with_stamps_left, row, settles, complete, one_append, has_rows, a_row_out_of_count, a_row_for_anothers_node, a_row_of_one_colour, two_rows_for_one_node, a_mark_that_was_not_proposed, a_proposal_without_a_mark, an_outcome_of_other_marks, a_settling_unlike_the_outcome, a_proposal_without_a_row, rows_out_of_order, full_too_early, two_orders, a_settling_under_a_lesser_stamp}
+use Rattle.wrong_reports.specs.Rows.{a_fence_with_stamps_left, row, settles, complete, one_append, has_rows}
+use Rattle.wrong_reports.specs.Rows.{a_row_out_of_count, a_row_for_anothers_node, a_row_of_one_colour}
+use Rattle.wrong_reports.specs.Rows.{two_rows_for_one_node, a_mark_that_was_not_proposed, a_proposal_without_a_mark}
+use Rattle.wrong_reports.specs.Rows.{an_outcome_of_other_marks, a_settling_unlike_the_outcome}
+use Rattle.wrong_reports.specs.Rows.{a_proposal_without_a_row, rows_out_of_order, full_too_early, two_orders}
+use Rattle.wrong_reports.specs.Rows.{a_settling_under_a_lesser_stamp}
 use Rattle.std.specs.Prelude.{max}
 use Rattle.skeen_core.specs.declared.marks.Why.TheVariants.{StampEnd}
 use Rattle.log_node.specs.declared.ids.Colours.{Colours}

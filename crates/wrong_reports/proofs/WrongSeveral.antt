@@ -1,6 +1,7 @@
 -- Replies to an append to several colours that are unlike its row.
 use Rattle.lawful_run.specs.Lawful.{LawfulRun}
-use Rattle.std.proofs.Common.{◌≡◌, ℕ, List, length, refl, ap, sym, subst, ◌∙◌, arith, lit<, slice_get, Some, codes, ◌∷◌, []}
+use Rattle.std.proofs.Common.{◌≡◌, ℕ, List, length, refl, ap, sym, subst, ◌∙◌, arith, lit<, slice_get, Some, codes}
+use Rattle.std.proofs.Common.{◌∷◌, []}
 use Rattle.std.specs.List.{Contains, filter}
 use Rattle.log_node.specs.declared.ids.Id.{Id}
 use Rattle.log_node.specs.declared.ids.Counts.{Counts}
@@ -12,7 +13,10 @@ use Rattle.col_core.specs.Rows.{BegunRow, is_of}
 use Rattle.col_core.specs.Keeping.{Kept}
 use Rattle.wrong_reports.specs.Cases.{IsUnlawful, a, e, x, id, enters, point}
 use Rattle.wrong_reports.specs.Rows.{proposed}
-use Rattle.wrong_reports.specs.Several.{a_look_before_its_own_settling, its_own_proposal_told_as_a_look, no_memory_for_what_stands, another_rows_number, a_colour_without_a_point, stood_before_it_is_settled, stood_before_it_is_decided, a_row_that_no_command_began, an_append_to_several_that_leaves_the_floor}
+use Rattle.wrong_reports.specs.Several.{a_look_before_its_own_settling, its_own_proposal_told_as_a_look}
+use Rattle.wrong_reports.specs.Several.{no_memory_for_what_stands, another_rows_number, a_colour_without_a_point}
+use Rattle.wrong_reports.specs.Several.{stood_before_it_is_settled, stood_before_it_is_decided}
+use Rattle.wrong_reports.specs.Several.{a_row_that_no_command_began, an_append_to_several_that_leaves_the_floor}
 use Rattle.script_text.specs.declared.script.What.TheVariants.{Append}
 use Rattle.skeen_core.specs.declared.marks.Mark.TheVariants as marks
 use Rattle.skeen_core.specs.declared.marks.Why.TheVariants.{Memory}

@@ -1,6 +1,7 @@
 -- Syncs that show other nodes than they play.
 use Rattle.log_node.specs.declared.ids.Counts.{Counts}
-use Rattle.std.proofs.Common.{◌≡◌, inl, ℕ, zero, suc, ◌+◌, List, [], ◌∷◌, take, Some, refl, ap, sym, subst, ◌∙◌, arith, codes, slice_get, ne_eqb}
+use Rattle.std.proofs.Common.{◌≡◌, inl, ℕ, zero, suc, ◌+◌, List, [], ◌∷◌, take, Some, refl, ap, sym, subst, ◌∙◌}
+use Rattle.std.proofs.Common.{arith, codes, slice_get, ne_eqb}
 use Rattle.std.specs.Prelude.{slice_index}
 use Rattle.std.specs.List.{AllZip, count_by}
 use Rattle.log_node.specs.declared.ids.Id.{Id}
@@ -22,7 +23,9 @@ use Rattle.script_text.specs.declared.script.What.TheVariants.{Sync}
 use Rattle.col_core.specs.declared.Event.TheVariants.{Single}
 use Rattle.log_node.specs.Vectors.{at}
 use Rattle.wrong_reports.specs.Naming.{append, stood_at, one_node}
-use Rattle.wrong_reports.specs.Shown.{a_node_that_wants_too_little, one_play, shown, plays_nodes, two_entries, a_node_with_another_text, a_node_that_is_not_shown, a_node_under_another_stamp, a_node_shown_twice, nodes_in_another_order, two_plays}
+use Rattle.wrong_reports.specs.Shown.{a_node_that_wants_too_little, one_play, shown, plays_nodes, two_entries}
+use Rattle.wrong_reports.specs.Shown.{a_node_with_another_text, a_node_that_is_not_shown, a_node_under_another_stamp}
+use Rattle.wrong_reports.specs.Shown.{a_node_shown_twice, nodes_in_another_order, two_plays}
 use Rattle.wrong_reports.proofs.Tools.{ends_with, column_at, some_same, none_there, EndsWith}
 use Rattle.wrong_reports.proofs.Told.{two, stood_says}
 

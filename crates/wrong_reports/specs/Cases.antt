@@ -1,4 +1,4 @@
--- The small scripts, and the pieces of their reports. Reports are written above each as they print, from its clients on.
+-- The small scripts, and the pieces of their reports. Reports are written above each as they print.
 use Rattle.std.specs.Prelude.{ℕ, List, [], ◌∷◌, length, take, codes, if◌then◌else◌, ◌==◌}
 use Rattle.log_node.specs.declared.ids.Id.{Id}
 use Rattle.log_node.specs.declared.ids.Key.{Key}
@@ -72,7 +72,7 @@ key stamp id = record { stamp = stamp; id = id }
 abbrev pub counts : ℕ → ℕ → Counts
 counts of_e of_w = record { 0 = of_e ∷ of_w ∷ 0 ∷ 0 ∷ [] }
 
--- SCRIPTS: so many regions and colours, the region of each client, objects, and the commands; a client may begin one row
+-- SCRIPTS: so many regions and colours, each client's region, objects and commands; a client may begin one row
 abbrev pub script : ℕ → ℕ → List ℕ → List Object → List Command → Script
 script regions colours homes objects commands = record {
   shape = record { regions = regions; colours = colours; homes = homes; rows = 1 };

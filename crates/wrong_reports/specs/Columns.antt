@@ -7,7 +7,8 @@ use Rattle.script_text.specs.declared.script.Script.{Script}
 use Rattle.report_text.specs.declared.report.Answer.TheVariants as answers
 use Rattle.report_text.specs.declared.report.ReplyLine.{ReplyLine}
 use Rattle.report_text.specs.declared.report.ColumnReport.{ColumnReport}
-use Rattle.wrong_reports.specs.Cases.{Case, a, e, x, id, key, counts, on_x, alone, asks, replies, to_a, column, enters, point, shows}
+use Rattle.wrong_reports.specs.Cases.{Case, a, e, x, id, key, counts, on_x, alone, asks, replies, to_a, column}
+use Rattle.wrong_reports.specs.Cases.{enters, point, shows}
 
 -- 6 a append x s
 abbrev pub one_append : Script

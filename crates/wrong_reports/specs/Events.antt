@@ -8,7 +8,8 @@ use Rattle.script_text.specs.declared.script.What.TheVariants.{Append}
 use Rattle.script_text.specs.declared.script.Word.TheVariants as words
 use Rattle.report_text.specs.declared.report.Answer.TheVariants as answers
 use Rattle.report_text.specs.declared.report.ReplyLine.{ReplyLine}
-use Rattle.wrong_reports.specs.Cases.{Case, a, b, e, w, x, id, key, counts, on_x, apart, asks, replies, to_a, to_both, column, empty, enters, by, point, shows}
+use Rattle.wrong_reports.specs.Cases.{Case, a, b, e, w, x, id, key, counts, on_x, apart, asks, replies, to_a, to_both}
+use Rattle.wrong_reports.specs.Cases.{column, empty, enters, by, point, shows}
 use Rattle.log_node.specs.declared.ids.Id.{Id}
 use Rattle.log_node.specs.declared.ids.Key.{Key}
 use Rattle.log_node.specs.declared.ids.Counts.{Counts}

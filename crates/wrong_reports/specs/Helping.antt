@@ -7,7 +7,8 @@ use Rattle.script_text.specs.declared.script.What.TheVariants.{Append, Stop, Syn
 use Rattle.script_text.specs.declared.script.Word.TheVariants as words
 use Rattle.report_text.specs.declared.report.Answer.TheVariants as answers
 use Rattle.report_text.specs.declared.report.ColumnReport.{ColumnReport}
-use Rattle.wrong_reports.specs.Cases.{Case, a, b, e, w, x, y, id, key, counts, on_x, on_y, on_both, together, script, asks, replies, to_both, column, empty, enters, proposes, point, shows}
+use Rattle.wrong_reports.specs.Cases.{Case, a, b, e, w, x, y, id, key, counts, on_x, on_y, on_both, together, script}
+use Rattle.wrong_reports.specs.Cases.{asks, replies, to_both, column, empty, enters, proposes, point, shows}
 use Rattle.wrong_reports.specs.Rows.{row, settles, proposed}
 
 -- PHANTOMS: a row, and a node in both lines, that no command of the script made

@@ -11,7 +11,8 @@ use Rattle.script_text.specs.declared.script.Word.TheVariants as words
 use Rattle.script_text.specs.declared.script.Command.{Command}
 use Rattle.report_text.specs.declared.report.Answer.TheVariants as answers
 use Rattle.report_text.specs.declared.report.ReplyLine.{ReplyLine}
-use Rattle.wrong_reports.specs.Cases.{Case, a, b, e, w, x, id, key, counts, on_x, apart, script, asks, replies, to_both, look, empty, by, shows}
+use Rattle.wrong_reports.specs.Cases.{Case, a, b, e, w, x, id, key, counts, on_x, apart, script, asks, replies}
+use Rattle.wrong_reports.specs.Cases.{to_both, look, empty, by, shows}
 use Rattle.wrong_reports.specs.Naming.{case, append, stood_at, one_node, trim, trimmed}
 use Rattle.wrong_reports.specs.Columns.{single}
 use Rattle.wrong_reports.specs.Shown.{shown}

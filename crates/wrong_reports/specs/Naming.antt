@@ -9,7 +9,8 @@ use Rattle.report_text.specs.declared.report.Answer.TheVariants as answers
 use Rattle.report_text.specs.declared.report.ReplyLine.{ReplyLine}
 use Rattle.report_text.specs.declared.report.ColumnReport.{ColumnReport}
 use Rattle.col_core.specs.declared.Entry.{Entry}
-use Rattle.wrong_reports.specs.Cases.{Case, a, e, x, id, key, counts, on_x, alone, asks, replies, to_a, look, column, by, empty, enters, trims, point, shows}
+use Rattle.wrong_reports.specs.Cases.{Case, a, e, x, id, key, counts, on_x, alone, asks, replies, to_a, look, column}
+use Rattle.wrong_reports.specs.Cases.{by, empty, enters, trims, point, shows}
 
 -- 0 a trim 0
 abbrev pub trim : Entry
@@ -160,3 +161,17 @@ a_raise_that_no_reply_names = case (asks 6 a (Sync x) ∷ []) (synced_at 6 0 ∷
 -- = clock 1 line a.0:1 queue - cut 1 base 0
 abbrev pub a_single_that_no_reply_names : Case
 a_single_that_no_reply_names = case (asks 6 a (Sync x) ∷ []) (synced_at 6 0 ∷ []) one_node
+
+-- 6 append unread 1 nomemory
+-- column e x
+-- 0 a single a.0 floor 0 wants 0 stamp 1
+-- = clock 1 line a.0:1 queue - cut 1 base 0
+abbrev pub an_append_that_reads : Case
+an_append_that_reads = case (append 6 ∷ []) (replies 6 words.Append (answers.UnreadNoMemory 1) ∷ []) one_node
+
+-- 6 append trimmed x 0
+-- column e x
+-- = clock 0 line - queue - cut 0 base 0
+abbrev pub an_append_refused_for_a_trim : Case
+an_append_refused_for_a_trim =
+    case (append 6 ∷ []) (replies 6 words.Append (answers.Trimmed x (counts 0 0)) ∷ []) (empty e x)

@@ -11,7 +11,8 @@ use Rattle.report_text.specs.declared.report.Answer.{Answer}
 use Rattle.report_text.specs.declared.report.Answer.TheVariants as answers
 use Rattle.report_text.specs.declared.report.ReplyLine.{ReplyLine}
 use Rattle.report_text.specs.declared.report.ColumnReport.{ColumnReport}
-use Rattle.wrong_reports.specs.Cases.{Case, a, b, e, w, x, counts, script, asks, replies, to_a, to_both, look, empty, point, shows}
+use Rattle.wrong_reports.specs.Cases.{Case, a, b, e, w, x, counts, script, asks, replies, to_a, to_both, look, empty}
+use Rattle.wrong_reports.specs.Cases.{point, shows}
 use Rattle.wrong_reports.specs.Naming.{one_node}
 use Rattle.wrong_reports.specs.Reads.{raise}
 

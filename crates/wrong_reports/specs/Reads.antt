@@ -14,7 +14,8 @@ use Rattle.report_text.specs.declared.report.RaisePiece.{RaisePiece}
 use Rattle.report_text.specs.declared.report.SyncPiece.{SyncPiece}
 use Rattle.report_text.specs.declared.report.ReplyLine.{ReplyLine}
 use Rattle.report_text.specs.declared.report.ColumnReport.{ColumnReport}
-use Rattle.wrong_reports.specs.Cases.{Case, a, b, e, x, y, id, key, counts, on_x, on_both, together, asks, replies, to_both, look, column, empty, by, proposes, shows}
+use Rattle.wrong_reports.specs.Cases.{Case, a, b, e, x, y, id, key, counts, on_x, on_both, together, asks, replies}
+use Rattle.wrong_reports.specs.Cases.{to_both, look, column, empty, by, proposes, shows}
 use Rattle.wrong_reports.specs.Naming.{case, append, stood_at, one_node}
 use Rattle.wrong_reports.specs.Shown.{shown}
 use Rattle.wrong_reports.specs.Rows.{row, stood, complete}
@@ -129,3 +130,11 @@ a_raise_that_leaves_the_clock = record {
       (shown 1 (codes "s") ∷ []) ∷ []) [])
       [] (one_node ∷ column e y (by a (Raise 1) 0 ∷ []) 0 [] [] (counts 0 0) (counts 0 0) ∷ []);
 }
+
+-- 6 scan nomemory
+-- column e x
+-- 0 a raise 5
+-- = clock 5 line - queue - cut 0 base 0
+abbrev pub a_hidden_raise_to_nothing : Case
+a_hidden_raise_to_nothing = case (scan 6 ∷ []) (replies 6 words.Scan answers.NoMemory ∷ [])
+    (column e x (by a (Raise 5) 0 ∷ []) 5 [] [] (counts 0 0) (counts 0 0))

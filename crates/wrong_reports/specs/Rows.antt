@@ -15,7 +15,8 @@ use Rattle.report_text.specs.declared.report.Answer.TheVariants as answers
 use Rattle.report_text.specs.declared.report.ReplyLine.{ReplyLine}
 use Rattle.report_text.specs.declared.report.RowReport.{RowReport}
 use Rattle.report_text.specs.declared.report.ColumnReport.{ColumnReport}
-use Rattle.wrong_reports.specs.Cases.{Case, a, b, e, x, y, id, key, counts, on_x, on_both, together, asks, replies, to_both, column, empty, by, enters, proposes, point, shows}
+use Rattle.wrong_reports.specs.Cases.{Case, a, b, e, x, y, id, key, counts, on_x, on_both, together, asks, replies}
+use Rattle.wrong_reports.specs.Cases.{to_both, column, empty, by, enters, proposes, point, shows}
 
 -- the row of a client, its node, the marks of x and y, and the outcome
 abbrev pub row : ℕ → ℕ → ℕ → Id → Mark → Mark → Outcome → RowReport

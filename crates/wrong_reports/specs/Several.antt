@@ -9,7 +9,8 @@ use Rattle.script_text.specs.declared.script.Word.TheVariants as words
 use Rattle.report_text.specs.declared.report.Answer.{Answer}
 use Rattle.report_text.specs.declared.report.Answer.TheVariants as answers
 use Rattle.report_text.specs.declared.report.ColumnReport.{ColumnReport}
-use Rattle.wrong_reports.specs.Cases.{Case, a, e, x, y, id, key, counts, on_x, on_both, together, asks, replies, to_both, look, column, empty, enters, proposes, point, shows}
+use Rattle.wrong_reports.specs.Cases.{Case, a, e, x, y, id, key, counts, on_x, on_both, together, asks, replies}
+use Rattle.wrong_reports.specs.Cases.{to_both, look, column, empty, enters, proposes, point, shows}
 use Rattle.wrong_reports.specs.Rows.{row, settles, complete, proposed, one_append, stood}
 
 abbrev pub answered : Answer → Outcome → List ColumnReport → Case

@@ -1,8 +1,7 @@
 // Columns that are not as they may be.
 ghost use Rattle.wrong_reports.specs.Cases.{IsUnlawful};
-ghost use Rattle.wrong_reports.specs.Columns.{another_clock, another_line, another_queue};
-ghost use Rattle.wrong_reports.specs.Columns.{another_cut, another_base, another_regions_name};
-ghost use Rattle.wrong_reports.specs.Columns.{another_colours_name, a_missing_column};
+ghost use Rattle.wrong_reports.specs.Columns.{another_clock, another_line, another_queue, another_cut, another_base};
+ghost use Rattle.wrong_reports.specs.Columns.{another_regions_name, another_colours_name, a_missing_column};
 
 /// The closing line shows the clock.
 #[tactic(auto, using(crate::proofs::WrongColumns::clock))]

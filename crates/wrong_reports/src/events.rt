@@ -1,10 +1,12 @@
 // Events that may not come.
 ghost use Rattle.wrong_reports.specs.Cases.{IsUnlawful};
-ghost use Rattle.wrong_reports.specs.Events.{a_base_that_forgets_another_region, a_stamp_that_is_not_next, an_id_that_enters_twice};
-ghost use Rattle.wrong_reports.specs.Events.{a_settling_of_what_is_not_open, a_raise_to_the_clock, a_give_to_its_own_region};
-ghost use Rattle.wrong_reports.specs.Events.{a_give_beyond_the_line, a_trim_with_a_stamp, an_event_by_nobody};
-ghost use Rattle.wrong_reports.specs.Events.{a_carry_with_a_gap, a_carry_of_nothing, a_carry_of_its_own_region};
-ghost use Rattle.wrong_reports.specs.Events.{a_carry_of_what_the_origin_lacks, a_carry_with_other_needs, noted_more_than_is_held};
+ghost use Rattle.wrong_reports.specs.Events.{a_base_that_forgets_another_region, a_stamp_that_is_not_next};
+ghost use Rattle.wrong_reports.specs.Events.{an_id_that_enters_twice, a_settling_of_what_is_not_open};
+ghost use Rattle.wrong_reports.specs.Events.{a_raise_to_the_clock, a_give_to_its_own_region, a_give_beyond_the_line};
+ghost use Rattle.wrong_reports.specs.Events.{a_trim_with_a_stamp, an_event_by_nobody, a_carry_with_a_gap};
+ghost use Rattle.wrong_reports.specs.Events.{a_carry_of_nothing, a_carry_of_its_own_region};
+ghost use Rattle.wrong_reports.specs.Events.{a_carry_of_what_the_origin_lacks, a_carry_with_other_needs};
+ghost use Rattle.wrong_reports.specs.Events.{noted_more_than_is_held};
 
 /// Nothing is trimmed that another region has not asked past.
 #[tactic(auto, using(crate::proofs::WrongEvents::base_forgets))]

@@ -1,9 +1,11 @@
 // Phantoms, appends that stop and go on, and wrong helpers.
 ghost use Rattle.wrong_reports.specs.Cases.{IsUnlawful};
-ghost use Rattle.wrong_reports.specs.Helping.{a_phantom_of_another_region, a_phantom_of_nobody, a_stopped_append_that_goes_on};
-ghost use Rattle.wrong_reports.specs.Helping.{a_stop_before_its_steps, a_stop_after_other_steps, a_stop_for_the_stamps_end};
-ghost use Rattle.wrong_reports.specs.Helping.{left_open_by_one_who_did_not_stop, a_row_left_open, one_who_only_syncs_helps};
-ghost use Rattle.wrong_reports.specs.Helping.{one_of_another_region_helps, a_helped_append_left_open};
+ghost use Rattle.wrong_reports.specs.Helping.{a_phantom_of_another_region, a_phantom_of_nobody};
+ghost use Rattle.wrong_reports.specs.Helping.{a_stopped_append_that_goes_on, a_stop_before_its_steps};
+ghost use Rattle.wrong_reports.specs.Helping.{a_stop_after_other_steps, a_stop_for_the_stamps_end};
+ghost use Rattle.wrong_reports.specs.Helping.{left_open_by_one_who_did_not_stop, a_row_left_open};
+ghost use Rattle.wrong_reports.specs.Helping.{one_who_only_syncs_helps, one_of_another_region_helps};
+ghost use Rattle.wrong_reports.specs.Helping.{a_helped_append_left_open};
 
 /// A row is of a client of its region.
 #[tactic(auto, using(crate::proofs::WrongHelping::other_region))]

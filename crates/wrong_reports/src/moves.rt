@@ -1,7 +1,8 @@
 // Pulls, trims and syncs that are wrong.
 ghost use Rattle.wrong_reports.specs.Cases.{IsUnlawful};
-ghost use Rattle.wrong_reports.specs.Moves.{a_base_that_is_not_there, a_trim_beyond_the_snapshot, trimmed_where_nothing_is};
-ghost use Rattle.wrong_reports.specs.Moves.{a_sync_of_what_was_trimmed, another_region_taken_for_its_own, a_pull_that_leaves_a_node};
+ghost use Rattle.wrong_reports.specs.Moves.{a_base_that_is_not_there, a_trim_beyond_the_snapshot};
+ghost use Rattle.wrong_reports.specs.Moves.{trimmed_where_nothing_is, a_sync_of_what_was_trimmed};
+ghost use Rattle.wrong_reports.specs.Moves.{another_region_taken_for_its_own, a_pull_that_leaves_a_node};
 ghost use Rattle.wrong_reports.specs.Moves.{a_pull_of_more_nodes, a_pull_that_asks_again};
 
 /// A trim tells the base.

@@ -1,10 +1,14 @@
 // Replies that name other events or nodes than they may.
 ghost use Rattle.wrong_reports.specs.Cases.{IsUnlawful};
-ghost use Rattle.wrong_reports.specs.Naming.{an_own_event_that_no_reply_names, an_event_named_twice, events_named_out_of_order};
-ghost use Rattle.wrong_reports.specs.Naming.{an_event_seen_before_it_is_made, a_look_behind_what_was_seen, an_event_that_is_not_there};
-ghost use Rattle.wrong_reports.specs.Naming.{an_append_at_another_position, an_append_under_another_stamp, an_append_not_above_the_floor};
-ghost use Rattle.wrong_reports.specs.Naming.{a_single_of_nobody, no_stamp_with_stamps_left, a_full_that_needs_no_row};
-ghost use Rattle.wrong_reports.specs.Naming.{a_floor_that_is_forgotten, a_raise_that_no_reply_names, a_single_that_no_reply_names};
+ghost use Rattle.wrong_reports.specs.Naming.{an_own_event_that_no_reply_names, an_event_named_twice};
+ghost use Rattle.wrong_reports.specs.Naming.{events_named_out_of_order, an_event_seen_before_it_is_made};
+ghost use Rattle.wrong_reports.specs.Naming.{a_look_behind_what_was_seen, an_event_that_is_not_there};
+ghost use Rattle.wrong_reports.specs.Naming.{an_append_at_another_position, an_append_under_another_stamp};
+ghost use Rattle.wrong_reports.specs.Naming.{an_append_not_above_the_floor, a_single_of_nobody};
+ghost use Rattle.wrong_reports.specs.Naming.{no_stamp_with_stamps_left, a_full_that_needs_no_row};
+ghost use Rattle.wrong_reports.specs.Naming.{a_floor_that_is_forgotten, a_raise_that_no_reply_names};
+ghost use Rattle.wrong_reports.specs.Naming.{a_single_that_no_reply_names, an_append_that_reads};
+ghost use Rattle.wrong_reports.specs.Naming.{an_append_refused_for_a_trim};
 
 /// Each own event is of a command.
 #[tactic(auto, using(crate::proofs::WrongNaming::own_event_left_out))]
@@ -94,4 +98,16 @@ pub fn a_raise_that_no_reply_names_is_unlawful()
 #[tactic(auto, using(crate::proofs::WrongNaming::single_unnamed))]
 pub fn a_single_that_no_reply_names_is_unlawful()
     ensures { IsUnlawful a_single_that_no_reply_names }
+{}
+
+/// Only a commit and a dequeue are told unread.
+#[tactic(auto, using(crate::proofs::WrongNaming::reads_too))]
+pub fn an_append_that_reads_is_unlawful()
+    ensures { IsUnlawful an_append_that_reads }
+{}
+
+/// Only what syncs is refused for a trim.
+#[tactic(auto, using(crate::proofs::WrongNaming::refused_for_trim))]
+pub fn an_append_refused_for_a_trim_is_unlawful()
+    ensures { IsUnlawful an_append_refused_for_a_trim }
 {}

@@ -2,8 +2,9 @@
 ghost use Rattle.wrong_reports.specs.Cases.{IsUnlawful};
 ghost use Rattle.wrong_reports.specs.Objects.{refused_at_home, answered_away_from_home, another_home};
 ghost use Rattle.wrong_reports.specs.Objects.{a_value_of_nothing, a_value_of_another_key, a_causal_value_of_nothing};
-ghost use Rattle.wrong_reports.specs.Objects.{a_dequeue_answered_as_an_append, a_dequeue_of_nothing, a_read_that_is_forgotten};
-ghost use Rattle.wrong_reports.specs.Objects.{a_commit_that_keeps_its_read, a_conflict_with_nothing};
+ghost use Rattle.wrong_reports.specs.Objects.{a_dequeue_answered_as_an_append, a_dequeue_of_nothing};
+ghost use Rattle.wrong_reports.specs.Objects.{a_read_that_is_forgotten, a_commit_that_keeps_its_read};
+ghost use Rattle.wrong_reports.specs.Objects.{a_conflict_with_nothing};
 
 /// At its home an object is not refused.
 #[tactic(auto, using(crate::proofs::WrongObjects::at_home))]

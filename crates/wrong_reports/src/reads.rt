@@ -1,9 +1,11 @@
 // Scans that are wrong.
 ghost use Rattle.wrong_reports.specs.Cases.{IsUnlawful};
 ghost use Rattle.wrong_reports.specs.Reads.{a_scan_of_more_nodes, a_scan_without_a_raise, a_scan_without_a_sync};
-ghost use Rattle.wrong_reports.specs.Reads.{a_read_stamp_of_nothing, a_read_below_the_floor, a_read_below_a_clock_that_was_seen};
-ghost use Rattle.wrong_reports.specs.Reads.{a_raise_that_does_not_reach, a_raise_that_leaves_the_clock, a_raise_before_its_clients_nodes};
+ghost use Rattle.wrong_reports.specs.Reads.{a_read_stamp_of_nothing, a_read_below_the_floor};
+ghost use Rattle.wrong_reports.specs.Reads.{a_read_below_a_clock_that_was_seen, a_raise_that_does_not_reach};
+ghost use Rattle.wrong_reports.specs.Reads.{a_raise_that_leaves_the_clock, a_raise_before_its_clients_nodes};
 ghost use Rattle.wrong_reports.specs.Reads.{a_read_over_an_open_entry, a_scan_that_leaves_a_node_out};
+ghost use Rattle.wrong_reports.specs.Reads.{a_hidden_raise_to_nothing};
 
 /// A scan tells how many nodes it shows.
 #[tactic(auto, using(crate::proofs::WrongReads::more_nodes))]
@@ -69,4 +71,10 @@ pub fn a_read_over_an_open_entry_is_unlawful()
 #[tactic(auto, using(crate::proofs::WrongReads::leaves_out))]
 pub fn a_scan_that_leaves_a_node_out_is_unlawful()
     ensures { IsUnlawful a_scan_that_leaves_a_node_out }
+{}
+
+/// A read that found no memory raises to no other stamp either.
+#[tactic(auto, using(crate::proofs::WrongHidden::hidden_raise))]
+pub fn a_hidden_raise_to_nothing_is_unlawful()
+    ensures { IsUnlawful a_hidden_raise_to_nothing }
 {}

@@ -1,7 +1,7 @@
 // One reply, of which one thing is wrong.
 ghost use Rattle.wrong_reports.specs.Cases.{IsUnlawful};
-ghost use Rattle.wrong_reports.specs.Replies.{a_missing_reply, a_wrong_line, a_wrong_word};
-ghost use Rattle.wrong_reports.specs.Replies.{a_wrong_name, another_commands_answer, more_plays_than_nodes};
+ghost use Rattle.wrong_reports.specs.Replies.{a_missing_reply, a_wrong_line, a_wrong_word, a_wrong_name};
+ghost use Rattle.wrong_reports.specs.Replies.{another_commands_answer, more_plays_than_nodes};
 ghost use Rattle.wrong_reports.specs.Replies.{a_look_at_what_is_not_there, a_snapshot_of_what_is_not_there};
 
 /// Each command is answered.

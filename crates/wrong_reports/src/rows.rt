@@ -2,9 +2,10 @@
 ghost use Rattle.wrong_reports.specs.Cases.{IsUnlawful};
 ghost use Rattle.wrong_reports.specs.Rows.{a_row_out_of_count, a_row_for_anothers_node, a_row_of_one_colour};
 ghost use Rattle.wrong_reports.specs.Rows.{two_rows_for_one_node, rows_out_of_order, a_mark_that_was_not_proposed};
-ghost use Rattle.wrong_reports.specs.Rows.{a_proposal_without_a_mark, a_proposal_without_a_row, an_outcome_of_other_marks};
-ghost use Rattle.wrong_reports.specs.Rows.{a_settling_unlike_the_outcome, a_settling_under_a_lesser_stamp, two_orders};
-ghost use Rattle.wrong_reports.specs.Rows.{full_too_early, a_fence_with_stamps_left};
+ghost use Rattle.wrong_reports.specs.Rows.{a_proposal_without_a_mark, a_proposal_without_a_row};
+ghost use Rattle.wrong_reports.specs.Rows.{an_outcome_of_other_marks, a_settling_unlike_the_outcome};
+ghost use Rattle.wrong_reports.specs.Rows.{a_settling_under_a_lesser_stamp, two_orders, full_too_early};
+ghost use Rattle.wrong_reports.specs.Rows.{a_fence_with_stamps_left};
 
 /// A client's rows are counted from 0.
 #[tactic(auto, using(crate::proofs::WrongRows::out_of_count))]

@@ -1,8 +1,11 @@
 // Replies to an append to several colours that are unlike its row.
 ghost use Rattle.wrong_reports.specs.Cases.{IsUnlawful};
-ghost use Rattle.wrong_reports.specs.Several.{another_rows_number, a_colour_without_a_point, stood_before_it_is_settled};
-ghost use Rattle.wrong_reports.specs.Several.{stood_before_it_is_decided, a_row_that_no_command_began, an_append_to_several_that_leaves_the_floor};
-ghost use Rattle.wrong_reports.specs.Several.{a_look_before_its_own_settling, its_own_proposal_told_as_a_look, no_memory_for_what_stands};
+ghost use Rattle.wrong_reports.specs.Several.{another_rows_number, a_colour_without_a_point};
+ghost use Rattle.wrong_reports.specs.Several.{stood_before_it_is_settled, stood_before_it_is_decided};
+ghost use Rattle.wrong_reports.specs.Several.{a_row_that_no_command_began};
+ghost use Rattle.wrong_reports.specs.Several.{an_append_to_several_that_leaves_the_floor};
+ghost use Rattle.wrong_reports.specs.Several.{a_look_before_its_own_settling, its_own_proposal_told_as_a_look};
+ghost use Rattle.wrong_reports.specs.Several.{no_memory_for_what_stands};
 
 /// An append tells its row.
 #[tactic(auto, using(crate::proofs::WrongSeveral::rows_number))]

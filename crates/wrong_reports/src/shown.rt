@@ -1,7 +1,8 @@
 // Syncs that show other nodes than they play.
 ghost use Rattle.wrong_reports.specs.Cases.{IsUnlawful};
-ghost use Rattle.wrong_reports.specs.Shown.{a_node_with_another_text, a_node_that_is_not_shown, a_node_under_another_stamp};
-ghost use Rattle.wrong_reports.specs.Shown.{a_node_shown_twice, nodes_in_another_order, a_node_that_wants_too_little};
+ghost use Rattle.wrong_reports.specs.Shown.{a_node_with_another_text, a_node_that_is_not_shown};
+ghost use Rattle.wrong_reports.specs.Shown.{a_node_under_another_stamp, a_node_shown_twice, nodes_in_another_order};
+ghost use Rattle.wrong_reports.specs.Shown.{a_node_that_wants_too_little};
 
 /// A node line shows the text that was appended.
 #[tactic(auto, using(crate::proofs::WrongShown::another_text))]
