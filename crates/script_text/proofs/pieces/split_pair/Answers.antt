@@ -1,6 +1,6 @@
 use Rattle.std.proofs.Common.{◌≡◌, ℕ, eqb, ◌+◌, refl, arith}
 use Rattle.std.specs.List.{position_or_len}
-use Rattle.std.proofs.lemmas.Bool.{ne_eqb, eq-eqb, eqb-true}
+use Rattle.std.proofs.lemmas.Bool.{ne_eqb, eq-eqb}
 use Rattle.std.proofs.lemmas.List.{take_rest}
 use Rattle.std.proofs.lemmas.List.Sums.{position_or_len_is}
 use Rattle.script_text.proofs.PieceLemmas.{no_equals}
