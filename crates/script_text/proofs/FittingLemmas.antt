@@ -93,10 +93,6 @@ said-last d (y ∷ ys) x = said-last y ys x
 one-more : {A : Type 0} (P : A → Type 0) (xs : List A) (x : A) → All P xs → P x → All P (xs ++ x ∷ [])
 one-more P xs x all one = All-append P xs (x ∷ []) all (All-cons P x [] one (All-nil P))
 
--- what the items say: the names of regions and colours, the clients' homes, and the commands
-abbrev RegionsSaid : Type 0
-RegionsSaid = List (List ℕ)
-
 -- what the stage tells of how much was said
 Early : Stage → ℕ → ℕ → List ℕ → List Command → Type 0
 Early stages.Nothing regions colours homes asked = (homes ≡ []) × (asked ≡ [])

@@ -1,25 +1,22 @@
 -- What the numbers of names are, and the colours that a line names.
-use Rattle.std.proofs.Common.{◌≡◌, ℕ, zero, suc, ◌<◌, ◌≤◌, inl, inr, Bool, true, false, not, ◌&&◌, eqb, ltb, ◌||◌, List, [], ◌∷◌, ◌++◌, length, map, Option, Some, None, Result, Ok, Err, All, refl, sym, ap, subst, ◌∙◌, append_assoc, arith}
+use Rattle.std.proofs.Common.{◌≡◌, ℕ, zero, suc, ◌<◌, ◌≤◌, inl, inr, Bool, true, false, not, ◌&&◌, eqb, ltb, ◌||◌, List, [], ◌∷◌, ◌++◌, length, map, Option, Some, None, Ok, refl, sym, ap, subst, ◌∙◌, append_assoc, arith}
 use Rattle.std.specs.Borrow.{Bor}
-use Rattle.std.specs.List.{list_any, list_all, AllByRecursion}
+use Rattle.std.specs.List.{list_any, list_all}
 use Rattle.std.specs.Str.{bytes_eq}
 use Rattle.std.specs.Option.{option_map}
 use Rattle.std.proofs.lemmas.Bool.{cases_Bool, and_parts, or_parts, not-true, not-false, both_ways, false_from_ne_true, ne_eqb, eq-eqb, eqb-true, eqb-false, lt-ltb, ltb-true}
 use Rattle.std.proofs.lemmas.List.{append-nil, map_push}
 use Rattle.std.proofs.lemmas.List.Folds.{list_any-append, list_all-append}
-use Rattle.std.proofs.lemmas.List.Elements.{All-from_recursion}
 use Rattle.std.proofs.lemmas.Slice.Eq.{bytes_eq-Decides}
-use Rattle.std.specs.Prelude.{IfOk}
 use Rattle.std.specs.List.{IsDistinct}
 use Rattle.std.specs.Cmp.{IsEquivalence}
 use Rattle.std.proofs.lemmas.Map.Keys.{IsDistinct-push}
 use Rattle.std.proofs.lemmas.Map.Steps.{length-le_from_distinct_below}
-use Rattle.script_text.specs.declared.fault.Fault.{Fault}
 use Rattle.script_text.specs.declared.script.Reason.{Reason}
 use Rattle.script_text.specs.declared.script.Reason.TheVariants as reasons
 use Rattle.script_text.specs.Pieces.{is_among, is_name, number_of, name_of}
 use Rattle.script_text.specs.Grammar.{are_new_names, are_new_numbers}
-use Rattle.script_text.specs.Readings.{◌>>=◌, refuse, Gives, found_or, fields_in, number_at, new_name_at, each_at, colour_at, colours_at}
+use Rattle.script_text.specs.Readings.{◌>>=◌, refuse, found_or, fields_in, number_at, new_name_at, each_at, colour_at, colours_at}
 use Rattle.script_text.proofs.EachLemmas.{Reader, refused_ok, bind_ok, ok_is}
 
 pub any_fields : (field : List ℕ) (fields : List (Bor (List ℕ))) → list_any (λ (o : Bor (List ℕ)). bytes_eq field o.now) fields ≡ is_among (fields_in fields) field
@@ -72,21 +69,6 @@ each_ok_cons one earlier field fields xs e =
 pub each_ok_nil : {X : Type 0} (one : Reader X) (earlier : List (List ℕ)) (xs : List X) → each_at one earlier [] ≡ Ok xs → xs ≡ []
 unfolding each_at
 each_ok_nil one earlier xs e = cc
-
-pub colours_below : (names earlier fields : List (List ℕ)) (ns : List ℕ) → each_at (colour_at names) earlier fields ≡ Ok ns → AllByRecursion (λ n. n < length names) ns
-colours_below names earlier [] ns e = rw (each_ok_nil (colour_at names) earlier ns e) tt
-colours_below names earlier (field ∷ fields) ns e =
-    let c = each_ok_cons (colour_at names) earlier field fields ns e in
-    rw c.4 ((number_ok reasons.UnknownColour names field c.0 (colour_ok names earlier field c.0 c.2).0).0, colours_below names (earlier ++ field ∷ []) fields c.1 c.3)
-
-pub all_below : (names fields : List (List ℕ)) (ns : List ℕ) (most : ℕ) → length names ≤ most → colours_at names fields ≡ Ok ns → All (λ n. n < most) ns
-all_below names fields ns most le e =
-    All-from_recursion (λ n. n < most) ns (AllByRecursion-mono ns (colours_below names [] fields ns e)) where
-      AllByRecursion-mono : (ms : List ℕ) → AllByRecursion (λ n. n < length names) ms → AllByRecursion (λ n. n < most) ms
-      AllByRecursion-mono [] h = tt
-      AllByRecursion-mono (m ∷ ms) h = (omega (arith, h.0), AllByRecursion-mono ms h.1)
-
--- ---- new names
 
 name_ok : (names : List (List ℕ)) (field name : List ℕ) → new_name_at names field ≡ Ok name → (is_name field ≡ true) × (is_among names field ≡ false) × (name ≡ field)
 unfolding new_name_at
@@ -224,10 +206,6 @@ colours_again names before (n ∷ ns) h below fresh all =
 pub any_named : {X : Type 0} (name : X → List ℕ) (field : List ℕ) (xs : List X) → list_any (λ x. bytes_eq field (name x)) xs ≡ is_among (map name xs) field
 any_named name field [] = refl
 any_named name field (x ∷ xs) = rw (any_named name field xs) refl
-
-pub gives_ok : {X : Type 0} (P : X → Type 0) (r : Result X Fault) (reading : Result X Reason) → Gives r reading → ((x : X) → reading ≡ Ok x → P x) → IfOk r P
-gives_ok P (Ok x) reading given h = h x given
-gives_ok P (Err fault) reading given h = tt
 
 turned : (n : ℕ) (ns : List ℕ) → list_any (λ m. eqb m n) ns ≡ false → list_any (eqb n) ns ≡ false
 turned n [] h = refl

@@ -7,6 +7,7 @@ ghost use Rattle.script_text.specs.Grammar.{has_equals, key_in, value_in};
 
 use crate::limits::{MAX_KEY, MAX_NAME};
 use log_node::{MAX_TEXT, Text};
+use memchr::memchr;
 use std::alloc::{AllocError, Global};
 
 /// The first line of the bytes, and the bytes after it.
@@ -15,12 +16,10 @@ pub fn first_line(bytes: &[u8]) -> (&[u8], &[u8])
     ensures line { lines_of bytes.now ≡ result.0.now ∷ lines_of result.1.now }
     ensures rest { length result.1.now < length bytes.now }
 {
-    for (end, b) in bytes.iter().enumerate() {
-        if *b == b'\n' {
-            return (&bytes[..end], &bytes[end + 1..]);
-        }
+    match memchr(b'\n', bytes) {
+        Some(end) => (&bytes[..end], &bytes[end + 1..]),
+        None => (bytes, &[]),
     }
-    (bytes, &[])
 }
 
 /// The parts of the bytes, with one separator between two.
@@ -108,12 +107,10 @@ pub fn split_pair(field: &[u8]) -> Option<(&[u8], &[u8])>
     ensures parts { IfSome result (λ pair. (pair.0.now ≡ key_in field.now)
         × (pair.1.now ≡ value_in field.now)) }
 {
-    for (end, b) in field.iter().enumerate() {
-        if *b == b'=' {
-            return Some((&field[..end], &field[end + 1..]));
-        }
+    match memchr(b'=', field) {
+        Some(end) => Some((&field[..end], &field[end + 1..])),
+        None => None,
     }
-    None
 }
 
 fn are_digits(bytes: &[u8]) -> bool

@@ -1,11 +1,13 @@
 use Rattle.std.proofs.Common.{arith}
+use Rattle.std.proofs.lemmas.Bool.{eq-eqb, eqb-true}
 use Rattle.std.proofs.lemmas.List.{take_rest}
 use Rattle.script_text.proofs.PieceLemmas.{lines_first, lines_all}
 use Rattle.script_text.proofs.pieces.first_line.Goals as goal
 
-pub returns-then-b-eq10-clause-line : goal.returns-then-b-eq10-clause-line
-returns-then-b-eq10-clause-line c =
-    rw take_rest (lines_first c.args.bytes.now c.loop-end.end (omega arith) c.loop-end.invariant c.if-b-eq10.true)
+pub returns-in-Some-clause-line : goal.returns-in-Some-clause-line
+returns-in-Some-clause-line c =
+    let h = c.in-Some.ensures in
+    rw take_rest (lines_first c.args.bytes.now c.in-Some.end h.0.high (λ k lt e. h.0.before k (omega arith) lt (eq-eqb _ 10 e)) (eqb-true _ 10 h.1))
 
-pub returns-clause-line : goal.returns-clause-line
-returns-clause-line c = lines_all c.args.bytes.now c.requires (λ k h e. c.loop-end.invariant k (omega arith) e)
+pub returns-in-None-clause-line : goal.returns-in-None-clause-line
+returns-in-None-clause-line c = lines_all c.args.bytes.now c.requires (λ k lt e. c.in-None.ensures k (omega arith) lt (eq-eqb _ 10 e))
