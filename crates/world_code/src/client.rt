@@ -49,7 +49,7 @@ impl Client {
     {
         let mut played = Vec::new(alloc);
         for _ in 0..MAX_COLOURS {
-            played.push(Counts([0; 4]))?;
+            played.push(Counts::zeros())?;
         }
         Ok(Client {
             floor: 0,

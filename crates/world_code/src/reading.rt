@@ -1,6 +1,5 @@
 // What clients play and see.
 ghost use Rattle.std.specs.Prelude.{◌≡◌, ◌<◌, true, false, None, IfSome, IfOk, length};
-ghost use Rattle.log_node.specs.Vectors.{is_within};
 ghost use Rattle.world_laws.specs.Worlds.{after, reply, home_of};
 ghost use Rattle.world_laws.specs.Worlds.{may_see, after_seen};
 ghost use Rattle.world_laws.specs.Worlds.{may_play, after_play, played_cut};
@@ -14,13 +13,6 @@ use col_core::View;
 use log_node::Counts;
 use std::alloc::{AllocError, Global};
 use world_laws::Step;
-
-// Whether no number is above that of the other.
-fn is_within(v: Counts, w: Counts) -> bool
-    ensures { result ≡ is_within v w }
-{
-    v.0[0] <= w.0[0] && v.0[1] <= w.0[1] && v.0[2] <= w.0[2] && v.0[3] <= w.0[3]
-}
 
 impl World {
     /// The client plays what the cut of a colour's column has, from where it has played.
@@ -54,7 +46,7 @@ impl World {
     {
         let _whole = &self.shape;
         let base = self.column(home, colour).base();
-        is_within(base, self.client(client).played(colour))
+        base.is_within(self.client(client).played(colour))
     }
 
     // Plays up to the cut, which may be done.
