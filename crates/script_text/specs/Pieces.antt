@@ -4,7 +4,7 @@ use Rattle.std.specs.List.{list_any, list_all, fold, slice_split, onto_first}
 use Rattle.std.specs.Str.{bytes_eq}
 use Rattle.std.specs.Option.{option_map}
 use Rattle.script_text.specs.declared.limits.TheConstants.{MAX_NAME, MAX_KEY}
-use Rattle.log_node.specs.declared.text.TheConstants.{MAX_TEXT}
+use Rattle.log_node.specs.declared.limits.TheConstants.{MAX_TEXT}
 
 -- the lines: each ends with a line feed or with the bytes
 abbrev pub lines_of : List ℕ → List (List ℕ)
