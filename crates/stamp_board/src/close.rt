@@ -52,8 +52,8 @@ impl Board {
 
     /// The begun rows with their closing marks and outcomes, by client and number. All that the seats knew stands
     /// there, a colour's mark is set exactly where that colour's seat had set it, and a client's rows are begun
-    /// exactly below what its seat has used. Where memory is refused, the board and its seats are gone. What it
-    /// costs grows with the seats and the rows that were begun, and not with the rows that the board has.
+    /// exactly below what its seat has used. Where memory is refused, the board and its seats are gone. The words of
+    /// the begun rows are read, and no others; then the board's memory is given back.
     pub fn close(
         self,
         alloc: Global,

@@ -1,4 +1,4 @@
-use Rattle.std.proofs.Common.{◌≡◌, ap}
+use Rattle.std.proofs.Common.{ap}
 use Rattle.stamp_board.specs.declared.view.Size.{Size}
 use Rattle.stamp_board.proofs.tests.a_board_closes_with_its_open_rows_and_its_decided_ones.Goals as goal
 

@@ -1,4 +1,4 @@
-use Rattle.std.proofs.Common.{◌≡◌, ap}
+use Rattle.std.proofs.Common.{ap}
 use Rattle.stamp_board.specs.declared.view.Size.{Size}
 use Rattle.stamp_board.proofs.tests.a_client_has_its_rows_alone.Goals as goal
 

@@ -1,4 +1,4 @@
-use Rattle.std.proofs.Common.{◌≡◌, ap}
+use Rattle.std.proofs.Common.{ap}
 use Rattle.stamp_board.specs.declared.view.Size.{Size}
 use Rattle.stamp_board.proofs.tests.begun_board.Goals as goal
 

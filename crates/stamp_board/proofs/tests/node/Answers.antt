@@ -1,4 +1,4 @@
-use Rattle.std.proofs.Common.{◌≡◌, sym, subst}
+use Rattle.std.proofs.Common.{sym, subst}
 use Rattle.log_node.specs.declared.node.Node.{Node}
 use Rattle.stamp_board.specs.Rows.{AreColours}
 use Rattle.stamp_board.proofs.Pairs.{two_colours}

@@ -1,4 +1,4 @@
-use Rattle.std.proofs.Common.{◌≡◌, length, sym, ap, ◌∙◌}
+use Rattle.std.proofs.Common.{sym, ◌∙◌}
 use Rattle.stamp_board.proofs.Pairs.{last_two}
 use Rattle.stamp_board.proofs.tests.two_clients.Goals as goal
 
