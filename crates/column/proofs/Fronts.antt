@@ -10,14 +10,14 @@ use Rattle.log_node.specs.Order.{key_below}
 use Rattle.skeen_core.specs.declared.waiting.Waiting.{Waiting}
 use Rattle.skeen_core.specs.Standings.{Standing, is_delivered, queue_of}
 use Rattle.skeen_core.specs.Queues.{standing_of}
-use Rattle.skeen_core.proofs.Lists.{each-at, each-map}
+use Rattle.skeen_core.proofs.CallerLemmas.{each-at, each-map}
 use Rattle.col_core.specs.declared.Entry.{Entry}
 use Rattle.col_core.specs.History.{entries}
 use Rattle.col_core.specs.Computed.{dated}
 use Rattle.col_core.specs.Legal.{IsColumnHistory}
 use Rattle.log_node.proofs.CallerLemmas.{key-trans}
-use Rattle.col_core.proofs.Members.{In}
-use Rattle.col_core.proofs.Members as members
+use Rattle.col_core.proofs.CallerLemmas.{In}
+use Rattle.col_core.proofs.CallerLemmas as members
 use Rattle.column.specs.Entering.{EnteredNode}
 use Rattle.column.specs.Inside.{Rises}
 use Rattle.column.proofs.Known.{entries_rise}

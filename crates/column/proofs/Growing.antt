@@ -16,10 +16,8 @@ use Rattle.col_core.specs.Cuts.{Chains, Dated, Reachable, IsGreatestReachable, c
 use Rattle.col_core.specs.Cuts.{noted, noted_by_all, base, base_from}
 use Rattle.col_core.specs.Computed.{cut, dated}
 use Rattle.col_core.specs.Legal.{IsColumnHistory}
-use Rattle.col_core.proofs.Appending.{dated-append}
-use Rattle.col_core.proofs.ChainGrowth.{chains_grow, reachable_grows, cut_grows}
-use Rattle.col_core.proofs.CutLaws.{cut-is_greatest}
-use Rattle.col_core.proofs.Uniqueness.{cut_unique}
+use Rattle.col_core.proofs.CallerLemmas.{dated-append, chains_grow, reachable_grows, cut_grows, cut-is_greatest}
+use Rattle.col_core.proofs.CallerLemmas.{cut_unique}
 use Rattle.log_node.proofs.CallerLemmas.{within, within-at, within-trans, at-vector, same_vectors}
 use Rattle.column.proofs.Vectors.{own_or_other}
 use Rattle.column.proofs.Histories.{same_entries, own_chain-length, other_chain-append, whole_prefix, base_from-append}

@@ -12,7 +12,7 @@ use Rattle.log_node.specs.Seen.{BegunAppend}
 use Rattle.skeen_core.specs.declared.waiting.Waiting.{Waiting}
 use Rattle.skeen_core.specs.Standings.{Standing, is_delivered, queue_of}
 use Rattle.skeen_core.specs.Queues.{standing_of}
-use Rattle.skeen_core.proofs.Lists.{filter-map}
+use Rattle.skeen_core.proofs.CallerLemmas.{filter-map}
 use Rattle.column.specs.Entering.{EnteredNode}
 use Rattle.column.specs.Columns.{is_open_below, is_waiting_below, HasRow, IsBegunOf, IsBegunAt}
 use Rattle.column.proofs.Histories.{length_map}

@@ -15,7 +15,7 @@ use Rattle.col_core.specs.History.{line, enters, has_entered}
 use Rattle.col_core.specs.Cuts.{Dated, entries_of, needs_in, needs_of, carried, chain, trimmed_to, base_from}
 use Rattle.col_core.specs.Cuts.{noted_from, noted}
 use Rattle.col_core.specs.Computed.{dated}
-use Rattle.col_core.proofs.DatedLaws.{dated-is_dated}
+use Rattle.col_core.proofs.CallerLemmas.{dated-is_dated}
 use Rattle.log_node.proofs.CallerLemmas.{if_own, if_other}
 
 -- the events of a dated history

@@ -13,7 +13,7 @@ use Rattle.log_node.specs.declared.ids.Counts.{Counts}
 use Rattle.log_node.specs.Vectors.{at}
 use Rattle.skeen_core.specs.Standings.{line_of}
 use Rattle.skeen_core.specs.Queues.{kept_entries, kept_count}
-use Rattle.skeen_core.proofs.Lists.{each-drop}
+use Rattle.skeen_core.proofs.CallerLemmas.{each-drop}
 use Rattle.col_core.specs.declared.Entry.{Entry}
 use Rattle.col_core.specs.History.{line}
 use Rattle.col_core.specs.Cuts.{needs_of, chain}

@@ -11,10 +11,8 @@ use Rattle.col_core.specs.declared.Entry.{Entry}
 use Rattle.col_core.specs.History.{entries, has_entered}
 use Rattle.col_core.specs.Computed.{dated}
 use Rattle.col_core.specs.Legal.{IsColumnHistory}
-use Rattle.col_core.proofs.Basics.{by_test, apart, same_id-true}
-use Rattle.col_core.proofs.Members.{In, Rises, rises}
-use Rattle.col_core.proofs.Pasts.{IsLawfulPast}
-use Rattle.col_core.proofs.LawfulPasts.{entries-of, shown_entered, lawful_past}
+use Rattle.col_core.proofs.CallerLemmas.{by_test, apart, same_id-true, In, Rises, rises, IsLawfulPast, entries-of}
+use Rattle.col_core.proofs.CallerLemmas.{shown_entered, lawful_past}
 use Rattle.column.proofs.Histories.{same_entries}
 
 -- the history, read from its newest entry on, is a lawful past

@@ -4,7 +4,7 @@ use Rattle.std.specs.Prelude.{◌==◌, if◌then◌else◌}
 use Rattle.std.specs.List.{fold, range_with_len}
 use Rattle.log_node.specs.declared.ids.Counts.{Counts}
 use Rattle.log_node.specs.Vectors.{at}
-use Rattle.col_core.proofs.Appending.{fold-append}
+use Rattle.col_core.proofs.CallerLemmas.{fold-append}
 use Rattle.column.specs.Inside.{least_noted}
 
 range_more : (a n b : ℕ) → a + n ≡ b → range_with_len a (suc n) ≡ range_with_len a n ++ b ∷ []

@@ -1,18 +1,18 @@
-pub mod Vectors
-pub mod Histories
-pub mod Growing
-pub mod Lists
-pub mod Storing
-pub mod Steps
-pub mod Opens
-pub mod Ranks
-pub mod Places
-pub mod Pushing
-pub mod Known
-pub mod Fronts
-pub mod Helping
-pub mod Entering
-pub mod Moving
-pub mod Leasts
-pub mod Carrying
-pub mod Items
+mod Vectors
+mod Histories
+mod Growing
+mod Lists
+mod Storing
+mod Steps
+mod Opens
+mod Ranks
+mod Places
+mod Pushing
+mod Known
+mod Fronts
+mod Helping
+mod Entering
+mod Moving
+mod Leasts
+mod Carrying
+mod Items

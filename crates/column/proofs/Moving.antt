@@ -10,15 +10,14 @@ use Rattle.log_node.specs.Seen.{PlacedNode}
 use Rattle.log_node.specs.Vectors.{at, vector, IsWithin, all_regions}
 use Rattle.skeen_core.specs.Standings.{line_of}
 use Rattle.skeen_core.specs.Queues.{Queued, dropped_queue}
-use Rattle.skeen_core.proofs.Lists.{each-drop}
+use Rattle.skeen_core.proofs.CallerLemmas.{each-drop}
 use Rattle.col_core.specs.declared.Event.TheVariants as events
 use Rattle.col_core.specs.declared.Entry.{Entry}
 use Rattle.col_core.specs.History.{line, entries}
 use Rattle.col_core.specs.Cuts.{Dated, entries_of, carried, noted_from, noted, trimmed_to, base, held}
 use Rattle.col_core.specs.Computed.{cut, dated}
 use Rattle.col_core.specs.Legal.{IsLawfulEvent}
-use Rattle.col_core.proofs.Appending.{entries-append, clock-append, dated-append}
-use Rattle.col_core.proofs.CutLaws.{cut-is_greatest, reached_within}
+use Rattle.col_core.proofs.CallerLemmas.{entries-append, clock-append, dated-append, cut-is_greatest, reached_within}
 use Rattle.column.specs.Entering.{EnteredNode}
 use Rattle.column.specs.Columns.{ColumnState, history_of, chains_of, held_of, copy_of, cut_of, base_of, kept_copy}
 use Rattle.column.specs.Columns.{base_after, after_give, after_trim, with_items}

@@ -10,7 +10,7 @@ use Rattle.std.proofs.lemmas.Option.{slice_get-get_or}
 use Rattle.log_node.specs.declared.ids.Id.{Id}
 use Rattle.log_node.specs.declared.ids.Key.{Key}
 use Rattle.log_node.specs.Order.{same_key, key_below, same_id}
-use Rattle.col_core.proofs.Basics.{by_test, apart, same_id-true}
+use Rattle.col_core.proofs.CallerLemmas.{by_test, apart, same_id-true}
 use Rattle.log_node.proofs.CallerLemmas.{key-trans, key-irrefl, same_key-is}
 use Rattle.column.specs.Columns.{AreRising}
 

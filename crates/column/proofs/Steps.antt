@@ -19,7 +19,7 @@ use Rattle.skeen_core.specs.declared.marks.Outcome.TheVariants.{Open, Gone, Fina
 use Rattle.skeen_core.specs.Outcomes as outcomes
 use Rattle.skeen_core.specs.Standings.{Standing, is_open_id, open_entry, with_entry, settled_entries}
 use Rattle.skeen_core.specs.Queues.{Queued, entry_under, has_open, is_decided, MaySettle}
-use Rattle.skeen_core.proofs.Lists.{each-append}
+use Rattle.skeen_core.proofs.CallerLemmas.{each-append}
 use Rattle.col_core.specs.declared.Event.{Event}
 use Rattle.col_core.specs.declared.Event.TheVariants as events
 use Rattle.col_core.specs.declared.Entry.{Entry}
@@ -27,9 +27,7 @@ use Rattle.col_core.specs.History.{clock, final_number, last_stamp, next_stamp, 
 use Rattle.col_core.specs.Cuts.{Dated, entries_of, carried, chain, noted_from, noted, trimmed_to, base, base_from}
 use Rattle.col_core.specs.Computed.{cut, dated}
 use Rattle.col_core.specs.Legal.{IsColumnHistory, IsLawfulEvent, IsSettling, MayEnter}
-use Rattle.col_core.proofs.Appending.{entries-append, clock-append, dated-append}
-use Rattle.col_core.proofs.Basics.{same_id-refl}
-use Rattle.col_core.proofs.CutLaws.{cut-is_greatest}
+use Rattle.col_core.proofs.CallerLemmas.{entries-append, clock-append, dated-append, same_id-refl, cut-is_greatest}
 use Rattle.column.specs.Entering.{EnteredNode}
 use Rattle.column.specs.Columns.{ColumnState, new_column, history_of, chains_of, held_of, copy_of, cut_of, base_of}
 use Rattle.column.specs.Columns.{stamp_for, entered_node, single_event, propose_event, after_single, after_propose}

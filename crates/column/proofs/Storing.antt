@@ -13,13 +13,12 @@ use Rattle.skeen_core.specs.declared.marks.Outcome.TheVariants.{Open, Gone, Fina
 use Rattle.skeen_core.specs.declared.waiting.Waiting.{Waiting}
 use Rattle.skeen_core.specs.Standings.{is_open_id}
 use Rattle.skeen_core.specs.Queues.{standing_of, final_entry, with_stored, stored_without, with_found, settled_stored}
-use Rattle.skeen_core.proofs.Lists.{each-weaker, each-filter}
+use Rattle.skeen_core.proofs.CallerLemmas.{each-weaker, each-filter}
 use Rattle.col_core.specs.declared.Entry.{Entry}
 use Rattle.col_core.specs.History.{enters, has_entered}
 use Rattle.col_core.specs.Cuts.{Dated, needs_in, needs_of}
 use Rattle.col_core.specs.Computed.{cut, dated}
-use Rattle.col_core.proofs.Appending.{dated-append}
-use Rattle.col_core.proofs.ChainGrowth.{slice_longer}
+use Rattle.col_core.proofs.CallerLemmas.{dated-append, slice_longer}
 use Rattle.column.specs.Entering.{EnteredNode}
 use Rattle.column.specs.Inside.{IsEntered, EntersNode}
 use Rattle.column.specs.Columns.{HasRow}

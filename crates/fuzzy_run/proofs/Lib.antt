@@ -1,1 +1,1 @@
-pub mod TopLemmas
+mod TopLemmas

@@ -6,7 +6,7 @@ use Rattle.std.proofs.lemmas.List.{take-append-le}
 use Rattle.col_core.specs.Cuts.{Dated}
 use Rattle.col_core.specs.Legal.{IsColumnHistory, IsLawfulEvent}
 use Rattle.col_core.specs.Keeping.{updated, updated_at}
-use Rattle.col_core.proofs.Basics.{choice, if_true}
+use Rattle.col_core.proofs.CallerLemmas.{choice, if_true}
 use Rattle.lawful_run.proofs.Prefixes.{get-append, get_within}
 
 -- at another value

@@ -14,11 +14,9 @@ use Rattle.col_core.specs.History as history
 use Rattle.col_core.specs.History.{entry_key}
 use Rattle.col_core.specs.Computed.{dated}
 use Rattle.col_core.specs.Legal.{IsColumnHistory}
-use Rattle.col_core.proofs.Basics.{choice, same_id-true}
-use Rattle.col_core.proofs.Pasts.{Status, Absent, Alone, Waits, Settled, status, after_event, standing_of, IsLawfulPast, IsLawfulNext}
-use Rattle.col_core.proofs.Members.{In, in_line, shown}
-use Rattle.col_core.proofs.LawfulPasts.{entries-of, lawful_past}
-use Rattle.col_core.proofs.DatedLaws.{dated-is_dated}
+use Rattle.col_core.proofs.CallerLemmas.{choice, same_id-true, Status, Absent, Alone, Waits, Settled, status}
+use Rattle.col_core.proofs.CallerLemmas.{after_event, standing_of, IsLawfulPast, IsLawfulNext, In, in_line, shown}
+use Rattle.col_core.proofs.CallerLemmas.{entries-of, lawful_past, dated-is_dated}
 use Rattle.lawful_run.proofs.Listed.{in_reverse}
 
 -- the past has an event that enters the id alone

@@ -21,12 +21,7 @@ use Rattle.col_core.specs.Legal.{IsColumnHistory}
 use Rattle.col_core.specs.Log.{first}
 use Rattle.col_core.specs.Keeping.{Kept}
 use Rattle.col_core.specs.RegionOrder.{IsRegionOrder}
-use Rattle.col_core.proofs.Basics.{if_true}
-use Rattle.col_core.proofs.ChainGrowth.{line_grows}
-use Rattle.col_core.proofs.CutLaws.{reached_within}
-use Rattle.col_core.proofs.DatedLaws.{dated-is_dated, later}
-use Rattle.col_core.proofs.Facts.{dates_longer}
-use Rattle.col_core.proofs.Members.{In}
+use Rattle.col_core.proofs.CallerLemmas.{if_true, line_grows, reached_within, dated-is_dated, later, dates_longer, In}
 use Rattle.script_text.specs.declared.script.Command.{Command}
 use Rattle.script_text.specs.declared.script.Script.{Script}
 use Rattle.script_text.specs.Fitting.{IsFitting}

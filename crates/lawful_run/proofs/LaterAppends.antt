@@ -15,7 +15,7 @@ use Rattle.col_core.specs.History.{IsAtEnd, entries, has_entered}
 use Rattle.col_core.specs.Log.{Log, IsLater, HasMark}
 use Rattle.col_core.specs.Keeping.{Kept}
 use Rattle.report_text.specs.declared.report.PointPiece.{PointPiece}
-use Rattle.col_core.proofs.Facts.{mark_stays, outcome_stays}
+use Rattle.col_core.proofs.CallerLemmas.{mark_stays, outcome_stays}
 use Rattle.lawful_run.specs.Callers.{Caller}
 use Rattle.lawful_run.specs.Appends.{AppendsOne, HadNoStamp, AreSteps, BeginsRow, EntersAt, StandsAt, AppendsSeveral, Appends, AppendsUnshown, one_unshown, several_unshown, IsGoneAtEnd, HasNoStamp, none_for_one, none_for_several, IsSettledIn, IsSettled, IsGoneForMemory}
 use Rattle.lawful_run.specs.Stops.{Stops, stopped_at_once, stopped_after}

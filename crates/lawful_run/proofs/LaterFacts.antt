@@ -11,7 +11,7 @@ use Rattle.col_core.specs.History.{line}
 use Rattle.col_core.specs.Computed.{dated}
 use Rattle.col_core.specs.Log.{Log, IsLater, IsLaterMark, first, HasText, HasOutcome}
 use Rattle.object_fold.specs.Nodes.{ObjectNode}
-use Rattle.col_core.proofs.Facts.{outcome_stays}
+use Rattle.col_core.proofs.CallerLemmas.{outcome_stays}
 use Rattle.lawful_run.specs.Objects.{IsObjectNode, AreObjectNodes}
 use Rattle.lawful_run.proofs.Prefixes.{prefix_get, prefix_take, prefix_length, prefix_self, get_within}
 

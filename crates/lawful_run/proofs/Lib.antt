@@ -1,25 +1,26 @@
-pub mod Prefixes
+mod Prefixes
 mod LaterFacts
 mod LaterAppends
 mod LaterReads
-pub mod Later
-pub mod ReadItems
-pub mod Listed
-pub mod Entered
-pub mod Replies
-pub mod Traces
-pub mod Uses
-pub mod LettingGo
-pub mod Used
-pub mod Origins
-pub mod Clients
-pub mod Standing
-pub mod Returned
-pub mod Lines
-pub mod Beginnings
-pub mod Onward
-pub mod Shown
-pub mod Once
-pub mod ReadOrder
-pub mod Folds
-pub mod CausalGets
+mod Later
+mod ReadItems
+mod Listed
+mod Entered
+mod Replies
+mod Traces
+mod Uses
+mod LettingGo
+mod Used
+mod Origins
+mod Clients
+mod Standing
+mod Returned
+mod Lines
+mod Beginnings
+mod Onward
+mod Shown
+mod Once
+mod ReadOrder
+mod Folds
+mod CausalGets
+pub mod CallerLemmas

@@ -15,10 +15,7 @@ use Rattle.col_core.specs.History.{line, entry_key}
 use Rattle.col_core.specs.Computed.{dated}
 use Rattle.col_core.specs.Legal.{IsColumnHistory}
 use Rattle.col_core.specs.Rows.{BegunRow, FitsRows}
-use Rattle.col_core.proofs.KeyOrder.{key-irrefl, key-trans}
-use Rattle.col_core.proofs.Members.{In}
-use Rattle.col_core.proofs.ChainGrowth.{line_rises}
-use Rattle.col_core.proofs.DatedLaws.{dated-is_dated}
+use Rattle.col_core.proofs.CallerLemmas.{key-irrefl, key-trans, In, line_rises, dated-is_dated}
 use Rattle.col_core.specs.Keeping.{Kept}
 use Rattle.script_text.specs.declared.script.Script.{Script}
 use Rattle.script_text.specs.Fitting.{IsFitting}

@@ -3,8 +3,7 @@ use Rattle.std.proofs.Common.{◌≡◌, ℕ, zero, suc, ◌+◌, ◌<◌, ◌�
 use Rattle.std.specs.Prelude.{◌≢◌}
 use Rattle.std.specs.List.{AllPairs, Contains, flat_map, range_with_len}
 use Rattle.std.proofs.lemmas.Bool.{cases_lt}
-use Rattle.col_core.proofs.Members.{In}
-use Rattle.col_core.proofs.LawfulPasts.{reverse-cons}
+use Rattle.col_core.proofs.CallerLemmas.{In, reverse-cons}
 
 module _ {A : Type 0} where
   pub to_in : (xs : List A) (x : A) → Contains xs x → In x xs

@@ -14,10 +14,7 @@ use Rattle.col_core.specs.Legal.{IsColumnHistory}
 use Rattle.col_core.specs.Log.{first}
 use Rattle.col_core.specs.Keeping.{Kept, updated, kept_after_sync}
 use Rattle.col_core.specs.PlayOrder.{Place}
-use Rattle.col_core.proofs.Basics.{if_true}
-use Rattle.col_core.proofs.CutLaws.{within-at}
-use Rattle.col_core.proofs.KeyOrder.{key-irrefl}
-use Rattle.col_core.proofs.Orders.{Between, in_order-between, once}
+use Rattle.col_core.proofs.CallerLemmas.{if_true, within-at, key-irrefl, Between, in_order-between, once}
 use Rattle.script_text.specs.declared.script.Script.{Script}
 use Rattle.script_text.specs.declared.script.What.{What}
 use Rattle.script_text.specs.Fitting.{IsFitting, IsWithin as NamesWithin}

@@ -17,10 +17,9 @@ use Rattle.col_core.specs.History.{entry_key, with_event}
 use Rattle.col_core.specs.Computed.{dated}
 use Rattle.col_core.specs.Legal.{IsColumnHistory}
 use Rattle.col_core.specs.RegionOrder.{IsClearUpTo}
-use Rattle.col_core.proofs.Pasts.{Waits, status, standing_of, clock, entries, IsLawfulPast, IsLawfulNext}
-use Rattle.col_core.proofs.Members.{In, in_with, in_filter, in_filter-back, in_line, stands}
-use Rattle.col_core.proofs.LawfulPasts.{entries-of, clock-of, lawful_past}
-use Rattle.col_core.proofs.DatedLaws.{dated-is_dated}
+use Rattle.col_core.proofs.CallerLemmas.{Waits, status, standing_of, clock, entries, IsLawfulPast, IsLawfulNext, In}
+use Rattle.col_core.proofs.CallerLemmas.{in_with, in_filter, in_filter-back, in_line, stands, entries-of, clock-of}
+use Rattle.col_core.proofs.CallerLemmas.{lawful_past, dated-is_dated}
 
 -- every open entry is above the stamp
 abbrev IsClear : ℕ → List Standing → Type 0

@@ -14,10 +14,8 @@ use Rattle.col_core.specs.Legal.{IsColumnHistory}
 use Rattle.col_core.specs.Log.{Log}
 use Rattle.col_core.specs.Keeping.{Kept}
 use Rattle.col_core.specs.RegionOrder.{IsRegionOrder, IsClearUpTo}
-use Rattle.col_core.proofs.Appending.{clock_more}
-use Rattle.col_core.proofs.Pasts as pasts
-use Rattle.col_core.proofs.LawfulPasts.{clock-of}
-use Rattle.col_core.proofs.Members.{In}
+use Rattle.col_core.proofs.CallerLemmas.{clock_more, clock-of, In}
+use Rattle.col_core.proofs.CallerLemmas as pasts
 use Rattle.report_text.specs.declared.report.RaisePiece.{RaisePiece}
 use Rattle.report_text.specs.declared.report.SyncPiece.{SyncPiece}
 use Rattle.lawful_run.specs.Callers.{Caller}

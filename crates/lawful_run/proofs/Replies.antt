@@ -5,7 +5,7 @@ use Rattle.std.specs.List.{Contains}
 use Rattle.std.proofs.lemmas.Bool.{eqb-true, eq-eqb, false_from_ne_true}
 use Rattle.col_core.specs.Log.{Log}
 use Rattle.col_core.specs.Keeping.{Kept}
-use Rattle.col_core.proofs.Basics.{if_true, if_false}
+use Rattle.col_core.proofs.CallerLemmas.{if_true, if_false}
 use Rattle.script_text.specs.declared.script.Command.{Command}
 use Rattle.report_text.specs.declared.report.ReplyLine.{ReplyLine}
 use Rattle.lawful_run.specs.Callers.{Caller}

@@ -20,11 +20,8 @@ use Rattle.col_core.specs.Computed.{dated}
 use Rattle.col_core.specs.Legal.{IsColumnHistory, IsLawfulEvent}
 use Rattle.col_core.specs.Log.{first, HasText}
 use Rattle.col_core.specs.Keeping.{Kept}
-use Rattle.col_core.proofs.Basics.{choice, if_true, if_false, by_test}
-use Rattle.col_core.proofs.ChainGrowth.{chains_grow, line_grows}
-use Rattle.col_core.proofs.DatedLaws.{dated-is_dated, later}
-use Rattle.col_core.proofs.Facts.{dates_longer}
-use Rattle.col_core.proofs.Members.{In, in_filter}
+use Rattle.col_core.proofs.CallerLemmas.{choice, if_true, if_false, by_test, chains_grow, line_grows, dated-is_dated}
+use Rattle.col_core.proofs.CallerLemmas.{later, dates_longer, In, in_filter}
 use Rattle.script_text.specs.declared.script.Command.{Command}
 use Rattle.script_text.specs.declared.script.Script.{Script}
 use Rattle.script_text.specs.declared.script.What.{What}

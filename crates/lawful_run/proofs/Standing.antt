@@ -17,8 +17,7 @@ use Rattle.col_core.specs.Computed.{dated}
 use Rattle.col_core.specs.Legal.{IsColumnHistory}
 use Rattle.col_core.specs.Rows.{BegunRow, FitsRow, FitsRows}
 use Rattle.col_core.specs.Log.{HasOutcome, is_own, places_from, places_of}
-use Rattle.col_core.proofs.Basics.{choice, apart}
-use Rattle.col_core.proofs.Members.{In}
+use Rattle.col_core.proofs.CallerLemmas.{choice, apart, In}
 use Rattle.script_text.specs.declared.script.Script.{Script}
 use Rattle.script_text.specs.Fitting.{IsFitting}
 use Rattle.report_text.specs.declared.report.ClientReport.{ClientReport}

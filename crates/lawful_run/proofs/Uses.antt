@@ -16,7 +16,7 @@ use Rattle.col_core.specs.declared.Event.TheVariants as events
 use Rattle.col_core.specs.declared.Entry.{Entry}
 use Rattle.col_core.specs.Log.{Log, HasOutcome}
 use Rattle.col_core.specs.Keeping.{Kept, kept_after_point, kept_after_single, with_made, with_floor, with_row}
-use Rattle.col_core.proofs.Basics.{choice}
+use Rattle.col_core.proofs.CallerLemmas.{choice}
 use Rattle.script_text.specs.declared.script.What.{What}
 use Rattle.report_text.specs.declared.report.PointPiece.{PointPiece}
 use Rattle.lawful_run.specs.Callers.{Caller, node_of}

@@ -10,6 +10,7 @@ use Rattle.log_node.specs.declared.ids.Key.{Key}
 use Rattle.log_node.specs.declared.ids.Counts.{Counts}
 use Rattle.log_node.specs.Order.{same_id, same_key, key_below, id_below}
 use Rattle.log_node.specs.Vectors.{at, vector, zeros, IsWithin, least, one_more}
+pub use Rattle.log_node.proofs.SetLemmas.{members-low}
 
 -- the order of keys as a fact
 abbrev pub IsBelow : Key → Key → Type 0

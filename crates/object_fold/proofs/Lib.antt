@@ -1,6 +1,6 @@
-pub mod TableLemmas
-pub mod MapLemmas
-pub mod TxLemmas
-pub mod PastLemmas
-pub mod LatestLemmas
-pub mod CausalLemmas
+mod TableLemmas
+mod MapLemmas
+mod TxLemmas
+mod PastLemmas
+mod LatestLemmas
+mod CausalLemmas

@@ -1,9 +1,9 @@
-pub mod NumberLemmas
-pub mod JoinLemmas
-pub mod KeyLemmas
-pub mod ListLemmas
-pub mod CutLemmas
-pub mod PairLaws
-pub mod VersionLaws
-pub mod FormLaws
-pub mod LengthLaws
+mod NumberLemmas
+mod JoinLemmas
+mod KeyLemmas
+mod ListLemmas
+mod CutLemmas
+mod PairLaws
+mod VersionLaws
+mod FormLaws
+mod LengthLaws

@@ -11,7 +11,10 @@ use Rattle.col_core.specs.PlayOrder.{Place}
 use Rattle.playback.specs.Orders.{play_order}
 use Rattle.playback.specs.Playing.{items_of, ShowsChains, item_at, ArePlayed}
 use Rattle.playback.proofs.Playing.{count_all}
-use Rattle.playback.proofs.Steps.{IsAhead, order_ahead}
+use Rattle.playback.proofs.Steps.{order_ahead}
+pub use Rattle.playback.proofs.Playing.{order_is_played}
+pub use Rattle.playback.proofs.Shown.{shown_at}
+pub use Rattle.playback.proofs.Steps.{IsAhead}
 
 -- as many as lie between, or those past the first of a beginning
 taken_dropped : {A : Type 0} (n m : ℕ) (xs : List A) → take (m - n) (drop n xs) ≡ drop n (take m xs)

@@ -8,7 +8,7 @@ use Rattle.log_node.specs.declared.ids.Key.{Key}
 use Rattle.log_node.specs.declared.node.Head.{Head}
 use Rattle.log_node.specs.Order.{same_id, same_key, key_below}
 use Rattle.col_core.specs.PlayOrder.{Place, goes_first}
-use Rattle.col_core.proofs.Basics.{same_id-true}
+use Rattle.col_core.proofs.CallerLemmas.{same_id-true}
 use Rattle.log_node.proofs.CallerLemmas.{key-trans, key-irrefl, same_key-is}
 
 -- why the one goes first

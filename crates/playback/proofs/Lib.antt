@@ -1,10 +1,10 @@
-pub mod GoingFirst
-pub mod NextRegions
-pub mod Counting
-pub mod PlayedTo
-pub mod Whole
-pub mod Playing
-pub mod Shown
-pub mod ShownNext
-pub mod Steps
+mod GoingFirst
+mod NextRegions
+mod Counting
+mod PlayedTo
+mod Whole
+mod Playing
+mod Shown
+mod ShownNext
+mod Steps
 pub mod CallerLemmas

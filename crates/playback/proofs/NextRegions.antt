@@ -10,8 +10,7 @@ use Rattle.log_node.specs.Vectors.{at, IsWithin, all_regions}
 use Rattle.col_core.specs.Cuts.{Chains}
 use Rattle.col_core.specs.Computed.{is_covered}
 use Rattle.col_core.specs.PlayOrder.{goes_first}
-use Rattle.col_core.proofs.Basics.{by_test}
-use Rattle.col_core.proofs.Orders.{one_goes_first}
+use Rattle.col_core.proofs.CallerLemmas.{by_test, one_goes_first}
 use Rattle.playback.specs.Orders.{next_place, is_free, goes_before, is_before, first_region, next_region}
 use Rattle.playback.proofs.GoingFirst.{first-trans, first-irrefl, first-asym}
 

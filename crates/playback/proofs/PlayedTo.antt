@@ -13,8 +13,8 @@ use Rattle.log_node.specs.Vectors.{at, IsWithin, one_more}
 use Rattle.col_core.specs.Cuts.{Chains}
 use Rattle.col_core.specs.PlayOrder.{Place, same_place, Stands, is_between, WaitsFor, goes_first}
 use Rattle.log_node.proofs.CallerLemmas.{within, within-at}
-use Rattle.col_core.proofs.Basics.{by_test}
-use Rattle.col_core.proofs.Orders.{Between, between_is, is_in_between, same_place-is, same_place-itself}
+use Rattle.col_core.proofs.CallerLemmas.{by_test, Between, between_is, is_in_between, same_place-is}
+use Rattle.col_core.proofs.CallerLemmas.{same_place-itself}
 use Rattle.playback.specs.Orders.{next_place}
 use Rattle.playback.proofs.NextRegions.{IsFree}
 use Rattle.playback.proofs.Counting.{more_here, more_there, no_less, more_at, longer, last_at, shorter, iff}

@@ -12,7 +12,7 @@ use Rattle.log_node.specs.Vectors.{at, IsWithin, is_within, all_regions}
 use Rattle.col_core.specs.declared.view.View.{View}
 use Rattle.col_core.specs.Cuts.{Chains}
 use Rattle.col_core.specs.Computed.{is_covered}
-use Rattle.col_core.proofs.Basics.{by_test}
+use Rattle.col_core.proofs.CallerLemmas.{by_test}
 use Rattle.log_node.proofs.CallerLemmas.{within-at}
 use Rattle.playback.specs.declared.free.Free.{Free}
 use Rattle.playback.specs.Orders.{next_place, is_free, is_before, first_region, next_region}

@@ -8,7 +8,7 @@ use Rattle.log_node.specs.Vectors.{at, zeros, IsWithin, one_more}
 use Rattle.col_core.specs.Cuts.{Chains, Reachable, nothing, next}
 use Rattle.col_core.specs.PlayOrder.{Place, is_between, IsPlayOrder}
 use Rattle.log_node.proofs.CallerLemmas.{within, within-at}
-use Rattle.col_core.proofs.Orders.{between_is, is_in_between}
+use Rattle.col_core.proofs.CallerLemmas.{between_is, is_in_between}
 use Rattle.playback.proofs.NextRegions.{IsFree}
 use Rattle.playback.proofs.Counting.{more_here, more_there, no_less, zero_at, iff}
 use Rattle.playback.proofs.PlayedTo.{IsPlayedTo, NoneFree}

@@ -16,7 +16,7 @@ use Rattle.world_laws.specs.Worlds.{World, ClientState, RowState, after, reply, 
 use Rattle.world_laws.specs.Worlds.{is_column, may_begin, may_single, next_row, next_id, single_stamp, after_begin}
 use Rattle.world_laws.specs.Worlds.{after_single, begun_node, is_begun, row_of}
 use Rattle.world_laws.specs.Laws.{IsBounded}
-use Rattle.world_laws.proofs.Basics.{updated-here, updated_at-here}
+use Rattle.world_laws.proofs.CallerLemmas.{updated-here, updated_at-here}
 use Rattle.script_meaning.specs.States.{has_colours}
 use Rattle.script_meaning.specs.Appends.{is_full}
 

@@ -12,21 +12,16 @@ use Rattle.skeen_core.specs.Standings.{Standing}
 use Rattle.skeen_core.specs.declared.marks.Outcome.{Outcome}
 use Rattle.skeen_core.specs.declared.marks.Outcome.TheVariants.{Open, Gone, Final}
 use Rattle.col_core.specs.History.{entries}
-use Rattle.col_core.proofs.Appending.{entries-append}
-use Rattle.col_core.proofs.Members.{in_with-own}
+use Rattle.col_core.proofs.CallerLemmas.{entries-append, in_with-own}
 use Rattle.world_laws.specs.declared.steps.Step.{Step}
 use Rattle.world_laws.specs.declared.steps.Step.TheVariants.{Single}
 use Rattle.world_laws.specs.Worlds.{World, after, run_steps, home_of, home_history, row_of, may_single, single_stamp}
 use Rattle.world_laws.specs.Worlds.{single_entry, next_id, after_single, begun_node, is_begun}
 use Rattle.world_laws.specs.Completing.{complete_steps}
 use Rattle.world_laws.specs.Laws.{IsReached, IsFinal, StandsAsDecided, LogGrows, CanComplete, RowsStay}
-use Rattle.world_laws.proofs.Basics.{updated_at-here, contains_in, in_contains}
-use Rattle.world_laws.proofs.CallerLemmas.{run_reached}
-use Rattle.world_laws.proofs.Growing.{run_grows}
-use Rattle.world_laws.proofs.Held.{Held}
-use Rattle.world_laws.proofs.Runs.{held}
-use Rattle.script_meaning.proofs.Lines.{final_stays}
-use Rattle.script_meaning.proofs.Rows.{standing_as}
+use Rattle.world_laws.proofs.CallerLemmas.{updated_at-here, contains_in, in_contains, run_reached, run_grows, Held}
+use Rattle.world_laws.proofs.CallerLemmas.{held}
+use Rattle.script_meaning.proofs.CallerLemmas.{final_stays, standing_as}
 use Rattle.log_node.specs.declared.ids.Colours.{Colours}
 use Rattle.world_code.specs.Completed.{IsCompleted}
 use Rattle.world_code.specs.declared.completing.Completed.{Completed}

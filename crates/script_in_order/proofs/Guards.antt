@@ -3,7 +3,7 @@ use Rattle.std.proofs.Common.{◌≡◌, ◌≢◌, ℕ, ◌-◌, ◌+◌, ◌<�
 use Rattle.std.proofs.Common.{refl, ap, sym, subst, ◌∙◌, arith, lt-ltb}
 use Rattle.std.specs.Prelude.{◌&&◌, not, nat_lt, nat_le}
 use Rattle.std.proofs.lemmas.Bool.{and_from, cond-true, cond-false, le-leb, le-ltb, ltb-true, ltb-false, ne_eqb}
-use Rattle.col_core.proofs.Basics.{by_test}
+use Rattle.col_core.proofs.CallerLemmas.{by_test}
 use Rattle.col_core.specs.declared.Entry.{Entry}
 use Rattle.col_core.specs.declared.Event.TheVariants as events
 use Rattle.col_core.specs.History.{line}
@@ -16,12 +16,8 @@ use Rattle.world_laws.specs.Laws.{Always, IsReached, TrimmedIsHeld}
 use Rattle.world_laws.specs.Worlds.{World, held_of, base_after, chains_after, are_two_columns, is_column, may_give}
 use Rattle.world_laws.specs.Worlds.{may_carry, after, after_give, reply}
 use Rattle.log_node.specs.declared.ids.Key.{Key}
-use Rattle.world_laws.proofs.Basics.{updated_at-here, updated_at-not}
-use Rattle.world_laws.proofs.Changes.{line_stays}
-use Rattle.world_laws.proofs.CallerLemmas.{of_reached, after_reached}
-use Rattle.world_laws.proofs.Held.{Held}
-use Rattle.world_laws.proofs.OfColumns.{AreTwo, are_two, held_within}
-use Rattle.world_laws.proofs.Runs.{held}
+use Rattle.world_laws.proofs.CallerLemmas.{updated_at-here, updated_at-not, line_stays, of_reached, after_reached}
+use Rattle.world_laws.proofs.CallerLemmas.{Held, AreTwo, are_two, held_within, held}
 use Rattle.world_code.specs.Replies.{place_reply}
 use Rattle.script_in_order.specs.Points.{event_or_look}
 use Rattle.script_meaning.specs.Moves.{next_at}

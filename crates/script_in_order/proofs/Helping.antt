@@ -6,7 +6,7 @@ use Rattle.log_node.specs.declared.ids.Key.{Key}
 use Rattle.log_node.specs.declared.ids.Row.{Row}
 use Rattle.world_laws.specs.Worlds.{World, home_history, run_steps}
 use Rattle.world_laws.specs.Completing.{complete_steps}
-use Rattle.world_laws.proofs.Runs.{run_steps-append}
+use Rattle.world_laws.proofs.CallerLemmas.{run_steps-append}
 use Rattle.world_code.specs.declared.completing.Completed.{Completed}
 use Rattle.world_code.specs.Completed.{IsCompleted}
 use Rattle.world_code.specs.Looks.{IsFirstBelow}

@@ -13,4 +13,4 @@ mod Nexts
 mod Shown
 mod RowsShown
 mod ColumnsShown
-pub mod Guards
+mod Guards

@@ -13,15 +13,13 @@ use Rattle.col_core.specs.declared.view.View.{View}
 use Rattle.col_core.specs.Cuts.{Chains, Reachable}
 use Rattle.col_core.specs.Computed.{dated}
 use Rattle.col_core.specs.PlayOrder.{Place}
-use Rattle.col_core.proofs.CutLaws.{cut-is_greatest, reached_within, within-at}
+use Rattle.col_core.proofs.CallerLemmas.{cut-is_greatest, reached_within, within-at}
 use Rattle.world_laws.specs.Worlds.{World, no_row, home_of, home_history, base_after, played_cut, may_play, after}
 use Rattle.world_laws.specs.declared.steps.Step.TheVariants.{Play}
 use Rattle.world_code.specs.Looks.{IsLook}
 use Rattle.playback.specs.Orders.{play_order}
 use Rattle.playback.specs.Playing.{ShowsChains, ArePlayed, item_at}
-use Rattle.playback.proofs.Shown.{shown_at}
-use Rattle.playback.proofs.Steps.{IsAhead}
-use Rattle.playback.proofs.CallerLemmas.{shows_chains, played_items}
+use Rattle.playback.proofs.CallerLemmas.{shown_at, IsAhead, shows_chains, played_items}
 use Rattle.script_text.specs.declared.script.Command.{Command}
 use Rattle.report_text.specs.declared.report.Answer.TheVariants as answers
 use Rattle.script_meaning.specs.States.{State, all_granted, answered}

@@ -7,7 +7,7 @@ use mathlib.Core.Path.{fun_ext}
 use Rattle.std.proofs.lemmas.Bool.{true≢false}
 use Rattle.log_node.specs.Seen.{PlacedNode}
 use Rattle.col_core.specs.Keeping.{updated}
-use Rattle.world_laws.proofs.Basics.{at_updated}
+use Rattle.world_laws.proofs.CallerLemmas.{at_updated}
 use Rattle.world_laws.specs.Worlds.{World}
 use Rattle.world_code.specs.WorldView.{WorldView, world_of}
 use Rattle.script_text.specs.declared.script.Command.{Command}

@@ -8,9 +8,9 @@ use Rattle.std.proofs.lemmas.Bool.{or_cases, eqb-true, true≢false, and_parts}
 use Rattle.std.proofs.lemmas.Bool.Decides.{nat_tests}
 use Rattle.log_node.specs.declared.ids.Colours.{Colours}
 use Rattle.log_node.specs.Sets.{has, members}
-use Rattle.log_node.proofs.SetLemmas.{members-low}
-use Rattle.col_core.proofs.Basics.{choice, by_test}
-use Rattle.world_code.proofs.Sets.{member_is}
+use Rattle.log_node.proofs.CallerLemmas.{members-low}
+use Rattle.col_core.proofs.CallerLemmas.{choice, by_test}
+use Rattle.world_code.proofs.CallerLemmas.{member_is}
 
 -- the test of how many colours there are
 pub many_enough : (count many bits : ℕ) → bits < 2 ^ 64

@@ -9,11 +9,10 @@ use Rattle.log_node.specs.declared.ids.Key.{Key}
 use Rattle.log_node.specs.Order.{same_id, same_key}
 use Rattle.skeen_core.specs.Standings.{Standing}
 use Rattle.col_core.specs.History.{entries, line}
-use Rattle.col_core.proofs.Basics.{by_test, same_id-true}
-use Rattle.col_core.proofs.Members.{In, in_line}
+use Rattle.col_core.proofs.CallerLemmas.{by_test, same_id-true, In, in_line}
 use Rattle.world_laws.specs.Worlds.{World}
 use Rattle.world_laws.specs.Laws.{OneFinalStamp, IsFinal}
-use Rattle.world_laws.proofs.Basics.{contains_in}
+use Rattle.world_laws.proofs.CallerLemmas.{contains_in}
 use Rattle.script_meaning.specs.States.{position_of}
 
 -- a key of the line with this id is this key

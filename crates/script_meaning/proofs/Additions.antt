@@ -13,14 +13,11 @@ use Rattle.col_core.specs.declared.Event.{Event}
 use Rattle.col_core.specs.declared.Event.TheVariants as events
 use Rattle.col_core.specs.declared.Entry.{Entry}
 use Rattle.col_core.specs.Log.{is_own, places_from, places_of}
-use Rattle.col_core.proofs.Basics.{choice, both, apart}
-use Rattle.col_core.proofs.Members.{In}
+use Rattle.col_core.proofs.CallerLemmas.{choice, both, apart, In}
 use Rattle.world_laws.specs.declared.steps.Step.{Step}
 use Rattle.world_laws.specs.declared.steps.Step.TheVariants as steps
 use Rattle.world_laws.specs.Worlds.{World, home_of, after, run_steps, is_begun, may_propose, may_fence, may_decide, may_settle, with_last, with_mark, after_propose, proposed_entry, after_decide, after_settle, settled_entry}
-use Rattle.world_laws.proofs.Basics.{in_append}
-use Rattle.world_laws.proofs.Keeps.{at_last}
-use Rattle.world_laws.proofs.Growing.{after_grows}
+use Rattle.world_laws.proofs.CallerLemmas.{in_append, at_last, after_grows}
 use Rattle.lawful_run.specs.Appends.{IsStepOf}
 use Rattle.lawful_run.specs.Lawful.{IsHelp}
 use Rattle.script_meaning.proofs.StaysComplete.{OfDone}

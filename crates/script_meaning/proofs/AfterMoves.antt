@@ -3,11 +3,11 @@ use Rattle.std.proofs.Common.{refl, ◌≡◌, ◌≢◌, ℕ, ◌<◌, List, []
 use Rattle.std.specs.Prelude.{◌==◌, not, slice_index}
 use Rattle.std.proofs.lemmas.Bool.{and_from, lt-ltb, eqb-true}
 use Rattle.log_node.specs.declared.node.Shape.{Shape}
-use Rattle.col_core.proofs.Basics.{choice, apart}
+use Rattle.col_core.proofs.CallerLemmas.{choice, apart}
 use Rattle.world_laws.specs.declared.steps.Step.TheVariants.{Play}
 use Rattle.world_laws.specs.Worlds.{World, home_of, is_client, is_column, are_two_columns, may_play, after_play, after}
-use Rattle.world_laws.proofs.Growing.{played_client}
-use Rattle.playback.proofs.Playing.{order_is_played}
+use Rattle.world_laws.proofs.CallerLemmas.{played_client}
+use Rattle.playback.proofs.CallerLemmas.{order_is_played}
 use Rattle.script_text.specs.declared.script.What.{What}
 use Rattle.script_text.specs.declared.script.What.TheVariants as whats
 use Rattle.script_text.specs.declared.script.Command.{Command}

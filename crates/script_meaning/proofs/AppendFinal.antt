@@ -22,24 +22,15 @@ use Rattle.skeen_core.specs.Standings.{Standing}
 use Rattle.col_core.specs.Rows.{node_wants}
 use Rattle.col_core.specs.Log.{IsLater, HasOutcome}
 use Rattle.col_core.specs.Keeping.{Kept, with_made, with_row, with_floor}
-use Rattle.col_core.proofs.Basics.{both, if_true}
-use Rattle.col_core.proofs.Facts.{outcome_stays}
-use Rattle.col_core.proofs.Growth.{entry_within}
-use Rattle.col_core.proofs.LawfulPasts.{entries-of, clock-of}
-use Rattle.col_core.proofs.Members.{In}
+use Rattle.col_core.proofs.CallerLemmas.{both, if_true, outcome_stays, entry_within, entries-of, clock-of, In}
 use Rattle.world_laws.specs.declared.steps.Step.{Step}
 use Rattle.world_laws.specs.declared.steps.Step.TheVariants.{Begin, Seen}
 use Rattle.world_laws.specs.Worlds.{World, ClientState, home_of, home_history, after, run_steps, is_begun, row_of, next_id, next_row, is_client, is_column, may_begin, may_see, begun_node, after_begin, after_seen}
 use Rattle.world_laws.specs.Completing.{complete_steps}
 use Rattle.world_laws.specs.Laws.{IsReached, log_of, StandsAsDecided}
-use Rattle.world_laws.proofs.Basics.{updated-here, in_contains, contains_in}
-use Rattle.world_laws.proofs.Marks.{in_colours, final_is, number_within}
-use Rattle.world_laws.proofs.Histories.{lawful_past_in}
-use Rattle.world_laws.proofs.Keeps.{next_absent}
-use Rattle.world_laws.proofs.Clients.{begun_client}
-use Rattle.world_laws.proofs.Completion.{can_complete}
-use Rattle.world_laws.proofs.CallerLemmas.{after_reached}
-use Rattle.world_laws.proofs.Runs.{run_steps-append}
+use Rattle.world_laws.proofs.CallerLemmas.{updated-here, in_contains, contains_in, in_colours, final_is}
+use Rattle.world_laws.proofs.CallerLemmas.{number_within, lawful_past_in, next_absent, begun_client, can_complete}
+use Rattle.world_laws.proofs.CallerLemmas.{after_reached, run_steps-append, all_in, in_map}
 use Rattle.script_text.specs.declared.script.Object.{Object}
 use Rattle.script_text.specs.declared.script.What.TheVariants as whats
 use Rattle.report_text.specs.declared.report.PointPiece.{PointPiece}
@@ -47,7 +38,7 @@ use Rattle.report_text.specs.declared.report.Answer.TheVariants as answers
 use Rattle.lawful_run.specs.Callers.{Caller, node_of}
 use Rattle.lawful_run.specs.Appends.{StandsAt, AppendsSeveral, kept_after_points}
 use Rattle.lawful_run.specs.Explains.{Explains}
-use Rattle.lawful_run.proofs.Prefixes.{prefix_length, prefix_get, get_within}
+use Rattle.lawful_run.proofs.CallerLemmas.{prefix_length, prefix_get, get_within}
 use Rattle.script_meaning.specs.States.{Grants, position_of}
 use Rattle.script_meaning.specs.Helping.{all_cleared}
 use Rattle.script_meaning.specs.Appends.{point_in}
@@ -61,7 +52,6 @@ use Rattle.script_meaning.proofs.Kept.{caller_in, IsKeptBy, MadeBy, made_helping
 use Rattle.script_meaning.proofs.AppendOne.{caller_same, updated-not, helped_places}
 use Rattle.script_meaning.proofs.BeginRow as begun
 use Rattle.script_meaning.proofs.FirstProposal.{ProposesFirst, proposes_first, in_any}
-use Rattle.world_laws.proofs.RegionRows.{all_in, in_map}
 use Rattle.script_meaning.proofs.Lists.{range_in, some_in, each_of, map_same}
 use Rattle.script_meaning.proofs.AppendSeveral as several
 use Rattle.script_meaning.proofs.OwnEvents.{finished_client}

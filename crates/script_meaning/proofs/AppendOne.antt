@@ -16,18 +16,13 @@ use Rattle.col_core.specs.declared.Entry.{Entry}
 use Rattle.col_core.specs.History.{entries, entry_key, line}
 use Rattle.col_core.specs.Log.{places_from, places_of}
 use Rattle.col_core.specs.Keeping.{Kept, updated, updated_at, kept_after_single}
-use Rattle.col_core.proofs.Basics.{if_true, if_false, same_id-refl}
-use Rattle.col_core.proofs.Members.{In}
-use Rattle.col_core.proofs.Pasts.{Alone, standing_of}
+use Rattle.col_core.proofs.CallerLemmas.{if_true, if_false, same_id-refl, In, Alone, standing_of}
 use Rattle.world_laws.specs.declared.steps.Step.TheVariants.{Single}
 use Rattle.world_laws.specs.Worlds.{World, ClientState, home_of, after, run_steps, is_begun, next_id, may_single, single_stamp, single_entry, single_node, after_single, with_client}
 use Rattle.world_laws.specs.Laws.{IsReached, log_of}
-use Rattle.world_laws.proofs.Basics.{at_updated, updated-here, at_updated_at, updated_at-here, not_place, slice_last}
-use Rattle.world_laws.proofs.Held.{status_in, Held}
-use Rattle.world_laws.proofs.Histories.{status-last}
-use Rattle.world_laws.proofs.Keeps.{next_absent}
-use Rattle.world_laws.proofs.Clients.{same_used, single_client}
-use Rattle.world_laws.proofs.CallerLemmas.{after_reached}
+use Rattle.world_laws.proofs.CallerLemmas.{at_updated, updated-here, at_updated_at, updated_at-here, not_place}
+use Rattle.world_laws.proofs.CallerLemmas.{slice_last, status_in, Held, status-last, next_absent, same_used}
+use Rattle.world_laws.proofs.CallerLemmas.{single_client, after_reached}
 use Rattle.script_text.specs.declared.script.Object.{Object}
 use Rattle.script_text.specs.declared.script.What.TheVariants as whats
 use Rattle.report_text.specs.declared.report.PointPiece.{PointPiece}
@@ -35,7 +30,7 @@ use Rattle.report_text.specs.declared.report.Answer.TheVariants as answers
 use Rattle.lawful_run.specs.Callers.{Caller, node_of, row_of}
 use Rattle.lawful_run.specs.Appends.{AppendsOne}
 use Rattle.lawful_run.specs.Explains.{Explains}
-use Rattle.lawful_run.proofs.Prefixes.{prefix_length, get-append, get_within}
+use Rattle.lawful_run.proofs.CallerLemmas.{prefix_length, get-append, get_within}
 use Rattle.script_meaning.specs.States.{Grants, position_of}
 use Rattle.script_meaning.specs.Helping.{all_cleared}
 use Rattle.script_meaning.specs.Appends.{point_in, with_single}

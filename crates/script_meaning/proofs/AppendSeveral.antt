@@ -17,17 +17,14 @@ use Rattle.skeen_core.specs.declared.marks.Outcome.TheVariants.{Open, Gone, Fina
 use Rattle.skeen_core.specs.Outcomes.{outcome_of, is_missing, is_stamp_end_fence, is_memory_fence, number_of, greatest}
 use Rattle.col_core.specs.Log.{HasMark, HasOutcome}
 use Rattle.col_core.specs.Keeping.{Kept, with_made, with_row}
-use Rattle.col_core.proofs.Basics.{choice, by_test, apart, if_true}
-use Rattle.col_core.proofs.Members.{In, in_filter}
+use Rattle.col_core.proofs.CallerLemmas.{choice, by_test, apart, if_true, In, in_filter}
 use Rattle.world_laws.specs.declared.steps.Step.{Step}
 use Rattle.world_laws.specs.declared.steps.Step.TheVariants.{Begin}
 use Rattle.world_laws.specs.Worlds.{World, home_of, run_steps, is_begun, row_of, marks_of, next_id, next_row, may_begin, begun_node, after_begin}
 use Rattle.world_laws.specs.Completing.{colours_of, complete_steps}
 use Rattle.world_laws.specs.Laws.{IsReached, log_of, begun_row}
-use Rattle.world_laws.proofs.Basics.{contains_in}
-use Rattle.world_laws.proofs.Held.{status_in, Held}
-use Rattle.world_laws.proofs.Marks.{is_waiting, in_colours, any_mark}
-use Rattle.world_laws.proofs.Completing.{kept_marks}
+use Rattle.world_laws.proofs.CallerLemmas.{contains_in, status_in, Held, is_waiting, in_colours, any_mark, kept_marks}
+use Rattle.world_laws.proofs.CallerLemmas.{all_in}
 use Rattle.script_text.specs.declared.script.Object.{Object}
 use Rattle.script_text.specs.declared.script.What.TheVariants as whats
 use Rattle.report_text.specs.declared.report.Answer.TheVariants as answers
@@ -48,7 +45,6 @@ use Rattle.script_meaning.proofs.Kept.{caller_in, IsKeptBy, MadeBy, made_own, Do
 use Rattle.script_meaning.proofs.AppendOne.{caller_same}
 use Rattle.script_meaning.proofs.BeginRow as begun
 use Rattle.script_meaning.proofs.BeginRow.{begins_later}
-use Rattle.world_laws.proofs.RegionRows.{all_in}
 use Rattle.script_meaning.proofs.Lists.{in_range, in_map_back}
 
 -- Marks and outcomes

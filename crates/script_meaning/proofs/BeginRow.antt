@@ -16,21 +16,18 @@ use Rattle.col_core.specs.declared.Entry.{Entry}
 use Rattle.col_core.specs.History.{line}
 use Rattle.col_core.specs.Log.{Log, IsLater, IsBegunFor, places_from, places_of}
 use Rattle.col_core.specs.Keeping.{Kept, updated, with_made, with_row}
-use Rattle.col_core.proofs.Basics.{by_test, both, apart, if_true}
-use Rattle.col_core.proofs.Members.{In}
+use Rattle.col_core.proofs.CallerLemmas.{by_test, both, apart, if_true, In}
 use Rattle.world_laws.specs.declared.steps.Step.{Step}
 use Rattle.world_laws.specs.declared.steps.Step.TheVariants.{Begin}
 use Rattle.world_laws.specs.Worlds.{World, ClientState, RowState, home_of, after, run_steps, is_begun, row_of, next_id, next_row, is_client, may_begin, begun_node, after_begin}
 use Rattle.world_laws.specs.Laws.{IsReached, log_of, begun_row}
-use Rattle.world_laws.proofs.Basics.{at_updated, updated-here, updated_at-here, contains_in, slice_last, slice_in}
-use Rattle.world_laws.proofs.Clients.{begun_client, used_before}
-use Rattle.world_laws.proofs.Growing.{Grows, run_grows}
-use Rattle.world_laws.proofs.RegionRows.{row_stands}
+use Rattle.world_laws.proofs.CallerLemmas.{at_updated, updated-here, updated_at-here, contains_in, slice_last}
+use Rattle.world_laws.proofs.CallerLemmas.{slice_in, begun_client, used_before, Grows, run_grows, row_stands}
 use Rattle.world_laws.proofs.CallerLemmas.{after_reached, run_reached}
 use Rattle.script_text.specs.declared.script.Object.{Object}
 use Rattle.lawful_run.specs.Callers.{Caller, node_of, row_of as named_row}
 use Rattle.lawful_run.specs.Appends.{IsStepOf, BeginsRow}
-use Rattle.lawful_run.proofs.Prefixes.{prefix_length, prefix_get, get_within}
+use Rattle.lawful_run.proofs.CallerLemmas.{prefix_length, prefix_get, get_within}
 use Rattle.script_meaning.proofs.Rows.{IsDone, IsStill, done_still, still_trans, step_still, run_still}
 use Rattle.script_meaning.proofs.Completions.{IsOn, on_touches}
 use Rattle.script_meaning.proofs.Additions.{StepIn, OnRow, on_steps, places_more, no_places, all_from}

@@ -3,13 +3,14 @@
 use Rattle.std.proofs.Common.{◌≡◌, List, refl, subst, ◌∙◌, ap, sym}
 use Rattle.world_laws.specs.Worlds.{World}
 use Rattle.world_laws.specs.Laws.{IsReached}
-use Rattle.world_laws.proofs.CallerLemmas.{opened_reached, run_reached}
-use Rattle.world_laws.proofs.Growing.{run_grows}
+use Rattle.world_laws.proofs.CallerLemmas.{opened_reached, run_reached, run_grows}
 use Rattle.script_text.specs.declared.script.Command.{Command}
 use Rattle.script_text.specs.declared.script.Script.{Script}
 use Rattle.script_meaning.specs.States.{State}
 use Rattle.script_meaning.specs.Meaning.{LeadTo, nothing, next}
 use Rattle.script_meaning.proofs.GrantedCommands.{done_extends}
+pub use Rattle.script_meaning.proofs.Lines.{final_stays}
+pub use Rattle.script_meaning.proofs.Rows.{standing_as}
 
 pub lead_reached : (script : Script) {commands : List Command} {state : State} → LeadTo script commands state
     → IsReached state.world

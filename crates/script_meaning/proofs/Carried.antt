@@ -10,14 +10,10 @@ use Rattle.col_core.specs.History.{line}
 use Rattle.col_core.specs.Cuts.{Dated, chain}
 use Rattle.col_core.specs.Computed.{dated}
 use Rattle.col_core.specs.Legal.{IsColumnHistory}
-use Rattle.col_core.proofs.Basics.{if_true}
-use Rattle.col_core.proofs.ChainGrowth.{chains_grow}
-use Rattle.col_core.proofs.DatedLaws.{with_date, later, fold-later}
+use Rattle.col_core.proofs.CallerLemmas.{if_true, chains_grow, with_date, later, fold-later}
 use Rattle.world_laws.specs.Worlds.{chains_after}
-use Rattle.world_laws.proofs.Changes.{chain_longer}
-use Rattle.world_laws.proofs.Copies.{own_chain_length}
-use Rattle.world_laws.proofs.Histories.{entries_dated}
-use Rattle.lawful_run.proofs.Prefixes.{prefix_length}
+use Rattle.world_laws.proofs.CallerLemmas.{chain_longer, own_chain_length, entries_dated}
+use Rattle.lawful_run.proofs.CallerLemmas.{prefix_length}
 
 -- of the first events no more is held than of all
 pub first_chain : (own regions region n : ℕ) (h : List Entry) → IsColumnHistory own regions (dated own h)

@@ -17,16 +17,12 @@ use Rattle.col_core.specs.Cuts.{Dated, carried, chain}
 use Rattle.col_core.specs.Computed.{dated}
 use Rattle.col_core.specs.Copies.{AreTrueCopies}
 use Rattle.col_core.specs.Legal.{IsLawfulEvent}
-use Rattle.col_core.proofs.Basics.{choice, by_test, apart, if_true, if_false, same_id-true}
-use Rattle.col_core.proofs.LawfulPasts.{shown_entered, entries-of}
-use Rattle.col_core.proofs.Members.{In, in_line}
+use Rattle.col_core.proofs.CallerLemmas.{choice, by_test, apart, if_true, if_false, same_id-true, shown_entered}
+use Rattle.col_core.proofs.CallerLemmas.{entries-of, In, in_line}
 use Rattle.world_laws.specs.Worlds.{World}
 use Rattle.world_laws.specs.Laws.{IsReached}
-use Rattle.world_laws.proofs.Basics.{in_slice, in_left}
-use Rattle.world_laws.proofs.Clients.{head_with, in_heads, in_flat_map}
-use Rattle.world_laws.proofs.Histories.{entries_dated, lawful_past_in}
-use Rattle.world_laws.proofs.Told.{FitsEvent}
-use Rattle.world_laws.proofs.Listed.{FitsSingle}
+use Rattle.world_laws.proofs.CallerLemmas.{in_slice, in_left, head_with, in_heads, in_flat_map, entries_dated}
+use Rattle.world_laws.proofs.CallerLemmas.{lawful_past_in, FitsEvent, FitsSingle}
 use Rattle.script_meaning.specs.Helping.{node_with}
 use Rattle.script_meaning.proofs.Reached.{held_of, told_of, listed_of}
 

@@ -12,19 +12,13 @@ use Rattle.log_node.specs.Order.{key_below}
 use Rattle.skeen_core.specs.Standings.{Standing}
 use Rattle.col_core.specs.declared.Entry.{Entry}
 use Rattle.col_core.specs.History.{entries}
-use Rattle.col_core.proofs.Basics.{by_test, both, apart, not_true}
-use Rattle.col_core.proofs.Members.{In, in_filter, in_filter-back}
-use Rattle.col_core.proofs.Pasts.{Waits}
+use Rattle.col_core.proofs.CallerLemmas.{by_test, both, apart, not_true, In, in_filter, in_filter-back, Waits}
 use Rattle.world_laws.specs.declared.steps.Step.{Step}
 use Rattle.world_laws.specs.Worlds.{World, ClientState, RowState, home_of, home_history, run_steps, is_begun, row_of}
 use Rattle.world_laws.specs.Completing.{complete_steps}
 use Rattle.world_laws.specs.Laws.{IsReached}
-use Rattle.world_laws.proofs.Held.{status_in, Held}
-use Rattle.world_laws.proofs.Marks.{is_waiting}
-use Rattle.world_laws.proofs.RegionRows.{same_number}
-use Rattle.world_laws.proofs.Growing.{run_grows}
-use Rattle.world_laws.proofs.Runs.{run_held, run_steps-append}
-use Rattle.world_laws.proofs.CallerLemmas.{run_reached}
+use Rattle.world_laws.proofs.CallerLemmas.{status_in, Held, is_waiting, same_number, run_grows, run_held}
+use Rattle.world_laws.proofs.CallerLemmas.{run_steps-append, run_reached}
 use Rattle.lawful_run.specs.Appends.{IsStepOf}
 use Rattle.script_meaning.specs.States.{Grants}
 use Rattle.script_meaning.specs.Helping.{Helping, open_below, node_with, helped_row, helped_node, helped_first, helped_times, cleared, all_cleared}

@@ -11,16 +11,13 @@ use Rattle.skeen_core.specs.declared.marks.Mark.{Mark}
 use Rattle.skeen_core.specs.declared.marks.Mark.TheVariants as marks
 use Rattle.skeen_core.specs.Outcomes.{is_missing}
 use Rattle.col_core.specs.Keeping.{updated}
-use Rattle.col_core.proofs.Basics.{choice, apart, if_true}
-use Rattle.col_core.proofs.Members.{In}
+use Rattle.col_core.proofs.CallerLemmas.{choice, apart, if_true, In}
 use Rattle.world_laws.specs.declared.steps.Step.{Step}
 use Rattle.world_laws.specs.declared.steps.Step.TheVariants as steps
 use Rattle.world_laws.specs.Worlds.{World, RowState, after, run_steps, is_begun, row_of, is_row_at_end, may_propose, may_fence, proposed_stamp, after_propose, with_mark}
 use Rattle.world_laws.specs.Completing.{mark_step, mark_steps, colours_of}
-use Rattle.world_laws.proofs.Basics.{at_updated, updated_at-here, slice_in}
-use Rattle.world_laws.proofs.Marks.{has_colour}
-use Rattle.world_laws.proofs.Completing.{mark_step_marks}
-use Rattle.world_laws.proofs.Growing.{run_grows}
+use Rattle.world_laws.proofs.CallerLemmas.{at_updated, updated_at-here, slice_in, has_colour, mark_step_marks}
+use Rattle.world_laws.proofs.CallerLemmas.{run_grows}
 use Rattle.script_meaning.proofs.Rows.{still_begun}
 use Rattle.script_meaning.proofs.AppendSeveral.{Rising}
 

@@ -8,19 +8,13 @@ use Rattle.skeen_core.specs.declared.marks.Why.TheVariants.{Memory, StampEnd}
 use Rattle.skeen_core.specs.Outcomes.{is_missing}
 use Rattle.skeen_core.specs.Standings.{Standing}
 use Rattle.col_core.specs.History.{entries}
-use Rattle.col_core.proofs.Basics.{choice}
-use Rattle.col_core.proofs.LawfulPasts.{open_waits}
-use Rattle.col_core.proofs.Members.{In}
-use Rattle.col_core.proofs.Pasts.{Status, Absent, Alone, Waits, standing_of}
+use Rattle.col_core.proofs.CallerLemmas.{choice, open_waits, In, Status, Absent, Alone, Waits, standing_of}
 use Rattle.world_laws.specs.declared.steps.Step.{Step}
 use Rattle.world_laws.specs.declared.steps.Step.TheVariants as steps
 use Rattle.world_laws.specs.Worlds.{World, home_of, after, run_steps, is_begun, row_of, is_row_at_end}
 use Rattle.world_laws.specs.Completing.{mark_step, mark_steps, colours_of, settle_steps, complete_steps}
-use Rattle.world_laws.proofs.Basics.{in_append}
-use Rattle.world_laws.proofs.Held.{status_in, column_mark, Kind, Unborn, OfSingle, OfRow, Fits, Held}
-use Rattle.world_laws.proofs.Agreement.{entry_shown}
-use Rattle.world_laws.proofs.Runs.{run_held}
-use Rattle.world_laws.proofs.Completion.{can_complete}
+use Rattle.world_laws.proofs.CallerLemmas.{in_append, status_in, column_mark, Kind, Unborn, OfSingle, OfRow, Fits}
+use Rattle.world_laws.proofs.CallerLemmas.{Held, entry_shown, run_held, can_complete}
 use Rattle.script_meaning.proofs.Rows.{node_id, Touches, run_still, home_mark, waits_number, in_past, stands_done, IsDone, IsStill}
 
 -- The steps of a completion

@@ -5,12 +5,9 @@ use Rattle.std.specs.List.{filter}
 use Rattle.log_node.specs.declared.ids.Key.{Key}
 use Rattle.log_node.specs.Order.{key_below}
 use Rattle.skeen_core.specs.Standings.{Standing}
-use Rattle.col_core.proofs.KeyOrder.{key-irrefl}
-use Rattle.col_core.proofs.LawfulPasts.{entries-of}
-use Rattle.col_core.proofs.Members.{In, Rises, rises, rises-filter}
+use Rattle.col_core.proofs.CallerLemmas.{key-irrefl, entries-of, In, Rises, rises, rises-filter}
 use Rattle.world_laws.specs.Worlds.{World}
-use Rattle.world_laws.proofs.Held.{Held}
-use Rattle.world_laws.proofs.Histories.{lawful_past_in}
+use Rattle.world_laws.proofs.CallerLemmas.{Held, lawful_past_in}
 use Rattle.script_meaning.specs.Helping.{open_below}
 
 Without : Standing → List Standing → Type 0

@@ -10,13 +10,11 @@ use Rattle.log_node.specs.declared.node.Shape.{Shape}
 use Rattle.skeen_core.specs.declared.marks.Why.TheVariants.{Memory}
 use Rattle.skeen_core.specs.declared.marks.Mark.TheVariants as marks
 use Rattle.skeen_core.specs.declared.marks.ColourMark.{ColourMark}
-use Rattle.col_core.proofs.Members.{In}
+use Rattle.col_core.proofs.CallerLemmas.{In}
 use Rattle.world_laws.specs.Worlds.{home_of, row_of}
 use Rattle.world_laws.specs.Completing.{colours_of}
 use Rattle.world_laws.specs.Laws.{begun_row, rows_of_region}
-use Rattle.world_laws.proofs.Basics.{in_left, in_right, slice_in}
-use Rattle.world_laws.proofs.Marks.{colour_in}
-use Rattle.world_laws.proofs.RegionRows.{row_stands}
+use Rattle.world_laws.proofs.CallerLemmas.{in_left, in_right, slice_in, colour_in, row_stands}
 use Rattle.script_text.specs.declared.script.Command.{Command}
 use Rattle.script_text.specs.declared.script.Script.{Script}
 use Rattle.script_text.specs.Fitting.{IsFitting}

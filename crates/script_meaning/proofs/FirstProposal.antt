@@ -14,20 +14,13 @@ use Rattle.col_core.specs.declared.Event.{Event}
 use Rattle.col_core.specs.declared.Entry.{Entry}
 use Rattle.col_core.specs.History.{enters, has_entered}
 use Rattle.col_core.specs.Rows.{node_wants}
-use Rattle.col_core.proofs.Basics.{apart, same_id-is}
-use Rattle.col_core.proofs.LawfulPasts.{lawful_front}
-use Rattle.col_core.proofs.Members.{In}
-use Rattle.col_core.proofs.Pasts.{Absent, Waits, status, IsLawfulPast, IsLawfulNext}
+use Rattle.col_core.proofs.CallerLemmas.{apart, same_id-is, lawful_front, In, Absent, Waits, status, IsLawfulPast}
+use Rattle.col_core.proofs.CallerLemmas.{IsLawfulNext}
 use Rattle.world_laws.specs.declared.steps.Step.{Step}
 use Rattle.world_laws.specs.Worlds.{World, home_of, row_of, next_id, next_row, may_begin, begun_node, run_steps, after_begin}
 use Rattle.world_laws.specs.Laws.{IsReached}
-use Rattle.world_laws.proofs.Basics.{slice_in}
-use Rattle.world_laws.proofs.Held.{status_in}
-use Rattle.world_laws.proofs.Histories.{lawful_past_in, not_entered}
-use Rattle.world_laws.proofs.Keeps.{next_absent}
-use Rattle.world_laws.proofs.Later.{reverse-split}
-use Rattle.world_laws.proofs.RegionRows.{same_number}
-use Rattle.world_laws.proofs.Told.{FitsEvent}
+use Rattle.world_laws.proofs.CallerLemmas.{slice_in, status_in, lawful_past_in, not_entered, next_absent}
+use Rattle.world_laws.proofs.CallerLemmas.{reverse-split, same_number, FitsEvent}
 use Rattle.script_text.specs.declared.script.Object.{Object}
 use Rattle.lawful_run.specs.Appends.{IsStepOf}
 use Rattle.script_meaning.proofs.Completions.{IsOn}

@@ -9,11 +9,10 @@ use Rattle.skeen_core.specs.declared.marks.Why.TheVariants.{Memory, StampEnd}
 use Rattle.skeen_core.specs.declared.marks.Outcome.{Outcome}
 use Rattle.skeen_core.specs.declared.marks.Outcome.TheVariants.{Open, Gone, Final}
 use Rattle.col_core.specs.History.{entry_key}
-use Rattle.col_core.proofs.Basics.{choice, by_test, if_true, if_false}
-use Rattle.col_core.proofs.Members.{In}
+use Rattle.col_core.proofs.CallerLemmas.{choice, by_test, if_true, if_false, In}
 use Rattle.world_laws.specs.declared.steps.Step.TheVariants.{Begin, Single, Give, Carry, Trim, Play, Seen}
 use Rattle.world_laws.specs.Worlds.{World, home_of, held_of, after, run_steps, row_of, next_id, next_row, may_single, single_stamp, may_play}
-use Rattle.world_laws.proofs.Basics.{at_updated, updated-here, in_left, in_right}
+use Rattle.world_laws.proofs.CallerLemmas.{at_updated, updated-here, in_left, in_right}
 use Rattle.script_text.specs.declared.script.What.{What}
 use Rattle.script_text.specs.declared.script.What.TheVariants as whats
 use Rattle.script_text.specs.declared.script.Command.{Command}

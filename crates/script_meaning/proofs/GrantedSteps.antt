@@ -12,17 +12,13 @@ use Rattle.skeen_core.specs.declared.marks.Mark.TheVariants as marks
 use Rattle.skeen_core.specs.Outcomes.{is_missing}
 use Rattle.skeen_core.specs.Standings.{Standing}
 use Rattle.col_core.specs.Keeping.{updated}
-use Rattle.col_core.proofs.Basics.{by_test, if_true, if_false}
-use Rattle.col_core.proofs.Members.{In}
+use Rattle.col_core.proofs.CallerLemmas.{by_test, if_true, if_false, In}
 use Rattle.world_laws.specs.declared.steps.Step.{Step}
 use Rattle.world_laws.specs.declared.steps.Step.TheVariants as steps
 use Rattle.world_laws.specs.Worlds.{World, RowState, home_history, after, run_steps, is_begun, row_of, is_member, is_row_at_end, may_mark, may_propose, may_fence, may_decide, may_settle, with_mark}
 use Rattle.world_laws.specs.Completing.{mark_step, mark_steps, colours_of, settle_steps, complete_steps}
-use Rattle.world_laws.proofs.Basics.{updated-here, updated_at-here}
-use Rattle.world_laws.proofs.Marks.{has_colour}
-use Rattle.world_laws.proofs.Completing.{mark_step_marks}
-use Rattle.world_laws.proofs.Growing.{run_grows}
-use Rattle.world_laws.proofs.Runs.{run_steps-append}
+use Rattle.world_laws.proofs.CallerLemmas.{updated-here, updated_at-here, has_colour, mark_step_marks, run_grows}
+use Rattle.world_laws.proofs.CallerLemmas.{run_steps-append}
 use Rattle.script_meaning.specs.States.{Grants, all_granted}
 use Rattle.script_meaning.specs.Helping.{Helping, open_below, node_with, helped_row, helped_node, helped_first, helped_times, cleared, all_cleared}
 use Rattle.script_meaning.proofs.Rows.{still_begun}

@@ -8,12 +8,11 @@ use Rattle.log_node.specs.Seen.{PlacedNode}
 use Rattle.col_core.specs.declared.Entry.{Entry}
 use Rattle.col_core.specs.Log.{Log}
 use Rattle.col_core.specs.Keeping.{Kept, nothing_kept}
-use Rattle.col_core.proofs.Basics.{by_test, apart}
-use Rattle.col_core.proofs.Members.{In}
+use Rattle.col_core.proofs.CallerLemmas.{by_test, apart, In}
 use Rattle.world_laws.specs.Worlds.{World, home_of}
 use Rattle.world_laws.specs.Laws.{IsReached, log_of}
-use Rattle.world_laws.proofs.Basics.{at_updated, updated-here, in_append, in_left, in_right}
-use Rattle.world_laws.proofs.CallerLemmas.{opened_reached, run_reached}
+use Rattle.world_laws.proofs.CallerLemmas.{at_updated, updated-here, in_append, in_left, in_right, opened_reached}
+use Rattle.world_laws.proofs.CallerLemmas.{run_reached}
 use Rattle.script_text.specs.declared.script.What.{What}
 use Rattle.script_text.specs.declared.script.What.TheVariants as whats
 use Rattle.script_text.specs.declared.script.Command.{Command}
@@ -29,7 +28,7 @@ use Rattle.lawful_run.specs.Asks.{manner_of, may_help, home_asked}
 use Rattle.lawful_run.specs.Refusals.{IsAway, kept_before, kept_behind}
 use Rattle.lawful_run.specs.Explains.{Explains, Answers, Explained, start, next}
 use Rattle.lawful_run.specs.Lawful.{IsHelp}
-use Rattle.lawful_run.proofs.Later.{explained_later}
+use Rattle.lawful_run.proofs.CallerLemmas.{explained_later}
 use Rattle.script_meaning.specs.States.{State, opening, is_built, answered}
 use Rattle.script_meaning.proofs.Reached.{held_of}
 use Rattle.script_meaning.proofs.Rows.{IsDone}

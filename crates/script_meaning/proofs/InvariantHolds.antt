@@ -9,12 +9,11 @@ use Rattle.log_node.specs.Sets.{members}
 use Rattle.skeen_core.specs.declared.marks.Why.TheVariants.{Memory, StampEnd}
 use Rattle.skeen_core.specs.declared.marks.Outcome.{Outcome}
 use Rattle.skeen_core.specs.declared.marks.Outcome.TheVariants.{Open, Gone, Final}
-use Rattle.col_core.proofs.Basics.{choice, both, apart, not_true, if_true}
-use Rattle.col_core.proofs.Members.{In}
+use Rattle.col_core.proofs.CallerLemmas.{choice, both, apart, not_true, if_true, In}
 use Rattle.world_laws.specs.declared.steps.Step.TheVariants.{Seen}
 use Rattle.world_laws.specs.Worlds.{World, home_of, after, run_steps, row_of, next_row, is_client, is_column, may_begin, may_single, after_begin, single_stamp, next_id}
 use Rattle.world_laws.specs.Completing.{complete_steps}
-use Rattle.world_laws.proofs.Basics.{contains_in, in_slice, in_right}
+use Rattle.world_laws.proofs.CallerLemmas.{contains_in, in_slice, in_right}
 use Rattle.script_text.specs.declared.script.What.{What}
 use Rattle.script_text.specs.declared.script.What.TheVariants as whats
 use Rattle.script_text.specs.declared.script.Command.{Command}
@@ -23,7 +22,7 @@ use Rattle.script_text.specs.Items.{is_stop}
 use Rattle.script_text.specs.Fitting.{IsFitting, IsWithin}
 use Rattle.report_text.specs.declared.report.Answer.TheVariants as answers
 use Rattle.col_core.specs.History.{entry_key}
-use Rattle.lawful_run.proofs.Prefixes.{get_within, get-append}
+use Rattle.lawful_run.proofs.CallerLemmas.{get_within, get-append}
 use Rattle.script_meaning.specs.States.{State, Grants, has_colours, is_built, StopsAreLast, answered}
 use Rattle.script_meaning.specs.Helping.{all_cleared}
 use Rattle.script_meaning.specs.Appends.{appended_one, appended_by, appended_several, appended, stopped, is_full, append_steps, with_single, point_in, ended_colour}

@@ -12,7 +12,7 @@ use Rattle.col_core.specs.Keeping.{Kept}
 use Rattle.world_laws.specs.declared.steps.Step.{Step}
 use Rattle.world_laws.specs.Worlds.{World, ClientState, home_of, home_history, run_steps}
 use Rattle.world_laws.specs.Laws.{IsReached, log_of}
-use Rattle.world_laws.proofs.LaterLogs.{log_grows}
+use Rattle.world_laws.proofs.CallerLemmas.{log_grows}
 use Rattle.script_text.specs.declared.script.What.{What}
 use Rattle.script_text.specs.declared.script.Object.{Object}
 use Rattle.report_text.specs.declared.report.Answer.{Answer}
@@ -23,7 +23,7 @@ use Rattle.lawful_run.specs.Appends.{IsStepOf}
 use Rattle.lawful_run.specs.Explains.{Explains}
 use Rattle.lawful_run.specs.Lawful.{IsHelp}
 use Rattle.lawful_run.specs.Refusals.{nothing}
-use Rattle.lawful_run.proofs.Prefixes.{prefix_length}
+use Rattle.lawful_run.proofs.CallerLemmas.{prefix_length}
 use Rattle.script_meaning.proofs.StaysComplete.{OfDone, own_no_help}
 use Rattle.script_meaning.proofs.Additions.{Adds, adds_none, adds_map, others_places, HelpIn}
 use Rattle.script_meaning.proofs.Reached.{held_of, told_of}

@@ -5,10 +5,8 @@ use Rattle.std.specs.List.{AllPairs, cons_option, enumerate_from}
 use Rattle.std.proofs.lemmas.Bool.{and_from, eq-eqb}
 use Rattle.std.proofs.lemmas.List.Elements.{filter_map-append}
 use Rattle.std.proofs.lemmas.List.Kept.{AllPairs-cons}
-use Rattle.col_core.proofs.Basics.{apart, not_true}
-use Rattle.col_core.proofs.Members.{In}
-use Rattle.world_laws.proofs.Basics.{in_append}
-use Rattle.world_laws.proofs.RegionRows.{all_in}
+use Rattle.col_core.proofs.CallerLemmas.{apart, not_true, In}
+use Rattle.world_laws.proofs.CallerLemmas.{in_append, all_in}
 use Rattle.script_text.specs.declared.script.Command.{Command}
 use Rattle.script_text.specs.declared.item.Item.{Item}
 use Rattle.script_text.specs.declared.item.Item.TheVariants as items

@@ -18,13 +18,11 @@ use Rattle.col_core.specs.Copies.{AreTrueCopies}
 use Rattle.col_core.specs.Legal.{IsColumnHistory}
 use Rattle.col_core.specs.Rows.{BegunRow, AreLawfulRows, is_of}
 use Rattle.col_core.specs.Log.{Log}
-use Rattle.col_core.proofs.Basics.{by_test}
-use Rattle.col_core.proofs.CutLaws.{cut-is_greatest}
+use Rattle.col_core.proofs.CallerLemmas.{by_test, cut-is_greatest}
 use Rattle.world_laws.specs.Worlds.{World, home_of}
 use Rattle.world_laws.specs.Laws.{log_of, rows_of_region}
-use Rattle.world_laws.proofs.Basics.{in_contains, contains_in, slice_last}
-use Rattle.world_laws.proofs.LawfulRows.{have_lawful_rows}
-use Rattle.world_laws.proofs.RegionRows.{all_in, OfRegion, of_region, same_number}
+use Rattle.world_laws.proofs.CallerLemmas.{in_contains, contains_in, slice_last, have_lawful_rows, all_in, OfRegion}
+use Rattle.world_laws.proofs.CallerLemmas.{of_region, same_number}
 use Rattle.script_text.specs.declared.script.Command.{Command}
 use Rattle.script_text.specs.declared.script.Script.{Script}
 use Rattle.script_text.specs.Fitting.{IsFitting}
@@ -39,7 +37,7 @@ use Rattle.lawful_run.specs.Lawful.{IsClientRun, IsHelp, HasHelping, HasStopped,
 use Rattle.script_meaning.specs.States.{State}
 use Rattle.script_meaning.specs.Meaning.{column_report, report_of}
 use Rattle.script_meaning.specs.Laws.{RunsAreLawful}
-use Rattle.lawful_run.proofs.Prefixes.{get_within}
+use Rattle.lawful_run.proofs.CallerLemmas.{get_within}
 use Rattle.script_meaning.proofs.Lists.{in_range}
 use Rattle.script_meaning.proofs.Rows.{node_id, IsDone}
 use Rattle.script_meaning.proofs.StaysComplete.{step_of_one}

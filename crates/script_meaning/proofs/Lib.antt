@@ -1,16 +1,16 @@
 mod WorkedRuns
 mod WorkedMoves
 mod Reached
-pub mod Rows
-pub mod Completions
+mod Rows
+mod Completions
 mod StaysComplete
-pub mod Additions
+mod Additions
 mod Counting
-pub mod Clearing
-pub mod Lines
+mod Clearing
+mod Lines
 mod Kept
 mod AppendOne
-pub mod Lists
+mod Lists
 mod Playing
 mod ChainNodes
 mod Sync
@@ -29,8 +29,8 @@ mod AppendFinal
 mod Refusing
 mod CompletionParts
 mod Stopping
-pub mod Invariant
-pub mod InvariantHolds
+mod Invariant
+mod InvariantHolds
 mod RowsOfClients
 mod LawfulReports
 mod GrantedSteps

@@ -12,14 +12,11 @@ use Rattle.col_core.specs.declared.Event.{Event}
 use Rattle.col_core.specs.declared.Event.TheVariants as events
 use Rattle.col_core.specs.declared.Entry.{Entry}
 use Rattle.col_core.specs.History.{entries, entry_key, line}
-use Rattle.col_core.proofs.Basics.{choice, by_test, apart, if_false, same_id-true, same_id-is}
-use Rattle.col_core.proofs.KeyOrder.{key-total}
-use Rattle.col_core.proofs.Members.{In, in_line, in_filter-back, no_standing}
-use Rattle.col_core.proofs.Pasts.{Status, Absent, Alone, Waits, Settled, status, after_event, standing_of, IsLawfulPast, IsLawfulNext}
+use Rattle.col_core.proofs.CallerLemmas.{choice, by_test, apart, if_false, same_id-true, same_id-is, key-total, In}
+use Rattle.col_core.proofs.CallerLemmas.{in_line, in_filter-back, no_standing, Status, Absent, Alone, Waits, Settled}
+use Rattle.col_core.proofs.CallerLemmas.{status, after_event, standing_of, IsLawfulPast, IsLawfulNext}
 use Rattle.world_laws.specs.Worlds.{World}
-use Rattle.world_laws.proofs.Held.{status_in, Held}
-use Rattle.world_laws.proofs.Histories.{lawful_past_in}
-use Rattle.world_laws.proofs.Agreement.{entry_shown}
+use Rattle.world_laws.proofs.CallerLemmas.{status_in, Held, lawful_past_in, entry_shown}
 use Rattle.script_meaning.specs.States.{position_of}
 use Rattle.script_meaning.proofs.Rows.{in_past, standing_as}
 use Rattle.script_meaning.proofs.Additions.{Adds}

@@ -4,8 +4,7 @@ use Rattle.std.specs.Prelude.{◌==◌, map}
 use Rattle.std.specs.List.{filter, list_all, range_with_len}
 use Rattle.std.proofs.lemmas.Bool.{cases_lt}
 use Rattle.std.proofs.lemmas.List.Elements.{filter-append}
-use Rattle.col_core.proofs.Basics.{both}
-use Rattle.col_core.proofs.Members.{In}
+use Rattle.col_core.proofs.CallerLemmas.{both, In}
 use Rattle.script_text.specs.declared.script.Command.{Command}
 
 pub in_range : (a k n : ℕ) → In n (range_with_len a k) → (a ≤ n) × (n < a + k)

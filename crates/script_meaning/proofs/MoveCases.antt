@@ -2,7 +2,7 @@
 use Rattle.std.proofs.Common.{◌≡◌, ℕ, [], length, true, refl}
 use Rattle.std.specs.Prelude.{◌==◌, nat_lt, if◌then◌else◌}
 use Rattle.log_node.specs.declared.node.At.TheVariants.{Event}
-use Rattle.col_core.proofs.Basics.{if_true}
+use Rattle.col_core.proofs.CallerLemmas.{if_true}
 use Rattle.world_laws.specs.declared.steps.Step.TheVariants.{Play, Trim}
 use Rattle.world_laws.specs.Worlds.{World, home_of, home_history, after, base_after, played_cut, may_play}
 use Rattle.script_text.specs.declared.script.Command.{Command}

@@ -8,13 +8,11 @@ use Rattle.col_core.specs.declared.Entry.{Entry}
 use Rattle.col_core.specs.History.{line}
 use Rattle.col_core.specs.Log.{IsLater, is_own, places_from, places_of}
 use Rattle.col_core.specs.Keeping.{Kept, updated_at}
-use Rattle.col_core.proofs.Basics.{if_true, apart}
-use Rattle.col_core.proofs.Pasts.{Status, after_event}
+use Rattle.col_core.proofs.CallerLemmas.{if_true, apart, Status, after_event}
 use Rattle.world_laws.specs.Worlds.{World, ClientState, home_of, is_begun, with_last, with_client}
 use Rattle.world_laws.specs.Laws.{log_of}
-use Rattle.world_laws.proofs.Basics.{at_updated, at_updated_at, updated_at-here, updated_at-not}
-use Rattle.world_laws.proofs.Keeps.{at_last}
-use Rattle.lawful_run.proofs.Prefixes.{prefix_length}
+use Rattle.world_laws.proofs.CallerLemmas.{at_updated, at_updated_at, updated_at-here, updated_at-not, at_last}
+use Rattle.lawful_run.proofs.CallerLemmas.{prefix_length}
 use Rattle.script_meaning.proofs.Clearing.{Finished}
 use Rattle.script_meaning.proofs.Kept.{IsKeptBy}
 use Rattle.script_meaning.proofs.Additions.{places_more}

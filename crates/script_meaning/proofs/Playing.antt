@@ -12,12 +12,8 @@ use Rattle.log_node.specs.Vectors.{at, all_regions}
 use Rattle.skeen_core.specs.Outcomes.{greatest}
 use Rattle.col_core.specs.Cuts.{Chains, Reachable}
 use Rattle.col_core.specs.PlayOrder.{Place, same_place, is_between, Stands, IsPlayOrder, nodes_between, greatest_between}
-use Rattle.col_core.proofs.Basics.{by_test, both}
-use Rattle.col_core.proofs.CutLaws.{reached_within}
-use Rattle.col_core.proofs.Members.{In}
-use Rattle.col_core.proofs.Orders.{same_place-is, same_place-itself}
-use Rattle.world_laws.proofs.Basics.{in_left, in_right}
-use Rattle.world_laws.proofs.Clients.{in_flat_map}
+use Rattle.col_core.proofs.CallerLemmas.{by_test, both, reached_within, In, same_place-is, same_place-itself}
+use Rattle.world_laws.proofs.CallerLemmas.{in_left, in_right, in_flat_map}
 use Rattle.lawful_run.specs.Reads.{greatest_stamp}
 use Rattle.script_meaning.proofs.Lists.{in_map_back}
 

@@ -3,8 +3,8 @@ use Rattle.std.proofs.Common.{◌≡◌, ℕ, suc, ◌+◌, ◌<◌, ◌≤◌, 
 use Rattle.std.specs.Prelude.{max}
 use Rattle.std.specs.List.{All}
 use Rattle.col_core.specs.Keeping.{Kept, seen_after, seen_past, kept_after_point, with_made}
-use Rattle.col_core.proofs.Members.{In}
-use Rattle.world_laws.proofs.Basics.{at_updated, at_updated_at}
+use Rattle.col_core.proofs.CallerLemmas.{In}
+use Rattle.world_laws.proofs.CallerLemmas.{at_updated, at_updated_at}
 use Rattle.report_text.specs.declared.report.PointPiece.{PointPiece}
 use Rattle.lawful_run.specs.Appends.{kept_after_points}
 

@@ -15,20 +15,17 @@ use Rattle.col_core.specs.Cuts.{chain}
 use Rattle.col_core.specs.Computed.{dated}
 use Rattle.col_core.specs.Log.{IsLater, places_of, first}
 use Rattle.col_core.specs.Keeping.{Kept, updated_at, kept_after_event, kept_after_look}
-use Rattle.col_core.proofs.Basics.{by_test, both, apart, if_true, if_false}
+use Rattle.col_core.proofs.CallerLemmas.{by_test, both, apart, if_true, if_false}
 use Rattle.world_laws.specs.declared.steps.Step.TheVariants.{Give, Carry}
 use Rattle.world_laws.specs.Worlds.{World, home_of, after, after_give, after_carry, carried_entry, heads_lacking, held_of, are_two_columns, is_column, may_give, may_carry, base_after, chains_after}
 use Rattle.world_laws.specs.Laws.{IsReached, log_of}
-use Rattle.world_laws.proofs.Basics.{at_updated_at, slice_last}
-use Rattle.world_laws.proofs.CallerLemmas.{after_reached}
-use Rattle.world_laws.proofs.Copies.{copy_within}
-use Rattle.world_laws.proofs.Histories.{entries_dated}
+use Rattle.world_laws.proofs.CallerLemmas.{at_updated_at, slice_last, after_reached, copy_within, entries_dated}
 use Rattle.script_text.specs.declared.script.Object.{Object}
 use Rattle.script_text.specs.declared.script.What.TheVariants as whats
 use Rattle.report_text.specs.declared.report.Answer.TheVariants as answers
 use Rattle.lawful_run.specs.Moves.{GivesAt, GivesTooLow, Pulls, with_places, kept_after_pull}
 use Rattle.lawful_run.specs.Refusals.{gave}
-use Rattle.lawful_run.proofs.Prefixes.{prefix_take, prefix_length}
+use Rattle.lawful_run.proofs.CallerLemmas.{prefix_take, prefix_length}
 use Rattle.script_meaning.specs.Moves.{lacking, with_give, with_carry, next_at}
 use Rattle.script_meaning.proofs.Carried.{first_chain, stretch_length, carried_chain}
 use Rattle.script_meaning.proofs.Clearing.{Finished}

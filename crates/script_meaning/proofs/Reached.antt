@@ -2,13 +2,8 @@
 use Rattle.std.proofs.Common.{subst}
 use Rattle.world_laws.specs.Worlds.{World}
 use Rattle.world_laws.specs.Laws.{IsReached, StaysWithinCuts, TrimmedIsHeld}
-use Rattle.world_laws.proofs.Bases.{trimmed_is_held}
-use Rattle.world_laws.proofs.Held.{Held}
-use Rattle.world_laws.proofs.Listed.{Listed, listed}
-use Rattle.world_laws.proofs.Runs.{held}
-use Rattle.world_laws.proofs.Telling.{told}
-use Rattle.world_laws.proofs.Told.{Told}
-use Rattle.world_laws.proofs.Wanted.{wanted, stays_within_cuts}
+use Rattle.world_laws.proofs.CallerLemmas.{trimmed_is_held, Held, Listed, listed, held, told, Told, wanted}
+use Rattle.world_laws.proofs.CallerLemmas.{stays_within_cuts}
 
 pub held_of : (w : World) → IsReached w → Held w
 held_of w r = subst Held r.is (held r.shape r.steps)

@@ -8,7 +8,7 @@ use Rattle.log_node.specs.Sets.{members}
 use Rattle.col_core.specs.declared.Entry.{Entry}
 use Rattle.col_core.specs.History.{IsAtEnd}
 use Rattle.col_core.specs.Keeping.{Kept}
-use Rattle.col_core.proofs.Basics.{by_test, apart, not_true}
+use Rattle.col_core.proofs.CallerLemmas.{by_test, apart, not_true}
 use Rattle.world_laws.specs.Worlds.{World, home_of, is_at_end, is_client, is_column, may_single}
 use Rattle.world_laws.specs.Laws.{IsReached, log_of}
 use Rattle.script_text.specs.declared.script.Object.{Object}

@@ -13,24 +13,17 @@ use Rattle.skeen_core.specs.Standings.{Standing}
 use Rattle.col_core.specs.declared.Event.TheVariants as events
 use Rattle.col_core.specs.declared.Entry.{Entry}
 use Rattle.col_core.specs.History.{entries, entry_key}
-use Rattle.col_core.proofs.Basics.{choice, by_test, both, if_false}
-use Rattle.col_core.proofs.LawfulPasts.{entries-of}
-use Rattle.col_core.proofs.Members.{In, stands}
-use Rattle.col_core.proofs.Pasts.{Status, Alone, Waits, Settled, after_event, standing_of}
+use Rattle.col_core.proofs.CallerLemmas.{choice, by_test, both, if_false, entries-of, In, stands, Status, Alone}
+use Rattle.col_core.proofs.CallerLemmas.{Waits, Settled, after_event, standing_of}
 use Rattle.world_laws.specs.declared.steps.Step.{Step}
 use Rattle.world_laws.specs.declared.steps.Step.TheVariants as steps
 use Rattle.world_laws.specs.Worlds.{World, RowState, home_of, after, run_steps, is_begun, row_of, next_id, next_row, may_begin, may_mark, may_propose, may_fence, may_decide, may_settle, may_single, may_raise, may_give, may_carry, is_column, may_play, may_see, with_last, with_mark, with_row, after_begin, after_propose, proposed_entry, proposed_stamp, after_decide, after_settle, settled_entry, after_single, single_entry, after_raise, after_give, after_carry, carried_entry, after_trim, after_play, after_seen}
 use Rattle.world_laws.specs.Completing.{colours_of}
 use Rattle.world_laws.specs.Laws.{StandsAsDecided}
-use Rattle.world_laws.proofs.Basics.{updated_at-not, in_contains, contains_in, not_same}
-use Rattle.world_laws.proofs.Held.{status_in, Agrees, column_mark, Unborn, OfRow, Held}
-use Rattle.world_laws.proofs.Marks.{is_waiting, waiting_is, colour_in}
-use Rattle.world_laws.proofs.Histories.{lawful_past_in}
-use Rattle.world_laws.proofs.Keeps.{status_stays, row_agrees, next_unborn}
-use Rattle.world_laws.proofs.Agreement.{entry_shown, colour_of_mark}
-use Rattle.world_laws.proofs.RegionRows.{same_number}
-use Rattle.world_laws.proofs.Growing.{after_grows}
-use Rattle.world_laws.proofs.Runs.{after_held}
+use Rattle.world_laws.proofs.CallerLemmas.{updated_at-not, in_contains, contains_in, not_same, status_in, Agrees}
+use Rattle.world_laws.proofs.CallerLemmas.{column_mark, Unborn, OfRow, Held, is_waiting, waiting_is, colour_in}
+use Rattle.world_laws.proofs.CallerLemmas.{lawful_past_in, status_stays, row_agrees, next_unborn, entry_shown}
+use Rattle.world_laws.proofs.CallerLemmas.{colour_of_mark, same_number, after_grows, after_held}
 
 abbrev pub node_id : World → Row → Id
 node_id w row = (row_of w row).node.id

@@ -7,13 +7,11 @@ use Rattle.std.proofs.lemmas.Bool.{eqb-true}
 use Rattle.std.proofs.lemmas.List.{map-append}
 use Rattle.std.proofs.lemmas.List.FromFn.{length-map-range_with_len}
 use Rattle.col_core.specs.Rows.{BegunRow, is_of}
-use Rattle.col_core.proofs.Basics.{choice, apart, if_true}
-use Rattle.col_core.proofs.Members.{In}
+use Rattle.col_core.proofs.CallerLemmas.{choice, apart, if_true, In}
 use Rattle.world_laws.specs.Worlds.{World, home_of}
 use Rattle.world_laws.specs.Laws.{rows_of_client, rows_of_region}
-use Rattle.world_laws.proofs.Basics.{in_append}
-use Rattle.world_laws.proofs.Clients.{in_flat_map}
-use Rattle.world_laws.proofs.RegionRows.{in_map, row_in, home_rows, of_home, filter_step, none_later}
+use Rattle.world_laws.proofs.CallerLemmas.{in_append, in_flat_map, in_map, row_in, home_rows, of_home, filter_step}
+use Rattle.world_laws.proofs.CallerLemmas.{none_later}
 use Rattle.script_meaning.proofs.Lists.{in_range}
 
 -- a list that never falls

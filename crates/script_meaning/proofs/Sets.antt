@@ -8,8 +8,7 @@ use Rattle.std.proofs.lemmas.Bool.{eqb-true}
 use Rattle.std.proofs.lemmas.Nat.Bits.{same_from_bits_below, bit_at-lt, bit_at-pow_same, bit_at-pow_other}
 use Rattle.log_node.specs.declared.ids.Colours.{Colours}
 use Rattle.log_node.specs.Sets.{has, members}
-use Rattle.col_core.proofs.Basics.{by_test, apart}
-use Rattle.col_core.proofs.Members.{In, in_filter, in_filter-back}
+use Rattle.col_core.proofs.CallerLemmas.{by_test, apart, In, in_filter, in_filter-back}
 use Rattle.script_meaning.proofs.Lists.{in_range, range_in}
 
 pub one_is_power : (set : Colours) (c : ℕ) → members set ≡ c ∷ [] → set.0 < 2 ^ 64 → set ≡ record { 0 = 2 ^ c }

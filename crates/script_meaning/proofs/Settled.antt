@@ -16,15 +16,10 @@ use Rattle.skeen_core.specs.Standings.{Standing, is_open_id, open_entry}
 use Rattle.col_core.specs.declared.Entry.{Entry}
 use Rattle.col_core.specs.History.{entries, enters, has_entered}
 use Rattle.col_core.specs.Log.{HasMark}
-use Rattle.col_core.proofs.Basics.{by_test, apart, if_false, not_true, same_id-true, same_id-is}
-use Rattle.col_core.proofs.LawfulPasts.{open_waits}
-use Rattle.col_core.proofs.Members.{In}
+use Rattle.col_core.proofs.CallerLemmas.{by_test, apart, if_false, not_true, same_id-true, same_id-is, open_waits, In}
 use Rattle.world_laws.specs.Worlds.{World, home_of, is_begun, row_of}
 use Rattle.world_laws.specs.Laws.{IsReached, log_of}
-use Rattle.world_laws.proofs.Basics.{slice_in}
-use Rattle.world_laws.proofs.Held.{status_in, Held}
-use Rattle.world_laws.proofs.Agreement.{entry_shown}
-use Rattle.world_laws.proofs.Marks.{is_waiting}
+use Rattle.world_laws.proofs.CallerLemmas.{slice_in, status_in, Held, entry_shown, is_waiting}
 use Rattle.lawful_run.specs.Callers.{Caller}
 use Rattle.lawful_run.specs.Appends.{IsSettledIn}
 use Rattle.script_meaning.proofs.Reached.{held_of, told_of}

@@ -10,17 +10,13 @@ use Rattle.skeen_core.specs.Outcomes.{is_missing}
 use Rattle.skeen_core.specs.Queues.{is_decided}
 use Rattle.col_core.specs.declared.Event.{Event}
 use Rattle.col_core.specs.declared.Event.TheVariants as events
-use Rattle.col_core.proofs.Basics.{choice, both, apart, not_true}
+use Rattle.col_core.proofs.CallerLemmas.{choice, both, apart, not_true}
 use Rattle.world_laws.specs.declared.steps.Step.{Step}
 use Rattle.world_laws.specs.declared.steps.Step.TheVariants as steps
 use Rattle.world_laws.specs.Worlds.{World, RowState, home_of, after, run_steps, is_begun, row_of, row_history, marks_of, is_member, may_mark, may_propose, may_fence, may_decide, may_settle, with_mark, after_propose, after_decide, after_settle}
 use Rattle.world_laws.specs.Completing.{colours_of}
-use Rattle.world_laws.proofs.Held.{Held}
-use Rattle.world_laws.proofs.Marks.{is_waiting, any_mark, open_where_missing, open_is}
-use Rattle.world_laws.proofs.Histories.{lawful_past_in, open_is_waiting}
-use Rattle.world_laws.proofs.Completing.{kept_marks}
-use Rattle.world_laws.proofs.Growing.{run_grows}
-use Rattle.world_laws.proofs.Runs.{after_held}
+use Rattle.world_laws.proofs.CallerLemmas.{Held, is_waiting, any_mark, open_where_missing, open_is, lawful_past_in}
+use Rattle.world_laws.proofs.CallerLemmas.{open_is_waiting, kept_marks, run_grows, after_held}
 use Rattle.lawful_run.specs.Appends.{IsStepOf}
 use Rattle.lawful_run.specs.Lawful.{IsHelp}
 use Rattle.script_meaning.proofs.Rows.{node_id, IsDone, IsStill, still, row_put, propose_still, settle_still, step_still, still_begun, still_trans, done_still}

@@ -16,19 +16,15 @@ use Rattle.col_core.specs.declared.Event.{Event}
 use Rattle.col_core.specs.declared.Entry.{Entry}
 use Rattle.col_core.specs.Log.{HasMark}
 use Rattle.col_core.specs.Keeping.{Kept, with_made, with_row}
-use Rattle.col_core.proofs.Basics.{apart}
-use Rattle.col_core.proofs.Members.{In}
+use Rattle.col_core.proofs.CallerLemmas.{apart, In}
 use Rattle.world_laws.specs.declared.steps.Step.{Step}
 use Rattle.world_laws.specs.declared.steps.Step.TheVariants as steps
 use Rattle.world_laws.specs.Worlds.{World, RowState, home_of, after, run_steps, is_begun, row_of, row_history, marks_of, next_id, next_row, may_begin, begun_node, after_begin}
 use Rattle.world_laws.specs.Completing.{mark_steps, colours_of, settle_steps, complete_steps}
 use Rattle.world_laws.specs.Laws.{IsReached, log_of, begun_row}
-use Rattle.world_laws.proofs.Basics.{in_slice, slice_in, contains_in}
-use Rattle.world_laws.proofs.Held.{status_in, Held}
-use Rattle.world_laws.proofs.Marks.{has_colour, is_waiting, colour_in, in_colours}
-use Rattle.world_laws.proofs.Completing.{none_missing, Decides, decide_decides, settle_all}
-use Rattle.world_laws.proofs.Growing.{run_grows}
-use Rattle.world_laws.proofs.Runs.{run_held, after_held, run_steps-append}
+use Rattle.world_laws.proofs.CallerLemmas.{in_slice, slice_in, contains_in, status_in, Held, has_colour, is_waiting}
+use Rattle.world_laws.proofs.CallerLemmas.{colour_in, in_colours, none_missing, Decides, decide_decides, settle_all}
+use Rattle.world_laws.proofs.CallerLemmas.{run_grows, run_held, after_held, run_steps-append}
 use Rattle.script_text.specs.declared.script.Object.{Object}
 use Rattle.script_text.specs.declared.script.What.TheVariants as whats
 use Rattle.report_text.specs.declared.report.Answer.TheVariants as answers
@@ -36,7 +32,7 @@ use Rattle.lawful_run.specs.Callers.{Caller, node_of}
 use Rattle.lawful_run.specs.Appends.{IsSettledIn}
 use Rattle.lawful_run.specs.Stops.{IsMarked, IsDecided, IsStepWithin, StopsAfter, Stops, stopped_after}
 use Rattle.lawful_run.specs.Explains.{Explains}
-use Rattle.lawful_run.proofs.Prefixes.{get_within}
+use Rattle.lawful_run.proofs.CallerLemmas.{get_within}
 use Rattle.script_meaning.specs.States.{Grants}
 use Rattle.script_meaning.proofs.Rows.{node_id}
 use Rattle.script_meaning.proofs.Completions.{IsOn, complete_steps_on, settle_at}

@@ -19,14 +19,11 @@ use Rattle.col_core.specs.Log.{Log, first}
 use Rattle.col_core.specs.Keeping.{Kept, updated, kept_after_sync}
 use Rattle.col_core.specs.Rows.{BegunRow}
 use Rattle.col_core.specs.PlayOrder.{Place, Stands, IsPlayOrder}
-use Rattle.col_core.proofs.Basics.{both, if_true}
-use Rattle.col_core.proofs.CutLaws.{cut-is_greatest}
-use Rattle.col_core.proofs.Members.{In}
+use Rattle.col_core.proofs.CallerLemmas.{both, if_true, cut-is_greatest, In}
 use Rattle.world_laws.specs.declared.steps.Step.TheVariants.{Play}
 use Rattle.world_laws.specs.Worlds.{World, ClientState, home_of, after, base_after, may_play, played_cut, played_stamp, after_play, with_client, no_row, is_client, is_column}
 use Rattle.world_laws.specs.Laws.{IsReached, begun_row, log_of, StaysWithinCuts}
-use Rattle.world_laws.proofs.Basics.{at_updated, updated-here, at_updated_at, slice_in}
-use Rattle.world_laws.proofs.Growing.{played_client}
+use Rattle.world_laws.proofs.CallerLemmas.{at_updated, updated-here, at_updated_at, slice_in, played_client}
 use Rattle.playback.specs.Orders.{play_order}
 use Rattle.script_text.specs.declared.script.Object.{Object}
 use Rattle.script_text.specs.declared.script.What.TheVariants as whats

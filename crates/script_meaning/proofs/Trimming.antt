@@ -10,11 +10,11 @@ use Rattle.col_core.specs.Cuts.{base}
 use Rattle.col_core.specs.Computed.{dated}
 use Rattle.col_core.specs.Log.{IsLater}
 use Rattle.col_core.specs.Keeping.{Kept, updated_at, kept_after_event}
-use Rattle.col_core.proofs.Basics.{if_true}
+use Rattle.col_core.proofs.CallerLemmas.{if_true}
 use Rattle.world_laws.specs.declared.steps.Step.TheVariants.{Trim}
 use Rattle.world_laws.specs.Worlds.{World, home_of, home_history, after, after_trim, base_after, is_column}
 use Rattle.world_laws.specs.Laws.{IsReached, log_of}
-use Rattle.world_laws.proofs.Basics.{slice_last}
+use Rattle.world_laws.proofs.CallerLemmas.{slice_last}
 use Rattle.script_text.specs.declared.script.Object.{Object}
 use Rattle.script_text.specs.declared.script.What.TheVariants as whats
 use Rattle.report_text.specs.declared.report.Answer.TheVariants as answers

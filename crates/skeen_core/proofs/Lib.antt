@@ -1,12 +1,13 @@
-pub mod Lists
-pub mod Entries
-pub mod Delivery
-pub mod Stored
-pub mod Delivering
-pub mod Placing
-pub mod Adding
-pub mod Settling
-pub mod Settled
-pub mod RowMarks
-pub mod Marking
-pub mod Clients
+mod Lists
+mod Entries
+mod Delivery
+mod Stored
+mod Delivering
+mod Placing
+mod Adding
+mod Settling
+mod Settled
+mod RowMarks
+mod Marking
+mod Clients
+pub mod CallerLemmas

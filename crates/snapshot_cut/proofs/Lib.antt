@@ -1,1 +1,1 @@
-pub mod Adding
+mod Adding

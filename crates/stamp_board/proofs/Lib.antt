@@ -1,16 +1,16 @@
 pub mod CallerLemmas
-pub mod Colours
-pub mod Places
-pub mod Knowing
-pub mod Outcomes
-pub mod Keeps
-pub mod Fitting
-pub mod Marking
-pub mod Deciding
-pub mod Possible
-pub mod Telling
-pub mod Opening
-pub mod Gathering
-pub mod Ending
-pub mod Pairs
-pub mod Zeros
+mod Colours
+mod Places
+mod Knowing
+mod Outcomes
+mod Keeps
+mod Fitting
+mod Marking
+mod Deciding
+mod Possible
+mod Telling
+mod Opening
+mod Gathering
+mod Ending
+mod Pairs
+mod Zeros

@@ -2,8 +2,7 @@
 use Rattle.std.proofs.Common.{◌≡◌, ℕ, ◌+◌, List, [], ◌∷◌, ◌++◌, length, refl, subst, sym, ap, arith}
 use Rattle.std.proofs.Common.{length-append}
 use Rattle.turn_cell.specs.Cells.{Pass, IsNumbered, IsNewPass, AreNewPasses}
-use Rattle.turn_cell.proofs.CallerLemmas.{new_is_numbered}
-use Rattle.turn_cell.proofs.Lists.{left_at}
+use Rattle.turn_cell.proofs.CallerLemmas.{new_is_numbered, left_at}
 use Rattle.turn_bench.specs.declared.tally.Tally.{Tally}
 use Rattle.turn_bench.specs.declared.writers.Writer.{Writer}
 use Rattle.turn_bench.specs.Writers.{no_tag, TallyCell, IsWriter}

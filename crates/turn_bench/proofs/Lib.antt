@@ -1,1 +1,1 @@
-pub mod Hiring
+mod Hiring

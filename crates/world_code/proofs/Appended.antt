@@ -16,8 +16,8 @@ use Rattle.skeen_core.specs.declared.waiting.Waiting.{Waiting}
 use Rattle.skeen_core.specs.Standings.{is_open_id}
 use Rattle.skeen_core.specs.Queues.{standing_of, entry_under, final_entry, with_stored, stored_without, with_found}
 use Rattle.skeen_core.specs.Queues.{settled_stored}
-use Rattle.skeen_core.proofs.Lists.{each-weaker, each-append, each-filter, each-drop}
-use Rattle.col_core.proofs.ChainGrowth.{slice_longer}
+use Rattle.skeen_core.proofs.CallerLemmas.{each-weaker, each-append, each-filter, each-drop}
+use Rattle.col_core.proofs.CallerLemmas.{slice_longer}
 use Rattle.column.specs.Entering.{EnteredNode}
 use Rattle.column.specs.Columns.{ColumnState, copy_of}
 use Rattle.log_node.specs.Seen.{PlacedNode}
@@ -25,7 +25,7 @@ use Rattle.log_node.specs.declared.ids.Counts.{Counts}
 use Rattle.log_node.specs.Vectors.{at, all_regions}
 use Rattle.column.specs.Columns as columns
 use Rattle.world_laws.specs.Worlds.{row_of}
-use Rattle.world_laws.proofs.Listed.{Listed, listed}
+use Rattle.world_laws.proofs.CallerLemmas.{Listed, listed}
 use Rattle.world_code.specs.Clients.{ClientView, fresh_client}
 use Rattle.world_code.specs.WorldView.{WorldView, world_of, IsAppended, HasAppended, IsWhole}
 

@@ -20,7 +20,7 @@ use Rattle.skeen_core.specs.Boards.{Board, rows_of, mark_in, last_in, with_begun
 use Rattle.world_laws.specs.declared.steps.Step.TheVariants as steps
 use Rattle.world_laws.specs.Worlds.{ClientState, RowState, no_row, home_of, is_client, is_column, is_member}
 use Rattle.world_laws.specs.Worlds.{may_begin, after_begin}
-use Rattle.world_laws.proofs.Basics.{at_updated_at, not_place, slice_last}
+use Rattle.world_laws.proofs.CallerLemmas.{at_updated_at, not_place, slice_last}
 use Rattle.col_core.specs.Keeping.{updated, updated_at}
 use Rattle.world_code.specs.Clients.{ClientView, fresh_client, with_next_row, next_begun}
 use Rattle.world_code.specs.WorldView.{WorldView, client_at, client_of, row_in, world_of, AreRows, IsRowNode, IsWhole}

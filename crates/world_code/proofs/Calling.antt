@@ -9,11 +9,7 @@ use Rattle.column.specs.Columns.{ColumnState, with_room, stamp_for}
 use Rattle.column.specs.Columns as columns
 use Rattle.world_laws.specs.declared.steps.Reply.TheVariants as replies
 use Rattle.world_laws.specs.Worlds.{home_of, next_id, may_single, after_single, event_reply, single_stamp}
-use Rattle.world_laws.proofs.Held.{Held}
-use Rattle.world_laws.proofs.Histories.{not_entered}
-use Rattle.world_laws.proofs.Keeps.{next_absent}
-use Rattle.world_laws.proofs.Runs.{held}
-use Rattle.world_laws.proofs.CallerLemmas.{of_reached}
+use Rattle.world_laws.proofs.CallerLemmas.{Held, not_entered, next_absent, held, of_reached}
 use Rattle.world_code.specs.Clients.{ClientView, fresh_client, with_spare, with_next_node, next_single}
 use Rattle.world_code.specs.WorldView.{WorldView, no_column, column_at, client_at, world_of, with_client_room, IsWhole}
 use Rattle.world_code.proofs.Changing.{client_shown, whole_same}

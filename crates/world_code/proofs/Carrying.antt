@@ -13,7 +13,7 @@ use Rattle.col_core.specs.Computed.{dated}
 use Rattle.column.specs.Columns.{ColumnState, AreItems, base_of}
 use Rattle.world_laws.specs.Worlds.{are_two_columns, held_of, may_carry}
 use Rattle.world_laws.specs.Worlds.{base_after}
-use Rattle.world_laws.proofs.OfColumns.{AreTwo, are_two, MayCarry, may_carry_is}
+use Rattle.world_laws.proofs.CallerLemmas.{AreTwo, are_two, MayCarry, may_carry_is}
 use Rattle.world_code.specs.WorldView.{WorldView, column_at, world_of, IsWhole}
 use Rattle.world_code.proofs.Moving.{places}
 

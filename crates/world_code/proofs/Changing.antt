@@ -12,14 +12,13 @@ use Rattle.log_node.specs.declared.node.Node.{Node}
 use Rattle.log_node.specs.declared.node.Shape.{Shape}
 use Rattle.skeen_core.specs.Boards.{Board, rows_of}
 use Rattle.col_core.specs.declared.Entry.{Entry}
-use Rattle.col_core.proofs.Basics.{apart}
+use Rattle.col_core.proofs.CallerLemmas.{apart}
 use Rattle.col_core.specs.Keeping.{updated, updated_at}
 use Rattle.column.specs.Columns.{ColumnState}
 use Rattle.world_laws.specs.declared.steps.Step.{Step}
 use Rattle.world_laws.specs.Worlds.{World, ClientState, RowState, after, with_last, with_client}
 use Rattle.world_laws.specs.Laws.{IsReached}
-use Rattle.world_laws.proofs.Basics.{at_updated, at_updated_at, not_place}
-use Rattle.world_laws.proofs.CallerLemmas.{after_reached}
+use Rattle.world_laws.proofs.CallerLemmas.{at_updated, at_updated_at, not_place, after_reached}
 use Rattle.world_code.specs.Clients.{ClientView, fresh_client}
 use Rattle.world_code.specs.WorldView.{WorldView, no_column, column_at, client_at, client_of, row_in, world_of, IsPlaced}
 use Rattle.world_code.specs.WorldView.{AreRows, IsRowNode, HasAppended, IsWhole}

@@ -6,10 +6,10 @@ use Rattle.std.specs.List.{filter, range_with_len}
 use Rattle.log_node.specs.declared.ids.Row.{Row}
 use Rattle.log_node.specs.declared.node.Node.{Node}
 use Rattle.log_node.specs.Sets.{has, members}
-use Rattle.log_node.proofs.SetLemmas.{members-low}
+use Rattle.log_node.proofs.CallerLemmas.{members-low}
 use Rattle.skeen_core.specs.declared.marks.Outcome.{Outcome}
 use Rattle.skeen_core.specs.declared.marks.Outcome.TheVariants.{Open, Gone, Final}
-use Rattle.col_core.proofs.Basics.{choice}
+use Rattle.col_core.proofs.CallerLemmas.{choice}
 use Rattle.world_laws.specs.declared.steps.Step.{Step}
 use Rattle.world_laws.specs.declared.steps.Step.TheVariants.{Decide}
 use Rattle.world_laws.specs.Worlds.{World, row_of, is_begun, after, reply, run_steps}

@@ -10,14 +10,14 @@ use Rattle.skeen_core.specs.Outcomes.{outcome_of}
 use Rattle.skeen_core.specs.Queues.{is_decided}
 use Rattle.skeen_core.specs.Boards.{begun_at, outcome_in, with_changed, decided, IsRow}
 use Rattle.col_core.specs.Keeping.{updated_at}
-use Rattle.col_core.proofs.Basics.{choice}
+use Rattle.col_core.proofs.CallerLemmas.{choice}
 use Rattle.world_laws.specs.declared.steps.Step.TheVariants as steps
 use Rattle.world_laws.specs.declared.steps.Reply.{Reply}
 use Rattle.world_laws.specs.declared.steps.Reply.TheVariants as replies
 use Rattle.world_laws.specs.Worlds.{World, RowState, row_of, marks_of, is_begun, may_decide, after_decide, after, reply}
 use Rattle.world_laws.specs.Worlds.{with_row}
 use Rattle.world_laws.specs.Laws.{IsBounded}
-use Rattle.world_laws.proofs.Basics.{at_updated_at}
+use Rattle.world_laws.proofs.CallerLemmas.{at_updated_at}
 use Rattle.world_code.specs.WorldView.{WorldView, client_at, world_of, IsWhole}
 use Rattle.world_code.specs.Replies.{decided_reply, kept_outcome}
 use Rattle.world_code.proofs.Changing.{placed_of, whole_after, reached_step}

@@ -1,27 +1,28 @@
-pub mod Worlds
-pub mod Appended
-pub mod Changing
-pub mod Placing
-pub mod Opening
-pub mod Seeing
-pub mod Singles
-pub mod Calling
-pub mod Playing
-pub mod Plays
-pub mod Sets
-pub mod Begins
-pub mod Marking
-pub mod Proposing
-pub mod Settling
-pub mod Ranges
-pub mod Deciding
-pub mod MayMark
-pub mod Taking
-pub mod Marked
-pub mod Completion
-pub mod Looking
-pub mod Moving
-pub mod Carrying
-pub mod Views
-pub mod ProposeCalls
-pub mod SettleCalls
+mod Worlds
+mod Appended
+mod Changing
+mod Placing
+mod Opening
+mod Seeing
+mod Singles
+mod Calling
+mod Playing
+mod Plays
+mod Sets
+mod Begins
+mod Marking
+mod Proposing
+mod Settling
+mod Ranges
+mod Deciding
+mod MayMark
+mod Taking
+mod Marked
+mod Completion
+mod Looking
+mod Moving
+mod Carrying
+mod Views
+mod ProposeCalls
+mod SettleCalls
+pub mod CallerLemmas

@@ -19,14 +19,11 @@ use Rattle.skeen_core.specs.declared.marks.Outcome.{Outcome}
 use Rattle.skeen_core.specs.declared.waiting.Waiting.{Waiting}
 use Rattle.skeen_core.specs.Queues.{waiting_entries, kept_count}
 use Rattle.skeen_core.specs.Standings.{Standing}
-use Rattle.skeen_core.proofs.Lists.{each-drop}
+use Rattle.skeen_core.proofs.CallerLemmas.{each-drop}
 use Rattle.col_core.specs.History.{entries}
 use Rattle.col_core.specs.Computed.{cut, dated}
 use Rattle.col_core.specs.Cuts.{base, chain}
-use Rattle.col_core.proofs.Basics.{choice, by_test}
-use Rattle.col_core.proofs.LawfulPasts.{open_waits}
-use Rattle.col_core.proofs.Members.{In, in_filter}
-use Rattle.col_core.proofs.Pasts.{Status, Absent, Alone, Waits}
+use Rattle.col_core.proofs.CallerLemmas.{choice, by_test, open_waits, In, in_filter, Status, Absent, Alone, Waits}
 use Rattle.col_core.specs.declared.view.View.{View}
 use Rattle.column.specs.declared.views.Below.{Below}
 use Rattle.column.specs.Entering.{EnteredNode}
@@ -34,10 +31,8 @@ use Rattle.column.specs.Columns.{ColumnState, copy_of, AreItems, greater, is_ope
 use Rattle.column.specs.Columns.{IsBegunAt}
 use Rattle.column.specs.Views.{IsView, IsBelow}
 use Rattle.world_laws.specs.Worlds.{World, home_of, row_of, is_begun}
-use Rattle.world_laws.proofs.Held.{status_in, Agrees, column_mark, Kind, Unborn, OfSingle, OfRow, Fits, Held}
-use Rattle.world_laws.proofs.Agreement.{entry_shown}
-use Rattle.world_laws.proofs.Telling.{told}
-use Rattle.world_laws.proofs.Told.{Told}
+use Rattle.world_laws.proofs.CallerLemmas.{status_in, Agrees, column_mark, Kind, Unborn, OfSingle, OfRow, Fits, Held}
+use Rattle.world_laws.proofs.CallerLemmas.{entry_shown, told, Told}
 use Rattle.world_code.specs.Clients.{ClientView, fresh_client}
 use Rattle.world_code.specs.WorldView.{WorldView, world_of, column_at, client_at, IsAppended, IsPlaced, HasAppended, IsWhole}
 use Rattle.world_code.specs.Looks.{AreShown, IsLook, IsFirstBelow, open_below}

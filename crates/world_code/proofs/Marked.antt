@@ -10,16 +10,16 @@ use Rattle.std.proofs.lemmas.Bool.{or_right, and_parts, and_from, true≢false, 
 use Rattle.log_node.specs.declared.ids.Row.{Row}
 use Rattle.log_node.specs.declared.node.Node.{Node}
 use Rattle.log_node.specs.Sets.{has}
-use Rattle.log_node.proofs.SetLemmas.{members-low}
+use Rattle.log_node.proofs.CallerLemmas.{members-low}
 use Rattle.skeen_core.specs.Outcomes.{is_missing}
-use Rattle.col_core.proofs.Basics.{choice}
+use Rattle.col_core.proofs.CallerLemmas.{choice}
 use Rattle.world_laws.specs.declared.steps.Step.{Step}
 use Rattle.world_laws.specs.declared.steps.Step.TheVariants.{Propose, Fence}
 use Rattle.skeen_core.specs.declared.marks.Why.TheVariants.{Memory}
 use Rattle.world_laws.specs.declared.steps.Reply.{Reply}
 use Rattle.world_laws.specs.Worlds.{World, after, reply, run_steps, is_begun, row_of, is_member, is_row_at_end, may_mark}
 use Rattle.world_laws.specs.Completing.{mark_step, mark_steps, colours_of}
-use Rattle.world_laws.proofs.Growing.{run_grows}
+use Rattle.world_laws.proofs.CallerLemmas.{run_grows}
 use Rattle.world_code.specs.declared.completing.Taken.{Taken}
 use Rattle.world_code.specs.Completed.{done_count, AreTaken, IsMarkStep}
 use Rattle.world_code.proofs.Ranges.{range_with, range_without}

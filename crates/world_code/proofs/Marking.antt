@@ -21,7 +21,7 @@ use Rattle.skeen_core.specs.Boards.{with_changed, changed_at, changed_by, decide
 use Rattle.skeen_core.specs.Boards as boards
 use Rattle.col_core.specs.Keeping.{updated, updated_at}
 use Rattle.world_laws.specs.Worlds.{RowState, no_row, is_begun, row_of, marks_of, with_row}
-use Rattle.world_laws.proofs.Basics.{at_updated, at_updated_at, not_place}
+use Rattle.world_laws.proofs.CallerLemmas.{at_updated, at_updated_at, not_place}
 use Rattle.world_code.specs.WorldView.{WorldView, client_at, row_in, world_of, AreRows, IsWhole}
 use Rattle.world_code.proofs.Worlds.{worlds}
 use Rattle.world_code.proofs.Changing.{rows_by, AreClients, differs}

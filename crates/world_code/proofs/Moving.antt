@@ -21,8 +21,8 @@ use Rattle.world_laws.specs.declared.steps.Step.{Step}
 use Rattle.world_laws.specs.declared.steps.Step.TheVariants as steps
 use Rattle.world_laws.specs.Worlds.{is_column, held_of, may_give, may_carry, heads_lacking}
 use Rattle.world_laws.specs.Worlds.{carried_entry, chains_after, with_last, after, reply}
-use Rattle.world_laws.proofs.OfColumns.{AreTwo, MayGive, MayCarry, may_give_is, may_carry_is, held_within}
-use Rattle.world_laws.proofs.OfColumns.{lacking_length}
+use Rattle.world_laws.proofs.CallerLemmas.{AreTwo, MayGive, MayCarry, may_give_is, may_carry_is, held_within}
+use Rattle.world_laws.proofs.CallerLemmas.{lacking_length}
 use Rattle.world_code.specs.WorldView.{WorldView, no_column, column_at, world_of, IsPlaced, HasAppended, IsWhole}
 use Rattle.world_code.specs.Replies.{place_reply, event_at}
 use Rattle.world_code.proofs.Appended.{IsSent, appended_carried, appended_trimmed}

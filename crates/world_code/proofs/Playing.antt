@@ -14,10 +14,10 @@ use Rattle.col_core.specs.declared.Entry.{Entry}
 use Rattle.col_core.specs.History.{line}
 use Rattle.col_core.specs.Cuts.{Chains, needs_of}
 use Rattle.col_core.specs.PlayOrder.{greatest_between, nodes_between}
-use Rattle.col_core.proofs.CutLaws.{within-at}
+use Rattle.col_core.proofs.CallerLemmas.{within-at}
 use Rattle.column.specs.Columns.{ColumnState, history_of, chains_of, cut_of, base_of, copy_of}
 use Rattle.column.specs.Inside.{IsColumn}
-use Rattle.world_laws.proofs.Histories.{entries_dated}
+use Rattle.world_laws.proofs.CallerLemmas.{entries_dated}
 
 greatest-append : (xs ys : List ℕ) → greatest (xs ++ ys) ≡ max (greatest xs) (greatest ys)
 greatest-append [] ys = let n = greatest ys in let e : n ≡ max 0 n = omega arith in e

@@ -17,8 +17,8 @@ use Rattle.column.specs.Columns as columns
 use Rattle.world_laws.specs.declared.steps.Reply.TheVariants as replies
 use Rattle.world_laws.specs.Worlds.{home_of, row_of, is_row_at_end, may_mark, proposed_stamp}
 use Rattle.world_laws.specs.Worlds.{after_propose, event_reply}
-use Rattle.world_laws.proofs.Histories.{not_entered, lawful_past_in, stamp_within}
-use Rattle.world_laws.proofs.OfRows.{MayMark, may_mark_is, marked_absent}
+use Rattle.world_laws.proofs.CallerLemmas.{not_entered, lawful_past_in, stamp_within, MayMark, may_mark_is}
+use Rattle.world_laws.proofs.CallerLemmas.{marked_absent}
 use Rattle.world_code.specs.declared.replies.Placed.{Placed}
 use Rattle.world_code.specs.Replies.{placed_reply}
 use Rattle.world_code.specs.WorldView.{WorldView, no_column, column_at, client_at, world_of, IsWhole}

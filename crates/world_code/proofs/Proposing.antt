@@ -22,7 +22,7 @@ use Rattle.world_laws.specs.declared.steps.Step.TheVariants as steps
 use Rattle.world_laws.specs.Worlds.{RowState, home_of, row_of, row_history, is_member}
 use Rattle.world_laws.specs.Worlds.{may_mark, may_propose, may_fence, with_mark, proposed_stamp, proposed_entry}
 use Rattle.world_laws.specs.Worlds.{after_propose}
-use Rattle.world_laws.proofs.OfRows.{MayMark, may_mark_is}
+use Rattle.world_laws.proofs.CallerLemmas.{MayMark, may_mark_is}
 use Rattle.world_code.specs.WorldView.{WorldView, column_at, world_of, IsRowNode, IsWhole}
 use Rattle.world_code.proofs.Worlds.{worlds}
 use Rattle.world_code.proofs.Changing.{with_column, histories_changed, columns_placed, placed_of, whole_after}

@@ -6,8 +6,8 @@ use Rattle.std.specs.List.{list_any, list_all, filter, range_with_len}
 use Rattle.std.proofs.lemmas.Bool.{and_parts, eq-eqb, eqb-true, or_left, or_right, or_cases, cases_eq, cases_lt}
 use Rattle.log_node.specs.declared.ids.Colours.{Colours}
 use Rattle.log_node.specs.Sets.{has, members}
-use Rattle.log_node.proofs.SetLemmas.{members-low}
-use Rattle.col_core.proofs.Basics.{choice}
+use Rattle.log_node.proofs.CallerLemmas.{members-low}
+use Rattle.col_core.proofs.CallerLemmas.{choice}
 use Rattle.world_laws.specs.Worlds.{is_member}
 
 -- a number is among those that pass exactly where it passes and is there

@@ -9,7 +9,7 @@ use Rattle.log_node.specs.declared.node.At.TheVariants as ats
 use Rattle.skeen_core.specs.declared.marks.Outcome.{Outcome}
 use Rattle.skeen_core.specs.Queues.{has_open, is_decided, MaySettle}
 use Rattle.col_core.specs.History.{last_stamp, entries}
-use Rattle.col_core.proofs.Basics.{by_test}
+use Rattle.col_core.proofs.CallerLemmas.{by_test}
 use Rattle.column.specs.Columns.{ColumnState}
 use Rattle.column.specs.Columns as columns
 use Rattle.world_laws.specs.declared.steps.Step.TheVariants as steps

@@ -15,19 +15,16 @@ use Rattle.skeen_core.specs.Standings.{Standing, open_entry, is_open_id}
 use Rattle.skeen_core.specs.Queues.{has_open, is_decided, MaySettle}
 use Rattle.col_core.specs.History.{last_stamp, entries}
 use Rattle.col_core.specs.Legal.{IsSettling}
-use Rattle.col_core.proofs.Basics.{by_test, choice}
-use Rattle.col_core.proofs.Pasts as pasts
+use Rattle.col_core.proofs.CallerLemmas.{by_test, choice}
+use Rattle.col_core.proofs.CallerLemmas as pasts
 use Rattle.column.specs.Columns.{ColumnState}
 use Rattle.column.specs.Columns as columns
 use Rattle.world_laws.specs.declared.steps.Step.TheVariants as steps
 use Rattle.world_laws.specs.Worlds.{World, home_of, row_of, is_begun, may_settle, after_settle, after}
 use Rattle.world_laws.specs.Worlds.{marks_of, settled_entry}
 use Rattle.skeen_core.specs.Outcomes.{outcome_of}
-use Rattle.world_laws.proofs.Held.{Held}
-use Rattle.world_laws.proofs.Marks.{has_colour, final_is, number_within, greatest_within, agrees-settled}
-use Rattle.world_laws.proofs.Histories.{lawful_past_in, may_settle_open}
-use Rattle.world_laws.proofs.Keeps.{row_agrees}
-use Rattle.world_laws.proofs.OfRows.{may_settle_is, mark-at_home}
+use Rattle.world_laws.proofs.CallerLemmas.{Held, has_colour, final_is, number_within, greatest_within, agrees-settled}
+use Rattle.world_laws.proofs.CallerLemmas.{lawful_past_in, may_settle_open, row_agrees, may_settle_is, mark-at_home}
 use Rattle.world_code.specs.WorldView.{WorldView, no_column, column_at, client_at, world_of, IsPlaced, HasAppended}
 use Rattle.world_code.specs.WorldView.{IsWhole}
 use Rattle.world_code.proofs.Appended.{appended_settled}

@@ -23,7 +23,7 @@ use Rattle.world_code.proofs.Changing.{with_column, clients_changed, nodes_chang
 use Rattle.world_code.proofs.Changing.{columns_placed, clients_set, whole_after, reached_step, columns_appended}
 use Rattle.world_code.proofs.Changing.{clients_appended}
 use Rattle.world_code.proofs.Appended.{appended_entered, is_listed}
-use Rattle.world_laws.proofs.Basics.{slice_last}
+use Rattle.world_laws.proofs.CallerLemmas.{slice_last}
 use Rattle.std.specs.Prelude.{slice_get}
 use Rattle.std.proofs.Common.{get_or-set_same}
 

@@ -7,13 +7,13 @@ use Rattle.std.specs.List.{filter, range_with_len}
 use Rattle.std.proofs.lemmas.Bool.{cases_Bool}
 use Rattle.log_node.specs.declared.ids.Colours.{Colours}
 use Rattle.log_node.specs.Sets.{has, members}
-use Rattle.log_node.proofs.SetLemmas.{members-low}
+use Rattle.log_node.proofs.CallerLemmas.{members-low}
 use Rattle.world_laws.specs.declared.steps.Step.TheVariants.{Settle}
 use Rattle.log_node.specs.declared.ids.Row.{Row}
 use Rattle.world_laws.specs.declared.steps.Step.{Step}
 use Rattle.world_laws.specs.Worlds.{World, after, reply, run_steps}
 use Rattle.world_laws.specs.Completing.{settle_steps}
-use Rattle.world_laws.proofs.Runs.{run_steps-append}
+use Rattle.world_laws.proofs.CallerLemmas.{run_steps-append}
 use Rattle.world_code.proofs.Ranges.{range_with, range_without}
 use Rattle.world_code.specs.declared.completing.Taken.{Taken}
 use Rattle.world_code.specs.Completed.{done_count, steps_done, AreTaken}

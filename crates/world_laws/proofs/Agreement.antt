@@ -21,12 +21,9 @@ use Rattle.col_core.specs.declared.Entry.{Entry}
 use Rattle.col_core.specs.Cuts.{entries_of}
 use Rattle.col_core.specs.Computed.{dated}
 use Rattle.col_core.specs.History.{entries, line, entry_key, final_number}
-use Rattle.col_core.proofs.Basics.{choice, by_test, if_true, apart, same_id-refl, same_id-true}
-use Rattle.col_core.proofs.ChainGrowth.{line_rises}
-use Rattle.col_core.proofs.KeyOrder.{key-trans, key-irrefl}
-use Rattle.col_core.proofs.LawfulPasts.{entries-of}
-use Rattle.col_core.proofs.Members.{In, shown, in_line}
-use Rattle.col_core.proofs.Pasts.{Status, Absent, Alone, Waits, Settled, status, after_event, standing_of, IsLawfulPast, IsLawfulNext}
+use Rattle.col_core.proofs.CallerLemmas.{choice, by_test, if_true, apart, same_id-refl, same_id-true, line_rises}
+use Rattle.col_core.proofs.CallerLemmas.{key-trans, key-irrefl, entries-of, In, shown, in_line, Status, Absent, Alone}
+use Rattle.col_core.proofs.CallerLemmas.{Waits, Settled, status, after_event, standing_of, IsLawfulPast, IsLawfulNext}
 use Rattle.world_laws.specs.Worlds.{World, RowState, home_of, is_begun, row_of, marks_of, is_member}
 use Rattle.world_laws.specs.Laws.{IsFinal, SettlesOnce, OneFinalStamp, EachLineRises, OrderedAlike, FencedIsNowhere}
 use Rattle.world_laws.proofs.Basics.{in_contains, contains_in, in_reverse, slice_in}

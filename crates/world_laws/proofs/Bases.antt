@@ -11,9 +11,7 @@ use Rattle.col_core.specs.declared.Entry.{Entry}
 use Rattle.col_core.specs.Cuts.{Dated, noted, noted_by_all, trimmed_to, base, base_from}
 use Rattle.col_core.specs.Computed.{dated}
 use Rattle.col_core.specs.Legal.{IsColumnHistory}
-use Rattle.col_core.proofs.Basics.{choice, by_test, apart}
-use Rattle.col_core.proofs.CutLaws.{within, within-at}
-use Rattle.col_core.proofs.Members.{In}
+use Rattle.col_core.proofs.CallerLemmas.{choice, by_test, apart, within, within-at, In}
 use Rattle.world_laws.specs.Worlds.{World, cut_after, base_after}
 use Rattle.world_laws.specs.Laws.{TrimmedIsHeld}
 use Rattle.world_laws.proofs.Held.{Held}

@@ -6,9 +6,7 @@ use Rattle.std.proofs.lemmas.Bool.{eqb-true, eq-eqb, false_from_ne_true}
 use Rattle.log_node.specs.declared.ids.Id.{Id}
 use Rattle.log_node.specs.Order.{same_id}
 use Rattle.col_core.specs.Keeping.{updated, updated_at}
-use Rattle.col_core.proofs.Basics.{choice, if_true, apart, same_id-true, same_id-is}
-use Rattle.col_core.proofs.Members.{In}
-use Rattle.col_core.proofs.LawfulPasts.{reverse-cons}
+use Rattle.col_core.proofs.CallerLemmas.{choice, if_true, apart, same_id-true, same_id-is, In, reverse-cons}
 
 -- a fact of a changed function at any place
 pub at_updated : {A : Type 0} (P : A → Type 0) (f : ℕ → A) (n : ℕ) (x : A) (m : ℕ) → (m ≡ n → P x)

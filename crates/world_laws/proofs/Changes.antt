@@ -16,8 +16,7 @@ use Rattle.col_core.specs.declared.Entry.{Entry}
 use Rattle.col_core.specs.History.{entries, line, with_event, enters}
 use Rattle.col_core.specs.Cuts.{Dated, entries_of, needs_of, carried, chain, trimmed_to, base_from}
 use Rattle.col_core.specs.Computed.{cut, dated}
-use Rattle.col_core.proofs.Appending.{entries-append, dated-append}
-use Rattle.col_core.proofs.Basics.{by_test, if_true, if_false, apart}
+use Rattle.col_core.proofs.CallerLemmas.{entries-append, dated-append, by_test, if_true, if_false, apart}
 use Rattle.world_laws.specs.Worlds.{World, chains_after, cut_after, base_after, held_of}
 use Rattle.world_laws.proofs.Held.{Held}
 use Rattle.world_laws.proofs.Histories.{entries_dated}

@@ -20,11 +20,9 @@ use Rattle.col_core.specs.Cuts.{Dated, carried, entries_of, needs_of}
 use Rattle.col_core.specs.Computed.{dated}
 use Rattle.col_core.specs.Legal.{IsLawfulEvent}
 use Rattle.col_core.specs.Keeping.{updated, updated_at}
-use Rattle.col_core.proofs.Basics.{choice, by_test, if_true, if_false, both, apart, not_true, same_id-refl}
-use Rattle.col_core.proofs.Growth.{entry_within}
-use Rattle.col_core.proofs.LawfulPasts.{entries-of, clock-of}
-use Rattle.col_core.proofs.Members.{In, in_line}
-use Rattle.col_core.proofs.Pasts.{Status, Absent, Alone, IsLawfulPast}
+use Rattle.col_core.proofs.CallerLemmas.{choice, by_test, if_true, if_false, both, apart, not_true, same_id-refl}
+use Rattle.col_core.proofs.CallerLemmas.{entry_within, entries-of, clock-of, In, in_line, Status, Absent, Alone}
+use Rattle.col_core.proofs.CallerLemmas.{IsLawfulPast}
 use Rattle.log_node.specs.declared.ids.Key.{Key}
 use Rattle.col_core.specs.PlayOrder.{nodes_between}
 use Rattle.world_laws.specs.Worlds.{World, RowState, ClientState, home_of, home_history, is_client, is_column, with_client, next_id, begun_node, after_begin, single_entry, single_stamp, after_single, after_play, after_seen, played_cut, played_stamp, chains_after, may_single, may_see}

@@ -20,10 +20,8 @@ use Rattle.skeen_core.specs.Standings.{Standing}
 use Rattle.col_core.specs.declared.Entry.{Entry}
 use Rattle.col_core.specs.History.{entry_key}
 use Rattle.col_core.specs.Keeping.{updated}
-use Rattle.col_core.proofs.Basics.{choice, by_test, if_true, apart, same_id-refl}
-use Rattle.col_core.proofs.LawfulPasts.{entries-of}
-use Rattle.col_core.proofs.Members.{In, stands}
-use Rattle.col_core.proofs.Pasts.{Status, Absent, Settled, standing_of}
+use Rattle.col_core.proofs.CallerLemmas.{choice, by_test, if_true, apart, same_id-refl, entries-of, In, stands}
+use Rattle.col_core.proofs.CallerLemmas.{Status, Absent, Settled, standing_of}
 use Rattle.world_laws.specs.declared.steps.Step.{Step}
 use Rattle.world_laws.specs.declared.steps.Step.TheVariants.{Propose, Fence, Decide, Settle}
 use Rattle.world_laws.specs.Worlds.{World, RowState, home_of, after, run_steps, is_begun, row_of, row_history, marks_of, is_member, is_row_at_end, may_mark, may_propose, may_fence, may_decide, may_settle, with_mark, after_propose, after_decide, after_settle, settled_entry}

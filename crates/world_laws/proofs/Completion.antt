@@ -13,7 +13,7 @@ use Rattle.skeen_core.specs.declared.marks.Outcome.TheVariants.{Open, Final}
 use Rattle.skeen_core.specs.Outcomes.{outcome_of, is_missing, is_stamp_end_fence, is_memory_fence, number_of, greatest}
 use Rattle.col_core.specs.declared.Entry.{Entry}
 use Rattle.col_core.specs.Keeping.{updated}
-use Rattle.col_core.proofs.Basics.{choice, if_true, if_false, apart}
+use Rattle.col_core.proofs.CallerLemmas.{choice, if_true, if_false, apart}
 use Rattle.world_laws.specs.declared.steps.Step.{Step}
 use Rattle.world_laws.specs.declared.steps.Step.TheVariants.{Propose, Decide, Settle}
 use Rattle.world_laws.specs.Worlds.{World, RowState, home_of, after, run_steps, is_begun, row_of, row_history, is_row_at_end, may_propose, after_propose, proposed_entry, proposed_stamp, is_at_end}

@@ -12,9 +12,7 @@ use Rattle.col_core.specs.Cuts.{Dated, entries_of, carried, chain, needs_of, not
 use Rattle.col_core.specs.Computed.{cut, dated}
 use Rattle.col_core.specs.Copies.{IsTrueCopy, AreTrueCopies}
 use Rattle.col_core.specs.Legal.{IsLawfulEvent, IsColumnHistory}
-use Rattle.col_core.proofs.Appending.{dated-append}
-use Rattle.col_core.proofs.Basics.{by_test, if_true, if_false, apart}
-use Rattle.col_core.proofs.ChainGrowth.{chains_grow}
+use Rattle.col_core.proofs.CallerLemmas.{dated-append, by_test, if_true, if_false, apart, chains_grow}
 use Rattle.log_node.specs.declared.ids.Key.{Key}
 use Rattle.world_laws.specs.Worlds.{World, chains_after, held_of, with_last}
 use Rattle.world_laws.proofs.Basics.{updated_at-here, updated_at-not}

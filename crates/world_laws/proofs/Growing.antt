@@ -14,11 +14,8 @@ use Rattle.skeen_core.specs.Queues.{is_decided}
 use Rattle.col_core.specs.declared.Entry.{Entry}
 use Rattle.col_core.specs.History.{line}
 use Rattle.col_core.specs.Keeping.{updated, updated_at}
-use Rattle.col_core.proofs.Basics.{choice, both, not_true}
-use Rattle.col_core.proofs.Growth.{line_later}
-use Rattle.col_core.proofs.LawfulPasts.{entries-of}
-use Rattle.col_core.proofs.Pasts as pasts
-use Rattle.col_core.proofs.Pasts.{IsLawfulPast}
+use Rattle.col_core.proofs.CallerLemmas.{choice, both, not_true, line_later, entries-of, IsLawfulPast}
+use Rattle.col_core.proofs.CallerLemmas as pasts
 use Rattle.world_laws.specs.declared.steps.Step.{Step}
 use Rattle.world_laws.specs.declared.steps.Step.TheVariants as steps
 use Rattle.world_laws.specs.Worlds.{World, RowState, ClientState, is_begun, row_of, home_of, may_begin, may_mark, may_propose, may_fence, may_decide, may_settle, may_single, may_raise, may_give, may_carry, is_column, may_play, may_see, with_client, with_last, with_node, with_mark, begun_node, after_begin, after_propose, proposed_entry, proposed_stamp, after_decide, settled_entry, carried_entry, after_single, single_entry, single_node, played_cut, played_stamp, after, run_steps}

@@ -16,8 +16,7 @@ use Rattle.col_core.specs.Cuts.{carried}
 use Rattle.col_core.specs.Computed.{dated}
 use Rattle.col_core.specs.Copies.{AreTrueCopies}
 use Rattle.col_core.specs.Legal.{IsColumnHistory}
-use Rattle.col_core.proofs.Members.{In}
-use Rattle.col_core.proofs.Pasts.{Status, Absent, Alone, Waits, Settled, status}
+use Rattle.col_core.proofs.CallerLemmas.{In, Status, Absent, Alone, Waits, Settled, status}
 use Rattle.world_laws.specs.Worlds.{World, RowState, home_of, marks_of, is_member}
 
 -- what a history says of an id

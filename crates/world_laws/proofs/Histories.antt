@@ -16,13 +16,11 @@ use Rattle.col_core.specs.History.{clock, entries, last_stamp, next_stamp, event
 use Rattle.col_core.specs.Cuts.{Dated, entries_of}
 use Rattle.col_core.specs.Computed.{cut, dated}
 use Rattle.col_core.specs.Legal.{IsSettling, IsLawfulEvent, IsColumnHistory}
-use Rattle.col_core.proofs.Appending.{dated-append}
-use Rattle.col_core.proofs.Basics.{choice, both, apart, not_true, same_id-refl, same_id-true}
-use Rattle.col_core.proofs.DatedLaws.{dated-is_dated}
-use Rattle.col_core.proofs.Members.{In, shown, stands}
-use Rattle.col_core.proofs.Pasts as pasts
-use Rattle.col_core.proofs.Pasts.{Status, Absent, Alone, Waits, Settled, status, after_event, standing_of, IsLawfulPast, IsLawfulNext}
-use Rattle.col_core.proofs.LawfulPasts.{reverse-push, entries-of, clock-of, open_waits, lawful_past}
+use Rattle.col_core.proofs.CallerLemmas.{dated-append, choice, both, apart, not_true, same_id-refl, same_id-true}
+use Rattle.col_core.proofs.CallerLemmas.{dated-is_dated, In, shown, stands, Status, Absent, Alone, Waits, Settled}
+use Rattle.col_core.proofs.CallerLemmas.{status, after_event, standing_of, IsLawfulPast, IsLawfulNext, reverse-push}
+use Rattle.col_core.proofs.CallerLemmas.{entries-of, clock-of, open_waits, lawful_past}
+use Rattle.col_core.proofs.CallerLemmas as pasts
 use Rattle.world_laws.specs.Worlds.{World, is_at_end}
 use Rattle.world_laws.proofs.Basics.{in_reverse}
 use Rattle.world_laws.proofs.Held.{status_in, Held}

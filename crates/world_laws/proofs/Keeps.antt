@@ -13,9 +13,8 @@ use Rattle.col_core.specs.Cuts.{entries_of, carried}
 use Rattle.col_core.specs.Computed.{dated}
 use Rattle.col_core.specs.Legal.{MayEnter, IsLawfulEvent, IsColumnHistory}
 use Rattle.col_core.specs.Keeping.{updated, updated_at}
-use Rattle.col_core.proofs.Basics.{by_test, if_true, if_false, apart, same_id-refl, same_id-true}
-use Rattle.col_core.proofs.Members.{In}
-use Rattle.col_core.proofs.Pasts.{Status, Absent, after_event}
+use Rattle.col_core.proofs.CallerLemmas.{by_test, if_true, if_false, apart, same_id-refl, same_id-true, In, Status}
+use Rattle.col_core.proofs.CallerLemmas.{Absent, after_event}
 use Rattle.world_laws.specs.Worlds.{World, RowState, ClientState, home_of, with_last, next_id}
 use Rattle.world_laws.proofs.Basics.{at_updated, at_updated_at, updated_at-not, not_same, differ, in_append}
 use Rattle.world_laws.proofs.Held.{status_in, Kind, Unborn, OfSingle, OfRow, Agrees, column_mark, FitsRow, Fits, IsSound, heads_of, Held, put_kind}

@@ -10,11 +10,9 @@ use Rattle.col_core.specs.declared.Event.TheVariants as events
 use Rattle.col_core.specs.declared.Event.{Event}
 use Rattle.col_core.specs.declared.Entry.{Entry}
 use Rattle.col_core.specs.History.{entries, entry_key, event_number}
-use Rattle.col_core.proofs.Basics.{choice}
-use Rattle.col_core.proofs.KeyOrder.{key-stamps}
-use Rattle.col_core.proofs.LawfulPasts.{reverse-cons, entries-of, open_waits, lawful_front}
-use Rattle.col_core.proofs.Members.{In, shown, stands}
-use Rattle.col_core.proofs.Pasts.{Status, Alone, Waits, Settled, status, after_event, standing_of, clock, IsLawfulPast, IsLawfulNext}
+use Rattle.col_core.proofs.CallerLemmas.{choice, key-stamps, reverse-cons, entries-of, open_waits, lawful_front, In}
+use Rattle.col_core.proofs.CallerLemmas.{shown, stands, Status, Alone, Waits, Settled, status, after_event}
+use Rattle.col_core.proofs.CallerLemmas.{standing_of, clock, IsLawfulPast, IsLawfulNext}
 use Rattle.world_laws.specs.Worlds.{World}
 use Rattle.world_laws.specs.Laws.{NoneGetsBefore}
 use Rattle.world_laws.proofs.Basics.{in_contains, contains_in}

@@ -7,7 +7,7 @@ use Rattle.log_node.specs.declared.node.Shape.{Shape}
 use Rattle.log_node.specs.Sets.{members}
 use Rattle.col_core.specs.Rows.{BegunRow}
 use Rattle.col_core.specs.Log.{IsLaterMark, IsLaterRow}
-use Rattle.col_core.proofs.Facts.{later_by_growth}
+use Rattle.col_core.proofs.CallerLemmas.{later_by_growth}
 use Rattle.world_laws.specs.Worlds.{World, RowState, home_of, run_steps}
 use Rattle.world_laws.specs.Laws.{RowGrows, log_of, LogGrows, rows_of_region}
 use Rattle.world_laws.proofs.Basics.{in_contains, contains_in}

@@ -18,9 +18,8 @@ use Rattle.col_core.specs.declared.Event.TheVariants as events
 use Rattle.col_core.specs.declared.Event.{Event}
 use Rattle.col_core.specs.declared.Entry.{Entry}
 use Rattle.col_core.specs.Rows.{BegunRow, FitsRow, FitsRows, IsMarkOf, IsKept, Proposes}
-use Rattle.col_core.proofs.Basics.{choice, if_true, same_id-refl, same_id-true}
-use Rattle.col_core.proofs.Members.{In}
-use Rattle.col_core.proofs.Pasts.{Status, Alone, Waits, Settled, status, after_event, IsLawfulPast, IsLawfulNext}
+use Rattle.col_core.proofs.CallerLemmas.{choice, if_true, same_id-refl, same_id-true, In, Status, Alone, Waits}
+use Rattle.col_core.proofs.CallerLemmas.{Settled, status, after_event, IsLawfulPast, IsLawfulNext}
 use Rattle.world_laws.specs.Worlds.{World, RowState, home_of, marks_of}
 use Rattle.world_laws.specs.Laws.{rows_of_region, HaveLawfulHistories, HaveLawfulRows, IsBounded}
 use Rattle.world_laws.proofs.Basics.{in_slice, slice_in, in_reverse}

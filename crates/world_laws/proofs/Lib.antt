@@ -1,27 +1,27 @@
-pub mod Basics
-pub mod Held
-pub mod Marks
-pub mod Histories
-pub mod Keeps
-pub mod Copies
-pub mod Clients
-pub mod OfRows
-pub mod OfColumns
-pub mod Runs
-pub mod Agreement
-pub mod Later
-pub mod Growing
-pub mod Completing
-pub mod Completion
-pub mod Told
-pub mod Telling
-pub mod RegionRows
-pub mod LawfulRows
-pub mod OwnLines
-pub mod Bases
-pub mod Wanted
-pub mod Listed
-pub mod LaterLogs
+mod Basics
+mod Held
+mod Marks
+mod Histories
+mod Keeps
+mod Copies
+mod Clients
+mod OfRows
+mod OfColumns
+mod Runs
+mod Agreement
+mod Later
+mod Growing
+mod Completing
+mod Completion
+mod Told
+mod Telling
+mod RegionRows
+mod LawfulRows
+mod OwnLines
+mod Bases
+mod Wanted
+mod Listed
+mod LaterLogs
 pub mod CallerLemmas
-pub mod Changes
+mod Changes
 mod SmallRuns

@@ -13,9 +13,7 @@ use Rattle.col_core.specs.declared.Event.TheVariants as events
 use Rattle.col_core.specs.declared.Event.{Event}
 use Rattle.col_core.specs.declared.Entry.{Entry}
 use Rattle.col_core.specs.Keeping.{updated}
-use Rattle.col_core.proofs.Basics.{choice}
-use Rattle.col_core.proofs.ChainGrowth.{slice_longer}
-use Rattle.col_core.proofs.Members.{In}
+use Rattle.col_core.proofs.CallerLemmas.{choice, slice_longer, In}
 use Rattle.world_laws.specs.declared.steps.Step.{Step}
 use Rattle.world_laws.specs.declared.steps.Step.TheVariants as steps
 use Rattle.world_laws.specs.Worlds.{World, RowState, ClientState, home_of, next_id, may_begin, may_propose, may_fence, may_decide, may_settle, may_single, may_raise, may_give, may_carry, is_column, may_play, may_see, with_client, with_last, with_mark, with_node, begun_node, after_begin, after_propose, proposed_entry, after_decide, settled_entry, carried_entry, single_node, after_single, single_entry, after, run_steps, opened}

@@ -10,9 +10,7 @@ use Rattle.skeen_core.specs.declared.marks.Outcome.{Outcome}
 use Rattle.skeen_core.specs.declared.marks.Outcome.TheVariants.{Open, Gone, Final}
 use Rattle.skeen_core.specs.Outcomes.{outcome_of, is_missing, is_stamp_end_fence, is_memory_fence, number_of, greatest}
 use Rattle.skeen_core.specs.Queues.{is_decided}
-use Rattle.col_core.proofs.Basics.{by_test, if_true, apart}
-use Rattle.col_core.proofs.Members.{In}
-use Rattle.col_core.proofs.Pasts.{Status, Absent, Alone, Waits, Settled}
+use Rattle.col_core.proofs.CallerLemmas.{by_test, if_true, apart, In, Status, Absent, Alone, Waits, Settled}
 use Rattle.world_laws.proofs.Held.{Agrees}
 
 -- a list has the colour

@@ -14,9 +14,7 @@ use Rattle.col_core.specs.Cuts.{carried}
 use Rattle.col_core.specs.Computed.{dated}
 use Rattle.col_core.specs.Copies.{AreTrueCopies}
 use Rattle.col_core.specs.Legal.{IsLawfulEvent}
-use Rattle.col_core.proofs.Basics.{choice, both, apart, not_true}
-use Rattle.col_core.proofs.Members.{In}
-use Rattle.col_core.proofs.Pasts.{Status, after_event}
+use Rattle.col_core.proofs.CallerLemmas.{choice, both, apart, not_true, In, Status, after_event}
 use Rattle.world_laws.specs.Worlds.{World, is_column, chains_after, base_after, held_of, heads_lacking, are_two_columns, may_raise, may_give, may_carry, with_last, carried_entry, after_raise, after_give, after_carry, after_trim}
 use Rattle.world_laws.proofs.Held.{Held}
 use Rattle.world_laws.proofs.Histories.{entries_dated}

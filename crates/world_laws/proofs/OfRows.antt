@@ -21,8 +21,8 @@ use Rattle.col_core.specs.Computed.{dated}
 use Rattle.col_core.specs.Legal as Legal
 use Rattle.col_core.specs.Legal.{IsLawfulEvent}
 use Rattle.col_core.specs.Keeping.{updated, updated_at}
-use Rattle.col_core.proofs.Basics.{by_test, if_true, if_false, both, apart, not_true, same_id-refl}
-use Rattle.col_core.proofs.Pasts.{Status, Absent, Waits, Settled, IsSettling}
+use Rattle.col_core.proofs.CallerLemmas.{by_test, if_true, if_false, both, apart, not_true, same_id-refl, Status}
+use Rattle.col_core.proofs.CallerLemmas.{Absent, Waits, Settled, IsSettling}
 use Rattle.world_laws.specs.Worlds.{World, RowState, ClientState, home_of, is_begun, row_of, row_history, marks_of, is_member, may_mark, may_propose, may_fence, may_decide, may_settle, with_row, with_mark, after_propose, proposed_entry, proposed_stamp, after_decide, after_settle, settled_entry}
 use Rattle.world_laws.proofs.Basics.{at_updated, at_updated_at, updated_at-here}
 use Rattle.world_laws.proofs.Held.{status_in, Agrees, column_mark, Fits, IsSound, Held}

@@ -16,11 +16,8 @@ use Rattle.col_core.specs.History.{line, enters}
 use Rattle.col_core.specs.Cuts.{Dated, Reachable, next, chain, entries_of, needs_in, needs_of}
 use Rattle.col_core.specs.Computed.{cut, dated}
 use Rattle.col_core.specs.Legal.{IsColumnHistory}
-use Rattle.col_core.proofs.Basics.{choice, if_true}
-use Rattle.col_core.proofs.ChainGrowth.{chains_grow, reachable_grows}
-use Rattle.col_core.proofs.CutLaws.{within, within-at, reached_within, cut-is_greatest}
-use Rattle.col_core.proofs.DatedLaws.{dated-is_dated}
-use Rattle.col_core.proofs.Members.{In}
+use Rattle.col_core.proofs.CallerLemmas.{choice, if_true, chains_grow, reachable_grows, within, within-at}
+use Rattle.col_core.proofs.CallerLemmas.{reached_within, cut-is_greatest, dated-is_dated, In}
 use Rattle.world_laws.specs.Worlds.{cut_after}
 use Rattle.world_laws.proofs.Histories.{entries_dated}
 use Rattle.world_laws.proofs.Clients.{head_with, in_heads}

@@ -9,8 +9,7 @@ use Rattle.std.proofs.lemmas.List.FromFn.{length-map-range_with_len}
 use Rattle.log_node.specs.declared.ids.Id.{Id}
 use Rattle.log_node.specs.declared.ids.Row.{Row}
 use Rattle.col_core.specs.Rows.{BegunRow, is_of}
-use Rattle.col_core.proofs.Basics.{choice, by_test, if_true, if_false, apart}
-use Rattle.col_core.proofs.Members.{In}
+use Rattle.col_core.proofs.CallerLemmas.{choice, by_test, if_true, if_false, apart, In}
 use Rattle.world_laws.specs.Worlds.{World, home_of}
 use Rattle.world_laws.specs.Laws.{begun_row, rows_of_client, rows_of_region}
 use Rattle.world_laws.proofs.Basics.{in_append, in_left, in_right}

@@ -7,7 +7,7 @@ use Rattle.world_laws.specs.Worlds.{World, after, run_steps, opened, may_begin, 
 use Rattle.std.specs.Prelude.{◌==◌}
 use Rattle.log_node.specs.declared.node.Head.{Head}
 use Rattle.col_core.specs.Cuts.{chain}
-use Rattle.col_core.proofs.Basics.{choice}
+use Rattle.col_core.proofs.CallerLemmas.{choice}
 use Rattle.world_laws.proofs.Held.{Held, Unborn}
 use Rattle.world_laws.proofs.Clients.{keeps_begin, keeps_single, keeps_play, keeps_seen}
 use Rattle.world_laws.proofs.OfColumns.{keeps_raise, keeps_give, keeps_carry, keeps_trim}

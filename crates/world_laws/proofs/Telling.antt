@@ -15,8 +15,7 @@ use Rattle.col_core.specs.declared.Entry.{Entry}
 use Rattle.col_core.specs.History.{clock, last_stamp, IsAtEnd}
 use Rattle.col_core.specs.Keeping.{updated, updated_at}
 use Rattle.col_core.specs.Rows.{node_wants, Proposes}
-use Rattle.col_core.proofs.Basics.{choice, both}
-use Rattle.col_core.proofs.Members.{In}
+use Rattle.col_core.proofs.CallerLemmas.{choice, both, In}
 use Rattle.world_laws.specs.declared.steps.Step.{Step}
 use Rattle.world_laws.specs.declared.steps.Step.TheVariants as steps
 use Rattle.world_laws.specs.Worlds.{World, RowState, ClientState, home_of, row_history, is_client, is_begun, row_of, is_row_at_end, may_begin, may_mark, may_propose, may_fence, may_decide, may_settle, may_single, may_raise, may_give, may_carry, is_column, may_play, may_see, with_client, with_last, with_mark, begun_node, after_begin, after_propose, proposed_entry, proposed_stamp, after_decide, after_settle, settled_entry, carried_entry, after_single, single_entry, after, run_steps, opened}

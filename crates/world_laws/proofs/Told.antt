@@ -18,8 +18,7 @@ use Rattle.col_core.specs.declared.Event.{Event}
 use Rattle.col_core.specs.declared.Entry.{Entry}
 use Rattle.col_core.specs.History.{clock, last_stamp, IsAtEnd}
 use Rattle.col_core.specs.Rows.{node_wants, Proposes}
-use Rattle.col_core.proofs.ChainGrowth.{slice_longer}
-use Rattle.col_core.proofs.Members.{In}
+use Rattle.col_core.proofs.CallerLemmas.{slice_longer, In}
 use Rattle.world_laws.specs.Worlds.{World, RowState, home_of}
 use Rattle.world_laws.proofs.Held.{Held}
 use Rattle.world_laws.proofs.Histories.{lawful_past_in, clock_within}

@@ -17,11 +17,8 @@ use Rattle.col_core.specs.Computed.{cut, dated}
 use Rattle.col_core.specs.Legal.{IsColumnHistory}
 use Rattle.col_core.specs.Keeping.{updated}
 use Rattle.col_core.specs.Rows.{node_wants, wants_of}
-use Rattle.col_core.proofs.Appending.{dated-append}
-use Rattle.col_core.proofs.Basics.{choice, both, if_true}
-use Rattle.col_core.proofs.ChainGrowth.{cut_grows}
-use Rattle.col_core.proofs.CutLaws.{within}
-use Rattle.col_core.proofs.DatedLaws.{later, with_date, fold-later}
+use Rattle.col_core.proofs.CallerLemmas.{dated-append, choice, both, if_true, cut_grows, within, later, with_date}
+use Rattle.col_core.proofs.CallerLemmas.{fold-later}
 use Rattle.world_laws.specs.declared.steps.Step.{Step}
 use Rattle.world_laws.specs.declared.steps.Step.TheVariants as steps
 use Rattle.world_laws.specs.Worlds.{World, RowState, ClientState, home_of, home_history, cut_after, may_begin, may_mark, may_propose, may_fence, may_decide, may_settle, may_single, may_raise, may_give, may_carry, is_column, may_play, may_see, with_last, with_mark, begun_node, after_begin, after_propose, proposed_entry, after_decide, after_settle, settled_entry, after_single, single_entry, after_raise, after_give, after_carry, carried_entry, after_trim, after_play, after_seen, after, run_steps, opened}

@@ -1,16 +1,16 @@
-pub mod Tools
-pub mod Told
-pub mod BegunRows
-pub mod WrongReplies
-pub mod WrongNaming
-pub mod WrongShown
-pub mod WrongColumns
-pub mod WrongRows
-pub mod WrongSeveral
-pub mod WrongReads
-pub mod WrongEvents
-pub mod WrongMoves
-pub mod WrongObjects
-pub mod WrongHelping
-pub mod WrongVerdict
-pub mod WrongHidden
+mod Tools
+mod Told
+mod BegunRows
+mod WrongReplies
+mod WrongNaming
+mod WrongShown
+mod WrongColumns
+mod WrongRows
+mod WrongSeveral
+mod WrongReads
+mod WrongEvents
+mod WrongMoves
+mod WrongObjects
+mod WrongHelping
+mod WrongVerdict
+mod WrongHidden

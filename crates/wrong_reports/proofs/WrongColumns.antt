@@ -4,8 +4,7 @@ use Rattle.std.specs.Prelude.{slice_index}
 use Rattle.log_node.specs.declared.ids.Counts.{Counts}
 use Rattle.log_node.specs.Vectors.{at}
 use Rattle.col_core.specs.Computed.{dated}
-use Rattle.col_core.proofs.CutLaws.{cut-is_greatest}
-use Rattle.col_core.proofs.Uniqueness.{cut_unique}
+use Rattle.col_core.proofs.CallerLemmas.{cut-is_greatest, cut_unique}
 use Rattle.wrong_reports.specs.Cases.{IsUnlawful}
 use Rattle.wrong_reports.specs.Columns.{single, another_clock, another_line, another_queue, another_cut, another_base}
 use Rattle.wrong_reports.specs.Columns.{another_regions_name, another_colours_name, a_missing_column, single}

@@ -5,8 +5,7 @@ use Rattle.log_node.specs.declared.ids.Counts.{Counts}
 use Rattle.log_node.specs.Vectors.{at}
 use Rattle.col_core.specs.declared.Entry.{Entry}
 use Rattle.col_core.specs.Computed.{dated}
-use Rattle.col_core.proofs.CutLaws.{cut-is_greatest}
-use Rattle.col_core.proofs.Uniqueness.{cut_unique}
+use Rattle.col_core.proofs.CallerLemmas.{cut-is_greatest, cut_unique}
 use Rattle.script_text.specs.declared.script.What.TheVariants.{Sync}
 use Rattle.wrong_reports.specs.Cases.{IsUnlawful, asks, a, e, x, empty}
 use Rattle.wrong_reports.specs.Replies.{a_missing_reply, a_wrong_line, a_wrong_word, a_wrong_name}

@@ -1,5 +1,4 @@
-use Rattle.col_core.proofs.CutLaws.{cut-is_greatest}
-use Rattle.col_core.proofs.Uniqueness.{cut_unique}
+use Rattle.col_core.proofs.CallerLemmas.{cut-is_greatest, cut_unique}
 use Rattle.column.specs.Columns.{chains_of, cut_of, history_of}
 use Rattle.column.proofs.column.admitted.Goals as goal
 

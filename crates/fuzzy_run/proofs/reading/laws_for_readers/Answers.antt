@@ -1,4 +1,4 @@
-use Rattle.script_text.proofs.FittingLemmas.{script_fits}
+use Rattle.script_text.proofs.CallerLemmas.{script_fits}
 use Rattle.fuzzy_run.proofs.reading.laws_for_readers.Goals as goal
 
 pub returns : goal.returns

@@ -1,4 +1,4 @@
-use Rattle.script_text.proofs.FittingLemmas.{script_fits}
+use Rattle.script_text.proofs.CallerLemmas.{script_fits}
 use Rattle.fuzzy_run.specs.declared.refusal.Cause.TheVariants.{Faulty, NotBuilt}
 use Rattle.fuzzy_run.proofs.TopLemmas.{refusal_written, refusal_begun, run_written, front_begun}
 use Rattle.fuzzy_run.proofs.top.do_bytes.Goals as goal

@@ -1,6 +1,6 @@
 use Rattle.std.proofs.Common.{◌≡◌, ◌∙◌, ap, subst, ℕ, [], refl}
 use Rattle.world_laws.specs.Worlds.{World, home_of}
-use Rattle.world_laws.proofs.Growing.{run_grows}
+use Rattle.world_laws.proofs.CallerLemmas.{run_grows}
 use Rattle.world_laws.specs.Completing.{complete_steps}
 use Rattle.world_code.specs.WorldView.{world_of}
 use Rattle.world_code.specs.Looks.{IsFirstBelow, open_below}

@@ -5,7 +5,7 @@ use Rattle.skeen_core.specs.declared.marks.Mark.{Mark}
 use Rattle.skeen_core.specs.declared.marks.ColourMark.{ColourMark}
 use Rattle.world_laws.specs.Worlds.{row_of}
 use Rattle.world_code.specs.WorldView.{world_of}
-use Rattle.world_code.proofs.Sets.{member_is}
+use Rattle.world_code.proofs.CallerLemmas.{member_is}
 use Rattle.script_in_order.proofs.Sets.{made_more, made_same, all_first}
 use Rattle.script_in_order.proofs.rows.marks_of.Goals as goal
 use Rattle.script_in_order.proofs.rows.marks_of.Goals.{then-has+in_ok-push, else-has}

@@ -1,5 +1,5 @@
 use Rattle.turn_cell.specs.Cells.{IsReady}
-use Rattle.turn_cell.proofs.Lists.{joined_at, left_at}
+use Rattle.turn_cell.proofs.CallerLemmas.{joined_at, left_at}
 use Rattle.turn_bench.specs.Writers.{no_tag, IsWriter}
 use Rattle.turn_bench.proofs.Hiring.{moved_one}
 use Rattle.turn_bench.proofs.writers.dismiss.Goals as goal

@@ -1,5 +1,5 @@
 use Rattle.std.proofs.Common.{rules, ◌≤◌, length, subst, sym}
-use Rattle.turn_cell.proofs.Lists.{joined_at}
+use Rattle.turn_cell.proofs.CallerLemmas.{joined_at}
 use Rattle.turn_bench.specs.declared.writers.Writer.{Writer}
 use Rattle.turn_bench.specs.Writers.{IsWriter}
 use Rattle.turn_bench.proofs.Hiring.{are_new, left_new, hired, moved_one}

@@ -3,7 +3,7 @@ use Rattle.std.specs.List.{AllByRecursion, find}
 use Rattle.skeen_core.specs.declared.waiting.Waiting.{Waiting}
 use Rattle.skeen_core.specs.Standings.{queue_of}
 use Rattle.skeen_core.specs.Queues.{kept_count, waiting_entries}
-use Rattle.skeen_core.proofs.Lists.{each-drop, each-weaker}
+use Rattle.skeen_core.proofs.CallerLemmas.{each-drop, each-weaker}
 use Rattle.col_core.specs.History.{entries}
 use Rattle.column.specs.Entering.{EnteredNode}
 use Rattle.column.specs.Columns.{ColumnState, is_waiting_below, IsBegunAt, HasRow}

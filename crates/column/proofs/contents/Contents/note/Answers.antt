@@ -7,7 +7,7 @@ use Rattle.skeen_core.specs.Standings.{line_of}
 use Rattle.col_core.specs.declared.Event.TheVariants as events
 use Rattle.col_core.specs.declared.Entry.{Entry}
 use Rattle.col_core.specs.History.{line}
-use Rattle.col_core.proofs.Appending.{entries-append}
+use Rattle.col_core.proofs.CallerLemmas.{entries-append}
 use Rattle.column.specs.Columns.{ColumnState, cut_of}
 use Rattle.column.proofs.Steps.{still_cut}
 use Rattle.column.proofs.Entering.{event-room}

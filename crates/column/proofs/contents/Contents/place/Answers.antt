@@ -1,7 +1,7 @@
 use Rattle.std.proofs.Common.{ap, sym, subst, ◌∙◌}
 use Rattle.skeen_core.specs.Standings.{line_of}
 use Rattle.col_core.specs.History.{line}
-use Rattle.col_core.proofs.ChainGrowth.{line_rises}
+use Rattle.col_core.proofs.CallerLemmas.{line_rises}
 use Rattle.column.specs.Columns.{ColumnState, AreRising, history_of}
 use Rattle.column.proofs.Histories.{same_entries}
 use Rattle.column.proofs.contents.Contents.place.Goals as goal

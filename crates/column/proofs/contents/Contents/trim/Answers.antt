@@ -8,7 +8,7 @@ use Rattle.skeen_core.specs.Standings.{line_of}
 use Rattle.skeen_core.specs.Queues.{Queued, dropped_queue}
 use Rattle.col_core.specs.declared.Event.TheVariants as events
 use Rattle.col_core.specs.declared.Entry.{Entry}
-use Rattle.col_core.proofs.Appending.{entries-append}
+use Rattle.col_core.proofs.CallerLemmas.{entries-append}
 use Rattle.column.specs.Entering.{EnteredNode}
 use Rattle.column.specs.Columns.{ColumnState, cut_of, base_of, base_after, kept_copy, after_trim}
 use Rattle.column.specs.Inside.{IsKept}

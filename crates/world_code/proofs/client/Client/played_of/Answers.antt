@@ -2,7 +2,7 @@ use Rattle.std.proofs.Common.{◌≡◌, ℕ, ◌+◌, ◌<◌, ap, sym, ◌∙�
 use Rattle.std.specs.Prelude.{◌^◌}
 use Rattle.std.specs.List.{filter, range_with_len}
 use Rattle.log_node.specs.Sets.{has}
-use Rattle.log_node.proofs.SetLemmas.{members-low}
+use Rattle.log_node.proofs.CallerLemmas.{members-low}
 use Rattle.world_code.specs.Clients.{played_of}
 use Rattle.world_code.proofs.Ranges.{range_with, range_without, played_more}
 use Rattle.world_code.proofs.client.Client.played_of.Goals as goal
