@@ -317,7 +317,7 @@ module _ (objects : List Object) (S : ℕ → Type 0) (grants : Grants) (w : Wor
         adds = λ r d. adds_trans (MadeBy u (whats.Append colours text) w2 own r) (w.histories r d) (w1.histories r d)
             (w2.histories r d)
             (adds_last (λ r _. MadeBy u (whats.Append colours text) w2 own r)
-                (with_client w u (single_client w u c)) own c
+            (with_client w u (single_client w u c)) own c
             e (record { made = refl; help = λ x. absurd x }) r d)
             (adds_map (HelpIn w2 own u r) (MadeBy u (whats.Append colours text) w2 own r) (w1.histories r d)
             (w2.histories r d) (made_helping u (whats.Append colours text) w2 own r refl) (clears.helped.adds r d));

@@ -256,12 +256,12 @@ module _ (objects : List Object) (S : ℕ → Type 0) (grants : Grants) (w : Wor
     settled : IsSettled (log_of w3) (caller_in w objects u) node
     settled = all_in (IsSettledIn (log_of w3) (caller_in w objects u) node) (members colours) (λ c i.
         settled_in w3 reached3 row begun3 (caller_in w objects u)
-            (ap (λ (x : Shape). slice_index x.homes u) shape3) node
+        (ap (λ (x : Shape). slice_index x.homes u) shape3) node
         (ap (λ (x : Node). x.id) node3 ∙ begun.id_is objects w reached u colours text ok L on kept k) c (has_mark c i)
         (set_all c i)
         (subst (λ (x : Id). is_waiting (status_in (w3.histories own c) x) ≡ false)
         (ap (λ (x : Node). x.id) node3 ∙ begun.id_is objects w reached u colours text ok L on kept k)
-            (done3.waits own c)))
+        (done3.waits own c)))
 
     -- gone for memory
     gone_memory : last ≡ Gone Memory → IsGoneForMemory (log_of w3) (caller_in w objects u) kept node places

@@ -158,7 +158,7 @@ marked_first w by row grants (c0 ∷ cs) tail (suc n) b sub rising missing m c e
           → ((j : ℕ) → slice_get cs j ≡ Some c → j < n
           → is_missing ((row_of (run_steps (after w (mark_step w by row grants c0))
           (take n (mark_steps (after w (mark_step w by row grants c0)) by row grants cs ++ tail))) row).marks c)
-              ≡ false)
+          ≡ false)
           → is_missing ((row_of (run_steps (after w (mark_step w by row grants c0))
           (take n (mark_steps (after w (mark_step w by row grants c0)) by row grants cs ++ tail))) row).marks c) ≡ false
       at_place zero ek lk set later =

@@ -283,7 +283,7 @@ module _ (grants : Grants) (state : State) (command : Command) where
       (pulled_is grants state command region c ∙ (if_false (region == own) (stayed grants state command) from f
       ∙ (from_is grants state command region c
       ∙ if_false grants.carry (carried grants state command region c)
-          (given grants state command region c) g))) tells)))
+      (given grants state command region c) g))) tells)))
       ∙ sym (if_false (region == own) (stayed grants state command) from_all_found f)))
       ∙ sym (pulled_is all_granted state command region c))
 

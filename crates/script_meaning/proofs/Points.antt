@@ -61,7 +61,7 @@ past_within n seen [] le all = le
 past_within n seen (place ∷ places) le all =
     let lt = all 0 place (omega arith) in
     past_within n (max seen (place + 1)) places (omega (arith, le, lt))
-        (λ k d within. all (suc k) d (omega (arith, within)))
+    (λ k d within. all (suc k) d (omega (arith, within)))
 
 pub made_seen : (own : ℕ) (seen_max : ℕ → ℕ → ℕ) (kept : Kept) (places : ℕ → List ℕ)
     → ((r c : ℕ) → kept.seen r c ≤ seen_max r c) → ((c : ℕ) → All (λ place. place < seen_max own c) (places c))

@@ -158,4 +158,3 @@ holds_beginning w h origin region colour two =
     let t = h.copies colour origin region two.origin_is two.region_is two.differ in
     let xs = chains_after region (w.histories region colour) origin in
     sym (ap (take (length xs)) (sym t.beginning) ∙ take_at xs t.rest (length xs) refl)
-

@@ -30,7 +30,6 @@ pub use Rattle.world_laws.specs.Lines.{Settles, IsFinal, HasEntry, StandsAt, Set
 pub use Rattle.world_laws.specs.Lines.{EachLineRises, OrderedAlike, IsNowhere, FencedIsNowhere}
 pub use Rattle.world_laws.specs.Lines.{NoneGetsBefore}
 
-
 -- the law holds of every world that steps have made
 abbrev pub Always : (World → Type 0) → Type 0
 Always Law = (shape : Shape) (steps : List Step) → Law (run_steps (opened shape) steps)

@@ -27,10 +27,10 @@ returns-in-Ok-clause-values g c = λ other.
     let key = ap (λ (e : List ℕ × g.row.V.Denot). e.0) c.index_mut.ensures.value in
     let same : item.0 ≡ c.args.key = key ∙ found.has item ∙ c.as_bytes.ensures in
     let is = set_value c.self.inside.entries.items item.0 c.args.value c.in-Ok.place item other c.self.invariant found.within (sym key)
-        ∙ ap (λ (k : List ℕ). cond (bytes_eq k other) (Some c.args.value) (value_at c.self.inside.entries.items other)) same in
+    ∙ ap (λ (k : List ℕ). cond (bytes_eq k other) (Some c.args.value) (value_at c.self.inside.entries.items other)) same in
     elim c.match-key.branch [
-      in-Heap-1 w ↦ rw (w.self-is, ← c.self.view_is) is
-    | in-Inline-1 w ↦ rw (w.self-is, ← c.self.view_is) is
+      | in-Heap-1 w ↦ rw (w.self-is, ← c.self.view_is) is
+      | in-Inline-1 w ↦ rw (w.self-is, ← c.self.view_is) is
     ]
 
 pub invariant_of-self-in-Ok-insert : goal.invariant_of-self-in-Ok-insert
