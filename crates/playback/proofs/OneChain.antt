@@ -146,4 +146,3 @@ lone_in_order view from region past start cut lt lone = λ chains shows reached.
         each (suc (suc zero)) h e = omega (arith, e)
         each (suc (suc (suc zero))) h e = omega (arith, e)
         each (suc (suc (suc (suc r)))) h e = absurd (let f : ⊥ = omega (arith, h) in f)
-
