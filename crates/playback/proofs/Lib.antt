@@ -6,5 +6,6 @@ mod Whole
 mod Playing
 mod Shown
 mod ShownNext
+mod OneChain
 mod Steps
 pub mod CallerLemmas

@@ -125,10 +125,22 @@ nothing_left (suc n) chains played to e = ap
 
 pub all_in_order : (view : View) (from played : Counts) (items : List PlacedNode) → IsPlaying view from played items
     → IsNextRegion view played None → AreInOrder view from items
-all_in_order view from played items h none = λ chains shows.
+all_in_order view from played items h none = λ chains shows _.
     let s = h.so_far chains shows in
     s.shown ∙ ap (map (item_at view)) (append_none s.places
     ∙ (ap (λ ps. s.places ++ ps) (sym (nothing_left s.left chains played view.cut (none chains shows))) ∙ s.rest))
+
+-- the view starts no earlier than what was played
+pub looked_past : (view : View) (played : Counts) → IsLookedFrom view played → IsWithin played view.from
+looked_past view played from =
+    within played view.from (λ r lt. each r lt (ap (λ v. at v r) from)) where
+      each : (r : ℕ) → r < 4 → at view.from r ≡ at (vector (λ region. max (at played region) (at view.base region))) r
+          → at played r ≤ at view.from r
+      each zero lt e = omega (arith, e)
+      each (suc zero) lt e = omega (arith, e)
+      each (suc (suc zero)) lt e = omega (arith, e)
+      each (suc (suc (suc zero))) lt e = omega (arith, e)
+      each (suc (suc (suc (suc r)))) lt e = absurd (let f : ⊥ = omega (arith, lt) in f)
 
 -- where nothing is trimmed, the view starts no later than what was played
 pub looked_from : (view : View) (played : Counts) → IsLookedFrom view played → IsWithin view.base played
@@ -198,8 +210,8 @@ pub are_played : (view : View) (from : Counts) (items : List PlacedNode) → IsW
     → (chains : Chains) → ShowsChains view chains → Reachable chains view.cut → ArePlayed view chains from items
 are_played view from items past cut in_order chains shows reached = record {
   in_order = order_is_played chains from view.cut reached cut;
-  items_shown = in_order chains shows;
+  items_shown = in_order chains shows reached;
   heads = heads_shown view chains shows items (play_order chains from view.cut)
       (order_ahead (count_all view.cut) chains view.from from view.cut (within-at view.from from past))
-      (in_order chains shows);
+      (in_order chains shows reached);
 }

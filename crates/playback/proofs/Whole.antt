@@ -14,7 +14,7 @@ use Rattle.playback.proofs.Counting.{more_here, more_there, no_less, zero_at, if
 use Rattle.playback.proofs.PlayedTo.{IsPlayedTo, NoneFree}
 
 -- where no node is free, what can be reached within the end is played
-reached_played : (chains : Chains) (played to : Counts) → NoneFree chains played to → {w : Counts} → Reachable chains w
+pub reached_played : (chains : Chains) (played to : Counts) → NoneFree chains played to → {w : Counts} → Reachable chains w
     → ((r : ℕ) → r < 4 → at w r ≤ at to r) → (r : ℕ) → r < 4 → at w r ≤ at played r
 reached_played chains played to none nothing le r lt = let z : at zeros r ≡ 0 = zero_at r lt in omega (arith, z)
 reached_played chains played to none (next {v} region head before inside there needs) le r lt =

@@ -3,9 +3,9 @@ use Rattle.std.specs.Prelude.{◌≡◌, Bool, ℕ, ◌<◌, ◌≤◌, ◌&&◌
 use Rattle.log_node.specs.declared.ids.Counts.{Counts}
 use Rattle.log_node.specs.Order.{key_below, same_key}
 use Rattle.log_node.specs.Seen.{PlacedNode}
-use Rattle.log_node.specs.Vectors.{at, is_within, all_regions}
+use Rattle.log_node.specs.Vectors.{at, is_within, with_number, all_regions}
 use Rattle.col_core.specs.declared.view.View.{View}
-use Rattle.col_core.specs.Cuts.{Chains}
+use Rattle.col_core.specs.Cuts.{Chains, Reachable}
 use Rattle.playback.specs.declared.free.Free.{Free}
 use Rattle.playback.specs.Orders.{next_place, next_region, play_order}
 use Rattle.playback.specs.Playing.{ShowsChains, item_at}
@@ -48,7 +48,12 @@ IsNextRegion view played None = (chains : Chains) → ShowsChains view chains
     → next_region chains played view.cut all_regions ≡ None
 IsNextRegion view played (Some region) = GoesNext view played region
 
--- the items are those at the places of the computed order, in all chains that the view shows
+-- The items are those at the places of the computed order, in all chains that the view shows and in which its cut can
+-- be reached.
 abbrev pub AreInOrder : View → Counts → List PlacedNode → Type 0
-AreInOrder view from items = (chains : Chains) → ShowsChains view chains
+AreInOrder view from items = (chains : Chains) → ShowsChains view chains → Reachable chains view.cut
     → map Some items ≡ map (item_at view) (play_order chains from view.cut)
+
+-- no other region's chain has nodes from the first vector to the second
+abbrev pub is_lone : Counts → Counts → ℕ → Bool
+is_lone from to region = is_within (with_number to region 0) from

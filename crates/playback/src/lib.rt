@@ -4,6 +4,7 @@
 mod faults;
 mod free;
 mod laws;
+mod lone;
 mod player;
 
 pub use faults::PlayFault;

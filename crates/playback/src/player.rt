@@ -7,6 +7,7 @@ ghost use Rattle.playback.specs.Inside.{AreInOrder};
 
 use crate::faults::PlayFault;
 use crate::free::{next_item, next_region};
+use crate::lone::{lone_region, taken_chain};
 use col_core::View;
 use log_node::{Counts, Items, ListOf, MAX_REGIONS};
 use std::alloc::{AllocError, Global};
@@ -65,36 +66,48 @@ fn items_in_order(alloc: Global, view: &View, from: Counts) -> Result<Items, All
     Ok(ListOf::from(items))
 }
 
+// The nodes from these counts, where the view starts, up to its cut, in the order of play. Where one chain alone has
+// such nodes they are moved out of the view, and shared else.
+fn taken_in_order(alloc: Global, view: View, from: Counts) -> Result<Items, AllocError>
+    requires from { IsWithin view.from from }
+    requires start { IsWithin from view.from }
+    requires cut { IsWithin from view.cut }
+    ensures { IfOk result (AreInOrder view from) }
+{
+    match lone_region(from, view.cut) {
+        Some(region) => Ok(taken_chain(alloc, view.items, region)),
+        None => items_in_order(alloc, &view, from),
+    }
+}
+
 /// Plays the nodes of the view that the player has not played. `Trimmed` exactly where a played count is below the
 /// view's base, which is tested first.
-pub fn play(alloc: Global, view: &View, player: &mut Player) -> Result<Played, PlayFault>
+pub fn play(alloc: Global, view: View, player: &mut Player) -> Result<Played, PlayFault>
     // The view was looked at from the player's counts, and these are within the cut.
-    requires from { IsLookedFrom view.now player.old.played }
-    requires cut { IsWithin player.old.played view.now.cut }
-    ensures items { IfOk result (λ played. (chains : Chains) → ShowsChains view.now chains
-        → Reachable chains view.now.cut → ArePlayed view.now chains player.old.played played.items) }
+    requires from { IsLookedFrom view player.old.played }
+    requires cut { IsWithin player.old.played view.cut }
+    ensures items { IfOk result (λ played. (chains : Chains) → ShowsChains view chains
+        → Reachable chains view.cut → ArePlayed view chains player.old.played played.items) }
     ensures snapshot { IfOk result (λ played. played.snapshot ≡ record {
-      region = view.now.region;
-      colour = view.now.colour;
-      counts = view.now.cut;
+      region = view.region;
+      colour = view.colour;
+      counts = view.cut;
     }) }
-    ensures player { OnOk result (player.new ≡ record player.old { played = view.now.cut }) }
+    ensures player { OnOk result (player.new ≡ record player.old { played = view.cut }) }
     // A refusal changes nothing.
-    ensures trimmed { OnOk result (IsWithin view.now.base player.old.played) }
-    ensures cause { IfErr result (HasPlayCause view.now player.old.played) }
+    ensures trimmed { OnOk result (IsWithin view.base player.old.played) }
+    ensures cause { IfErr result (HasPlayCause view player.old.played) }
     ensures err { OnErr result (player.new ≡ player.old) }
 {
     if !view.base.is_within(player.played) {
         return Err(PlayFault::Trimmed { base: view.base });
     }
-    let items = items_in_order(alloc, view, player.played)?;
-    player.played = view.cut;
-    Ok(Played {
-        snapshot: Snapshot {
-            region: view.region,
-            colour: view.colour,
-            counts: view.cut,
-        },
-        items,
-    })
+    let snapshot = Snapshot {
+        region: view.region,
+        colour: view.colour,
+        counts: view.cut,
+    };
+    let items = taken_in_order(alloc, view, player.played)?;
+    player.played = snapshot.counts;
+    Ok(Played { snapshot, items })
 }

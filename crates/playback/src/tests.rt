@@ -67,7 +67,7 @@ fn count_played(alloc: Global, items: Items) -> Result<usize, PlayFault> {
         colour: 2,
         played: Counts([0; 4]),
     };
-    Ok(play(alloc, &view, &mut player)?.items.len())
+    Ok(play(alloc, view, &mut player)?.items.len())
 }
 
 fn one_chain(alloc: Global, items: Items) -> Result<Chains, AllocError> {
@@ -115,7 +115,7 @@ fn a_node_waits_for_two_others(rt: HostRuntime) -> Result<(), Fail> {
         colour: 2,
         played: Counts([0; 4]),
     };
-    let played = play(alloc, &view, &mut player)?;
+    let played = play(alloc, view, &mut player)?;
     assert_eq!(rt;
         played.snapshot,
         Snapshot {
@@ -147,7 +147,7 @@ fn equal_keys_go_by_region(rt: HostRuntime) -> Result<(), Fail> {
         colour: 2,
         played,
     };
-    let played = play(alloc, &view, &mut player)?;
+    let played = play(alloc, view, &mut player)?;
     assert_eq!(rt; played.items.len(), 4);
     for (item, region) in played.items.as_slice().iter().zip([1, 2, 3, 0]) {
         assert_eq!(rt; item.node().region, region);
@@ -177,7 +177,7 @@ fn trimmed_nodes_are_not_played(rt: HostRuntime) -> Result<(), Fail> {
             colour: 2,
             played,
         };
-        let result = play(alloc, &view, &mut player).map(|played| played.items.len());
+        let result = play(alloc, view, &mut player).map(|played| played.items.len());
         assert_eq!(rt; result, answer, "at {count}");
         let kept = if answer.is_ok() { 3 } else { count };
         assert_eq!(rt; player.played.0[1], kept, "at {count}");

@@ -49,7 +49,8 @@ pub fn sync(
     world.is_whole();
     let view = world.look(alloc, command.client, colour)?;
     let mut player = player_of(world, command.client, view.region, colour);
-    match play(alloc, &view, &mut player) {
+    let events = view.events;
+    match play(alloc, view, &mut player) {
         Err(PlayFault::NoMemory) => Err(AllocError),
         Err(PlayFault::Trimmed { base }) => {
             Ok((Answer::Trimmed { colour, base }, ListOf::new(alloc)))
@@ -57,7 +58,7 @@ pub fn sync(
         Ok(played) => {
             let sync = SyncPiece {
                 colour,
-                events: view.events,
+                events,
                 counts: played.snapshot.counts,
             };
             let plays = played.items.len() as u64;

@@ -40,8 +40,8 @@ returns-in-Err-Trimmed-clause-ok c =
     ∙ (ap (λ (p : Player). is_within c.in_ok-view.view.base p.played) (sym c.player_of-player.ensures) ∙ cause.1))
     (cause.0 ∙ look.base))
 
-pub returns-clause-ok : goal.returns-clause-ok
-returns-clause-ok c =
+pub returns-in-Ok-clause-ok : goal.returns-in-Ok-clause-ok
+returns-in-Ok-clause-ok c =
     let w = world_of c.args.world.now in
     let command = c.args.command.now in
     let view = c.in_ok-view.view in
