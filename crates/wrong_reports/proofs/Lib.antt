@@ -14,3 +14,4 @@ mod WrongObjects
 mod WrongHelping
 mod WrongVerdict
 mod WrongHidden
+mod WrongFree

@@ -131,4 +131,6 @@ pub use shown::a_node_that_is_not_shown_is_unlawful;
 pub use shown::a_node_that_wants_too_little_is_unlawful;
 pub use shown::a_node_under_another_stamp_is_unlawful;
 pub use shown::a_node_with_another_text_is_unlawful;
+pub use shown::a_text_of_an_unknown_node_is_unlawful;
+pub use shown::free_nodes_in_another_order_is_unlawful;
 pub use shown::nodes_in_another_order_is_unlawful;
