@@ -15,3 +15,4 @@ mod WrongHelping
 mod WrongVerdict
 mod WrongHidden
 mod WrongFree
+mod WrongScans
