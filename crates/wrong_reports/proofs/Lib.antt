@@ -16,3 +16,4 @@ mod WrongVerdict
 mod WrongHidden
 mod WrongFree
 mod WrongScans
+mod WrongUnread
