@@ -16,4 +16,6 @@ mod WrongVerdict
 mod WrongHidden
 mod WrongFree
 mod WrongScans
+mod WrongStops
+mod WrongNodes
 mod WrongUnread
