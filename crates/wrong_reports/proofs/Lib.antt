@@ -14,3 +14,8 @@ mod WrongObjects
 mod WrongHelping
 mod WrongVerdict
 mod WrongHidden
+mod WrongFree
+mod WrongScans
+mod WrongStops
+mod WrongNodes
+mod WrongUnread

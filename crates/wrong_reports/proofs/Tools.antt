@@ -18,7 +18,7 @@ no_end [] x e = cc (e)
 no_end (y ∷ ys) x e = cc (e)
 
 -- a list with one more at its end is put together in one way
-same_end : {A : Type 0} (xs ys : List A) (x y : A) → xs ++ x ∷ [] ≡ ys ++ y ∷ [] → (xs ≡ ys) × (x ≡ y)
+pub same_end : {A : Type 0} (xs ys : List A) (x y : A) → xs ++ x ∷ [] ≡ ys ++ y ∷ [] → (xs ≡ ys) × (x ≡ y)
 same_end [] [] x y e = (refl, cc (e))
 same_end [] (z ∷ zs) x y e = absurd (no_end zs y (cc (e)))
 same_end (z ∷ zs) [] x y e = absurd (no_end zs x (sym (cc (e))))

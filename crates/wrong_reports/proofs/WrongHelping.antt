@@ -1,5 +1,5 @@
 -- Phantoms, appends that stop and go on, and wrong helpers.
-use Rattle.std.proofs.Common.{◌≡◌, ◌≢◌, ◌⊎◌, inl, inr, ℕ, zero, suc, ◌+◌, ◌<◌, List, [], ◌∷◌, length, false, Some}
+use Rattle.std.proofs.Common.{◌≡◌, ◌≢◌, ◌⊎◌, inl, inr, ℕ, zero, suc, ◌+◌, ◌<◌, List, [], ◌∷◌, length, false, Some, None}
 use Rattle.std.proofs.Common.{refl, ap, sym, subst, ◌∙◌, arith, lit<, slice_get}
 use Rattle.std.specs.Prelude.{IsTrue}
 use Rattle.std.specs.List.{All, Contains}
@@ -10,7 +10,7 @@ use Rattle.skeen_core.specs.declared.marks.ColourMark.{ColourMark}
 use Rattle.skeen_core.specs.declared.marks.Mark.{Mark}
 use Rattle.skeen_core.specs.declared.marks.Mark.TheVariants as marks
 use Rattle.skeen_core.specs.declared.marks.Outcome.TheVariants.{Open}
-use Rattle.skeen_core.specs.Standings.{Standing}
+use Rattle.skeen_core.specs.Standings.{Standing, open_entry}
 use Rattle.col_core.specs.declared.Entry.{Entry}
 use Rattle.col_core.specs.History.{entries}
 use Rattle.col_core.specs.Rows.{BegunRow}
@@ -26,13 +26,13 @@ use Rattle.lawful_run.specs.Asks.{manner_of, may_help}
 use Rattle.lawful_run.specs.Stops.{StopsAfter, Stops, stopped_at_once, stopped_after, IsStepWithin}
 use Rattle.lawful_run.specs.Columns.{IsClientIn}
 use Rattle.lawful_run.specs.Lawful.{LawfulRun, HasStopped, HasHelping}
-use Rattle.wrong_reports.specs.Cases.{Case, IsUnlawful, a, b, x, id, proposes, on_both}
+use Rattle.wrong_reports.specs.Cases.{Case, IsUnlawful, a, b, x, y, id, proposes, on_both}
 use Rattle.wrong_reports.specs.Rows.{settles, proposed}
 use Rattle.wrong_reports.specs.Helping.{a_stop_for_the_stamps_end, phantom, a_phantom_of_another_region}
 use Rattle.wrong_reports.specs.Helping.{a_phantom_of_nobody, a_stopped_append_that_goes_on, a_stop_before_its_steps}
 use Rattle.wrong_reports.specs.Helping.{a_stop_after_other_steps, left_open_by_one_who_did_not_stop, a_row_left_open}
 use Rattle.wrong_reports.specs.Helping.{helped_by_b, one_who_only_syncs_helps, one_of_another_region_helps}
-use Rattle.wrong_reports.specs.Helping.{a_helped_append_left_open}
+use Rattle.wrong_reports.specs.Helping.{a_helped_append_left_open, a_helped_append_open_in_a_colour}
 use Rattle.wrong_reports.proofs.Tools.{only, column_at, some_same}
 use Rattle.wrong_reports.proofs.BegunRows.{one_row, second_row, only_row, at_row, in_rows}
 
@@ -52,12 +52,12 @@ nobody run = let o = (of_client 2 run).0 in omega (arith, o)
 
 -- STOPS
 -- an append that stopped after its first step, or later
-record Stopped (log : Log) (caller : Caller) (kept : Kept) (node : Node) (steps : ℕ) (after : Kept) : Type 0 where
+pub record Stopped (log : Log) (caller : Caller) (kept : Kept) (node : Node) (steps : ℕ) (after : Kept) : Type 0 where
   pub places : ℕ → List ℕ
   pub says : StopsAfter log caller kept node steps places
   pub after_is : after ≡ with_made (with_row kept) caller.own places
 
-stopped_says : (log : Log) (caller : Caller) (kept : Kept) (node : Node) (steps : ℕ) (after : Kept) → 0 < steps
+pub stopped_says : (log : Log) (caller : Caller) (kept : Kept) (node : Node) (steps : ℕ) (after : Kept) → 0 < steps
     → Stops log caller kept node steps after → Stopped log caller kept node steps after
 stopped_says log caller kept node steps after some stopped_at_once = absurd (omega (arith, some))
 stopped_says log caller kept node steps after some (stopped_after n places s) = record {
@@ -188,3 +188,15 @@ left_open run =
 
 pub stamps_end : IsUnlawful a_stop_for_the_stamps_end
 stamps_end run = (only run.log _ _ _ _ (run.clients 0 _ refl).explained).explained.1 refl
+
+pub open_somewhere : IsUnlawful a_helped_append_open_in_a_colour
+open_somewhere run =
+    let h = (column_at a_helped_append_open_in_a_colour run 0 (helped_by_b x) refl).history in
+    let k = (column_at a_helped_append_open_in_a_colour run 1 (proposed y) refl).history in
+    let among = subst (λ (es : List Entry). Contains es help) h (1, lit< tt, refl) in
+    let one = one_row 0 (run.log.rows 0) _ run.begun.all in
+    let closed = (run.helped 0 0 help _ (lit< tt) (lit< tt) among (λ i. let f : 0 ≡ 1 =
+    i in cc (f)) (in_rows one) (sym one.id_is)).open_nowhere 1 (lit< tt) in
+    let none = subst (λ i. open_entry i (entries (proposed y).journal) ≡ None) one.id_is
+    (subst (λ (es : List Entry). open_entry one.node.id (entries es) ≡ None) (sym k) closed) in
+    cc (none)

@@ -5,17 +5,24 @@ use Rattle.std.specs.List.{All, Contains}
 use Rattle.col_core.specs.declared.Event.TheVariants.{Raise}
 use Rattle.col_core.specs.declared.Entry.{Entry}
 use Rattle.col_core.specs.History.{clock}
+use Rattle.col_core.specs.Cuts.{IsGreatestReachable, chain}
+use Rattle.col_core.specs.Computed.{dated}
 use Rattle.col_core.specs.Log.{places_of}
+use Rattle.col_core.proofs.CallerLemmas.{cut-is_greatest, cut_unique}
+use Rattle.log_node.specs.declared.ids.Counts.{Counts}
+use Rattle.log_node.specs.Vectors.{at}
 use Rattle.col_core.specs.Keeping.{Kept, nothing_kept}
 use Rattle.log_node.specs.declared.node.At.TheVariants.{Event}
 use Rattle.script_text.specs.declared.script.What.TheVariants.{Scan}
 use Rattle.lawful_run.specs.Callers.{caller_of}
-use Rattle.lawful_run.specs.Reads.{RaisesAt, HidesRead}
+use Rattle.lawful_run.specs.Reads.{RaisesAt, HidesRead, HidesSync, not_played, played}
 use Rattle.lawful_run.specs.Refusals.{FindsNoMemory, nothing, gone, gave, hidden}
 use Rattle.lawful_run.specs.Lawful.{LawfulRun}
-use Rattle.wrong_reports.specs.Cases.{IsUnlawful, a, on_x, by}
-use Rattle.wrong_reports.specs.Reads.{a_hidden_raise_to_nothing}
+use Rattle.wrong_reports.specs.Cases.{IsUnlawful, a, on_x, by, trims, counts}
+use Rattle.wrong_reports.specs.Reads.{a_hidden_raise_to_nothing, a_hidden_look_at_nothing}
 use Rattle.wrong_reports.proofs.Tools.{only, column_at, some_same}
+use Rattle.wrong_reports.proofs.Told.{two, trim_says}
+use Rattle.wrong_reports.proofs.WrongMoves.{trim_counts}
 
 raised_to : (one other : ℕ) → Raise one ≡ Raise other → one ≡ other
 raised_to one other e = cc (e)
@@ -80,3 +87,53 @@ hidden_raise run =
     let s = only run.log _ _ _ _ client.explained in
     let made = ap (places_of 0) (history run) ∙ client.made 0 0 (lit< tt) (lit< tt) in
     found_none run _ s.explained.1 (made ∙ ap (λ (k : Kept). k.made 0 0) s.after_is)
+
+-- A SNAPSHOT OF NOTHING
+abbrev too_much : Entry
+too_much = trims a (counts 1 0)
+
+reached : (events : ℕ) (v : Counts) → events ≤ 1
+    → IsGreatestReachable (chain 0 (dated 0 (take events (too_much ∷ [])))) v → at v 0 ≡ 0
+reached zero v le g = ap (λ v. at v 0) (cut_unique _ _ _ g (cut-is_greatest 0 (dated 0 [])))
+reached (suc zero) v le g = ap (λ v. at v 0) (cut_unique _ _ _ g (cut-is_greatest 0 (dated 0 (too_much ∷ []))))
+reached (suc (suc n)) v le g = absurd (omega (arith, le))
+
+module _ (run : LawfulRun a_hidden_look_at_nothing.script a_hidden_look_at_nothing.report) where
+  trimmed_history : too_much ∷ [] ≡ run.log.histories 0 0
+  trimmed_history = (column_at a_hidden_look_at_nothing run 0 _ refl).history
+
+  plays_none : (snapshot : Counts) (stamp : ℕ)
+      → HidesSync run.log (caller_of a_hidden_look_at_nothing.script 0) nothing_kept 0 snapshot stamp
+      → at snapshot 0 ≡ 0
+  plays_none snapshot stamp not_played = refl
+  plays_none snapshot stamp (played events snap syncs) =
+      reached events snap (subst (λ (es : List Entry). events ≤ length es) (sym trimmed_history) syncs.there)
+      (subst (λ (es : List Entry). IsGreatestReachable (chain 0 (dated 0 (take events es))) snap) (sym trimmed_history)
+      syncs.cut)
+
+  starts_none : (after : Kept)
+      → FindsNoMemory run.log (caller_of a_hidden_look_at_nothing.script 0) nothing_kept (Scan on_x) after
+      → at (after.starts 0) 0 ≡ 0
+  starts_none after nothing = refl
+  starts_none after (gone colours text places asks is) = absurd asks
+  starts_none after (gave region colour too_low gives pull low few all) = absurd (let f : ⊥ = cc (pull) in f)
+  starts_none after (hidden other hides) = by hides where
+    by : HidesRead run.log (caller_of a_hidden_look_at_nothing.script 0) nothing_kept (0 ∷ []) other
+        → at (other.starts 0) 0 ≡ 0
+    by h =
+        let is : other.starts 0 ≡ h.synced.starts 0 = elim h.after_is [
+          | inl f ↦ ap (λ (k : Kept). k.starts 0) f
+          | inr f ↦ ap (λ (k : Kept). k.starts 0) f
+        ] in
+        ap (λ v. at v 0) (is ∙ ap (λ (k : Kept). k.starts 0) h.syncing.3)
+        ∙ plays_none h.syncing.0 h.syncing.1 h.syncing.2
+
+pub hidden_look : IsUnlawful a_hidden_look_at_nothing
+hidden_look run =
+    let t = two run.log _ _ _ _ _ _ (run.clients 0 _ refl).explained in
+    let trims = (trim_says run.log _ _ _ _ _ _ _ _ t.second).0.trimmed in
+    let same = some_same too_much _ (ap (λ (es : List Entry). slice_get es 0) (trimmed_history run) ∙ trims) in
+    let start = trim_counts _ _ (ap (λ (en : Entry). en.event) same) in
+    let none = starts_none run _ t.first.explained.1 in
+    let f : 1 ≡ 0 = ap (λ v. at v 0) start ∙ ap (λ (k : Kept). at (k.starts 0) 0) t.first.after_is ∙ none in
+    omega (arith, f)

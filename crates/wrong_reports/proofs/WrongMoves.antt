@@ -1,5 +1,7 @@
 -- Pulls, trims and syncs that are wrong.
-use Rattle.std.proofs.Common.{◌≡◌, ℕ, List, [], ◌∷◌, length, take, refl, ap, sym, subst, ◌∙◌, arith, slice_get}
+use Rattle.std.proofs.Common.{◌≡◌, ℕ, zero, suc, List, [], ◌∷◌, ◌++◌, length, take, refl, ap, sym}
+use Rattle.std.proofs.Common.{subst, ◌∙◌, arith, lit<, slice_get}
+use Rattle.std.specs.List.{All, Contains}
 use Rattle.log_node.specs.declared.ids.Counts.{Counts}
 use Rattle.log_node.specs.declared.node.At.{At}
 use Rattle.log_node.specs.declared.node.Head.{Head}
@@ -9,19 +11,19 @@ use Rattle.col_core.specs.declared.Entry.{Entry}
 use Rattle.col_core.specs.History.{line}
 use Rattle.col_core.specs.Cuts.{chain, base}
 use Rattle.col_core.specs.Computed.{dated}
-use Rattle.col_core.specs.Log.{Log, first}
+use Rattle.col_core.specs.Log.{Log, first, places_of}
 use Rattle.col_core.specs.Keeping.{Kept}
 use Rattle.script_text.specs.declared.script.What.TheVariants as whats
-use Rattle.lawful_run.specs.Callers.{Caller}
-use Rattle.lawful_run.specs.Moves.{Pulls, kept_after_pull}
+use Rattle.lawful_run.specs.Callers.{Caller, caller_of}
+use Rattle.lawful_run.specs.Moves.{Pulls, GivesTooLow, kept_after_pull}
 use Rattle.lawful_run.specs.Explains.{Answers}
 use Rattle.wrong_reports.specs.Cases.{IsUnlawful, a, e, counts, asks}
 use Rattle.wrong_reports.specs.Naming.{trim, trimmed}
 use Rattle.wrong_reports.specs.Moves.{a_base_that_is_not_there, a_trim_beyond_the_snapshot, trimmed_where_nothing_is}
 use Rattle.wrong_reports.specs.Moves.{pulled, given_from, carried_one, another_region_taken_for_its_own}
 use Rattle.wrong_reports.specs.Moves.{a_pull_that_leaves_a_node, a_pull_of_more_nodes, a_pull_that_asks_again}
-use Rattle.wrong_reports.specs.Moves.{a_sync_of_what_was_trimmed}
-use Rattle.wrong_reports.proofs.Tools.{only, column_at, some_same}
+use Rattle.wrong_reports.specs.Moves.{a_sync_of_what_was_trimmed, a_pull_that_gives_twice, trimmed_in_another_colour}
+use Rattle.wrong_reports.proofs.Tools.{only, same_end, column_at, some_same}
 use Rattle.wrong_reports.proofs.Told.{two, trim_says}
 
 pub base_not_there : IsUnlawful a_base_that_is_not_there
@@ -32,7 +34,7 @@ base_not_there run =
     ∙ ap (λ (es : List Entry). base 0 1 (dated 0 (take 1 es))) (sym h)) in
     omega (arith, f)
 
-trim_counts : (one other : Counts) → made.Trim one ≡ made.Trim other → one ≡ other
+pub trim_counts : (one other : Counts) → made.Trim one ≡ made.Trim other → one ≡ other
 trim_counts one other e = cc (e)
 
 pub beyond_snapshot : IsUnlawful a_trim_beyond_the_snapshot
@@ -131,3 +133,24 @@ trimmed_away run =
     let h = (column_at a_sync_of_what_was_trimmed run 0 _ refl).history in
     let f = subst (λ (es : List Entry). IsWithin (base 0 1 (dated 0 (take 2 es))) zeros) (sym h) s in
     cc (f)
+
+pub gives_twice : IsUnlawful a_pull_that_gives_twice
+gives_twice run =
+    let client = run.clients 1 _ refl in
+    let p = pull_says run.log _ _ _ _ _ _ _ _ (only run.log _ _ _ _ client.explained) in
+    let h = (column_at a_pull_that_gives_twice run 0 _ refl).history in
+    let made = client.made 0 0 (lit< tt) (lit< tt) in
+    let places : 1 ∷ 2 ∷ [] ≡ p.too_low ++ 2 ∷ [] = ap (places_of 1) h ∙ made
+    ∙ ap (λ (k : Kept). k.made 0 0) p.after_is in
+    let low : 1 ∷ [] ≡ p.too_low = (same_end (1 ∷ []) p.too_low 2 2 places).0 in
+    let caller = caller_of a_pull_that_gives_twice.script 1 in
+    let again = (subst (All (GivesTooLow run.log caller 0 0)) (sym low) p.says.made_again 0 1 (lit< tt)).2 in
+    let none : at (base 0 2 (first run.log 0 0 1)) 0 ≡ 0 =
+    ap (λ (es : List Entry). at (base 0 2 (dated 0 (take 1 es))) 0) (sym h) in
+    omega (arith, again, none)
+
+pub other_colour : IsUnlawful trimmed_in_another_colour
+other_colour run = by (only run.log _ _ _ _ (run.clients 0 _ refl).explained).explained.2 where
+  by : Contains {X = ℕ} (0 ∷ []) 1 → ⊥
+  by (zero, lt, same) = omega (arith, same)
+  by (suc k, lt, same) = let f : ⊥ = omega (arith, lt) in f

@@ -40,7 +40,7 @@ away run =
 pub home : IsUnlawful another_home
 home run = let s = (only run.log _ _ _ _ (run.clients 1 _ refl).explained).explained.2 in cc (s)
 
-no_nodes : (log : Log) (nodes : List ObjectNode) → AreObjectNodes log [] nodes → nodes ≡ []
+pub no_nodes : (log : Log) (nodes : List ObjectNode) → AreObjectNodes log [] nodes → nodes ≡ []
 no_nodes log [] z = refl
 no_nodes log (n ∷ ns) z = absurd z
 
@@ -58,7 +58,7 @@ value_of_nothing run =
     let f : Some (codes "v") ≡ None = s.9.value_is ∙ ap (λ ns. shard_value s.5 0 ns s.2) nodes ∙ no_value s.5 0 s.2 in
     cc (f)
 
-same_asked : (object other : ℕ) (keys more : List (List ℕ))
+pub same_asked : (object other : ℕ) (keys more : List (List ℕ))
     → whats.GetAll object keys ≡ whats.GetAll other more → keys ≡ more
 same_asked object other keys more e = cc (e)
 

@@ -29,7 +29,7 @@ use Rattle.wrong_reports.proofs.Tools.{only, column_at}
 use Rattle.wrong_reports.proofs.Told.{two, stood_says, several_says}
 
 -- what a scan says
-record Scans (log : Log) (caller : Caller) (kept : Kept) (colours : Colours) (stamp : ℕ) (raises : List RaisePiece)
+pub record Scans (log : Log) (caller : Caller) (kept : Kept) (colours : Colours) (stamp : ℕ) (raises : List RaisePiece)
     (syncs : List SyncPiece) (nodes : List PlacedNode) (after : Kept) : Type 0 where
   pub reads : ReadsAt log caller kept (members colours) stamp raises syncs after
   pub keys : List Key
@@ -39,7 +39,7 @@ record Scans (log : Log) (caller : Caller) (kept : Kept) (colours : Colours) (st
 same_colours : (one other : Colours) → Scan one ≡ Scan other → one ≡ other
 same_colours one other e = cc (e)
 
-scan_says : (log : Log) (caller : Caller) (kept after : Kept) (line client : ℕ) (colours : Colours)
+pub scan_says : (log : Log) (caller : Caller) (kept after : Kept) (line client : ℕ) (colours : Colours)
     (stamp : ℕ) (raises : List RaisePiece)
     (syncs : List SyncPiece) (count : ℕ) (nodes : List PlacedNode)
     → (a : Answers log caller kept (asks line client (Scan colours))

@@ -179,18 +179,19 @@ lesser_stamp run = let s =
     ((column_at a_settling_under_a_lesser_stamp run 0 _ refl).legal 2 _ refl).1.0 in omega (arith, s)
 
 -- a row that is gone for the stamps' end
-gone_at_end : (log : Log) (caller : Caller) (kept after : Kept) (node : Node) → 2 ≤ length (members node.colours)
-    → HasNoStamp log caller kept node 0 after → (places : ℕ → List ℕ) × IsGoneAtEnd log caller kept node 0 places
-gone_at_end log caller kept after node two (none_for_one is had) =
+pub gone_at_end : (log : Log) (caller : Caller) (kept after : Kept) (node : Node) (colour : ℕ)
+    → 2 ≤ length (members node.colours) → HasNoStamp log caller kept node colour after
+    → (places : ℕ → List ℕ) × IsGoneAtEnd log caller kept node colour places
+gone_at_end log caller kept after node colour two (none_for_one is had) =
     absurd (let l = ap (λ (cs : List ℕ). length cs) is in omega (arith, l, two))
-gone_at_end log caller kept after node two (none_for_several places gone) = (places, gone)
+gone_at_end log caller kept after node colour two (none_for_several places gone) = (places, gone)
 
 pub fence : IsUnlawful a_fence_with_stamps_left
 fence run =
     let said = (only run.log _ _ _ _ (run.clients 0 _ refl).explained).explained.2 in
     let two : 2 ≤ length (members said.0) =
     subst (λ (cs : Colours). 2 ≤ length (members cs)) (sym said.2.0) (lit≤ tt) in
-    let gone = (gone_at_end run.log _ _ _ _ two said.3).1 in
+    let gone = (gone_at_end run.log _ _ _ _ _ two said.3).1 in
     let one = one_row 0 (run.log.rows 0) _ run.begun.all in
     let r = only_row _ gone.begins.row (subst (λ
     (rows : List BegunRow). Contains rows gone.begins.row) one.rows_are gone.begins.begun.begun) in

@@ -32,7 +32,7 @@ abbrev the_key : Key
 the_key = key 1 (id a 0)
 
 -- nothing is read of an empty line
-none_read : (stamp : ℕ) (keys : List Key) → IsRegionOrder ([] ∷ []) stamp keys → keys ≡ []
+pub none_read : (stamp : ℕ) (keys : List Key) → IsRegionOrder ([] ∷ []) stamp keys → keys ≡ []
 none_read stamp [] order = refl
 none_read stamp (k ∷ keys) order =
     let other = order.no_other k (0, (let l : 0 < length (k ∷ keys) = omega arith in l), refl) in

@@ -2,6 +2,7 @@
 use Rattle.skeen_core.specs.declared.marks.Mark.{Mark}
 use Rattle.std.specs.Prelude.{ℕ, [], ◌∷◌, codes, None, false}
 use Rattle.skeen_core.specs.declared.marks.Mark.TheVariants as marks
+use Rattle.skeen_core.specs.declared.marks.Outcome.{Outcome}
 use Rattle.skeen_core.specs.declared.marks.Outcome.TheVariants.{Open, Final}
 use Rattle.script_text.specs.declared.script.What.TheVariants.{Append, Stop, Sync}
 use Rattle.script_text.specs.declared.script.Word.TheVariants as words
@@ -59,6 +60,27 @@ a_stop_before_its_steps = record {
   report = shows (to_both (replies 8 words.Stop (answers.Stopped 2) ∷ []) [])
       (row e a 0 (id a 0) marks.None marks.None Open ∷ []) (empty e x ∷ empty e y ∷ []);
 }
+
+-- a stop with a proposal in both colours
+abbrev pub stops_proposed : ℕ → Outcome → Case
+stops_proposed steps last = record {
+  script = together (asks 8 a (Stop steps on_both (codes "s")) ∷ []);
+  report = shows (to_both (replies 8 words.Stop (answers.Stopped steps) ∷ []) [])
+      (row e a 0 (id a 0) (marks.Number 1) (marks.Number 1) last ∷ []) (proposed x ∷ proposed y ∷ []);
+}
+
+-- 8 stop stopped 4
+-- row e a.0 a.0 x=1 y=1 open
+abbrev pub a_stop_before_its_decision : Case
+a_stop_before_its_decision = stops_proposed 4 Open
+
+-- 8 stop stopped 5
+-- row e a.0 a.0 x=1 y=1 final 1
+-- column e x and column e y
+-- 0 a propose a.0 floor 0 wants 0 stamp 1
+-- = clock 1 line - queue a.0:1? cut 0 base 0
+abbrev pub a_stop_before_its_settling : Case
+a_stop_before_its_settling = stops_proposed 5 (Final 1)
 
 -- 8 stop stopped 2
 abbrev pub a_stop_after_other_steps : Case
@@ -149,4 +171,22 @@ a_helped_append_left_open = record {
       (row e a 0 (id a 0) (marks.Number 1) (marks.Number 2) Open ∷ [])
       (proposed x ∷ column e y (enters b (id b 0) 0 1 ∷ proposes b (id a 0) 0 2 ∷ []) 2 (key 1 (id b 0) ∷ [])
       (record { key = key 2 (id a 0); settled = false } ∷ []) (counts 1 0) (counts 0 0) ∷ []);
+}
+
+-- 8 stop stopped 3
+-- 9 append nomemory
+-- row e a.0 a.0 x=1 y=1 final 1
+-- column e x
+-- 0 a propose a.0 floor 0 wants 0 stamp 1
+-- 1 b settle a.0 final 1
+-- = clock 1 line a.0:1 queue - cut 1 base 0
+-- column e y
+-- 0 a propose a.0 floor 0 wants 0 stamp 1
+-- = clock 1 line - queue a.0:1? cut 0 base 0
+abbrev pub a_helped_append_open_in_a_colour : Case
+a_helped_append_open_in_a_colour = record {
+  script = together (asks 8 a (Stop 3 on_both (codes "s")) ∷ asks 9 b (Append on_x (codes "t")) ∷ []);
+  report = shows (to_both (replies 8 words.Stop (answers.Stopped 3) ∷ []) (replies 9 words.Append answers.NoMemory
+      ∷ []))
+      (row e a 0 (id a 0) (marks.Number 1) (marks.Number 1) (Final 1) ∷ []) (helped_by_b x ∷ proposed y ∷ []);
 }

@@ -11,7 +11,7 @@ use Rattle.script_text.specs.declared.script.Word.TheVariants as words
 use Rattle.script_text.specs.declared.script.Command.{Command}
 use Rattle.report_text.specs.declared.report.Answer.TheVariants as answers
 use Rattle.report_text.specs.declared.report.ReplyLine.{ReplyLine}
-use Rattle.wrong_reports.specs.Cases.{Case, a, b, e, w, x, id, key, counts, on_x, apart, script, asks, replies}
+use Rattle.wrong_reports.specs.Cases.{Case, a, b, e, w, x, y, id, key, counts, on_x, apart, script, asks, replies}
 use Rattle.wrong_reports.specs.Cases.{to_both, look, empty, by, shows}
 use Rattle.wrong_reports.specs.Naming.{case, append, stood_at, one_node, trim, trimmed}
 use Rattle.wrong_reports.specs.Columns.{single}
@@ -39,6 +39,11 @@ a_trim_beyond_the_snapshot =
 abbrev pub trimmed_where_nothing_is : Case
 trimmed_where_nothing_is = case (asks 6 a (Sync x)
     ∷ []) (replies 6 words.Sync (answers.Trimmed x (counts 0 0)) ∷ []) (empty e x)
+
+-- 6 sync trimmed y 0
+abbrev pub trimmed_in_another_colour : Case
+trimmed_in_another_colour = case (asks 6 a (Sync x)
+    ∷ []) (replies 6 words.Sync (answers.Trimmed y (counts 0 0)) ∷ []) (empty e x)
 
 -- PULLS: a appends in e, and b of w pulls
 abbrev pub pulls : List ReplyLine → List Command → List Entry → List Entry → Counts → Case
@@ -89,6 +94,17 @@ abbrev pub a_pull_that_asks_again : Case
 a_pull_that_asks_again = pulls (pulled 9 1 1 (Event 0) ∷ pulled 10 0 2 (Look 1)
     ∷ []) (asks 10 b (whats.Pull e x) ∷ [])
     (given_from 0 ∷ given_from 0 ∷ []) (carried_one ∷ []) (counts 1 0)
+
+-- 9 pull ok 1 give !2 carry !0
+-- column e x
+-- 0 a single a.0 floor 0 wants 0,0 stamp 1
+-- 1 b give w 0
+-- 2 b give w 0
+-- column w x
+-- 0 b carry e 0 a.0:1/0,0
+abbrev pub a_pull_that_gives_twice : Case
+a_pull_that_gives_twice = pulls (pulled 9 1 2 (Event 0) ∷ []) [] (given_from 0 ∷ given_from 0
+    ∷ []) (carried_one ∷ []) (counts 1 0)
 
 -- A SYNC BELOW THE BASE: a and b of the region e; a trims what b did not play
 -- 7 append ok 1 x!0@0

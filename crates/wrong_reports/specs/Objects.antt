@@ -12,7 +12,7 @@ use Rattle.report_text.specs.declared.report.Answer.TheVariants as answers
 use Rattle.report_text.specs.declared.report.ReplyLine.{ReplyLine}
 use Rattle.report_text.specs.declared.report.ColumnReport.{ColumnReport}
 use Rattle.wrong_reports.specs.Cases.{Case, a, b, e, w, x, counts, script, asks, replies, to_a, to_both, look, empty}
-use Rattle.wrong_reports.specs.Cases.{point, shows}
+use Rattle.wrong_reports.specs.Cases.{y, point, shows}
 use Rattle.wrong_reports.specs.Naming.{one_node}
 use Rattle.wrong_reports.specs.Reads.{raise}
 
@@ -142,3 +142,38 @@ abbrev pub a_conflict_with_nothing : Case
 a_conflict_with_nothing =
     over tx (asks 7 a (whats.Read 0 (codes "k" ∷ [])) ∷ asks 8 a (whats.Commit 0 one_pair) ∷ [])
     (read_at 7 ∷ conflicts ∷ []) one_node
+
+-- map o e x
+-- 7 a getall o k
+-- 7 getall ok 0 k=v x?0 x?0/0
+abbrev pub many_values_of_nothing : Case
+many_values_of_nothing =
+    over map (asks 7 a (whats.GetAll 0 (codes "k" ∷ [])) ∷ [])
+    (replies 7 words.GetAll (answers.GotKeys 0 (record { key = codes "k"; value = Some (codes "v") } ∷ [])
+    (raise x (Look 0) ∷ []) (look x 0 (counts 0 0) ∷ [])) ∷ []) (empty e x)
+
+-- tx o e x
+-- 7 a read o k
+-- 7 read ok 0 k=v x?0 x?0/0
+abbrev pub a_read_of_nothing : Case
+a_read_of_nothing =
+    over tx (asks 7 a (whats.Read 0 (codes "k" ∷ [])) ∷ [])
+    (replies 7 words.Read (answers.GotKeys 0 (record { key = codes "k"; value = Some (codes "v") } ∷ [])
+    (raise x (Look 0) ∷ []) (look x 0 (counts 0 0) ∷ [])) ∷ []) (empty e x)
+
+-- queue o e x
+-- 7 a deq o
+abbrev pub dequeues : Answer → Case
+dequeues answer = over queue (asks 7 a (whats.Deq 0) ∷ []) (replies 7 words.Deq answer ∷ []) one_node
+
+-- 7 deq unread 1 trimmed x 0
+abbrev pub unread_where_nothing_is_trimmed : Case
+unread_where_nothing_is_trimmed = dequeues (answers.UnreadTrimmed 1 x (counts 0 0))
+
+-- 7 deq unread 1 trimmed y 0
+abbrev pub unread_for_another_colour : Case
+unread_for_another_colour = dequeues (answers.UnreadTrimmed 1 y (counts 0 0))
+
+-- 7 deq unread 2 nomemory
+abbrev pub unread_under_another_stamp : Case
+unread_under_another_stamp = dequeues (answers.UnreadNoMemory 2)

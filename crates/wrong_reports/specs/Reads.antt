@@ -6,7 +6,7 @@ use Rattle.log_node.specs.Seen.{PlacedNode}
 use Rattle.skeen_core.specs.declared.marks.Mark.TheVariants as marks
 use Rattle.skeen_core.specs.declared.marks.Outcome.TheVariants.{Open, Final}
 use Rattle.col_core.specs.declared.Event.TheVariants.{Raise}
-use Rattle.script_text.specs.declared.script.What.TheVariants.{Append, Stop, Sync, Scan}
+use Rattle.script_text.specs.declared.script.What.TheVariants.{Append, Stop, Sync, Scan, Trim}
 use Rattle.script_text.specs.declared.script.Word.TheVariants as words
 use Rattle.script_text.specs.declared.script.Command.{Command}
 use Rattle.report_text.specs.declared.report.Answer.TheVariants as answers
@@ -15,9 +15,9 @@ use Rattle.report_text.specs.declared.report.SyncPiece.{SyncPiece}
 use Rattle.report_text.specs.declared.report.ReplyLine.{ReplyLine}
 use Rattle.report_text.specs.declared.report.ColumnReport.{ColumnReport}
 use Rattle.wrong_reports.specs.Cases.{Case, a, b, e, x, y, id, key, counts, on_x, on_both, together, asks, replies}
-use Rattle.wrong_reports.specs.Cases.{to_both, look, column, empty, by, proposes, shows}
-use Rattle.wrong_reports.specs.Naming.{case, append, stood_at, one_node}
-use Rattle.wrong_reports.specs.Shown.{shown}
+use Rattle.wrong_reports.specs.Cases.{script, to_both, look, column, empty, by, proposes, trims, shows}
+use Rattle.wrong_reports.specs.Naming.{case, append, stood_at, one_node, trimmed, trimmed_at}
+use Rattle.wrong_reports.specs.Shown.{shown, two_entries, two_plays}
 use Rattle.wrong_reports.specs.Rows.{row, stood, complete}
 
 abbrev pub raise : ℕ → At → RaisePiece
@@ -138,3 +138,34 @@ a_raise_that_leaves_the_clock = record {
 abbrev pub a_hidden_raise_to_nothing : Case
 a_hidden_raise_to_nothing = case (scan 6 ∷ []) (replies 6 words.Scan answers.NoMemory ∷ [])
     (column e x (by a (Raise 5) 0 ∷ []) 5 [] [] (counts 0 0) (counts 0 0))
+
+-- 6 scan nomemory
+-- 7 trim ok !0 base 0
+-- column e x
+-- 0 a trim 1
+-- = clock 0 line - queue - cut 0 base 0
+abbrev pub a_hidden_look_at_nothing : Case
+a_hidden_look_at_nothing = case (scan 6 ∷ asks 7 a (Trim x) ∷ [])
+    (replies 6 words.Scan answers.NoMemory ∷ trimmed_at 7 0 ∷ []) (trimmed (trims a (counts 1 0) ∷ []))
+
+-- 6 append ok 1 x!0@0
+-- 7 append ok 2 x!1@1
+-- 8 scan ok 2 nodes 2 x?2 x?2/2
+-- + a.1 2 s
+-- + a.0 1 s
+abbrev pub a_scan_in_another_order : Case
+a_scan_in_another_order = case (append 6 ∷ append 7 ∷ scan 8 ∷ [])
+    (stood_at 6 1 0 0 ∷ stood_at 7 2 1 1
+    ∷ scanned 8 2 (raise x (Look 2) ∷ []) (look x 2 (counts 2 0) ∷ []) 2 two_plays.nodes ∷ [])
+    (column e x two_entries 2 (key 1 (id a 0) ∷ key 2 (id a 1) ∷ []) [] (counts 2 0) (counts 0 0))
+
+-- 8 append ok 1 x!0@0
+-- 9 scan ok 0 nodes 1 x?0 x?1/1
+-- + a.0 1 s
+abbrev pub a_scan_beyond_its_stamp : Case
+a_scan_beyond_its_stamp = record {
+  script = script 1 1 (e ∷ e ∷ []) [] (append 8 ∷ asks 9 b (Scan on_x) ∷ []);
+  report = shows (to_both (stood_at 8 1 0 0 ∷ [])
+      (scanned 9 0 (raise x (Look 0) ∷ []) (look x 1 (counts 1 0) ∷ []) 1 (shown 1 (codes "s") ∷ []) ∷ []))
+      [] (one_node ∷ []);
+}

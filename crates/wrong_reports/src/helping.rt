@@ -5,7 +5,8 @@ ghost use Rattle.wrong_reports.specs.Helping.{a_stopped_append_that_goes_on, a_s
 ghost use Rattle.wrong_reports.specs.Helping.{a_stop_after_other_steps, a_stop_for_the_stamps_end};
 ghost use Rattle.wrong_reports.specs.Helping.{left_open_by_one_who_did_not_stop, a_row_left_open};
 ghost use Rattle.wrong_reports.specs.Helping.{one_who_only_syncs_helps, one_of_another_region_helps};
-ghost use Rattle.wrong_reports.specs.Helping.{a_helped_append_left_open};
+ghost use Rattle.wrong_reports.specs.Helping.{a_helped_append_left_open, a_stop_before_its_decision};
+ghost use Rattle.wrong_reports.specs.Helping.{a_stop_before_its_settling, a_helped_append_open_in_a_colour};
 
 /// A row is of a client of its region.
 #[tactic(auto, using(crate::proofs::WrongHelping::other_region))]
@@ -71,4 +72,22 @@ pub fn one_of_another_region_helps_is_unlawful()
 #[tactic(auto, using(crate::proofs::WrongHelping::left_open))]
 pub fn a_helped_append_left_open_is_unlawful()
     ensures { IsUnlawful a_helped_append_left_open }
+{}
+
+/// An append that stopped after its decision has an outcome.
+#[tactic(auto, using(crate::proofs::WrongStops::not_decided))]
+pub fn a_stop_before_its_decision_is_unlawful()
+    ensures { IsUnlawful a_stop_before_its_decision }
+{}
+
+/// An append that stopped after a settling is settled there.
+#[tactic(auto, using(crate::proofs::WrongStops::not_settled))]
+pub fn a_stop_before_its_settling_is_unlawful()
+    ensures { IsUnlawful a_stop_before_its_settling }
+{}
+
+/// A helped append is settled in each colour that it entered.
+#[tactic(auto, using(crate::proofs::WrongHelping::open_somewhere))]
+pub fn a_helped_append_open_in_a_colour_is_unlawful()
+    ensures { IsUnlawful a_helped_append_open_in_a_colour }
 {}

@@ -3,7 +3,8 @@ ghost use Rattle.wrong_reports.specs.Cases.{IsUnlawful};
 ghost use Rattle.wrong_reports.specs.Moves.{a_base_that_is_not_there, a_trim_beyond_the_snapshot};
 ghost use Rattle.wrong_reports.specs.Moves.{trimmed_where_nothing_is, a_sync_of_what_was_trimmed};
 ghost use Rattle.wrong_reports.specs.Moves.{another_region_taken_for_its_own, a_pull_that_leaves_a_node};
-ghost use Rattle.wrong_reports.specs.Moves.{a_pull_of_more_nodes, a_pull_that_asks_again};
+ghost use Rattle.wrong_reports.specs.Moves.{a_pull_of_more_nodes, a_pull_that_asks_again, a_pull_that_gives_twice};
+ghost use Rattle.wrong_reports.specs.Moves.{trimmed_in_another_colour};
 
 /// A trim tells the base.
 #[tactic(auto, using(crate::proofs::WrongMoves::base_not_there))]
@@ -51,4 +52,16 @@ pub fn a_pull_of_more_nodes_is_unlawful()
 #[tactic(auto, using(crate::proofs::WrongMoves::asks_again))]
 pub fn a_pull_that_asks_again_is_unlawful()
     ensures { IsUnlawful a_pull_that_asks_again }
+{}
+
+/// A pull gives again only where what it asked for was trimmed.
+#[tactic(auto, using(crate::proofs::WrongMoves::gives_twice))]
+pub fn a_pull_that_gives_twice_is_unlawful()
+    ensures { IsUnlawful a_pull_that_gives_twice }
+{}
+
+/// A sync is refused only for a trim of its own colour.
+#[tactic(auto, using(crate::proofs::WrongMoves::other_colour))]
+pub fn trimmed_in_another_colour_is_unlawful()
+    ensures { IsUnlawful trimmed_in_another_colour }
 {}

@@ -4,7 +4,9 @@ ghost use Rattle.wrong_reports.specs.Objects.{refused_at_home, answered_away_fro
 ghost use Rattle.wrong_reports.specs.Objects.{a_value_of_nothing, a_value_of_another_key, a_causal_value_of_nothing};
 ghost use Rattle.wrong_reports.specs.Objects.{a_dequeue_answered_as_an_append, a_dequeue_of_nothing};
 ghost use Rattle.wrong_reports.specs.Objects.{a_read_that_is_forgotten, a_commit_that_keeps_its_read};
-ghost use Rattle.wrong_reports.specs.Objects.{a_conflict_with_nothing};
+ghost use Rattle.wrong_reports.specs.Objects.{a_conflict_with_nothing, many_values_of_nothing, a_read_of_nothing};
+ghost use Rattle.wrong_reports.specs.Objects.{unread_where_nothing_is_trimmed, unread_for_another_colour};
+ghost use Rattle.wrong_reports.specs.Objects.{unread_under_another_stamp};
 
 /// At its home an object is not refused.
 #[tactic(auto, using(crate::proofs::WrongObjects::at_home))]
@@ -70,4 +72,34 @@ pub fn a_commit_that_keeps_its_read_is_unlawful()
 #[tactic(auto, using(crate::proofs::WrongVerdict::conflict))]
 pub fn a_conflict_with_nothing_is_unlawful()
     ensures { IsUnlawful a_conflict_with_nothing }
+{}
+
+/// A read of several keys of a map answers what was put.
+#[tactic(auto, using(crate::proofs::WrongUnread::many_values))]
+pub fn many_values_of_nothing_is_unlawful()
+    ensures { IsUnlawful many_values_of_nothing }
+{}
+
+/// A read of a transactional map answers what was committed.
+#[tactic(auto, using(crate::proofs::WrongUnread::read_value))]
+pub fn a_read_of_nothing_is_unlawful()
+    ensures { IsUnlawful a_read_of_nothing }
+{}
+
+/// A dequeue is told unread for a trim only where a node that was not played is trimmed.
+#[tactic(auto, using(crate::proofs::WrongUnread::nothing_trimmed))]
+pub fn unread_where_nothing_is_trimmed_is_unlawful()
+    ensures { IsUnlawful unread_where_nothing_is_trimmed }
+{}
+
+/// A dequeue is told unread for a trim of its own colour alone.
+#[tactic(auto, using(crate::proofs::WrongUnread::other_colour))]
+pub fn unread_for_another_colour_is_unlawful()
+    ensures { IsUnlawful unread_for_another_colour }
+{}
+
+/// A dequeue that is told unread tells the stamp of its node.
+#[tactic(auto, using(crate::proofs::WrongUnread::other_stamp))]
+pub fn unread_under_another_stamp_is_unlawful()
+    ensures { IsUnlawful unread_under_another_stamp }
 {}

@@ -5,7 +5,8 @@ ghost use Rattle.wrong_reports.specs.Reads.{a_read_stamp_of_nothing, a_read_belo
 ghost use Rattle.wrong_reports.specs.Reads.{a_read_below_a_clock_that_was_seen, a_raise_that_does_not_reach};
 ghost use Rattle.wrong_reports.specs.Reads.{a_raise_that_leaves_the_clock, a_raise_before_its_clients_nodes};
 ghost use Rattle.wrong_reports.specs.Reads.{a_read_over_an_open_entry, a_scan_that_leaves_a_node_out};
-ghost use Rattle.wrong_reports.specs.Reads.{a_hidden_raise_to_nothing};
+ghost use Rattle.wrong_reports.specs.Reads.{a_hidden_raise_to_nothing, a_hidden_look_at_nothing};
+ghost use Rattle.wrong_reports.specs.Reads.{a_scan_in_another_order, a_scan_beyond_its_stamp};
 
 /// A scan tells how many nodes it shows.
 #[tactic(auto, using(crate::proofs::WrongReads::more_nodes))]
@@ -77,4 +78,22 @@ pub fn a_scan_that_leaves_a_node_out_is_unlawful()
 #[tactic(auto, using(crate::proofs::WrongHidden::hidden_raise))]
 pub fn a_hidden_raise_to_nothing_is_unlawful()
     ensures { IsUnlawful a_hidden_raise_to_nothing }
+{}
+
+/// What a refused read may have played is a snapshot.
+#[tactic(auto, using(crate::proofs::WrongHidden::hidden_look))]
+pub fn a_hidden_look_at_nothing_is_unlawful()
+    ensures { IsUnlawful a_hidden_look_at_nothing }
+{}
+
+/// A scan shows its nodes in rising key.
+#[tactic(auto, using(crate::proofs::WrongScans::another_order))]
+pub fn a_scan_in_another_order_is_unlawful()
+    ensures { IsUnlawful a_scan_in_another_order }
+{}
+
+/// A scan shows no node above its stamp.
+#[tactic(auto, using(crate::proofs::WrongScans::beyond_stamp))]
+pub fn a_scan_beyond_its_stamp_is_unlawful()
+    ensures { IsUnlawful a_scan_beyond_its_stamp }
 {}
