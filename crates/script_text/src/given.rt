@@ -108,26 +108,26 @@ impl Given {
         Ok(())
     }
 
-    /// What is given after fields of these kinds.
+    /// Takes what fields of these kinds give, from left to right.
     #[tactic(auto, unfolding(crate::specs::CommandReadings::given_at))]
-    fn after(
-        mut self,
+    fn take_all(
+        &mut self,
         alloc: Global,
         known: &Known,
         fields: &[Field],
         args: &[&[u8]],
-    ) -> Result<Given, Fault>
+    ) -> Result<(), Fault>
         requires small { IsSmall known.now }
-        requires few { self.count ≤ VERSION_1.colours }
-        ensures given { Gives result (given_at known.now fields.now (fields_in args.now) self) }
-        ensures few { IfOk result (λ given. given.count ≤ VERSION_1.colours) }
+        requires few { self.old.count ≤ VERSION_1.colours }
+        ensures given { Takes result self.new (given_at known.now fields.now (fields_in args.now) self.old) }
+        ensures few { self.new.count ≤ VERSION_1.colours }
     {
         match fields {
-            [] => Ok(self),
+            [] => Ok(()),
             [field, fields @ ..] => {
                 let (own, later) = field.split(args);
                 self.take(alloc, known, *field, own)?;
-                self.after(alloc, known, fields, later)
+                self.take_all(alloc, known, fields, later)
             }
         }
     }
@@ -143,7 +143,9 @@ impl Given {
         ensures given { Gives result (given_at known.now fields.now (fields_in args.now) nothing) }
         ensures few { IfOk result (λ given. given.count ≤ VERSION_1.colours) }
     {
-        Given::new(alloc).after(alloc, known, fields, args)
+        let mut given = Given::new(alloc);
+        given.take_all(alloc, known, fields, args)?;
+        Ok(given)
     }
 
     /// What a command asks for, by what its fields gave.
