@@ -1,0 +1,61 @@
+use Rattle.std.proofs.Common.{ℕ, refl, ap, sym, subst, ◌∙◌, ◌≡◌, ◌≤◌, ◌<◌, arith, length, false, true, List, ◌+◌}
+use Rattle.std.specs.Prelude.{slice_index, Some}
+use Rattle.log_node.specs.declared.ids.Id.{Id}
+use Rattle.log_node.specs.declared.node.Node.{Node}
+use Rattle.col_core.specs.declared.Entry.{Entry}
+use Rattle.col_core.specs.History.{has_entered}
+use Rattle.std.proofs.lemmas.List.{length-set}
+use Rattle.column.specs.Columns.{ColumnState, with_room, after_single}
+use Rattle.chain_store.specs.declared.told.Told.{Told}
+use Rattle.chain_store.specs.Entered.{AreBelow}
+use Rattle.chain_store.specs.Columns.{IsOfHistory}
+use Rattle.chain_store.proofs.Entering.{fresh, single_entered, entered_below, entered_newest, entered_gains}
+use Rattle.col_core.proofs.CallerLemmas.{same_id-true, same_id-refl}
+use Rattle.chain_store.specs.Columns.{single_told}
+use Rattle.chain_store.proofs.Backing.{backed_more}
+use Rattle.chain_store.proofs.seated.Seated.single.Goals as goal
+
+pub single-requires-clause-fresh : goal.single-requires-clause-fresh
+single-requires-clause-fresh c =
+    let x = c.args.node.now.value in
+    let e = c.args.self.now.entered in
+    let h = c.args.self.now.column.journal in
+    let le : slice_index e c.args.by ≤ x.id.count =
+    subst (λ (y : Node). slice_index e c.args.by ≤ y.id.count) c.deref.ensures (c.is_new.ensures c.if-not-is_new.false) in
+    subst (λ (y : Node). has_entered y.id h ≡ false) (sym c.in-Ok.ensures.cases)
+    (fresh h e x.id c.args.self.now.above
+    (subst (λ (k : ℕ). slice_index e k ≤ x.id.count) (sym c.requires.maker.2) le))
+
+pub invariant_of-self : goal.invariant_of-self
+invariant_of-self c =
+    let x = c.args.node.now.value in
+    let s = c.args.self.now in
+    let same = c.in-Ok-single.ensures.entry ∙ ap (after_single (with_room s.column) c.args.by) c.in-Ok.ensures.cases in
+    record {
+      all = length-set s.entered c.args.by (c.deref.result.now.id.count + 1) ∙ s.all;
+      above = entered_below s.column c.single.new.self (single_told s.column c.args.by x) x refl (single_entered s.column c.single.new.self c.args.by x same) s.entered c.args.by c.deref.result.now.id.count s.above
+          (let long = s.all in let few = c.requires.maker.0 in omega (arith, long, few)) (c.is_new.ensures c.if-not-is_new.false)
+          (λ other is. same_id-true other x.id is) c.requires.maker.2 (ap (λ (y : Node). y.id.count) (sym c.deref.ensures));
+    }
+
+pub invariant_of-self-in-Err-single : goal.invariant_of-self-in-Err-single
+invariant_of-self-in-Err-single c = record {
+  all = c.args.self.now.all;
+  above = subst (λ (s : ColumnState). AreBelow s.journal c.args.self.now.entered) (sym c.in-Err.ensures.err)
+      c.args.self.now.above;
+}
+
+pub returns-in-Ok-single-clause-ok : goal.returns-in-Ok-single-clause-ok
+returns-in-Ok-single-clause-ok c =
+    let x = c.args.node.now.value in
+    let s = c.args.self.now in
+    let same = c.in-Ok-single.ensures.entry ∙ ap (after_single (with_room s.column) c.args.by) c.in-Ok.ensures.cases in (
+      entered_newest s.column c.single.new.self (single_told s.column c.args.by x) x refl (single_entered s.column c.single.new.self c.args.by x same),
+      subst (λ (l : List Entry). length l < 18446744073709551616) c.journal-few.ensures c.journal-few.type_inv.0,
+      λ log h. (
+        entered_gains s.column c.single.new.self (single_told s.column c.args.by x) x refl
+            (single_entered s.column c.single.new.self c.args.by x same) s.seat.inner.me.0.size.clients log
+            c.requires.maker.1 c.requires.maker.2 (x, refl, c.requires.node.0, refl) (same_id-refl x.id) h.0,
+        backed_more s.seat log (single_told s.column c.args.by x) (λ row. refl) tt h.1,
+      ),
+    )

@@ -1,0 +1,72 @@
+// Calls on one column, each under one turn.
+ghost use Rattle.std.specs.Prelude.{◌≡◌, ◌<◌, ◌≤◌, ◌^◌, None, ℕ, true, IfOk, OnErr};
+ghost use Rattle.log_node.specs.declared.node.Node.{Node};
+ghost use Rattle.log_node.specs.Sets.{has};
+ghost use Rattle.col_core.specs.History.{next_stamp};
+ghost use Rattle.turn_cell.specs.Cells.{seen};
+ghost use Rattle.chain_store.specs.declared.told.Told.{Told};
+ghost use Rattle.chain_store.specs.Histories.{entries_in};
+ghost use Rattle.chain_store.specs.Columns.{told_single};
+ghost use Rattle.chain_store.specs.Passes.{IsHolder, SeesMore, MakesOne, ShowsHistory, tag_in};
+
+use crate::seated::Seated;
+use col_core::View;
+use column::ColumnFault;
+use log_node::{At, Counts, MAX_STAMP, Node};
+
+use std::alloc::{AllocError, Global};
+use std::sync::{Arc, Wait};
+use turn_cell::{Cell, Pass};
+
+/// The node enters as final under the next stamp. Waits for the turn.
+pub fn single_in<R: Wait>(
+    rt: &R,
+    cell: &Cell<Seated>,
+    pass: &mut Pass<Seated>,
+    by: u8,
+    node: &Arc<Node>,
+) -> Result<(At, u64), ColumnFault>
+    requires pass { IsHolder cell.now by pass.old }
+    requires client { (by < 16) × (by < (tag_in cell.now).size.clients) × (node.now.value.id.client ≡ by) }
+    requires node { (node.now.value.row ≡ None) × (node.now.value.id.count < 2 ^ 63) }
+    requires region { node.now.value.region ≡ (tag_in cell.now).region }
+    requires colour { has node.now.value.colours (tag_in cell.now).colour ≡ true }
+    requires floor { node.now.value.floor ≤ MAX_STAMP }
+    ensures pass { IsHolder cell.now by pass.new }
+    ensures ok { IfOk result (λ r.
+        MakesOne by (told_single (tag_in cell.now).colour by node.now.value r.1) pass.old pass.new r.0) }
+    ensures err { OnErr result (SeesMore by pass.old pass.new) }
+{
+    let mut turn = cell.take(rt, pass);
+    match turn.value.single(by, node) {
+        Ok((_, stamp)) => {
+            turn.value.column.agrees();
+            Ok((turn.put(pass), stamp))
+        }
+        Err(fault) => {
+            turn.value.column.agrees();
+            turn.put(pass);
+            Err(fault)
+        }
+    }
+}
+
+/// What a reader sees who has these counts. Waits for the turn.
+pub fn look_in<R: Wait>(
+    rt: &R,
+    alloc: Global,
+    cell: &Cell<Seated>,
+    pass: &mut Pass<Seated>,
+    by: u8,
+    from: Counts,
+) -> Result<View, AllocError>
+    requires pass { IsHolder cell.now by pass.old }
+    ensures pass { IsHolder cell.now by pass.new × SeesMore by pass.old pass.new }
+    ensures view { IfOk result (λ view. ShowsHistory (tag_in cell.now) (seen pass.new) from view) }
+{
+    let turn = cell.take(rt, pass);
+    turn.value.column.agrees();
+    let view = turn.value.column.look(alloc, from);
+    turn.put(pass);
+    view
+}

@@ -1,0 +1,54 @@
+// What a column does under its turn.
+ghost use Rattle.std.specs.Prelude.{◌≡◌, ◌<◌, ◌≤◌, ◌^◌, true, false, None, length, slice_index, IfOk, IfErr, OnOk, OnErr};
+ghost use Rattle.log_node.specs.Sets.{has};
+ghost use Rattle.col_core.specs.History.{has_entered};
+ghost use Rattle.col_core.specs.Computed.{dated};
+ghost use Rattle.col_core.specs.Legal.{IsColumnHistory};
+ghost use Rattle.column.specs.Columns.{stamp_for, HasEnterCause};
+ghost use Rattle.stamp_board.specs.Seats.{column_seen};
+ghost use Rattle.chain_store.specs.Columns.{Gains, Stays, single_told, tag_of};
+
+use crate::seated::Seated;
+use column::ColumnFault;
+use log_node::{At, MAX_STAMP, Node};
+
+use std::sync::Arc;
+
+impl Seated {
+    // Whether an id of the client with this count is above all that have entered.
+    pub(crate) fn is_new(&self, client: u8, count: u64) -> bool
+        requires { client < 16 }
+        ensures { result ≡ true → slice_index self.now.entered client ≤ count }
+    {
+        self.entered[client as usize] <= count
+    }
+
+    /// The node enters as final under the next stamp.
+    pub(crate) fn single(&mut self, by: u8, node: &Arc<Node>) -> Result<(At, u64), ColumnFault>
+        requires maker { (by < 16) × (by < (column_seen self.old.seat).size.clients) × (node.now.value.id.client ≡ by) }
+        requires node { (node.now.value.row ≡ None) × (node.now.value.id.count < 2 ^ 63) }
+        requires region { node.now.value.region ≡ self.old.column.region }
+        requires colour { has node.now.value.colours self.old.column.colour ≡ true }
+        requires floor { node.now.value.floor ≤ MAX_STAMP }
+        ensures tag { tag_of self.new ≡ tag_of self.old }
+        ensures ok { OnOk result (Gains self.old self.new (single_told self.old.column by node.now.value)) }
+        ensures stamp { IfOk result (λ r. r.1 ≡ stamp_for self.old.column node.now.value) }
+        ensures err { OnErr result (Stays self.old self.new) }
+    {
+        let count = node.id.count;
+        if !self.is_new(by, count) {
+            return Err(ColumnFault::NoMemory);
+        }
+        let Ok(shared) = node.clone() else {
+            return Err(ColumnFault::NoMemory);
+        };
+        match self.column.single(by, shared) {
+            Ok(answer) => {
+                let _few = self.column.journal().len();
+                self.entered[by as usize] = count + 1;
+                Ok(answer)
+            }
+            Err(fault) => Err(fault),
+        }
+    }
+}
