@@ -6,8 +6,8 @@ use Rattle.std.specs.List.{AllByRecursion}
 use mathlib.Core.List.{IsPrefix}
 use Rattle.turn_cell.specs.declared.view.Maker.{Maker}
 use Rattle.turn_cell.specs.Histories.{IsLonger, IsWhole, with_own}
-use Rattle.turn_cell.specs.Cells.{Pass, seen, own, met, Accounts, Covers}
-use Rattle.turn_cell.specs.Steps.{Holding, with_seen, joined}
+use Rattle.turn_cell.specs.Cells.{Pass, seen, own, met, Accounts, Covers, IsAccounted}
+use Rattle.turn_cell.specs.Steps.{Holding, Balances, with_seen, joined}
 use Rattle.turn_cell.proofs.Histories.{prefix_trans, all_first, all_second}
 use Rattle.turn_cell.proofs.Lists.{left_or}
 
@@ -52,6 +52,18 @@ module _ {S E T : Type 0} (by : E → ℕ) where
       (ap (λ (z : Holding S E T). z.0.met) told ∙ ap (λ (z : Holding S E T). z.0.met) both)
       (subst (λ (z : Holding S E T × Holding S E T). IsLonger z.0.0.seen z.0.0.heard z.1.0.seen)
       (λ i. (both i, sym told i)) longer)
+
+  -- a pass that has compared begins the history of which it was told
+  pub accounted : (q : Pass S E T) (m : Holding S E T) (es log : List E)
+      → q.me ≡ (with_seen es m.0.stage m.0, m.1)
+      → IsPrefix es log
+      → Balances by log m.0
+      → IsAccounted by q
+  accounted q m es log told begins balance = (
+    log,
+    subst (λ (z : Holding S E T). IsPrefix z.0.seen log) (sym told) begins,
+    subst (λ (z : Holding S E T). Balances by log z.0) (sym told) balance,
+  )
 
   covers_self : (p : Pass S E T) → Covers by p p
   covers_self p log pre acc = (pre, acc)

@@ -35,6 +35,10 @@ module _ {S E T : Type 0} where
   abbrev pub Accounts : (E → ℕ) → Pass S E T → List E → Type 0
   Accounts by p log = ((m : Maker E) → own p ≡ Some m → IsWhole by log m) × AllByRecursion (IsWhole by log) (met p)
 
+  -- what the pass has seen begins a history that has of its numbers just what was made under them
+  abbrev pub IsAccounted : (E → ℕ) → Pass S E T → Type 0
+  IsAccounted by p = (log : List E) × IsPrefix (seen p) log × Accounts by p log
+
   -- whatever history q has seen and accounts for, p does as well
   abbrev pub Covers : (E → ℕ) → Pass S E T → Pass S E T → Type 0
   Covers by q p =
