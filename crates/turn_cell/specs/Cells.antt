@@ -1,5 +1,6 @@
 -- What contracts say of a cell, its passes and its turn.
 use Rattle.std.specs.Prelude.{◌≡◌, ◌⊎◌, ℕ, ◌+◌, ◌^◌, ◌<◌, List, [], ◌∷◌, ◌++◌, length, Option, Some, None, slice_get}
+use Rattle.std.specs.Global.{Box}
 use Rattle.std.specs.List.{AllByRecursion}
 use mathlib.Core.List.{IsPrefix}
 use Rattle.atomic_table.specs.declared.shared.Seat.{Seat}
@@ -12,7 +13,7 @@ use Rattle.turn_cell.specs.declared.view.Stage.TheVariants.{Idle, Holds}
 use Rattle.turn_cell.specs.Histories.{IsWhole, maker, made_of, with_entry}
 
 abbrev pub Pass : Type 0 → Type 0 → Type 0 → Type 0
-Pass S E T = Seat (Option S) (View E T)
+Pass S E T = Seat (Option (Box S)) (View E T)
 
 module _ {S E T : Type 0} where
   -- the beginning of the history that the pass has seen
