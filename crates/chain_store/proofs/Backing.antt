@@ -1,24 +1,27 @@
 -- What backs a history, once the column's seat has set a mark or an entry was added.
-use Rattle.std.proofs.Common.{◌≡◌, ◌≢◌, ℕ, zero, suc, Bool, true, false, cond, List, [], ◌∷◌, ◌++◌, length, Some, None, refl, ap, sym, subst, ◌∙◌, arith, inl, inr, ◌⊎◌, append_assoc, append-nil, eq-eqb}
+use Rattle.std.proofs.Common.{◌≡◌, ◌≢◌, ◌≤◌, max, ℕ, zero, suc, Bool, true, false, cond, List, [], ◌∷◌, ◌++◌, length, Some, None, refl, ap, sym, subst, ◌∙◌, arith, inl, inr, ◌⊎◌, append_assoc, append-nil, eq-eqb}
 use Rattle.std.specs.Prelude.{◌==◌, ◌&&◌, slice_get, if◌then◌else◌}
 use Rattle.std.proofs.lemmas.Bool.{eqb-true}
 use Rattle.log_node.specs.declared.ids.Row.{Row}
 use Rattle.log_node.specs.declared.node.Node.{Node}
 use Rattle.skeen_core.specs.declared.marks.Mark.{Mark}
 use Rattle.skeen_core.specs.declared.marks.Mark.TheVariants as marks
+use Rattle.skeen_core.specs.declared.marks.Why.TheVariants.{StampEnd}
 use Rattle.col_core.specs.declared.Event.{Event}
 use Rattle.col_core.specs.declared.Event.TheVariants.{Single, Propose, Settle, Raise, Give, Carry, Trim}
-use Rattle.col_core.proofs.CallerLemmas.{by_test, if_true, if_false, both, apart}
+use Rattle.col_core.specs.History.{clock, event_number, last_stamp, IsAtEnd}
+use Rattle.col_core.proofs.CallerLemmas.{clock-append, by_test, if_true, if_false, both, apart}
 use Rattle.stamp_board.specs.declared.view.Size.{Size}
 use Rattle.stamp_board.specs.declared.view.View.{View}
 use Rattle.stamp_board.specs.declared.seats.ColumnSeat.{ColumnSeat}
-use Rattle.stamp_board.specs.Rows.{IsRow}
+use Rattle.stamp_board.specs.Rows.{IsRow, AreColours}
 use Rattle.stamp_board.specs.Views.{Grows, KnowsBegun, KnowsOutcome}
 use Rattle.stamp_board.specs.Seats.{column_seen, set_mark, IsLaterColumn, SetsNone, SetsMark}
 use Rattle.stamp_board.proofs.CallerLemmas.{Learns-from, begun_learnt, outcome_learnt}
 use Rattle.chain_store.specs.declared.told.Told.{Told}
-use Rattle.chain_store.specs.Marks.{same_row, is_row, proposes, stamps_of, numbers, Backs, IsBacked}
-use Rattle.chain_store.proofs.Entering.{get_cases}
+use Rattle.chain_store.specs.Histories.{entries_in}
+use Rattle.chain_store.specs.Marks.{same_row, is_row, proposes, stamps_of, numbers, Backs, IsBacked, IsOfRow, KeepsOutcome, IsEnded}
+use Rattle.chain_store.proofs.Entering.{get_cases, map_with}
 
 pub same_row-is : (a b : Row) → same_row a b ≡ true → a ≡ b
 same_row-is a b e =
@@ -45,26 +48,53 @@ stamps_with row (u ∷ log) t =
 -- what backs an entry still backs it where more is known
 pub backs_later : (v w : View) → Grows v w → (e : Event) (nodes : List Node) → Backs v e nodes → Backs w e nodes
 backs_later v w g (Single id floor wants) nodes b = tt
-backs_later v w g (Propose id floor wants) nodes b = (
-  b.0,
-  b.1,
-  b.2,
-  b.3,
-  subst (λ (k : Size). IsRow k b.1) (sym g.size) b.4,
-  begun_learnt v w b.1 g.size (Learns-from v w g) b.0 b.5,
-)
-backs_later v w g (Settle id outcome) nodes b = (
-  b.0,
-  b.1,
-  b.2,
-  subst (λ (k : Size). IsRow k b.1) (sym g.size) b.3,
-  begun_learnt v w b.1 g.size (Learns-from v w g) b.0 b.4,
-  outcome_learnt v w b.1 g.size (Learns-from v w g) outcome b.5,
-)
+backs_later v w g (Propose id floor wants) nodes b = record {
+  node = b.node;
+  row = b.row;
+  brought = b.brought;
+  of_row = b.of_row;
+  mine = b.mine;
+  inside = subst (λ (k : Size). IsRow k b.row) (sym g.size) b.inside;
+  knows = begun_learnt v w b.row g.size (Learns-from v w g) b.node b.knows;
+  several = subst (λ (k : Size). AreColours k b.node.colours) (sym g.size) b.several;
+}
+backs_later v w g (Settle id outcome) nodes b = record {
+  node = b.node;
+  row = b.row;
+  of_id = b.of_id;
+  mine = b.mine;
+  inside = subst (λ (k : Size). IsRow k b.row) (sym g.size) b.inside;
+  knows = begun_learnt v w b.row g.size (Learns-from v w g) b.node b.knows;
+  kept = outcome_learnt v w b.row g.size (Learns-from v w g) outcome b.kept;
+}
 backs_later v w g (Raise to) nodes b = tt
 backs_later v w g (Give region from) nodes b = tt
 backs_later v w g (Carry region start heads) nodes b = tt
 backs_later v w g (Trim counts) nodes b = tt
+
+-- a row that was fenced for the stamps' end is so where more is known
+pub ended_later : (v w : View) → Grows v w → (row : Row) (log : List Told) → IsEnded v row log → IsEnded w row log
+ended_later v w g row log h = record {
+  node = h.node;
+  knows = begun_learnt v w row g.size (Learns-from v w g) h.node h.knows;
+  ends = h.ends;
+}
+
+-- where no stamp is left for a floor, none is left after one more event
+pub ends_more : (log : List Told) (t : Told) (floor : ℕ) → event_number t.entry.event t.entry.stamp ≤ last_stamp
+    → IsAtEnd (entries_in log) floor → IsAtEnd (entries_in (log ++ t ∷ [])) floor
+ends_more log t floor small ends =
+    let c : clock (entries_in (log ++ t ∷ [])) ≡ max (clock (entries_in log)) (event_number t.entry.event t.entry.stamp) =
+    ap clock (map_with (λ (u : Told). u.entry) log t) ∙ clock-append (entries_in log) t.entry in
+    omega (arith, c, small, ends)
+
+pub ended_more : (v : View) (row : Row) (log : List Told) (t : Told) → event_number t.entry.event t.entry.stamp ≤ last_stamp
+    → IsEnded v row log → IsEnded v row (log ++ t ∷ [])
+ended_more v row log t small h = record {
+  node = h.node;
+  knows = h.knows;
+  ends = ends_more log t h.node.floor small h.ends;
+}
 
 -- no mark was set and no entry added
 pub backed_same : (s t : ColumnSeat) (log : List Told) → IsLaterColumn s t → SetsNone s t → IsBacked s log
@@ -73,12 +103,15 @@ backed_same s t log later none h = record {
   numbered = λ row inside. h.numbered row (subst (λ (k : Size). IsRow k row) later.grows.size inside)
       ∙ ap numbers (sym (none row));
   backs = λ n u at. backs_later (column_seen s) (column_seen t) later.grows u.entry.event u.nodes (h.backs n u at);
+  ended = λ row inside fenced. ended_later (column_seen s) (column_seen t) later.grows row log
+      (h.ended row (subst (λ (k : Size). IsRow k row) later.grows.size inside) (sym (none row) ∙ fenced));
 }
 
 -- an entry was added that proposes nothing, and is backed
 pub backed_more : (s : ColumnSeat) (log : List Told) (t : Told) → ((row : Row) → proposes row t.entry.event t.nodes ≡ false)
+    → event_number t.entry.event t.entry.stamp ≤ last_stamp
     → Backs (column_seen s) t.entry.event t.nodes → IsBacked s log → IsBacked s (log ++ t ∷ [])
-backed_more s log t none back h = record {
+backed_more s log t none small back h = record {
   numbered = λ row inside. stamps_with row log t
       ∙ ap (λ l. stamps_of row log ++ l)
       (if_false (proposes row t.entry.event t.nodes) (t.entry.stamp ∷ []) [] (none row))
@@ -87,6 +120,7 @@ backed_more s log t none back h = record {
     | inl old ↦ h.backs n u old
     | inr same ↦ subst (λ (v : Told). Backs (column_seen s) v.entry.event v.nodes) same back
   ];
+  ended = λ row inside fenced. ended_more (column_seen s) row log t small (h.ended row inside fenced);
 }
 
 module _ (s t : ColumnSeat) (row : Row) (m : Mark) (later : IsLaterColumn s t) (sets : SetsMark s t row m)
@@ -94,26 +128,47 @@ module _ (s t : ColumnSeat) (row : Row) (m : Mark) (later : IsLaterColumn s t) (
   old_row : (other : Row) → IsRow (column_seen t).size other → IsRow (column_seen s).size other
   old_row other i = subst (λ (k : Size). IsRow k other) later.grows.size i
 
+  differ : (other : Row) → same_row other row ≡ false → other ≢ row
+  differ other unlike is =
+      apart (same_row other row) (subst (λ (r : Row). same_row r row ≡ true) (sym is) (same_row-refl row)) unlike
+
+  -- a fence of another row was there before
+  old_fence : (other : Row) → IsRow (column_seen t).size other → set_mark t other ≡ marks.Fenced StampEnd
+      → (m ≡ marks.Fenced StampEnd) ⊎ (set_mark s other ≡ marks.Fenced StampEnd)
+  old_fence other i fenced = by_test ((m ≡ marks.Fenced StampEnd) ⊎ (set_mark s other ≡ marks.Fenced StampEnd))
+      (same_row other row)
+      (λ yes. inl (sym sets.set ∙ ap (set_mark t) (sym (same_row-is other row yes)) ∙ fenced))
+      (λ no. inr (sym (sets.others other inside (old_row other i) (differ other no)) ∙ fenced))
+
   -- the row was fenced, and no entry added
-  pub backed_fenced : (log : List Told) → numbers m ≡ [] → IsBacked s log → IsBacked t log
-  backed_fenced log fence h = record {
+  pub backed_fenced : (log : List Told) → numbers m ≡ []
+      → (m ≡ marks.Fenced StampEnd → IsEnded (column_seen s) row log) → IsBacked s log → IsBacked t log
+  backed_fenced log fence ends h = record {
     numbered = λ other i. by_test (stamps_of other log ≡ numbers (set_mark t other)) (same_row other row)
         (λ yes.
         let is = same_row-is other row yes in
         subst (λ (r : Row). stamps_of r log ≡ numbers (set_mark t r)) (sym is)
         (h.numbered row inside ∙ ap numbers sets.unset ∙ sym fence ∙ ap numbers (sym sets.set)))
         (λ no. h.numbered other (old_row other i)
-        ∙ ap numbers (sym (sets.others other inside (old_row other i)
-        (λ is. apart (same_row other row) (subst (λ (r : Row). same_row r row ≡ true) (sym is) (same_row-refl row)) no))));
+        ∙ ap numbers (sym (sets.others other inside (old_row other i) (differ other no))));
     backs = λ n u at. backs_later (column_seen s) (column_seen t) later.grows u.entry.event u.nodes (h.backs n u at);
+    ended = λ other i fenced. ended_later (column_seen s) (column_seen t) later.grows other log
+        (by_test (IsEnded (column_seen s) other log) (same_row other row)
+        (λ yes.
+        let is = same_row-is other row yes in
+        subst (λ (r : Row). IsEnded (column_seen s) r log) (sym is)
+        (ends (sym sets.set ∙ ap (set_mark t) (sym is) ∙ fenced)))
+        (λ no. h.ended other (old_row other i)
+        (sym (sets.others other inside (old_row other i) (differ other no)) ∙ fenced)));
   }
 
   -- the row was marked with a number, and its node proposed under it
   pub backed_proposed : (log : List Told) (u : Told) → m ≡ marks.Number u.entry.stamp
+      → event_number u.entry.event u.entry.stamp ≤ last_stamp
       → proposes row u.entry.event u.nodes ≡ true
       → ((other : Row) → proposes other u.entry.event u.nodes ≡ true → row ≡ other)
       → Backs (column_seen s) u.entry.event u.nodes → IsBacked s log → IsBacked t (log ++ u ∷ [])
-  backed_proposed log u is shown only back h = record {
+  backed_proposed log u is small shown only back h = record {
     numbered = λ other i. by_test (stamps_of other (log ++ u ∷ []) ≡ numbers (set_mark t other))
         (proposes other u.entry.event u.nodes)
         (λ it.
@@ -137,5 +192,11 @@ module _ (s t : ColumnSeat) (row : Row) (m : Mark) (later : IsLaterColumn s t) (
       | inr same ↦
           subst (λ (w : Told). Backs (column_seen t) w.entry.event w.nodes) same
           (backs_later (column_seen s) (column_seen t) later.grows u.entry.event u.nodes back)
+    ];
+    ended = λ other i fenced. elim (old_fence other i fenced) [
+      | inl no ↦ absurd (let f : marks.Number u.entry.stamp ≡ marks.Fenced StampEnd = sym is ∙ no in let g : ⊥ = cc in g)
+      | inr was ↦
+          ended_more (column_seen t) other log u small
+          (ended_later (column_seen s) (column_seen t) later.grows other log (h.ended other (old_row other i) was))
     ];
   }

@@ -148,6 +148,7 @@ entered_named log id node h = record {
 -- the column has entered the node by this entry
 pub record HasEntered (column new : ColumnState) (e : Entry) (node : Node) : Type 0 where
   pub journal : new.journal ≡ column.journal ++ e ∷ []
+  pub region : new.region ≡ column.region
   pub colour : new.colour ≡ column.colour
   pub copies : new.copies ≡ column.copies
   pub w : Waiting EnteredNode
@@ -160,6 +161,7 @@ pub single_entered : (column new : ColumnState) (by : ℕ) (node : Node) → new
     → HasEntered column new (single_told column by node).entry node
 single_entered column new by node is = record {
   journal = ap (λ (c : ColumnState). c.journal) is;
+  region = ap (λ (c : ColumnState). c.region) is;
   colour = ap (λ (c : ColumnState). c.colour) is;
   copies = ap (λ (c : ColumnState). c.copies) is;
   w = entry_under (stamp_for column node) node.id true (entered_node column node);
@@ -173,6 +175,7 @@ pub propose_entered : (column new : ColumnState) (by : ℕ) (node : Node) → ne
     → HasEntered column new (told_propose column.colour by node (stamp_for column node)).entry node
 propose_entered column new by node is = record {
   journal = ap (λ (c : ColumnState). c.journal) is;
+  region = ap (λ (c : ColumnState). c.region) is;
   colour = ap (λ (c : ColumnState). c.colour) is;
   copies = ap (λ (c : ColumnState). c.copies) is;
   w = entry_under (stamp_for column node) node.id false (entered_node column node);
@@ -203,15 +206,15 @@ module _ (column new : ColumnState) (t : Told) (node : Node) (brought : t.nodes 
         told_of e ns = record { entry = e; nodes = ns }
 
   pub entered_gains : (clients : ℕ) (log : List Told) → t.entry.by < clients → IsOfMaker t.entry.by t.entry.event
-      → Brings column.colour t.entry.event t.nodes → enters node.id t.entry.event ≡ true
+      → Brings column.region column.colour t.entry.event t.nodes → enters node.id t.entry.event ≡ true
       → IsOfHistory column clients log → IsOfHistory new clients (log ++ t ∷ [])
   entered_gains clients log few mine brings enters_it g = record {
     same = h.journal ∙ (ap (λ l. l ++ t.entry ∷ []) g.same ∙ sym (map_with (λ (u : Told). u.entry) log t));
     brings = λ n u at. elim (get_cases log t n u at) [
-      | inl old ↦ subst (λ (c : ℕ). Brings c u.entry.event u.nodes) (sym h.colour) (g.brings n u old)
+      | inl old ↦ brought_there u.entry.event u.nodes (g.brings n u old)
       | inr same ↦
-          subst (λ (v : Told). Brings new.colour v.entry.event v.nodes) same
-          (subst (λ (c : ℕ). Brings c t.entry.event t.nodes) (sym h.colour) brings)
+          subst (λ (v : Told). Brings new.region new.colour v.entry.event v.nodes) same
+          (brought_there t.entry.event t.nodes brings)
     ];
     makers = λ n u at. elim (get_cases log t n u at) [
       | inl old ↦ g.makers n u old
@@ -234,7 +237,12 @@ module _ (column new : ColumnState) (t : Told) (node : Node) (brought : t.nodes 
           has.0,
           ap (λ (cs : List (List PlacedNode)). slice_get (slice_index_or cs region []) has.0) (sym h.copies) ∙ has.1,
         ));
-  }
+  } where
+    brought_there : (e : Event) (nodes : List Node) → Brings column.region column.colour e nodes
+        → Brings new.region new.colour e nodes
+    brought_there e nodes b =
+        subst (λ (c : ℕ). Brings new.region c e nodes) (sym h.colour)
+        (subst (λ (r : ℕ). Brings r column.colour e nodes) (sym h.region) b)
 
   pub entered_below : (numbers : List ℕ) (client count : ℕ) → AreBelow column.journal numbers → client < length numbers
       → slice_index numbers client ≤ count → ((other : Id) → enters other t.entry.event ≡ true → other ≡ node.id)
