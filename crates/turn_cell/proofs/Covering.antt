@@ -2,6 +2,7 @@
 use Rattle.std.proofs.Common.{◌≡◌, ◌⊎◌, inl, inr, ℕ, List, [], ◌∷◌, ◌++◌, length, Option, Some, None}
 use Rattle.std.proofs.Common.{slice_get, ap, sym, subst, ◌∙◌, arith}
 use Rattle.std.proofs.lemmas.Option.{slice_get_within}
+use Rattle.std.specs.Global.{Box}
 use Rattle.std.specs.List.{AllByRecursion}
 use mathlib.Core.List.{IsPrefix}
 use Rattle.turn_cell.specs.declared.view.Maker.{Maker}
@@ -41,16 +42,16 @@ module _ {S E T : Type 0} (by : E → ℕ) where
         ),
   )
 
-  pub meets : (p o q : Pass S E T) (m : Holding S E T) (es : List E)
+  pub meets : (p o q : Pass S E T) (m : Holding (Box S) E T) (es : List E)
       → m ≡ (joined p.me.0 o.me.0, p.me.1)
       → q.me ≡ (with_seen es m.0.stage m.0, m.1)
       → IsLonger m.0.seen m.0.heard es
       → Covers by q p × Covers by q o
   meets p o q m es both told longer =
       covering p o q
-      (ap (λ (z : Holding S E T). z.0.own) told ∙ ap (λ (z : Holding S E T). z.0.own) both)
-      (ap (λ (z : Holding S E T). z.0.met) told ∙ ap (λ (z : Holding S E T). z.0.met) both)
-      (subst (λ (z : Holding S E T × Holding S E T). IsLonger z.0.0.seen z.0.0.heard z.1.0.seen)
+      (ap (λ (z : Holding (Box S) E T). z.0.own) told ∙ ap (λ (z : Holding (Box S) E T). z.0.own) both)
+      (ap (λ (z : Holding (Box S) E T). z.0.met) told ∙ ap (λ (z : Holding (Box S) E T). z.0.met) both)
+      (subst (λ (z : Holding (Box S) E T × Holding (Box S) E T). IsLonger z.0.0.seen z.0.0.heard z.1.0.seen)
       (λ i. (both i, sym told i)) longer)
 
   -- a pass that has compared begins the history of which it was told
