@@ -106,7 +106,7 @@ clients_later r s t later is = (
 module _ (r : Region) (h g : Hold) (k : ℕ) (c : ColumnCell) (p q : ColumnPass) (is : IsHold r h)
     (cell_at : slice_get r.columns.items k ≡ Some c) (pass_at : slice_get (passes_of h) k ≡ Some p)
     (number : g.passes.number ≡ h.passes.number) (changed : passes_of g ≡ set (passes_of h) k q) where
-  n : ℕ
+  abbrev n : ℕ
   n = h.passes.number
 
   was : turned_in h k ≡ seen p
