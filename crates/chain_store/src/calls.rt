@@ -10,6 +10,7 @@ ghost use Rattle.chain_store.specs.Columns.{told_single};
 ghost use Rattle.chain_store.specs.Passes.{IsHolder, SeesMore, MakesOne, ShowsHistory, tag_in};
 
 use crate::seated::Seated;
+use crate::turns::{begin, end};
 use col_core::View;
 use column::ColumnFault;
 use log_node::{At, Counts, MAX_STAMP, Node};
@@ -35,15 +36,11 @@ pub fn single_in<R: Wait>(
         MakesOne by (told_single (tag_in cell.now).colour by node.now.value r.1) pass.old pass.new r.0) }
     ensures err { OnErr result (SeesMore by pass.old pass.new) }
 {
-    let mut turn = cell.take(rt, pass);
+    let mut turn = begin(rt, cell, pass, by);
     match turn.value.single(by, node) {
-        Ok((_, stamp)) => {
-            turn.value.column.agrees();
-            Ok((turn.put(pass), stamp))
-        }
+        Ok((_, stamp)) => Ok((end(turn, pass), stamp)),
         Err(fault) => {
-            turn.value.column.agrees();
-            turn.put(pass);
+            end(turn, pass);
             Err(fault)
         }
     }
@@ -62,9 +59,8 @@ pub fn look_in<R: Wait>(
     ensures pass { IsHolder cell.now by pass.new × SeesMore by pass.old pass.new }
     ensures view { IfOk result (λ view. ShowsHistory (tag_in cell.now) (seen pass.new) from view) }
 {
-    let turn = cell.take(rt, pass);
-    turn.value.column.agrees();
+    let turn = begin(rt, cell, pass, by);
     let view = turn.value.column.look(alloc, from);
-    turn.put(pass);
+    end(turn, pass);
     view
 }

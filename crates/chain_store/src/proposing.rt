@@ -2,7 +2,7 @@
 ghost use Rattle.std.specs.Prelude.{◌≡◌, ◌≢◌, ◌<◌, ℕ, true, None, IfOk, IfErr, OnErr};
 ghost use Rattle.log_node.specs.declared.node.Node.{Node};
 ghost use Rattle.log_node.specs.Sets.{has};
-ghost use Rattle.skeen_core.specs.Marks.{IsStamp};
+ghost use Rattle.log_node.specs.Marks.{IsStamp};
 ghost use Rattle.column.specs.Columns.{ColumnState, HasEnterCause};
 ghost use Rattle.stamp_board.specs.Rows.{IsRow};
 ghost use Rattle.stamp_board.specs.Views.{KnowsBegun, KnowsMark};
@@ -15,8 +15,7 @@ ghost use Rattle.chain_store.specs.Steps.{MatchStep, MayRefuse, mark_after};
 
 use crate::seated::Seated;
 use column::ColumnFault;
-use log_node::{Begun, Node, Row};
-use skeen_core::{Mark, Marked, Why};
+use log_node::{Begun, Mark, Marked, Node, Row, Why};
 use stamp_board::Board;
 use std::sync::Arc;
 

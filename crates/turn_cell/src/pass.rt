@@ -1,7 +1,7 @@
 //! A cell's passes: opening a cell, cutting a pass and joining two.
 ghost use Rattle.std.specs.Prelude.{◌≡◌, ◌<◌, [], ◌++◌, None, IfOk};
 ghost use Rattle.turn_cell.specs.Histories.{IsLonger, with_own};
-ghost use Rattle.turn_cell.specs.Cells.{seen, own, met, IsSameView, Covers, cell_tag, IsReady, AreNewPasses};
+ghost use Rattle.turn_cell.specs.Cells.{seen, own, met, IsSameView, Covers, IsAccounted, cell_tag, IsReady, AreNewPasses};
 
 use crate::cell::Cell;
 use crate::kept::Kept;
@@ -14,7 +14,7 @@ use std::alloc::{AllocError, Global};
 use std::snapshot::Snapshot;
 
 /// What one caller knows of a cell. It has no bytes.
-pub type Pass<V> = Seat<Option<V>, View<<V as Kept>::Entry, <V as Kept>::Tag>>;
+pub type Pass<V> = Seat<Option<Box<V>>, View<<V as Kept>::Entry, <V as Kept>::Tag>>;
 
 /// Passes, by number.
 pub type Passes<V> = ListOf<Pass<V>>;
@@ -31,8 +31,9 @@ impl<V: Kept> Cell<V> {
         ensures passes { IfOk result (λ r. AreNewPasses V.tag r.0 makers r.1) }
     {
         let opening = Snapshot::of(&value);
+        let boxed = Box::new(alloc, value)?;
         let mut slots = Vec::new(alloc);
-        slots.push(Some(value))?;
+        slots.push(Some(boxed))?;
         let (table, mut dealer) = match Table::new(alloc, &[FREE, 0], slots, &opening) {
             Ok(made) => made,
             Err(_) => return Err(AllocError),
@@ -65,6 +66,7 @@ impl<V: Kept> Cell<V> {
         ensures own { own pass.new ≡ own pass.old }
         ensures met { met pass.new ≡ met pass.old ++ with_own (own other) (met other) }
         ensures covers { Covers V.by pass.new pass.old × Covers V.by pass.new other }
+        ensures accounted { IsAccounted V.by pass.new }
     {
         self.table.shared.join_seat::<Meet>(pass, other);
         self.table.shared.load::<Compare>(pass, TURN);

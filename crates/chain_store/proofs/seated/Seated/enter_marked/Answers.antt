@@ -1,5 +1,5 @@
 use Rattle.std.proofs.Common.{◌≡◌, ◌≤◌, ℕ, refl, ap, sym, subst, ◌∙◌, arith}
-use Rattle.skeen_core.specs.declared.marks.Mark.TheVariants as marks
+use Rattle.log_node.specs.declared.marks.Mark.TheVariants as marks
 use Rattle.col_core.specs.History.{last_stamp}
 use Rattle.stamp_board.specs.declared.seats.ColumnSeat.{ColumnSeat}
 use Rattle.stamp_board.specs.Seats.{IsLaterColumn, SetsMark}
