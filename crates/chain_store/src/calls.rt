@@ -5,7 +5,7 @@ ghost use Rattle.log_node.specs.Sets.{has};
 ghost use Rattle.col_core.specs.History.{next_stamp};
 ghost use Rattle.turn_cell.specs.Cells.{seen};
 ghost use Rattle.chain_store.specs.declared.told.Told.{Told};
-ghost use Rattle.chain_store.specs.Histories.{entries_in};
+ghost use Rattle.chain_store.specs.Histories.{FitsColumn};
 ghost use Rattle.chain_store.specs.Columns.{told_single};
 ghost use Rattle.chain_store.specs.Passes.{IsHolder, SeesMore, MakesOne, ShowsHistory, tag_in};
 
@@ -29,10 +29,8 @@ pub fn single_in<R: Wait>(
 ) -> Result<(At, u64), ColumnFault>
     requires pass { IsHolder cell.now by pass.old }
     requires client { (by < 16) × (by < (tag_in cell.now).size.clients) × (node.now.value.id.client ≡ by) }
-    requires node { (node.now.value.row ≡ None) × (node.now.value.id.count < 2 ^ 63) }
-    requires region { node.now.value.region ≡ (tag_in cell.now).region }
-    requires colour { has node.now.value.colours (tag_in cell.now).colour ≡ true }
-    requires floor { node.now.value.floor ≤ MAX_STAMP }
+    requires row { node.now.value.row ≡ None }
+    requires node { FitsColumn (tag_in cell.now).region (tag_in cell.now).colour node.now.value }
     ensures pass { IsHolder cell.now by pass.new }
     ensures ok { IfOk result (λ r.
         MakesOne by (told_single (tag_in cell.now).colour by node.now.value r.1) pass.old pass.new r.0) }

@@ -2,10 +2,10 @@
 use Rattle.std.specs.Prelude.{◌≡◌, ◌≢◌, ℕ, ◌+◌, ◌<◌, List, [], Some, slice_get}
 use Rattle.log_node.specs.declared.ids.Row.{Row}
 use Rattle.log_node.specs.declared.node.Node.{Node}
-use Rattle.skeen_core.specs.declared.marks.Mark.{Mark}
-use Rattle.skeen_core.specs.declared.marks.Full.{Full}
-use Rattle.skeen_core.specs.declared.marks.Mark.TheVariants as marks
-use Rattle.skeen_core.specs.Marks.{IsMark}
+use Rattle.log_node.specs.declared.marks.Mark.{Mark}
+use Rattle.log_node.specs.declared.marks.Full.{Full}
+use Rattle.log_node.specs.declared.marks.Mark.TheVariants as marks
+use Rattle.log_node.specs.Marks.{IsMark}
 use Rattle.stamp_board.specs.declared.view.View.{View}
 use Rattle.stamp_board.specs.declared.board.Board.{Board}
 use Rattle.stamp_board.specs.declared.seats.Seat.{Seat}
@@ -45,6 +45,16 @@ next_row_of s = record { client = s.client; number = s.used }
 -- the client has a row left, and it is the next
 abbrev pub IsNext : Board → Seat → Row → Type 0
 IsNext b s row = (s.used < b.size.rows) × (row ≡ next_row_of s)
+
+-- each row that the client has begun is known as begun for a node of a count below this one
+abbrev pub AreRowsBelow : Seat → ℕ → Type 0
+AreRowsBelow s count =
+    (j : ℕ) → j < s.used
+    → (y : Node) × KnowsBegun (seen s) (record { client = s.client; number = j }) y × (y.id.count < count)
+
+-- the node is the client's, and comes after those for which the client has begun rows
+abbrev pub IsNextNode : Seat → Node → Type 0
+IsNextNode s node = (node.id.client ≡ s.client) × AreRowsBelow s node.id.count
 
 -- the client has begun all its rows
 abbrev pub IsFull : Board → Seat → Full → Type 0
