@@ -3,7 +3,7 @@ use Rattle.std.proofs.Common.{◌≡◌, ◌≢◌, ℕ, zero, suc, get_or, ◌+
 use Rattle.std.specs.Prelude.{if◌then◌else◌, nat_lt, slice_get, slice_set, slice_index, slice_index_or}
 use Rattle.std.specs.List.{Contains}
 use Rattle.std.specs.Option.{option_map}
-use Rattle.std.proofs.lemmas.Bool.{cases_eq}
+use Rattle.std.proofs.lemmas.Bool.{cases_eq, ltb-true, ltb-false}
 use Rattle.std.proofs.lemmas.List.{get_or-set_same, get_or-set_other}
 use Rattle.std.proofs.lemmas.Option.{slice_get_within, slice_get-map, get_or_from_slice_get}
 use Rattle.log_node.specs.declared.ids.Id.{Id}
@@ -25,11 +25,10 @@ use Rattle.column.specs.Columns.{ColumnState, after_raise, after_give, after_tri
 use Rattle.stamp_board.specs.declared.seats.ColumnSeat.{ColumnSeat}
 use Rattle.stamp_board.specs.Seats.{column_seen}
 use Rattle.chain_store.specs.declared.told.Told.{Told}
-use Rattle.chain_store.specs.declared.seated.Seated.{Seated}
 use Rattle.chain_store.specs.Entered.{AreBelow}
 use Rattle.chain_store.specs.Histories.{Names, Brings, IsOfMaker}
 use Rattle.chain_store.specs.Marks.{proposes, Backs, IsBacked}
-use Rattle.chain_store.specs.Columns.{IsOfHistory, newest_in, newest_nodes, told_by, last_of, Gains, Stays, Moves, told_event, told_carry}
+use Rattle.chain_store.specs.Columns.{IsOfHistory, newest_in, newest_nodes, told_by, last_of, told_event, told_carry}
 use Rattle.chain_store.specs.Givens.{OfTheirHeads}
 use Rattle.chain_store.proofs.Backing.{backed_more}
 use Rattle.chain_store.proofs.Entering.{get_last, get_cases, map_with, names_more, enters_more}
@@ -248,70 +247,79 @@ ids_of_heads (i ∷ is) heads =
     ap (λ (x : Id). x ∷ map (λ (n : Node). n.id) (map (λ (j : PlacedNode). j.node) is)) (heads 0 i refl)
     ∙ ap (λ (l : List Id). i.head.key.id ∷ l) (ids_of_heads is (λ n j at. heads (suc n) j at))
 
--- a column beside its seat that is as it was
-pub stays_same : (x y : Seated) → y.column ≡ x.column → y.seat ≡ x.seat → Stays x y
-stays_same x y column seat log h =
-    subst (λ (c : ColumnState). IsOfHistory c (column_seen y.seat).size.clients log × IsBacked y.seat log) (sym column)
-    (subst (λ (s : ColumnSeat). IsOfHistory x.column (column_seen s).size.clients log × IsBacked s log) (sym seat) h)
+-- What a column beside its seat gains, or that it stays, by its parts.
 
--- and one that moved
-pub gains_of : (x y : Seated) (t : Told) → HasMoved x.column y.column t → y.seat ≡ x.seat
-    → length y.column.journal < 18446744073709551616 → t.entry.by < (column_seen x.seat).size.clients
-    → IsOfMaker t.entry.by t.entry.event → Brings x.column.region x.column.colour t.entry.event t.nodes
+abbrev pub GainsIn : ColumnState → ColumnState → ColumnSeat → Told → Type 0
+GainsIn column new seat t =
+    (newest_in new ≡ Some t) × (length new.journal < 18446744073709551616)
+    × ((log : List Told) → IsOfHistory column (column_seen seat).size.clients log × IsBacked seat log
+    → IsOfHistory new (column_seen seat).size.clients (log ++ t ∷ []) × IsBacked seat (log ++ t ∷ []))
+
+abbrev pub StaysIn : ColumnState → ColumnState → ColumnSeat → Type 0
+StaysIn column new seat =
+    (log : List Told) → IsOfHistory column (column_seen seat).size.clients log × IsBacked seat log
+    → IsOfHistory new (column_seen seat).size.clients log × IsBacked seat log
+
+pub stays_same : (column new : ColumnState) (seat : ColumnSeat) → new ≡ column → StaysIn column new seat
+stays_same column new seat same log h =
+    subst (λ (c : ColumnState). IsOfHistory c (column_seen seat).size.clients log × IsBacked seat log) (sym same) h
+
+pub gains_in : (column new : ColumnState) (seat : ColumnSeat) (t : Told) → HasMoved column new t
+    → length new.journal < 18446744073709551616 → t.entry.by < (column_seen seat).size.clients
+    → IsOfMaker t.entry.by t.entry.event → Brings column.region column.colour t.entry.event t.nodes
     → ((row : Row) → proposes row t.entry.event t.nodes ≡ false)
-    → event_number t.entry.event t.entry.stamp ≤ last_stamp → Backs (column_seen x.seat) t.entry.event t.nodes
-    → Gains x y t
-gains_of x y t h seat short few mine brings none small back = (
-  moved_newest x.column y.column t h,
-  short,
-  λ log g. subst
-      (λ (s : ColumnSeat). IsOfHistory y.column (column_seen s).size.clients (log ++ t ∷ []) × IsBacked s (log ++ t ∷ []))
-      (sym seat) (moved x.column y.column t h x.seat few mine brings none small back log g),
-)
+    → event_number t.entry.event t.entry.stamp ≤ last_stamp → Backs (column_seen seat) t.entry.event t.nodes
+    → GainsIn column new seat t
+gains_in column new seat t h short few mine brings none small back =
+    (moved_newest column new t h, short, moved column new t h seat few mine brings none small back)
 
--- it moved where a test holds, and stayed else
-pub moves_if : (x y : Seated) (t : Told) (b : Bool) (a : ColumnState) → y.column ≡ (if b then a else x.column)
-    → y.seat ≡ x.seat → (y.column ≡ a → Gains x y t) → Moves x y t b
-moves_if x y t true a is seat gains = gains is
-moves_if x y t false a is seat gains = stays_same x y is seat
+module _ (column new : ColumnState) (seat : ColumnSeat) (by : ℕ) (short : length new.journal < 18446744073709551616)
+    (few : by < (column_seen seat).size.clients) where
+  -- raised where its clock was smaller
+  pub raise_gains : (to clocked : ℕ) → clocked ≡ clock column.journal
+      → new ≡ (if nat_lt (clock column.journal) to then after_raise column by to else column) → to ≤ last_stamp
+      → (nat_lt clocked to ≡ true → GainsIn column new seat (told_event by (Raise to)))
+      × (nat_lt clocked to ≡ false → StaysIn column new seat)
+  raise_gains to clocked is same small = (
+    (λ yes.
+        let e : new ≡ after_raise column by to =
+        same ∙ if_true (nat_lt (clock column.journal) to) (after_raise column by to) column
+        (ap (λ (n : ℕ). nat_lt n to) (sym is) ∙ yes) in
+        gains_in column new seat (told_event by (Raise to)) (raised column new by to e) short few tt refl (λ row. refl)
+        small tt),
+    λ none. stays_same column new seat
+        (same ∙ if_false (nat_lt (clock column.journal) to) (after_raise column by to) column
+        (ap (λ (n : ℕ). nat_lt n to) (sym is) ∙ none)),
+  )
 
-pub raise_moves : (x y : Seated) (by to clocked : ℕ) → clocked ≡ clock x.column.journal
-    → y.column ≡ (if nat_lt (clock x.column.journal) to then after_raise x.column by to else x.column)
-    → y.seat ≡ x.seat → length y.column.journal < 18446744073709551616 → by < (column_seen x.seat).size.clients
-    → to ≤ last_stamp → Moves x y (told_event by (Raise to)) (nat_lt clocked to)
-raise_moves x y by to clocked is same seat short few small =
-    subst (λ (n : ℕ). Moves x y (told_event by (Raise to)) (nat_lt n to)) (sym is)
-    (moves_if x y (told_event by (Raise to)) (nat_lt (clock x.column.journal) to) (after_raise x.column by to) same seat
-    (λ e. gains_of x y (told_event by (Raise to)) (raised x.column y.column by to e) seat short few tt refl (λ row. refl)
-    small tt))
+  pub give_gains : (region from : ℕ) → new ≡ after_give column by region from
+      → GainsIn column new seat (told_event by (Give region (min from (length (line column.journal)))))
+  give_gains region from same =
+      gains_in column new seat (told_event by (Give region (min from (length (line column.journal)))))
+      (gave column new by region from same) short few tt refl (λ row. refl) (omega arith) tt
 
-pub give_gains : (x y : Seated) (by region from : ℕ) → y.column ≡ after_give x.column by region from
-    → y.seat ≡ x.seat → length y.column.journal < 18446744073709551616 → by < (column_seen x.seat).size.clients
-    → Gains x y (told_event by (Give region (min from (length (line x.column.journal)))))
-give_gains x y by region from same seat short few =
-    gains_of x y (told_event by (Give region (min from (length (line x.column.journal)))))
-    (gave x.column y.column by region from same) seat short few tt refl (λ row. refl) (omega arith) tt
+  pub trim_gains : (counts : Counts) → new ≡ after_trim column by counts
+      → GainsIn column new seat (told_event by (Trim counts))
+  trim_gains counts same =
+      gains_in column new seat (told_event by (Trim counts)) (trimmed column new by counts same) short few tt refl
+      (λ row. refl) (omega arith) tt
 
-pub trim_gains : (x y : Seated) (by : ℕ) (counts : Counts) → y.column ≡ after_trim x.column by counts
-    → y.seat ≡ x.seat → length y.column.journal < 18446744073709551616 → by < (column_seen x.seat).size.clients
-    → Gains x y (told_event by (Trim counts))
-trim_gains x y by counts same seat short few =
-    gains_of x y (told_event by (Trim counts)) (trimmed x.column y.column by counts same) seat short few tt refl
-    (λ row. refl) (omega arith) tt
-
-pub carry_moves : (x y : Seated) (by region : ℕ) (items : List PlacedNode) (count : ℕ) → count ≡ length items
-    → y.column ≡ with_items x.column by region items → y.seat ≡ x.seat
-    → length y.column.journal < 18446744073709551616 → by < (column_seen x.seat).size.clients
-    → region < length x.column.copies → OfTheirHeads items
-    → Moves x y (told_carry by region (held_of x.column region) items) (nat_lt 0 count)
-carry_moves x y by region [] count is same seat short few within heads =
-    subst (λ (n : ℕ). Moves x y (told_carry by region (held_of x.column region) []) (nat_lt 0 n)) (sym is)
-    (stays_same x y same seat)
-carry_moves x y by region (first ∷ rest) count is same seat short few within heads =
-    subst (λ (n : ℕ). Moves x y (told_carry by region (held_of x.column region) (first ∷ rest)) (nat_lt 0 n)) (sym is)
-    (gains_of x y (told_carry by region (held_of x.column region) (first ∷ rest))
-    (carries x.column y.column by region (first ∷ rest) same (omega arith) within heads) seat short few tt
-    (ids_of_heads (first ∷ rest) heads) (λ row. refl) (omega arith) tt)
+  -- carried where there was something new
+  pub carry_gains : (region : ℕ) (items : List PlacedNode) (count : ℕ) → count ≡ length items
+      → new ≡ with_items column by region items → region < length column.copies → OfTheirHeads items
+      → (nat_lt 0 count ≡ true → GainsIn column new seat (told_carry by region (held_of column region) items))
+      × (nat_lt 0 count ≡ false → StaysIn column new seat)
+  carry_gains region [] count is same within heads = (
+    (λ yes. absurd (let lt = ltb-true 0 count yes in let f : ⊥ = omega (arith, lt, is) in f)),
+    λ none. stays_same column new seat same,
+  )
+  carry_gains region (first ∷ rest) count is same within heads = (
+    (λ yes.
+        gains_in column new seat (told_carry by region (held_of column region) (first ∷ rest))
+        (carries column new by region (first ∷ rest) same (omega arith) within heads) short few tt
+        (ids_of_heads (first ∷ rest) heads) (λ row. refl) (omega arith) tt),
+    λ none. absurd (let le = ltb-false 0 count none in let f : ⊥ = omega (arith, le, is) in f),
+  )
 
 -- what is new of a part has its heads' ids as the part does
 pub new_heads : (column : ColumnState) (region : ℕ) (given : Given) → OfTheirHeads given.items

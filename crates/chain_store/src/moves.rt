@@ -1,12 +1,12 @@
 // What a column does under its turn beside entering and settling nodes.
-ghost use Rattle.std.specs.Prelude.{◌≡◌, ◌≢◌, ◌<◌, ◌≤◌, ◌-◌, nat_lt, true, min, max, length, drop, IfOk, OnOk, OnErr};
+ghost use Rattle.std.specs.Prelude.{◌≡◌, ◌≢◌, ◌<◌, ◌≤◌, ◌-◌, nat_lt, true, false, min, max, length, drop, IfOk, OnOk, OnErr};
 ghost use Rattle.log_node.specs.Vectors.{at};
 ghost use Rattle.col_core.specs.declared.Event.TheVariants.{Raise, Give, Trim};
 ghost use Rattle.col_core.specs.History.{clock, line};
 ghost use Rattle.column.specs.Columns.{base_of, held_of, new_items, IsGiven};
 ghost use Rattle.stamp_board.specs.Seats.{column_seen};
 ghost use Rattle.chain_store.specs.Givens.{OfTheirHeads};
-ghost use Rattle.chain_store.specs.Columns.{Moves, Gains, Stays, told_event, told_carry, tag_of};
+ghost use Rattle.chain_store.specs.Columns.{Gains, Stays, told_event, told_carry, tag_of};
 
 use crate::seated::Seated;
 use column::Given;
@@ -20,7 +20,8 @@ impl Seated {
         requires to { to ≤ MAX_STAMP }
         ensures tag { tag_of self.new ≡ tag_of self.old }
         ensures event { IfOk result (λ event. event ≡ nat_lt (clock self.old.column.journal) to) }
-        ensures ok { IfOk result (Moves self.old self.new (told_event by (Raise to))) }
+        ensures raised { IfOk result (λ event. event ≡ true → Gains self.old self.new (told_event by (Raise to))) }
+        ensures kept { IfOk result (λ event. event ≡ false → Stays self.old self.new) }
         ensures err { OnErr result (Stays self.old self.new) }
     {
         let below = self.column.clock() < to;
@@ -73,9 +74,10 @@ impl Seated {
         requires heads { OfTheirHeads given.now.items }
         ensures tag { tag_of self.new ≡ tag_of self.old }
         ensures event { IfOk result (λ event. event ≡ nat_lt 0 (length (new_items self.old.column region given.now))) }
-        ensures ok { let items = new_items self.old.column region given.now in
+        ensures carried { let items = new_items self.old.column region given.now in
             let held = held_of self.old.column region in
-            IfOk result (Moves self.old self.new (told_carry by region held items)) }
+            IfOk result (λ event. event ≡ true → Gains self.old self.new (told_carry by region held items)) }
+        ensures kept { IfOk result (λ event. event ≡ false → Stays self.old self.new) }
         ensures err { OnErr result (Stays self.old self.new) }
     {
         self.column.agrees();
