@@ -6,7 +6,8 @@ ghost use Rattle.chain_store.specs.Passes.{ShowsHistory, tag_in};
 ghost use Rattle.chain_store.specs.Regions.{tag_at, IsColumnAt};
 ghost use Rattle.chain_store.specs.Holds.{IsHold, SameBut, SeesMoreIn, MakesOneIn, seen_in};
 
-use crate::calls::{look_in, single_in};
+use crate::calls::single_in;
+use crate::looks::look_in;
 use crate::hold::Hold;
 use crate::region::Region;
 use crate::seated::Seated;
