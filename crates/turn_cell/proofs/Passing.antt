@@ -20,7 +20,7 @@ use Rattle.turn_cell.proofs.Rules.{Owner, Apart, other_right, other_seat, stays,
 module _ {S E T : Type 0} (stands : S → List E → Type 0) (by : E → ℕ) (tag_of : S → T) (tag : T) where
   pub compares : (slots id : ℕ) (me : Holding S E T)
       → me.0.stage ≡ Idle
-      → Allows (Ruled stands by tag_of tag) slots id me 0 (λ n. n) (Compares (step slots 0 0 0 none) me)
+      → Allows (Ruled stands by tag_of tag) slots id me 0 (λ n. n) (Compares by (step slots 0 0 0 none) me)
   compares slots id me is s r wide at _ =
       let known = r.each id me.0 at in
       let l = prefix_longer me.0.seen me.0.heard r.log known.saw known.heard in
@@ -38,7 +38,14 @@ module _ {S E T : Type 0} (stands : S → List E → Type 0) (by : E → ℕ) (t
               free = known.free;
               stage = subst (AtStage r.log r.holder (get_or s.words 0 0) s.homes id l.0) (sym is) tt;
             },
-        (l.0, refl, l.1),
+        (
+          l.0,
+          refl,
+          l.1,
+          r.log,
+          l.2,
+          ((λ m e. (known.own m e).1), all_map _ _ (λ m b. b.1) me.0.met known.met),
+        ),
       )
 
   -- a seat makes another: the numbers of the other seats stay theirs

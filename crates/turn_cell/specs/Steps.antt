@@ -96,7 +96,9 @@ module _ {S E T : Type 0} where
   abbrev pub Parts : Tale S E T
   Parts st m found m' = m' ≡ (at_stage Parted m.0, rest m.1)
 
-  -- of what was seen and what was heard the longer is then seen, and the other begins it
-  abbrev pub Compares : Tale S E T
-  Compares st m found m' =
+  -- Of what was seen and what was heard the longer is then seen, and the other begins it. It begins a history that has
+  -- of the pass's numbers just what was made under them.
+  abbrev pub Compares : (E → ℕ) → Tale S E T
+  Compares by st m found m' =
       (es : List E) × (m' ≡ (with_seen es m.0.stage m.0, m.1)) × IsLonger m.0.seen m.0.heard es
+      × (log : List E) × IsPrefix es log × Balances by log m.0

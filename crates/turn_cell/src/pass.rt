@@ -1,7 +1,7 @@
 //! A cell's passes: opening a cell, cutting a pass and joining two.
 ghost use Rattle.std.specs.Prelude.{◌≡◌, ◌<◌, [], ◌++◌, None, IfOk};
 ghost use Rattle.turn_cell.specs.Histories.{IsLonger, with_own};
-ghost use Rattle.turn_cell.specs.Cells.{seen, own, met, IsSameView, Covers, cell_tag, IsReady, AreNewPasses};
+ghost use Rattle.turn_cell.specs.Cells.{seen, own, met, IsSameView, Covers, IsAccounted, cell_tag, IsReady, AreNewPasses};
 
 use crate::cell::Cell;
 use crate::kept::Kept;
@@ -65,6 +65,7 @@ impl<V: Kept> Cell<V> {
         ensures own { own pass.new ≡ own pass.old }
         ensures met { met pass.new ≡ met pass.old ++ with_own (own other) (met other) }
         ensures covers { Covers V.by pass.new pass.old × Covers V.by pass.new other }
+        ensures accounted { IsAccounted V.by pass.new }
     {
         self.table.shared.join_seat::<Meet>(pass, other);
         self.table.shared.load::<Compare>(pass, TURN);

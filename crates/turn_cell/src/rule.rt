@@ -70,8 +70,8 @@ impl<S, E, T> Play<Option<S>, View<E, T>> for Part {
 /// Loads a word, and finds which of what was seen and what was heard is longer.
 pub(crate) struct Compare;
 
-impl<S, E, T> Play<Option<S>, View<E, T>> for Compare {
-    ghost then = { Compares };
+impl<V: Kept> Play<Option<V>, View<V::Entry, V::Tag>> for Compare {
+    ghost then = { Compares V.by };
 }
 
 /// Gives the new pass the next number.

@@ -1,0 +1,9 @@
+-- The columns of a region, each beside its seat of the region's board.
+use Rattle.std.specs.Prelude.{◌≡◌, ℕ, List, Some, slice_get}
+use Rattle.stamp_board.specs.declared.board.Board.{Board}
+use Rattle.chain_store.specs.Passes.{ColumnCell, IsCellOf}
+
+-- they are the columns of a region among so many, by colour
+abbrev pub AreTied : Board → ℕ → ℕ → List ColumnCell → Type 0
+AreTied b region regions cells =
+    (colour : ℕ) (c : ColumnCell) → slice_get cells colour ≡ Some c → IsCellOf b region colour regions c
