@@ -116,6 +116,9 @@ AreFrom first ss = (n : ℕ) (s : Seat) → slice_get ss n ≡ Some s → s.clie
 rest_from : (first : ℕ) (s : Seat) (ss : List Seat) → AreFrom first (s ∷ ss) → AreFrom (first + 1) ss
 rest_from first s ss from = λ n t at. let e = from (suc n) t at in omega (arith, e)
 
+from_first : (ss : List Seat) → ((n : ℕ) (s : Seat) → slice_get ss n ≡ Some s → s.client ≡ n) → AreFrom 0 ss
+from_first ss h = λ n s at. let z : n ≡ 0 + n = omega arith in h n s at ∙ z
+
 later_client : (first : ℕ) (s : Seat) (ss : List Seat) → AreFrom first (s ∷ ss) → (i : ℕ) (row : Row)
     → slice_get (all_begun ss) i ≡ Some row → s.client < row.client
 later_client first s ss from i row at =
@@ -221,6 +224,6 @@ lists_begun k ws ss many seats = record {
       let s = seats row.client t.0 t.1 in
       let r = row_listed ss row.client t.0 row.number t.1 ((s.2 row.number inside.1).0 begun) in
       (r.0, subst (λ (c : ℕ). slice_get (all_begun ss) r.0 ≡ Some (row_of c row.number)) s.0 r.1);
-  once = λ i j a b lt at bt. once 0 ss (λ n s at. (seats n s at).0) i j a b lt at bt;
-  order = λ client. ordered 0 ss (λ n s at. (seats n s at).0) client;
+  once = λ i j a b lt at bt. once 0 ss (from_first ss (λ n s at. (seats n s at).0)) i j a b lt at bt;
+  order = λ client. ordered 0 ss (from_first ss (λ n s at. (seats n s at).0)) client;
 }
