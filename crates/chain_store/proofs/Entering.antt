@@ -18,7 +18,7 @@ use Rattle.col_core.specs.Computed.{cut, dated}
 use Rattle.col_core.specs.Legal.{IsLawfulEvent, IsColumnHistory}
 use Rattle.col_core.proofs.CallerLemmas.{dated-append}
 use Rattle.log_node.specs.declared.ids.Counts.{Counts}
-use Rattle.skeen_core.specs.Marks.{IsStamp}
+use Rattle.log_node.specs.Marks.{IsStamp}
 use Rattle.col_core.specs.History.{enters, has_entered}
 use Rattle.col_core.proofs.CallerLemmas.{by_test, same_id-true}
 use Rattle.column.specs.Entering.{EnteredNode}

@@ -1,7 +1,7 @@
 // A proposal, under the column's turn.
 ghost use Rattle.std.specs.Prelude.{◌≡◌, ◌≢◌, ◌<◌, ◌≤◌, ◌^◌, true, Some, None, IfOk, OnErr};
 ghost use Rattle.log_node.specs.Sets.{has};
-ghost use Rattle.skeen_core.specs.Marks.{IsStamp};
+ghost use Rattle.log_node.specs.Marks.{IsStamp};
 ghost use Rattle.stamp_board.specs.Rows.{IsRow};
 ghost use Rattle.stamp_board.specs.Views.{KnowsBegun, KnowsColour, KnowsMark};
 ghost use Rattle.stamp_board.specs.Seats.{IsColumnOf, column_seen, set_mark};
@@ -10,8 +10,7 @@ ghost use Rattle.chain_store.specs.Steps.{MatchStep};
 
 use crate::seated::Seated;
 use column::ColumnFault;
-use log_node::{MAX_STAMP, Node, Row};
-use skeen_core::{Mark, Marked, Why};
+use log_node::{MAX_STAMP, Mark, Marked, Node, Row, Why};
 use stamp_board::Board;
 use std::sync::Arc;
 

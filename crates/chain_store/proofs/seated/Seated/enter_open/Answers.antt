@@ -9,7 +9,7 @@ use Rattle.column.specs.Columns.{ColumnState, with_room, after_propose, stamp_fo
 use Rattle.chain_store.specs.declared.told.Told.{Told}
 use Rattle.chain_store.specs.Entered.{AreBelow}
 use Rattle.chain_store.specs.Columns.{told_propose, Enters}
-use Rattle.skeen_core.specs.Marks.{IsStamp}
+use Rattle.log_node.specs.Marks.{IsStamp}
 use Rattle.col_core.specs.Computed.{dated}
 use Rattle.col_core.specs.Legal.{IsColumnHistory}
 use Rattle.col_core.specs.Rows.{node_wants}
