@@ -20,7 +20,7 @@ use Rattle.stamp_board.specs.Seats.{column_seen, set_mark, IsLaterColumn, SetsNo
 use Rattle.stamp_board.proofs.CallerLemmas.{Learns-from, begun_learnt, outcome_learnt}
 use Rattle.chain_store.specs.declared.told.Told.{Told}
 use Rattle.chain_store.specs.Histories.{entries_in}
-use Rattle.chain_store.specs.Marks.{same_row, is_row, proposes, stamps_of, numbers, Backs, IsBacked, IsOfRow, KeepsOutcome, IsEnded}
+use Rattle.chain_store.specs.Marks.{same_row, is_row, proposes, stamps_of, numbers, Backs, IsBacked, IsRowOf, IsEnded}
 use Rattle.chain_store.proofs.Entering.{get_cases, map_with}
 
 pub same_row-is : (a b : Row) → same_row a b ≡ true → a ≡ b
@@ -45,28 +45,27 @@ stamps_with row (u ∷ log) t =
     ∙ sym (append_assoc (if proposes row u.entry.event u.nodes then u.entry.stamp ∷ [] else []) (stamps_of row log)
     (if proposes row t.entry.event t.nodes then t.entry.stamp ∷ [] else []))
 
+-- what is known of a row is known where more is
+pub row_later : (v w : View) → Grows v w → (row : Row) (x : Node) → IsRowOf v row x → IsRowOf w row x
+row_later v w g row x h = record {
+  of_row = h.of_row;
+  mine = h.mine;
+  inside = subst (λ (k : Size). IsRow k row) (sym g.size) h.inside;
+  knows = begun_learnt v w row g.size (Learns-from v w g) x h.knows;
+  several = subst (λ (k : Size). AreColours k x.colours) (sym g.size) h.several;
+}
+
 -- what backs an entry still backs it where more is known
 pub backs_later : (v w : View) → Grows v w → (e : Event) (nodes : List Node) → Backs v e nodes → Backs w e nodes
 backs_later v w g (Single id floor wants) nodes b = tt
-backs_later v w g (Propose id floor wants) nodes b = record {
-  node = b.node;
-  row = b.row;
-  brought = b.brought;
-  of_row = b.of_row;
-  mine = b.mine;
-  inside = subst (λ (k : Size). IsRow k b.row) (sym g.size) b.inside;
-  knows = begun_learnt v w b.row g.size (Learns-from v w g) b.node b.knows;
-  several = subst (λ (k : Size). AreColours k b.node.colours) (sym g.size) b.several;
-}
-backs_later v w g (Settle id outcome) nodes b = record {
-  node = b.node;
-  row = b.row;
-  of_id = b.of_id;
-  mine = b.mine;
-  inside = subst (λ (k : Size). IsRow k b.row) (sym g.size) b.inside;
-  knows = begun_learnt v w b.row g.size (Learns-from v w g) b.node b.knows;
-  kept = outcome_learnt v w b.row g.size (Learns-from v w g) outcome b.kept;
-}
+backs_later v w g (Propose id floor wants) nodes b = (b.0, b.1, b.2, row_later v w g b.1 b.0 b.3)
+backs_later v w g (Settle id outcome) nodes b = (
+  b.0,
+  b.1,
+  b.2,
+  row_later v w g b.1 b.0 b.3,
+  outcome_learnt v w b.1 g.size (Learns-from v w g) outcome b.4,
+)
 backs_later v w g (Raise to) nodes b = tt
 backs_later v w g (Give region from) nodes b = tt
 backs_later v w g (Carry region start heads) nodes b = tt
@@ -194,7 +193,8 @@ module _ (s t : ColumnSeat) (row : Row) (m : Mark) (later : IsLaterColumn s t) (
           (backs_later (column_seen s) (column_seen t) later.grows u.entry.event u.nodes back)
     ];
     ended = λ other i fenced. elim (old_fence other i fenced) [
-      | inl no ↦ absurd (let f : marks.Number u.entry.stamp ≡ marks.Fenced StampEnd = sym is ∙ no in let g : ⊥ = cc in g)
+      | inl end ↦
+          absurd (let f : marks.Number u.entry.stamp ≡ marks.Fenced StampEnd = sym is ∙ end in let g : ⊥ = cc in g)
       | inr was ↦
           ended_more (column_seen t) other log u small
           (ended_later (column_seen s) (column_seen t) later.grows other log (h.ended other (old_row other i) was))

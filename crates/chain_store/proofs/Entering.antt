@@ -19,7 +19,7 @@ use Rattle.col_core.specs.Legal.{IsLawfulEvent, IsColumnHistory}
 use Rattle.col_core.proofs.CallerLemmas.{dated-append}
 use Rattle.log_node.specs.declared.ids.Counts.{Counts}
 use Rattle.log_node.specs.Marks.{IsStamp}
-use Rattle.col_core.specs.History.{enters, has_entered}
+use Rattle.col_core.specs.History.{enters, has_entered, last_stamp}
 use Rattle.col_core.proofs.CallerLemmas.{by_test, same_id-true}
 use Rattle.column.specs.Entering.{EnteredNode}
 use Rattle.column.specs.Columns.{ColumnState, single_event, stamp_for, with_room, after_single, after_propose, entered_node, HasStored, HasCarried}
@@ -264,3 +264,20 @@ stamp_in_range own regions history e lawful id floor wants is =
     let s = m.stamped in
     let r = m.in_range in
     (omega (arith, s), omega (arith, r))
+
+-- the stamp of an entry that enters a node is at most the last one
+pub stamp_small : (own regions : ℕ) (history : List Entry) (e : Entry)
+    → IsColumnHistory own regions (dated own (history ++ e ∷ [])) → (id : Id) (floor : ℕ) (wants : Counts)
+    → (e.event ≡ Single id floor wants) ⊎ (e.event ≡ Propose id floor wants) → e.stamp ≤ last_stamp
+stamp_small own regions history e lawful id floor wants is =
+    let ds = dated own history in
+    let d : Dated = record { entry = e; cut_before = cut own ds } in
+    let l = lawful (length ds) d (ap (λ l. slice_get l (length ds)) (dated-append own history e) ∙ get_last ds d) in
+    elim is [
+      | inl single ↦
+          (subst (λ (x : Event). IsLawfulEvent own regions (take (length ds) (dated own (history ++ e ∷ []))) x e.stamp)
+          single l).in_range
+      | inr propose ↦
+          (subst (λ (x : Event). IsLawfulEvent own regions (take (length ds) (dated own (history ++ e ∷ []))) x e.stamp)
+          propose l).in_range
+    ]

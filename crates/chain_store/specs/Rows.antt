@@ -9,6 +9,7 @@ use Rattle.stamp_board.specs.declared.view.Size.{Size}
 use Rattle.stamp_board.specs.declared.view.View.{View}
 use Rattle.stamp_board.specs.Rows.{IsRow, AreColours}
 use Rattle.stamp_board.specs.Views.{KnowsBegun}
+use Rattle.chain_store.specs.Marks.{IsRowOf}
 
 -- The seat knows the append's row as begun for this node, which is one of the row's client and of the region, with two
 -- colours or more of the board's.
@@ -26,8 +27,6 @@ pub record IsBegunRow (size : Size) (region : ℕ) (v : View) (begun : BegunAppe
 abbrev pub KnowsRow : Size → ℕ → View → BegunAppend → Type 0
 KnowsRow size region v begun = (x : Node) × IsBegunRow size region v begun x
 
--- no other row of its client is known as begun for a node with the append's id
-abbrev pub IsOnlyRow : Size → View → BegunAppend → Type 0
-IsOnlyRow size v begun =
-    (row : Row) (x : Node) → IsRow size row → KnowsBegun v row x → x.id ≡ begun.id → x.id.client ≡ row.client
-    → row ≡ begun.row
+-- no other row is known as begun for a node with the append's id
+abbrev pub IsOnlyRow : View → BegunAppend → Type 0
+IsOnlyRow v begun = (row : Row) (x : Node) → IsRowOf v row x → x.id ≡ begun.id → row ≡ begun.row

@@ -5,11 +5,12 @@ ghost use Rattle.log_node.specs.Sets.{has};
 ghost use Rattle.col_core.specs.History.{next_stamp};
 ghost use Rattle.turn_cell.specs.Cells.{seen};
 ghost use Rattle.chain_store.specs.declared.told.Told.{Told};
-ghost use Rattle.chain_store.specs.Histories.{entries_in};
+ghost use Rattle.chain_store.specs.Histories.{FitsColumn};
 ghost use Rattle.chain_store.specs.Columns.{told_single};
 ghost use Rattle.chain_store.specs.Passes.{IsHolder, SeesMore, MakesOne, ShowsHistory, tag_in};
 
 use crate::seated::Seated;
+use crate::turns::{begin, end};
 use col_core::View;
 use column::ColumnFault;
 use log_node::{At, Counts, MAX_STAMP, Node};
@@ -28,24 +29,18 @@ pub fn single_in<R: Wait>(
 ) -> Result<(At, u64), ColumnFault>
     requires pass { IsHolder cell.now by pass.old }
     requires client { (by < 16) × (by < (tag_in cell.now).size.clients) × (node.now.value.id.client ≡ by) }
-    requires node { (node.now.value.row ≡ None) × (node.now.value.id.count < 2 ^ 63) }
-    requires region { node.now.value.region ≡ (tag_in cell.now).region }
-    requires colour { has node.now.value.colours (tag_in cell.now).colour ≡ true }
-    requires floor { node.now.value.floor ≤ MAX_STAMP }
+    requires row { node.now.value.row ≡ None }
+    requires node { FitsColumn (tag_in cell.now).region (tag_in cell.now).colour node.now.value }
     ensures pass { IsHolder cell.now by pass.new }
     ensures ok { IfOk result (λ r.
         MakesOne by (told_single (tag_in cell.now).colour by node.now.value r.1) pass.old pass.new r.0) }
     ensures err { OnErr result (SeesMore by pass.old pass.new) }
 {
-    let mut turn = cell.take(rt, pass);
+    let mut turn = begin(rt, cell, pass, by);
     match turn.value.single(by, node) {
-        Ok((_, stamp)) => {
-            turn.value.column.agrees();
-            Ok((turn.put(pass), stamp))
-        }
+        Ok((_, stamp)) => Ok((end(turn, pass), stamp)),
         Err(fault) => {
-            turn.value.column.agrees();
-            turn.put(pass);
+            end(turn, pass);
             Err(fault)
         }
     }
@@ -64,9 +59,8 @@ pub fn look_in<R: Wait>(
     ensures pass { IsHolder cell.now by pass.new × SeesMore by pass.old pass.new }
     ensures view { IfOk result (λ view. ShowsHistory (tag_in cell.now) (seen pass.new) from view) }
 {
-    let turn = cell.take(rt, pass);
-    turn.value.column.agrees();
+    let turn = begin(rt, cell, pass, by);
     let view = turn.value.column.look(alloc, from);
-    turn.put(pass);
+    end(turn, pass);
     view
 }

@@ -1,16 +1,16 @@
 // What a column does under its turn.
 ghost use Rattle.std.specs.Prelude.{◌≡◌, ◌<◌, ◌≤◌, ◌^◌, true, false, None, length, slice_index, IfOk, IfErr, OnOk, OnErr};
-ghost use Rattle.log_node.specs.Sets.{has};
 ghost use Rattle.col_core.specs.History.{has_entered};
 ghost use Rattle.col_core.specs.Computed.{dated};
 ghost use Rattle.col_core.specs.Legal.{IsColumnHistory};
 ghost use Rattle.column.specs.Columns.{stamp_for, HasEnterCause};
 ghost use Rattle.stamp_board.specs.Seats.{column_seen};
+ghost use Rattle.chain_store.specs.Histories.{FitsColumn};
 ghost use Rattle.chain_store.specs.Columns.{Gains, Stays, single_told, tag_of};
 
 use crate::seated::Seated;
 use column::ColumnFault;
-use log_node::{At, MAX_STAMP, Node};
+use log_node::{At, Node};
 
 use std::sync::Arc;
 
@@ -26,10 +26,8 @@ impl Seated {
     /// The node enters as final under the next stamp.
     pub(crate) fn single(&mut self, by: u8, node: &Arc<Node>) -> Result<(At, u64), ColumnFault>
         requires maker { (by < 16) × (by < (column_seen self.old.seat).size.clients) × (node.now.value.id.client ≡ by) }
-        requires node { (node.now.value.row ≡ None) × (node.now.value.id.count < 2 ^ 63) }
-        requires region { node.now.value.region ≡ self.old.column.region }
-        requires colour { has node.now.value.colours self.old.column.colour ≡ true }
-        requires floor { node.now.value.floor ≤ MAX_STAMP }
+        requires row { node.now.value.row ≡ None }
+        requires node { FitsColumn self.old.column.region self.old.column.colour node.now.value }
         ensures tag { tag_of self.new ≡ tag_of self.old }
         ensures ok { OnOk result (Gains self.old self.new (single_told self.old.column by node.now.value)) }
         ensures stamp { IfOk result (λ r. r.1 ≡ stamp_for self.old.column node.now.value) }
@@ -45,6 +43,7 @@ impl Seated {
         match self.column.single(by, shared) {
             Ok(answer) => {
                 let _few = self.column.journal().len();
+                self.column.agrees();
                 self.entered[by as usize] = count + 1;
                 Ok(answer)
             }

@@ -1,5 +1,6 @@
 -- What is known stays known: for those who carry seats from call to call.
-use Rattle.std.proofs.Common.{◌≡◌, ℕ, ◌+◌, sym, refl, ◌∙◌, subst}
+use Rattle.std.proofs.Common.{◌≡◌, ℕ, ◌+◌, ◌<◌, ◌≤◌, sym, refl, ◌∙◌, subst, arith, inl, inr}
+use Rattle.std.proofs.lemmas.Bool.{cases_eq}
 use Rattle.log_node.specs.declared.ids.Row.{Row}
 use Rattle.log_node.specs.declared.node.Node.{Node}
 use Rattle.log_node.specs.declared.marks.Mark.{Mark}
@@ -7,7 +8,9 @@ use Rattle.log_node.specs.declared.marks.Outcome.{Outcome}
 use Rattle.stamp_board.specs.declared.view.Size.{Size}
 use Rattle.stamp_board.specs.declared.view.View.{View}
 use Rattle.stamp_board.specs.Words.{row_at, word_at}
+use Rattle.stamp_board.specs.declared.seats.Seat.{Seat}
 use Rattle.stamp_board.specs.Views.{Has, Grows, Learns, KnowsBegun, KnowsMark, KnowsOutcome}
+use Rattle.stamp_board.specs.Seats.{IsLater, Begins, AreRowsBelow, next_row_of, seen}
 
 pub Learns-refl : (v : View) → Learns v v
 Learns-refl v = record { known = λ _ _ h. h; begun = λ _ _ h. h }
@@ -52,3 +55,37 @@ module _ (v w : View) (row : Row) (size : w.size ≡ v.size) (learns : Learns v 
         (learns.known (word_at v.size (row_at v.size row) (v.size.colours + 1)) h.0 h.1),
     h.2,
   )
+
+-- the rows of a client stay below a count, also once it has begun the next one
+pub rows_below_later : (s t : Seat) (count more : ℕ) → IsLater s t → count ≤ more → AreRowsBelow s count
+    → AreRowsBelow t more
+rows_below_later s t count more later le all j lt =
+    let y = all j (subst (λ (n : ℕ). j < n) later.used lt) in
+    let less = y.2 in (
+      y.0,
+      subst (λ (c : ℕ). KnowsBegun (seen t) (record { client = c; number = j }) y.0) (sym later.client)
+          (begun_learnt (seen s) (seen t) (record { client = s.client; number = j }) later.grows.size
+          (Learns-from (seen s) (seen t) later.grows) y.0 y.1),
+      omega (arith, less, le),
+    )
+
+pub rows_below_more : (s t : Seat) (row : Row) (x : Node) → row ≡ next_row_of s → Begins s t row x
+    → AreRowsBelow s x.id.count → AreRowsBelow t (x.id.count + 1)
+rows_below_more s t row x is begun all j lt = elim (cases_eq j s.used) [
+  | inl last ↦ (
+        x,
+        subst (λ (r : Row). KnowsBegun (seen t) r x)
+            (is ∙ (λ i. record { client = sym begun.client i; number = sym last i })) begun.knows,
+        omega arith,
+      )
+  | inr before ↦
+      let near = subst (λ (n : ℕ). j < n) begun.used lt in
+      let y = all j (omega (arith, near, before)) in
+      let less = y.2 in (
+        y.0,
+        subst (λ (c : ℕ). KnowsBegun (seen t) (record { client = c; number = j }) y.0) (sym begun.client)
+            (begun_learnt (seen s) (seen t) (record { client = s.client; number = j }) begun.grows.size
+            (Learns-from (seen s) (seen t) begun.grows) y.0 y.1),
+        omega (arith, less),
+      )
+]

@@ -24,6 +24,8 @@ fits_heard k ws v i n f is = heard_cases (λ (z : View). Fits k ws z) v i n (λ 
       (pos, subst (λ (z : ℕ). get_or ws z 0 ≡ m) t.0 (is ∙ t.1))) (λ (t : Has v.known j m). f.known j m t) h;
   begun = f.begun;
   same = f.same;
+  owned = f.owned;
+  ids = f.ids;
   mine = f.mine;
   own = f.own;
 })
@@ -33,6 +35,8 @@ fits_before k ws v i n = heard_cases (λ (z : View). Fits k ws z → Fits k ws v
   known = λ j m h. f.known j m (inr h);
   begun = f.begun;
   same = f.same;
+  owned = f.owned;
+  ids = f.ids;
   mine = f.mine;
   own = f.own;
 })

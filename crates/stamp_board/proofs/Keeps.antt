@@ -13,6 +13,7 @@ use prog.Atomic.{either}
 use Rattle.atomic_table.specs.Table.{State, Me, Step, step, keeps, Allows, Splits, Joins, Enters, opening}
 use Rattle.atomic_table.proofs.Lists.{at_set, exchanged}
 use Rattle.log_node.specs.declared.node.Node.{Node}
+use Rattle.log_node.specs.declared.ids.Id.{Id}
 use Rattle.log_node.specs.declared.ids.Row.{Row}
 use Rattle.log_node.specs.Sets.{has}
 use Rattle.log_node.specs.declared.marks.Outcome.TheVariants.{Open}
@@ -21,11 +22,12 @@ use Rattle.stamp_board.specs.declared.view.View.{View}
 use Rattle.stamp_board.specs.Words.{width, words_of, word_at, row_at, owner_of, outcome_from}
 use Rattle.stamp_board.specs.Rows.{AreColours, outcome_at}
 use Rattle.stamp_board.specs.Views.{Has, at, told}
-use Rattle.stamp_board.specs.Law.{Plays, Fits, Lawful, Sits, Kept, Told, heard, wrote, with_node, looked}
+use Rattle.stamp_board.specs.Law.{Plays, Fits, IsNewTo, Lawful, Sits, Kept, Told, heard, wrote, with_node, looked}
 use Rattle.stamp_board.specs.Law.{marked, ended, began, Turns, lowest, others, both, merged, spent, newcomer}
 use Rattle.stamp_board.specs.Law.{came}
 use Rattle.stamp_board.proofs.Colours.{has_bit, not_empty}
 use Rattle.stamp_board.proofs.Places.{owner_of_word, owner_of_mark, owner_of_row, same_row, same_part, row_of_word}
+use Rattle.stamp_board.proofs.Places.{client_of_row}
 use Rattle.stamp_board.proofs.Knowing.{if_yes, if_no, Has-append, at_here, at_else, at-append, heard_some, heard_cases}
 use Rattle.stamp_board.proofs.Outcomes.{outcome_from-open, outcome_same, open_if_missing, open_if_unbegun}
 
@@ -122,6 +124,8 @@ module _ (k : Size) where
     known = sits.known;
     begun = λ r x h. kept.named r x (sits.begun r x h);
     same = λ r x y h h'. some-injective x y (sym (sits.begun r x h) ∙ sits.begun r y h');
+    owned = λ r x h. kept.owned r x (sits.begun r x h);
+    ids = λ r q x y h h'. kept.ids r q x y (sits.begun r x h) (sits.begun q y h');
     mine = sits.mine;
     own = sits.own;
   }
@@ -144,6 +148,8 @@ module _ (k : Size) where
     lawful = kept.lawful;
     nodes = kept.nodes;
     named = kept.named;
+    owned = kept.owned;
+    ids = kept.ids;
     sits = λ j u e. ⊎_elim (λ (t : (j ≡ id) × (w ≡ u)). subst (λ (z : View). Sits k s.words kept.nodes z) t.1 sits)
         (λ (t : (j ≢ id) × (get_elem? s.views j ≡ some u)). kept.sits j u t.1) (at_set s.views id j w u e);
     apart = apart_set s.views id v w here kept.apart parts;
@@ -209,15 +215,19 @@ module _ (k : Size) where
       → ((r : ℕ) (x : Node) → kept.nodes r ≡ some x → nodes' r ≡ some x)
       → ((r : ℕ) (x : Node) → nodes' r ≡ some x
       → (0 < x.colours.0) × (get_or (set s.words i n) (word_at k r 0) 0 ≡ x.colours.0))
+      → ((r : ℕ) (x : Node) → nodes' r ≡ some x → x.id.client ≡ r / k.rows)
+      → ((r q : ℕ) (x y : Node) → nodes' r ≡ some x → nodes' q ≡ some y → x.id ≡ y.id → r ≡ q)
       → Sits k (set s.words i n) nodes' w
       → (owner_of k i ≡ 0) ⊎ Plays v (owner_of k i)
       → ((a : ℕ) → Plays w a → Plays v a)
       → Kept k record { words = set s.words i n; homes = s.homes; views = set s.views id w }
-  kept_set s kept id v w i n nodes' here free law more named sits whose parts = record {
+  kept_set s kept id v w i n nodes' here free law more named owned ids sits whose parts = record {
     long = length-set s.words i n ∙ kept.long;
     lawful = law;
     nodes = nodes';
     named = named;
+    owned = owned;
+    ids = ids;
     sits = λ j u e. ⊎_elim (λ (t : (j ≡ id) × (w ≡ u)). subst (λ (z : View). Sits k (set s.words i n) nodes' z) t.1
         sits)
         (λ (t : (j ≢ id) × (get_elem? s.views j ≡ some u)). let not : ¬ (Plays u (owner_of k i)) = λ p. ⊎_elim
@@ -394,6 +404,8 @@ module _ (k : Size) where
       (λ z. absurd (omega arith)) (λ _. undone))
       (λ _ _ e. e)
       (named_else s kept r (1 + c) n part (λ z. omega arith))
+      kept.owned
+      kept.ids
       (sits_wrote s.words kept.nodes kept.nodes me.0 i n within free pos (λ _ _ e. e) plays (kept.sits id me.0 here))
       (inr plays)
       (λ _ p. p))
@@ -420,17 +432,56 @@ module _ (k : Size) where
       (λ _. known s.words kept.lawful (fits s kept id me.0 here)) (λ ne. absurd (ne refl)))
       (λ _ _ e. e)
       (named_else s kept r p n part (λ z. omega arith))
+      kept.owned
+      kept.ids
       (sits_ended s.words kept.nodes me.0 i n within free pos nobody (kept.sits id me.0 here))
       (inl nobody)
       (λ _ p. p)))
+
+  -- no row is begun for a node with the id, where each row that the seat has begun is known as begun for another
+  no_other : (s : St) (kept : Kept k s) (id : ℕ) (v : View) (r : ℕ) (x : Node) → get_elem? s.views id ≡ some v
+      → v.size ≡ k → Plays v (owner_of k (word_at k r 0)) → x.id.client ≡ r / k.rows → IsNewTo v x.id.client x.id
+      → (q : ℕ) (y : Node) → kept.nodes q ≡ some y → x.id ≡ y.id → ⊥
+  no_other s kept id v r x here is plays client new q y e same =
+      let part : 0 < width k = omega arith in
+      let of_client : q / k.rows ≡ x.id.client = sym (kept.owned q y e) ∙ ap (λ (z : Id). z.client) (sym same) in
+      let owner : owner_of k (word_at k r 0) ≡ owner_of k (word_at k q 0) =
+      owner_of_word k r 0 part ∙ ap (λ (z : ℕ). 1 + z) (sym client ∙ sym of_client) ∙ sym (owner_of_word k q 0 part) in
+      let sits = kept.sits id v here in
+      let mine : at v.mine (word_at k q 0) ≡ get_or s.words (word_at k q 0) 0 =
+      sits.mine (word_at k q 0) (subst (Plays v) owner plays) in
+      let named = kept.named q y e in
+      let full = named.0 in
+      let word = named.1 in
+      let known = new q (ap (λ (z : Size). q / z.rows) is ∙ of_client)
+      (subst (λ (z : Size). at v.mine (word_at z q 0) ≢ 0) (sym is) (λ z. omega (arith, mine, full, word, z))) in
+      known.2 (ap (λ (z : Node). z.id) (some-injective known.0 y (sym (sits.begun q known.0 known.1) ∙ e)) ∙ sym same)
+
+  ids_more : (s : St) (kept : Kept k s) (id : ℕ) (v : View) (r : ℕ) (x : Node) → get_elem? s.views id ≡ some v
+      → v.size ≡ k → Plays v (owner_of k (word_at k r 0)) → x.id.client ≡ r / k.rows → IsNewTo v x.id.client x.id
+      → (p q : ℕ) (y z : Node) → (if p == r then some x else kept.nodes p) ≡ some y
+      → (if q == r then some x else kept.nodes q) ≡ some z → y.id ≡ z.id → p ≡ q
+  ids_more s kept id v r x here is plays client new p q y z ey ez same =
+      let other = no_other s kept id v r x here is plays client new in
+      let now : (n : ℕ) (w : Node) → n ≡ r → (if n == r then some x else kept.nodes n) ≡ some w → x.id ≡ w.id =
+      λ n w d e. ap (λ (u : Node). u.id) (some-injective x w (sym (if_yes n r (some x) (kept.nodes n) d) ∙ e)) in
+      let old : (n : ℕ) (w : Node) → n ≢ r → (if n == r then some x else kept.nodes n) ≡ some w → kept.nodes n ≡ some w =
+      λ n w ne e. sym (if_no n r (some x) (kept.nodes n) ne) ∙ e in
+      dite (ℕ_discrete p r)
+      (λ d. dite (ℕ_discrete q r) (λ d'. d ∙ sym d')
+      (λ ne. absurd (other q z (old q z ne ez) (now p y d ey ∙ same))))
+      (λ ne. dite (ℕ_discrete q r)
+      (λ d'. absurd (other p y (old p y ne ey) (now q z d' ez ∙ sym same)))
+      (λ ne'. kept.ids p q y z (old p y ne ey) (old q z ne' ez) same))
 
   -- word 0 of a row is set, by the seat of the row's client, which has not set it before
   pub begins : (slots id : ℕ) (me : Me Node View) (r : ℕ) (x : Node) → me.0.size ≡ k → word_at k r 0 < words_of k
       → Plays me.0 (owner_of k (word_at k r 0))
       → x.colours.0 < 2 ^ 62 + 2 → AreColours k x.colours
+      → x.id.client ≡ r / k.rows → IsNewTo me.0 x.id.client x.id
       → Allows (Kept k) slots id me (word_at k r 0) (λ m. either (eqb m 0) x.colours.0 m)
       (Turns began (step slots (word_at k r 0) 0 x.colours.0 (some x)) me)
-  begins slots id me r x is inside plays small spans =
+  begins slots id me r x is inside plays small spans client new =
       let n : ℕ = x.colours.0 in
       let many = spans.many in
       let filled : n ≢ 0 = not_empty x.colours (omega arith) in
@@ -465,6 +516,11 @@ module _ (k : Size) where
       (pos, ap (λ (z : ℕ). get_or (set s.words i n) (word_at k z 0) 0) d ∙ get_or-set_same s.words i n 0 within))
       (λ ne. let t = kept.named q y (sym (if_no q r (some x) (kept.nodes q) ne) ∙ e) in
       (t.0, get_or-set_other s.words i (word_at k q 0) n 0 (λ d. ne (same_row k q 0 r 0 part part d)) ∙ t.1)))
+      (λ q y e. dite (ℕ_discrete q r)
+      (λ d. let same : x ≡ y = some-injective x y (sym (if_yes q r (some x) (kept.nodes q) d) ∙ e) in
+      ap (λ (z : Node). z.id.client) (sym same) ∙ client ∙ ap (λ (z : ℕ). z / k.rows) (sym d))
+      (λ ne. kept.owned q y (sym (if_no q r (some x) (kept.nodes q) ne) ∙ e)))
+      (ids_more s kept id me.0 r x here is plays client new)
       record {
         known = seen.known;
         begun = λ q y h. ⊎_elim (λ (t : (r ≡ q) × (x ≡ y)). if_yes q r (some x) (kept.nodes q) (sym t.0)
@@ -485,6 +541,8 @@ module _ (k : Size) where
     lawful = kept.lawful;
     nodes = kept.nodes;
     named = kept.named;
+    owned = kept.owned;
+    ids = kept.ids;
     sits = λ j u e. ⊎_elim
         (λ (t : get_elem? (set s.views id left) j ≡ some u). ⊎_elim
         (λ (q : (j ≡ id) × (left ≡ u)). subst (λ (z : View). Sits k s.words kept.nodes z) q.1 sits_left)
@@ -595,6 +653,8 @@ module _ (k : Size) where
         lawful = kept.lawful;
         nodes = kept.nodes;
         named = kept.named;
+        owned = kept.owned;
+        ids = kept.ids;
         sits = λ j u e. ⊎_elim
             (λ (t : (j ≡ other) × (spent ≡ u)). subst (λ (z : View). Sits k s.words kept.nodes z) t.1
             (sits_spent s.words kept.nodes))
@@ -635,8 +695,9 @@ module _ (k : Size) where
     pub begins_at : (i n : ℕ) (r : Row) (x : Node) → i ≡ word_at k (row_at k r) 0 → i < words_of k
         → r.number < k.rows → me.0.low ≡ 1 + r.client → me.0.high ≡ me.0.low + 1
         → n ≡ x.colours.0 → n < 2 ^ 62 + 2 → AreColours k x.colours
+        → x.id.client ≡ r.client → IsNewTo me.0 r.client x.id
         → Allows (Kept key) slots id me i (λ m. either (eqb m 0) n m) (Turns began (step slots i 0 n (some x)) me)
-    begins_at i n r x e inside row low high bits small spans =
+    begins_at i n r x e inside row low high bits small spans client new =
         let plays : Plays me.0 (owner_of k (word_at k (row_at k r) 0)) = subst (Plays me.0)
         (sym (owner_of_row k r row)) (omega arith, omega arith, omega arith) in
         let P : ℕ → Type 0 = λ z. Allows (Kept k) slots id me i (λ m. either (eqb m 0) z m)
@@ -647,7 +708,8 @@ module _ (k : Size) where
         (Turns began (step slots i 0 n (some x)) me)) (sym same)
         (subst P (sym bits) (subst Q (sym e)
         (begins slots id me (row_at k r) x is (subst (λ (z : ℕ). z < words_of k) e inside) plays
-        (subst (λ (z : ℕ). z < 2 ^ 62 + 2) bits small) spans)))
+        (subst (λ (z : ℕ). z < 2 ^ 62 + 2) bits small) spans (client ∙ sym (client_of_row k r row))
+        (subst (λ (z : ℕ). IsNewTo me.0 z x.id) (sym client) new))))
 
   pub began_view : (slots : ℕ) (me me' : Me Node View) (i n m r : ℕ) (x : Node) → me.0.size ≡ k → i ≡ word_at k r 0
       → n ≡ x.colours.0 → me' ≡ (began (step slots i 0 n (some x)) me.0 m, me.1) → m ≡ 0
@@ -670,6 +732,8 @@ module _ (k : Size) where
           lawful = kept.lawful;
           nodes = kept.nodes;
           named = kept.named;
+          owned = kept.owned;
+          ids = kept.ids;
           sits = λ j u e. ⊎_elim (λ (t : get_elem? s.views j ≡ some u). kept.sits j u t)
               (λ (t : (j ≡ length s.views) × (w ≡ u)). subst (λ (z : View). Sits k s.words kept.nodes z) t.1
               record {
@@ -710,6 +774,8 @@ opens k n high is =
       };
       nodes = λ _. none;
       named = λ r x e. absurd (some-ne-none x (sym e));
+      owned = λ r x e. absurd (some-ne-none x (sym e));
+      ids = λ r q x y e. absurd (some-ne-none x (sym e));
       sits = λ id v e. subst (λ (z : View). Sits k (replicate n 0) (λ _. none) z) (alone id v e).1 record {
         known = λ i m h. absurd h;
         begun = λ r x h. absurd h;

@@ -1,10 +1,12 @@
 -- What a seat knows after it was to set a mark, and after it has begun a row.
 use Rattle.std.proofs.Common.{◌≡◌, ◌≢◌, ℕ, ◌+◌, ◌-◌, ◌*◌, ◌/◌, ◌%◌, ◌<◌, ◌≤◌, ◌∷◌, sym, refl, ap, ◌∙◌, subst}
 use Rattle.std.proofs.Common.{arith, inl, inr}
+use Rattle.std.proofs.Math.Nat.{mul_comm, div-add-mod}
 use Rattle.std.specs.Prelude.{if◌then◌else◌, ◌==◌}
 use mathlib.Core.Logic.{dite}
 use mathlib.Core.Option.{some}
 use native.Mathlib.Decide.{ℕ_discrete}
+use Rattle.log_node.specs.declared.ids.Id.{Id}
 use Rattle.log_node.specs.declared.ids.Row.{Row}
 use Rattle.log_node.specs.declared.node.Node.{Node}
 use Rattle.log_node.specs.declared.marks.Mark.TheVariants as marks
@@ -12,11 +14,11 @@ use Rattle.stamp_board.specs.declared.view.Size.{Size}
 use Rattle.stamp_board.specs.declared.view.View.{View}
 use Rattle.stamp_board.specs.Words.{row_at, word_at, mark_from}
 use Rattle.stamp_board.specs.Views.{Has, at, Grows, KnowsWord, KnowsBegun, KnowsMark, own_mark}
-use Rattle.stamp_board.specs.Law.{Told, heard, wrote, with_node}
+use Rattle.stamp_board.specs.Law.{IsNewTo, Told, heard, wrote, with_node}
 use Rattle.stamp_board.specs.Rows.{AreColours, IsRow}
 use Rattle.stamp_board.proofs.Colours.{not_empty}
 use Rattle.stamp_board.proofs.Knowing.{if_yes, if_no, at_here, at_else, heard_mine, heard_size, heard_knows}
-use Rattle.stamp_board.proofs.Places.{same_row, client_of_row, number_of_row}
+use Rattle.stamp_board.proofs.Places.{same_row, one_row}
 use Rattle.stamp_board.proofs.Deciding.{mark_from-none}
 use Rattle.stamp_board.proofs.Keeps.{client_set}
 
@@ -24,15 +26,6 @@ pub number_word : (s : ℕ) → 0 < s → mark_from (s + 2) ≡ marks.Number s
 number_word s pos = if_no (s + 2) 0 _ _ (λ z. omega arith) ∙ if_no (s + 2) 1 _ _ (λ z. omega arith)
     ∙ if_no (s + 2) 2 _ _ (λ z. omega arith)
     ∙ (let e : s + 2 - 2 ≡ s = omega arith in ap marks.Number e)
-
--- rows with one number among all rows are one row
-rows_differ : (k : Size) (r s : Row) → IsRow k r → IsRow k s → row_at k r ≡ row_at k s → r ≡ s
-rows_differ k r s h h' e =
-    let clients : r.client ≡ s.client = sym (client_of_row k r h.1) ∙ ap (λ (n : ℕ). n / k.rows) e
-    ∙ client_of_row k s h'.1 in
-    let numbers : r.number ≡ s.number = sym (number_of_row k r h.1) ∙ ap (λ (n : ℕ). n % k.rows) e
-    ∙ number_of_row k s h'.1 in
-    λ i. record { client = clients i; number = numbers i }
 
 -- a seat that has set nothing has the marks that it had
 pub same_own : (v w : View) → w.mine ≡ v.mine → w.size ≡ v.size → (row : Row) (c : ℕ)
@@ -73,7 +66,7 @@ module _ (k : Size) (v w : View) (row : Row) (c n found : ℕ) (is : v.size ≡ 
       → other ≢ row → own_mark w other c ≡ own_mark v other c
   others_stay e colour other h h' ne =
       let there : ℕ = word_at v.size (row_at v.size other) (1 + c) in
-      let apart : place ≢ there = λ d. ne (sym (rows_differ v.size row other h h'
+      let apart : place ≢ there = λ d. ne (sym (one_row v.size row other h.1 h'.1
       (same_row v.size (row_at v.size row) (1 + c) (row_at v.size other) (1 + c) (omega arith) (omega arith) d)))
       in
       ap (λ (z : View). own_mark z other c) (set_view e) ∙ ap mark_from (at_else v.mine place n there apart)
@@ -165,3 +158,21 @@ module _ (k : Size) (v w : View) (client used found : ℕ) (x : Node) (is : v.si
 
   pub next_begun : IsNextBegun v w client used x
   next_begun = record { knows = begun_knows; grows = begun_grows; few = begun_few; rows = begun_rows; all = begun_all }
+
+-- where each of the client's first rows is known as begun for a node of a lesser count, the id is new
+pub new_to : (v : View) (client used : ℕ) (id : Id)
+    → ((j : ℕ) → at v.mine (word_at v.size (client * v.size.rows + j) 0) ≢ 0 → j < used)
+    → ((j : ℕ) → j < used → (y : Node) × KnowsBegun v (record { client = client; number = j }) y × (y.id.count < id.count))
+    → IsNewTo v client id
+new_to v client used id begun each q of_client set_one =
+    let rows : ℕ = v.size.rows in
+    let parts : client * rows + q % rows ≡ q =
+    ap (λ (c : ℕ). c * rows + q % rows) (sym of_client) ∙ ap (λ (m : ℕ). m + q % rows) (mul_comm (q / rows) rows)
+    ∙ div-add-mod q rows in
+    let known = each (q % rows)
+    (begun (q % rows) (subst (λ (r : ℕ). at v.mine (word_at v.size r 0) ≢ 0) (sym parts) set_one)) in
+    let less = known.2 in (
+      known.0,
+      subst (λ (r : ℕ). Has v.begun r known.0) parts known.1,
+      (λ e. let same = ap (λ (i : Id). i.count) e in omega (arith, less, same)),
+    )

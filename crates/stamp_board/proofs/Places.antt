@@ -39,6 +39,15 @@ client_of_row k r h = div-mul-add r.client k.rows r.number h
 pub number_of_row : (k : Size) (r : Row) → r.number < k.rows → row_at k r % k.rows ≡ r.number
 number_of_row k r h = mod-mul-add r.client k.rows r.number h
 
+-- a row's number among all rows is its own
+pub one_row : (k : Size) (a b : Row) → a.number < k.rows → b.number < k.rows → row_at k a ≡ row_at k b → a ≡ b
+one_row k a b h h' e =
+    let clients : a.client ≡ b.client = sym (client_of_row k a h) ∙ ap (λ (n : ℕ). n / k.rows) e
+    ∙ client_of_row k b h' in
+    let numbers : a.number ≡ b.number = sym (number_of_row k a h) ∙ ap (λ (n : ℕ). n % k.rows) e
+    ∙ number_of_row k b h' in
+    λ i. record { client = clients i; number = numbers i }
+
 pub owner_of_mark : (k : Size) (r c : ℕ) → c < k.colours → owner_of k (word_at k r (1 + c)) ≡ 1 + k.clients + c
 owner_of_mark k r c h = owner_of_word k r (1 + c) (omega arith) ∙ if_no (1 + c) 0 _ _ (λ z. omega arith)
     ∙ ap (λ (b : Bool). if b then k.clients + (1 + c) else 0) (le-leb (1 + c) k.colours (omega arith)) ∙ omega arith

@@ -16,6 +16,7 @@ use Rattle.stamp_board.specs.Views.{MayBe}
 use Rattle.stamp_board.specs.Law.{Fits, Lawful, Told, heard, IsSet, IsKept}
 use Rattle.stamp_board.proofs.Knowing.{if_yes, if_no, heard_size}
 use Rattle.stamp_board.proofs.Fitting.{mark_from-good}
+use Rattle.stamp_board.proofs.Places.{client_of_row, one_row}
 use Rattle.stamp_board.proofs.Deciding.{told_law, told_fits, told_small}
 
 set_is_mark : (m : Mark) → IsSet m → IsMark m
@@ -46,6 +47,8 @@ own ws v law f = let k : Size = v.size in record {
       let word : get_or ws (word_at k (row_at k row) 0) 0 ≡ x.colours.0 = b.1 in
       ((λ z. omega arith), (λ i. let c : Colours = record { 0 = word i } in c));
   one_node = λ row x y h h'. f.same (row_at k row) x y h h';
+  clients = λ row x in_ h. f.owned (row_at k row) x h ∙ client_of_row k row in_.1;
+  ids = λ row other x y a b h h' e. one_row k row other a.1 b.1 (f.ids (row_at k row) (row_at k other) x y h h' e);
   marks = λ row c m h. ap mark_from (f.known (word_at k (row_at k row) (1 + c)) h.0 h.1).1 ∙ h.2;
   outcomes = λ row o h. ap outcome_from (f.known (word_at k (row_at k row) (k.colours + 1)) h.0 h.1).1 ∙ h.2;
   colours = λ row ne. law.colours (row_at k row) ne;

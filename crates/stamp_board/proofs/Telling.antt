@@ -8,9 +8,10 @@ use Rattle.log_node.specs.declared.marks.Mark.{Mark}
 use Rattle.log_node.specs.declared.marks.Outcome.{Outcome}
 use Rattle.stamp_board.specs.Words.{owner_of, row_at, word_at, mark_from, outcome_from}
 use Rattle.stamp_board.specs.Views.{Agree, at, Has, Grows, Learns, KnowsBegun, KnowsWord, KnowsMark, KnowsOutcome}
+use Rattle.stamp_board.specs.Rows.{IsRow}
 use Rattle.stamp_board.specs.Law.{Told, heard, both}
 use Rattle.stamp_board.proofs.Knowing.{Has-left, Has-right, heard_grows, heard_mine}
-use Rattle.stamp_board.proofs.Places.{owner_of_row}
+use Rattle.stamp_board.proofs.Places.{owner_of_row, one_row}
 use Rattle.stamp_board.proofs.CallerLemmas.{Grows-trans}
 
 pub both_grows : (v w : View) → Grows v (both v w)
@@ -57,8 +58,16 @@ module _ (v w u : View) (n : ℕ) (is : u ≡ heard (both v w) 0 n) (tells : Tol
   joined_outcomes same row x y h h' = sym h.2 ∙ ap outcome_from (joined_words same row (v.size.colours + 1) h.0 h'.0 h.1
       (subst (λ (z : Size). KnowsWord w row (z.colours + 1) h'.0) (sym same) h'.1)) ∙ h'.2
 
+  joined_ids : v.size ≡ w.size → (row other : Row) (x y : Node) → IsRow v.size row → IsRow v.size other
+      → KnowsBegun v row x → KnowsBegun w other y → x.id ≡ y.id → row ≡ other
+  joined_ids same row other x y a b h h' e = one_row v.size row other a.1 b.1
+      (tells.2.ids (row_at v.size row) (row_at v.size other) x y
+      (Has-left v.begun w.begun (row_at v.size row) x h)
+      (Has-right v.begun w.begun (row_at v.size other) y
+      (subst (λ (z : Size). Has w.begun (row_at z other) y) (sym same) h')) e)
+
   pub joined_agree : v.size ≡ w.size → Agree v w
-  joined_agree same = record { node = joined_nodes same; mark = joined_marks same; outcome = joined_outcomes same }
+  joined_agree same = record { id = joined_ids same; node = joined_nodes same; mark = joined_marks same; outcome = joined_outcomes same }
 
   -- a row of the seat's own client that the other one knows as begun is one that the seat has begun
   pub joined_own : v.size ≡ w.size → (row : Row) (x : Node) → row.number < v.size.rows → v.low ≡ 1 + row.client

@@ -4,6 +4,7 @@ use Rattle.std.specs.Prelude.{List, [], ◌∷◌, ◌++◌, length, slice_index
 use mathlib.Core.Option.{Option, none, some}
 use lib.ListN.{get_elem?}
 use Rattle.atomic_table.specs.Table.{State, Me, Step}
+use Rattle.log_node.specs.declared.ids.Id.{Id}
 use Rattle.log_node.specs.declared.ids.Row.{Row}
 use Rattle.log_node.specs.declared.node.Node.{Node}
 use Rattle.log_node.specs.Sets.{has}
@@ -43,6 +44,8 @@ pub record Fits (k : Size) (ws : List ℕ) (v : View) : Type 0 where
   pub known : (i n : ℕ) → Has v.known i n → (0 < n) × (slice_index ws i ≡ n)
   pub begun : (r : ℕ) (x : Node) → Has v.begun r x → (0 < x.colours.0) × (slice_index ws (word_at k r 0) ≡ x.colours.0)
   pub same : (r : ℕ) (x y : Node) → Has v.begun r x → Has v.begun r y → x ≡ y
+  pub owned : (r : ℕ) (x : Node) → Has v.begun r x → x.id.client ≡ r / k.rows
+  pub ids : (r q : ℕ) (x y : Node) → Has v.begun r x → Has v.begun q y → x.id ≡ y.id → r ≡ q
   pub mine : (i : ℕ) → Plays v (owner_of k i) → at v.mine i ≡ slice_index ws i
   pub own : (i : ℕ) → at v.mine i ≢ 0 → Plays v (owner_of k i)
 
@@ -63,13 +66,16 @@ pub record Sits (k : Size) (ws : List ℕ) (nodes : ℕ → Option Node) (v : Vi
   pub mine : (i : ℕ) → Plays v (owner_of k i) → at v.mine i ≡ slice_index ws i
   pub own : (i : ℕ) → at v.mine i ≢ 0 → Plays v (owner_of k i)
 
--- there is a node for each begun row, and no two seats play one part
+-- there is a node for each begun row, which is of the row's client and has an id of its own; and no two seats play one
+-- part
 pub record Kept (k : Size) (s : State Node View) : Type 0 where
   pub long : length s.words ≡ words_of k
   pub lawful : Lawful k s.words
   pub nodes : ℕ → Option Node
   pub named : (r : ℕ) (x : Node) → nodes r ≡ some x
       → (0 < x.colours.0) × (slice_index s.words (word_at k r 0) ≡ x.colours.0)
+  pub owned : (r : ℕ) (x : Node) → nodes r ≡ some x → x.id.client ≡ r / k.rows
+  pub ids : (r q : ℕ) (x y : Node) → nodes r ≡ some x → nodes q ≡ some y → x.id ≡ y.id → r ≡ q
   pub sits : (id : ℕ) (v : View) → get_elem? s.views id ≡ some v → Sits k s.words nodes v
   pub apart : (id id' : ℕ) (v v' : View) (a : ℕ) → get_elem? s.views id ≡ some v → get_elem? s.views id' ≡ some v'
       → Plays v a → Plays v' a → id ≡ id'
@@ -158,6 +164,12 @@ PlaysOne v a = (v.low ≡ a) × (v.high ≡ v.low + 1)
 -- the seat knows the row r as begun for a node with the colour c
 abbrev pub HasColour : View → ℕ → ℕ → Type 0
 HasColour v r c = (x : Node) × Has v.begun r x × (has x.colours c ≡ true)
+
+-- each row of the client that the seat has begun is known as begun for a node with another id
+abbrev pub IsNewTo : View → ℕ → Id → Type 0
+IsNewTo v client id =
+    (q : ℕ) → q / v.size.rows ≡ client → at v.mine (word_at v.size q 0) ≢ 0
+    → (y : Node) × Has v.begun q y × (y.id ≢ id)
 
 -- P holds of all lawful words that fit what the seat knows
 abbrev pub AlwaysIn : Size → View → (List ℕ → Type 0) → Type 0

@@ -46,6 +46,16 @@ next_row_of s = record { client = s.client; number = s.used }
 abbrev pub IsNext : Board → Seat → Row → Type 0
 IsNext b s row = (s.used < b.size.rows) × (row ≡ next_row_of s)
 
+-- each row that the client has begun is known as begun for a node of a count below this one
+abbrev pub AreRowsBelow : Seat → ℕ → Type 0
+AreRowsBelow s count =
+    (j : ℕ) → j < s.used
+    → (y : Node) × KnowsBegun (seen s) (record { client = s.client; number = j }) y × (y.id.count < count)
+
+-- the node is the client's, and comes after those for which the client has begun rows
+abbrev pub IsNextNode : Seat → Node → Type 0
+IsNextNode s node = (node.id.client ≡ s.client) × AreRowsBelow s node.id.count
+
 -- the client has begun all its rows
 abbrev pub IsFull : Board → Seat → Full → Type 0
 IsFull b s full = (s.used ≡ b.size.rows) × (full.used ≡ s.used)

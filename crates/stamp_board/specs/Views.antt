@@ -10,7 +10,7 @@ use Rattle.log_node.specs.Marks.{IsMark}
 use Rattle.stamp_board.specs.declared.view.Size.{Size}
 use Rattle.stamp_board.specs.declared.view.View.{View}
 use Rattle.stamp_board.specs.Words.{row_at, word_at, mark_word, mark_from, outcome_from}
-use Rattle.stamp_board.specs.Rows.{AreColours, IsBegun, colours_in, mark_in, kept_in, outcome_in}
+use Rattle.stamp_board.specs.Rows.{AreColours, IsRow, IsBegun, colours_in, mark_in, kept_in, outcome_in}
 
 -- the list has the pair of i and x
 abbrev pub Has : {X : Type 0} → List (ℕ × X) → ℕ → X → Type 0
@@ -64,8 +64,11 @@ pub record Grows (v w : View) : Type 0 where
   pub known : (i n : ℕ) → Has v.known i n → Has w.known i n
   pub begun : (r : ℕ) (x : Node) → Has v.begun r x → Has w.begun r x
 
--- what both know of a row is the same: the node for which it is begun, a mark, and the outcome
+-- what both know of a row is the same: the node for which it is begun, a mark, and the outcome; and no two rows are begun
+-- for nodes with one id
 pub record Agree (v w : View) : Type 0 where
+  pub id : (row other : Row) (x y : Node) → IsRow v.size row → IsRow v.size other
+      → KnowsBegun v row x → KnowsBegun w other y → x.id ≡ y.id → row ≡ other
   pub node : (row : Row) (x y : Node) → KnowsBegun v row x → KnowsBegun w row y → x ≡ y
   pub mark : (row : Row) (c : ℕ) (m n : Mark) → KnowsMark v row c m → KnowsMark w row c n → m ≡ n
   pub outcome : (row : Row) (o p : Outcome) → KnowsOutcome v row o → KnowsOutcome w row p → o ≡ p
@@ -75,11 +78,15 @@ abbrev pub told : View → View
 told v = record v { low = 0; high = 0; mine = [] }
 
 -- The board may have these words: they break no rule of boards, and agree with all that the seat knows.
--- What is known of a row, a mark or an outcome is what stands, and a row has one node. A begun row has two colours or
--- more of the board's, marks have stamps, and a kept outcome is the outcome of its row's marks.
+-- What is known of a row, a mark or an outcome is what stands, a row has one node, which is of its client, and no two
+-- rows have nodes with one id. A begun row has two colours or more of the board's, marks have stamps, and a kept outcome
+-- is the outcome of its row's marks.
 pub record MayBe (k : Size) (ws : List ℕ) (v : View) : Type 0 where
   pub begun : (row : Row) (x : Node) → KnowsBegun v row x → IsBegun k ws row × (colours_in k ws row ≡ x.colours)
   pub one_node : (row : Row) (x y : Node) → KnowsBegun v row x → KnowsBegun v row y → x ≡ y
+  pub clients : (row : Row) (x : Node) → IsRow k row → KnowsBegun v row x → x.id.client ≡ row.client
+  pub ids : (row other : Row) (x y : Node) → IsRow k row → IsRow k other
+      → KnowsBegun v row x → KnowsBegun v other y → x.id ≡ y.id → row ≡ other
   pub marks : (row : Row) (c : ℕ) (m : Mark) → KnowsMark v row c m → mark_in k ws row c ≡ m
   pub outcomes : (row : Row) (o : Outcome) → KnowsOutcome v row o → kept_in k ws row ≡ o
   pub colours : (row : Row) → IsBegun k ws row → AreColours k (colours_in k ws row)

@@ -1,7 +1,7 @@
 // Rows that clients begin.
-ghost use Rattle.std.specs.Prelude.{◌≡◌, MatchResult};
+ghost use Rattle.std.specs.Prelude.{◌≡◌, ◌+◌, ◌<◌, MatchResult, OnOk};
 ghost use Rattle.stamp_board.specs.Rows.{AreColours};
-ghost use Rattle.stamp_board.specs.Seats.{IsSeatOf, IsClients, IsNext, IsFull, Begins};
+ghost use Rattle.stamp_board.specs.Seats.{IsSeatOf, IsClients, IsNextNode, IsNext, IsFull, Begins, AreRowsBelow};
 
 use crate::board::Board;
 use crate::seats::Seat;
@@ -25,13 +25,16 @@ impl Board {
         }
     }
 
-    /// Begins the client's next row for the node, which has two colours or more.
+    /// Begins the client's next row for the node, which has two colours or more and a greater count than
+    /// those before it.
     pub fn begin(&self, seat: &mut Seat, node: &Arc<Node, Global>) -> Result<Row, Full>
         requires seat { IsSeatOf self.now seat.old × IsClients self.now seat.old }
         requires node { AreColours self.now.size node.now.value.colours }
+        requires next { seat.old.used < self.now.size.rows → IsNextNode seat.old node.now.value }
         ensures row { MatchResult result (λ row. IsNext self.now seat.old row) (λ full. IsFull self.now seat.old full) }
         ensures begun { MatchResult result
             (λ row. Begins seat.old seat.new row node.now.value) (λ _. seat.new ≡ seat.old) }
+        ensures counts { OnOk result (AreRowsBelow seat.new (node.now.value.id.count + 1)) }
     {
         if seat.used == self.size.rows {
             return Err(Full { used: seat.used });

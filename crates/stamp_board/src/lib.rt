@@ -24,5 +24,3 @@ pub use rows::{ClosedRow, ClosedRows};
 pub use seats::{ColumnSeat, ColumnSeats, Seat, Seats};
 pub use view::{Size, View};
 
-#[cfg(test)]
-mod tests;

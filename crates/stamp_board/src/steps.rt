@@ -3,7 +3,7 @@ ghost use Rattle.std.specs.Prelude.{◌≡◌, ◌+◌, ◌^◌, ◌<◌};
 ghost use Rattle.stamp_board.specs.Words.{words_of, row_at, outcome_from};
 ghost use Rattle.stamp_board.specs.Words.{row_word, mark_word, kept_word};
 ghost use Rattle.stamp_board.specs.Rows.{AreColours, IsRow, outcome_in};
-ghost use Rattle.stamp_board.specs.Law.{AlwaysIn, HasColour, PlaysOne, Told};
+ghost use Rattle.stamp_board.specs.Law.{AlwaysIn, HasColour, IsNewTo, PlaysOne, Told};
 ghost use Rattle.stamp_board.specs.Law.{after_begin, after_final, after_mark, heard};
 ghost use Rattle.stamp_board.specs.Inside.{IsOf, Stays};
 
@@ -67,6 +67,8 @@ impl Board {
         requires row { IsRow self.now.size row }
         requires part { PlaysOne seat.old.me.0 (1 + row.client) }
         requires node { AreColours self.now.size node.now.colours }
+        requires client { node.now.id.client ≡ row.client }
+        requires new { IsNewTo seat.old.me.0 row.client node.now.id }
         ensures seat { Stays seat.old seat.new }
         ensures view { result ≡ 0 → seat.new.me.0 ≡ after_begin seat.old.me.0 self.now.size row node.now }
         ensures told { Told seat.old.me.0 (row_word self.now.size row) result }

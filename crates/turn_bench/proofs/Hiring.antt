@@ -7,20 +7,20 @@ use Rattle.turn_bench.specs.declared.tally.Tally.{Tally}
 use Rattle.turn_bench.specs.declared.writers.Writer.{Writer}
 use Rattle.turn_bench.specs.Writers.{no_tag, TallyCell, IsWriter}
 
-abbrev pub TallyPass : Type 0
-TallyPass = Pass Tally ℕ (Unit {0})
+abbrev pub TallyPass : Type 0 → Type 0
+TallyPass P = Pass (Tally P) ℕ (Unit {0})
 
-pub are_new : (c : TallyCell) (ps qs : List TallyPass)
+pub are_new : {P : Type 0} (c : TallyCell P) (ps qs : List (TallyPass P))
     → qs ≡ ps → AreNewPasses no_tag c (length ps) ps → AreNewPasses no_tag c (length qs) qs
 are_new c ps qs same new = subst (λ l. AreNewPasses no_tag c (length l) l) (sym same) new
 
-pub left_new : (c : TallyCell) (ps qs : List TallyPass) (p : TallyPass)
+pub left_new : {P : Type 0} (c : TallyCell P) (ps qs : List (TallyPass P)) (p : TallyPass P)
     → ps ≡ qs ++ p ∷ []
     → AreNewPasses no_tag c (length ps) ps
     → AreNewPasses no_tag c (length qs) qs × IsNewPass no_tag c (length qs) p
 left_new c ps qs p e new = let r = left_at ps qs p (IsNewPass no_tag c) e new.1 in ((refl, r.0), r.1)
 
-pub hired : (c : TallyCell) (w : Writer) (n : ℕ) → w.by ≡ n → IsNewPass no_tag c n w.pass → IsWriter c w
+pub hired : {P : Type 0} (c : TallyCell P) (w : Writer P) (n : ℕ) → w.by ≡ n → IsNewPass no_tag c n w.pass → IsWriter c w
 hired c w n by new =
     subst (λ k. IsNumbered no_tag c k w.pass) (sym by) (new_is_numbered no_tag c n w.pass new)
 

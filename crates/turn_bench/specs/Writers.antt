@@ -6,15 +6,15 @@ use Rattle.turn_bench.specs.declared.tally.Tally.{Tally}
 use Rattle.turn_bench.specs.declared.writers.Writer.{Writer}
 
 -- the tag of a tally, which says nothing
-abbrev pub no_tag : Tally → Unit {0}
+abbrev pub no_tag : {P : Type 0} → Tally P → Unit {0}
 no_tag t = tt
 
-abbrev pub TallyCell : Type 0
-TallyCell = Cell Tally ℕ (Unit {0})
+abbrev pub TallyCell : Type 0 → Type 0
+TallyCell P = Cell (Tally P) ℕ (Unit {0})
 
 -- its pass is one of this cell, does not hold the turn, and has its number
-abbrev pub IsWriter : TallyCell → Writer → Type 0
+abbrev pub IsWriter : {P : Type 0} → TallyCell P → Writer P → Type 0
 IsWriter c w = IsNumbered no_tag c w.by w.pass
 
-abbrev pub AreWriters : TallyCell → List Writer → Type 0
-AreWriters c ws = (k : ℕ) (w : Writer) → slice_get ws k ≡ Some w → IsWriter c w
+abbrev pub AreWriters : {P : Type 0} → TallyCell P → List (Writer P) → Type 0
+AreWriters {P} c ws = (k : ℕ) (w : Writer P) → slice_get ws k ≡ Some w → IsWriter c w

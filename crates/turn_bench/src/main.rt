@@ -1,4 +1,4 @@
-//! Turns at a cell beside a lock of std: one, two and four threads that share one value.
+//! Turns at a cell beside a lock of std: one, two and four threads that share one value, a small and a great one.
 //!
 //! With no argument each thread takes 500 turns, and what is printed is how many entries there are in the end. With a
 //! number as its argument each thread takes that many, and what is printed is how long a turn took.
@@ -19,33 +19,46 @@ const THREADS: [u8; 3] = [1, 2, 4];
 
 const KINDS: [(&str, Work); 2] = [("look", Work::Look), ("add", Work::Add)];
 
-fn count<R: Threads + Wait + Print + Sync>(rt: &R, alloc: Global, turns: u64) -> io::Result<()> {
+// A value of 24 bytes, and one as great as a column with its seat.
+const SMALL: () = ();
+
+const GREAT: [u64; 35] = [0; 35];
+
+fn count<P: Copy + Drop + Send + Sync, R: Threads + Wait + Print + Sync>(
+    rt: &R,
+    alloc: Global,
+    size: &str,
+    ballast: P,
+    turns: u64,
+) -> io::Result<()> {
     for (name, work) in KINDS {
         for threads in THREADS {
             let load = Load { work, turns };
-            let cell = over_cell(rt, alloc, threads, load)?;
-            let lock = over_lock(rt, alloc, threads, load)?;
-            println!(rt; "{name} threads {threads} entries cell {cell} lock {lock}")?;
+            let cell = over_cell(rt, alloc, ballast, threads, load)?;
+            let lock = over_lock(rt, alloc, ballast, threads, load)?;
+            println!(rt; "{size} {name} threads {threads} entries cell {cell} lock {lock}")?;
         }
     }
     Ok(())
 }
 
-fn measure<R: Threads + Wait + Print + Clock + Sync>(
+fn measure<P: Copy + Drop + Send + Sync, R: Threads + Wait + Print + Clock + Sync>(
     rt: &R,
     alloc: Global,
+    size: &str,
+    ballast: P,
     turns: u64,
 ) -> io::Result<()> {
     for (name, work) in KINDS {
         for threads in THREADS {
             let load = Load { work, turns };
             let start = Instant::now(rt)?;
-            over_cell(rt, alloc, threads, load)?;
+            over_cell(rt, alloc, ballast, threads, load)?;
             let cell = start.elapsed(rt)?;
             let start = Instant::now(rt)?;
-            over_lock(rt, alloc, threads, load)?;
+            over_lock(rt, alloc, ballast, threads, load)?;
             let lock = start.elapsed(rt)?;
-            println!(rt; "{name} threads {threads}")?;
+            println!(rt; "{size} {name} threads {threads}")?;
             report(rt, "cell", threads, turns, cell)?;
             report(rt, "lock", threads, turns, lock)?;
         }
@@ -64,9 +77,15 @@ fn report<R: Print>(rt: &R, name: &str, threads: u8, turns: u64, time: Duration)
 fn main(rt: HostRuntime) -> io::Result<()> {
     match env::args(&rt)?.nth(1) {
         Some(word) => match word.as_str().parse::<u64>() {
-            Ok(turns) => measure(&rt, rt.alloc(), turns),
+            Ok(turns) => {
+                measure(&rt, rt.alloc(), "small", SMALL, turns)?;
+                measure(&rt, rt.alloc(), "great", GREAT, turns)
+            }
             Err(_) => println!(&rt; "the argument is the number of turns"),
         },
-        None => count(&rt, rt.alloc(), 500),
+        None => {
+            count(&rt, rt.alloc(), "small", SMALL, 500)?;
+            count(&rt, rt.alloc(), "great", GREAT, 500)
+        }
     }
 }

@@ -1,4 +1,4 @@
-//! A count of entries, beside the maker of the last one: the least value that a cell can hold.
+//! A count of entries, beside the maker of the last one, and a load that makes the value as great as one likes.
 ghost use Rattle.std.specs.Prelude.{◌≡◌, true, false, []};
 ghost use Rattle.turn_bench.specs.Tallies.{Stands, Gains};
 
@@ -7,12 +7,13 @@ use turn_cell::Kept;
 
 /// How many entries were made, and the number of the pass that made the last one.
 #[derive(Drop)]
-pub struct Tally {
+pub struct Tally<P> {
+    pub ballast: P,
     pub count: u64,
     pub last: Option<u8>,
 }
 
-impl Kept for Tally {
+impl<P> Kept for Tally<P> {
     type Entry = u8;
 
     type Tag = ();
@@ -32,12 +33,13 @@ impl Kept for Tally {
     }
 }
 
-impl Tally {
+impl<P> Tally<P> {
     /// A tally without entries.
-    pub fn new() -> Tally
+    pub fn new(ballast: P) -> Tally<P>
         ensures { Stands result [] }
     {
         Tally {
+            ballast,
             count: 0,
             last: None,
         }

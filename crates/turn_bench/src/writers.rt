@@ -28,14 +28,14 @@ pub struct Load {
 
 /// A pass, and its number.
 #[derive(Drop)]
-pub struct Writer {
+pub struct Writer<P> {
     pub by: u8,
-    pub pass: Pass<Tally>,
+    pub pass: Pass<Tally<P>>,
 }
 
-impl Writer {
+impl<P> Writer<P> {
     /// Takes the turn, does the work, and ends the turn.
-    fn write<R: Wait>(&mut self, rt: &R, cell: &Cell<Tally>, work: Work)
+    fn write<R: Wait>(&mut self, rt: &R, cell: &Cell<Tally<P>>, work: Work)
         requires { IsWriter cell.now self.old }
         ensures { IsWriter cell.now self.new }
     {
@@ -48,7 +48,12 @@ impl Writer {
     }
 }
 
-fn write_all<R: Wait>(rt: &R, cell: &Cell<Tally>, mut writer: Writer, load: Load) -> Writer
+fn write_all<P, R: Wait>(
+    rt: &R,
+    cell: &Cell<Tally<P>>,
+    mut writer: Writer<P>,
+    load: Load,
+) -> Writer<P>
     requires { IsWriter cell.now writer }
     ensures { IsWriter cell.now result }
 {
@@ -58,7 +63,7 @@ fn write_all<R: Wait>(rt: &R, cell: &Cell<Tally>, mut writer: Writer, load: Load
     writer
 }
 
-fn hire(alloc: Global, cell: &Cell<Tally>, passes: Passes<Tally>) -> Result<Vec<Writer>, AllocError>
+fn hire<P>(alloc: Global, cell: &Cell<Tally<P>>, passes: Passes<Tally<P>>) -> Result<Vec<Writer<P>>, AllocError>
     requires { AreNewPasses no_tag cell.now (length passes) passes × (length passes ≤ 255) }
     ensures writers { IfOk result (λ ws. AreWriters cell.now ws.items) }
     ensures count { IfOk result (λ ws. length ws.items ≡ length passes) }
@@ -72,11 +77,11 @@ fn hire(alloc: Global, cell: &Cell<Tally>, passes: Passes<Tally>) -> Result<Vec<
     Ok(writers)
 }
 
-fn dismiss(
+fn dismiss<P>(
     alloc: Global,
-    cell: &Cell<Tally>,
-    mut writers: Vec<Writer>,
-) -> Result<Passes<Tally>, AllocError>
+    cell: &Cell<Tally<P>>,
+    mut writers: Vec<Writer<P>>,
+) -> Result<Passes<Tally<P>>, AllocError>
     requires { AreWriters cell.now writers.items }
     ensures ready { IfOk result (λ ps. AreReady no_tag cell.now ps) }
     ensures count { IfOk result (λ ps. length ps ≡ length writers.items) }
@@ -89,12 +94,12 @@ fn dismiss(
     Ok(passes)
 }
 
-fn write_beside<R: Threads + Wait + Sync>(
+fn write_beside<P: Send + Sync, R: Threads + Wait + Sync>(
     rt: &R,
-    cell: &Cell<Tally>,
-    writers: Vec<Writer>,
+    cell: &Cell<Tally<P>>,
+    writers: Vec<Writer<P>>,
     load: Load,
-) -> Result<Vec<Writer>, AllocError>
+) -> Result<Vec<Writer<P>>, AllocError>
     requires { AreWriters cell.now writers.items }
     ensures writers { IfOk result (λ ws. AreWriters cell.now ws.items) }
     ensures count { IfOk result (λ ws. length ws.items ≡ length writers.items) }
@@ -102,7 +107,7 @@ fn write_beside<R: Threads + Wait + Sync>(
     thread::map_vec(
         rt,
         writers,
-        &|writer: Writer| -> Writer
+        &|writer: Writer<P>| -> Writer<P>
             requires { IsWriter cell.now writer }
             ensures { IsWriter cell.entry.now result }
         { write_all(rt, cell, writer, load) },
@@ -110,15 +115,16 @@ fn write_beside<R: Threads + Wait + Sync>(
 }
 
 /// Threads that each take so many turns at one cell. The answer is how many entries its value has at the end.
-pub fn over_cell<R: Threads + Wait + Sync>(
+pub fn over_cell<P: Drop + Send + Sync, R: Threads + Wait + Sync>(
     rt: &R,
     alloc: Global,
+    ballast: P,
     threads: u8,
     load: Load,
 ) -> Result<u64, AllocError>
     requires { 0 < threads }
 {
-    let (cell, passes) = Cell::open(alloc, Tally::new(), threads)?;
+    let (cell, passes) = Cell::open(alloc, Tally::new(ballast), threads)?;
     let writers = hire(alloc, &cell, passes)?;
     let writers = write_beside(rt, &cell, writers, load)?;
     let passes = dismiss(alloc, &cell, writers)?;
@@ -126,13 +132,14 @@ pub fn over_cell<R: Threads + Wait + Sync>(
 }
 
 /// The same over a lock of std.
-pub fn over_lock<R: Threads + Wait + Sync>(
+pub fn over_lock<P: Drop + Send + Sync, R: Threads + Wait + Sync>(
     rt: &R,
     alloc: Global,
+    ballast: P,
     threads: u8,
     load: Load,
 ) -> Result<u64, AllocError> {
-    let lock = Mutex::new(Tally::new());
+    let lock = Mutex::new(Tally::new(ballast));
     let mut numbers = Vec::new(alloc);
     for by in 0..threads {
         numbers.push(by)?;
@@ -141,7 +148,7 @@ pub fn over_lock<R: Threads + Wait + Sync>(
     Ok(lock.into_inner().count)
 }
 
-fn lock_all<R: Wait>(rt: &R, lock: &Mutex<Tally>, by: u8, load: Load) {
+fn lock_all<P, R: Wait>(rt: &R, lock: &Mutex<Tally<P>>, by: u8, load: Load) {
     for _ in 0..load.turns {
         let mut tally = lock.lock(rt);
         if load.work == Work::Add {

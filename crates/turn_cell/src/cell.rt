@@ -9,10 +9,10 @@ use atomic_table::Table;
 use std::alloc::Global;
 use std::snapshot::Snapshot;
 
-/// A value that passes take in turn.
+/// A value that passes take in turn. It lies in a box, so that a turn moves no more than a pointer.
 #[derive(Drop)]
 pub struct Cell<V: Kept> {
-    pub(crate) table: Table<Option<V>, View<V::Entry, V::Tag>, Snapshot<V>, InTurn, Global>,
+    pub(crate) table: Table<Option<Box<V>>, View<V::Entry, V::Tag>, Snapshot<V>, InTurn, Global>,
     pub(crate) sleepers: Sleepers,
     ghost sized: { (table.shared.table_id.words ≡ 2) × (table.shared.table_id.slots ≡ 1) },
 }

@@ -26,7 +26,7 @@ impl<V: Kept> Cell<V> {
             Some(_) => unreachable!(),
         }
         closed.free();
-        value
+        Box::into_inner(value)
     }
 
     /// All passes meet, and the value is taken for good. It stands for one history, which begins with what each pass

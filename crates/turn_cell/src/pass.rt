@@ -14,7 +14,7 @@ use std::alloc::{AllocError, Global};
 use std::snapshot::Snapshot;
 
 /// What one caller knows of a cell. It has no bytes.
-pub type Pass<V> = Seat<Option<V>, View<<V as Kept>::Entry, <V as Kept>::Tag>>;
+pub type Pass<V> = Seat<Option<Box<V>>, View<<V as Kept>::Entry, <V as Kept>::Tag>>;
 
 /// Passes, by number.
 pub type Passes<V> = ListOf<Pass<V>>;
@@ -31,8 +31,9 @@ impl<V: Kept> Cell<V> {
         ensures passes { IfOk result (λ r. AreNewPasses V.tag r.0 makers r.1) }
     {
         let opening = Snapshot::of(&value);
+        let boxed = Box::new(alloc, value)?;
         let mut slots = Vec::new(alloc);
-        slots.push(Some(value))?;
+        slots.push(Some(boxed))?;
         let (table, mut dealer) = match Table::new(alloc, &[FREE, 0], slots, &opening) {
             Ok(made) => made,
             Err(_) => return Err(AllocError),

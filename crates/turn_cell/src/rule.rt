@@ -24,10 +24,10 @@ pub(crate) const HELD: u64 = 1;
 /// a beginning of that history.
 pub struct InTurn;
 
-impl<V: Kept> TableRule<Option<V>, View<V::Entry, V::Tag>, Snapshot<V>> for InTurn {
+impl<V: Kept> TableRule<Option<Box<V>>, View<V::Entry, V::Tag>, Snapshot<V>> for InTurn {
     ghost use Rattle.turn_cell.specs.Rule.{Turns, first_view};
 
-    ghost holds = { λ opening. Turns V.stands V.by V.tag (V.tag opening.value) };
+    ghost holds = { λ opening. Turns (λ b. V.stands b.value) V.by (λ b. V.tag b.value) (V.tag opening.value) };
 
     ghost first = { λ opening. first_view (V.tag opening.value) };
 }
@@ -35,8 +35,8 @@ impl<V: Kept> TableRule<Option<V>, View<V::Entry, V::Tag>, Snapshot<V>> for InTu
 /// Sets the turn word from free to held, which takes the value out of the slot.
 pub(crate) struct Take;
 
-impl<V: Kept> Play<Option<V>, View<V::Entry, V::Tag>> for Take {
-    ghost then = { Takes V.stands V.by V.tag };
+impl<V: Kept> Play<Option<Box<V>>, View<V::Entry, V::Tag>> for Take {
+    ghost then = { Takes (λ b. V.stands b.value) V.by (λ b. V.tag b.value) };
 }
 
 /// Loads the counting word, with the turn.
@@ -49,8 +49,8 @@ impl<S, E, T> Play<Option<S>, View<E, T>> for Count {
 /// Raises the counting word, for the newest entry of the value that lies in the slot.
 pub(crate) struct Raise;
 
-impl<V: Kept> Play<Option<V>, View<V::Entry, V::Tag>> for Raise {
-    ghost then = { Raises V.newest };
+impl<V: Kept> Play<Option<Box<V>>, View<V::Entry, V::Tag>> for Raise {
+    ghost then = { Raises (λ b. V.newest b.value) };
 }
 
 /// Sets the turn word to free, which puts the value home.
@@ -70,7 +70,7 @@ impl<S, E, T> Play<Option<S>, View<E, T>> for Part {
 /// Loads a word, and finds which of what was seen and what was heard is longer.
 pub(crate) struct Compare;
 
-impl<V: Kept> Play<Option<V>, View<V::Entry, V::Tag>> for Compare {
+impl<V: Kept> Play<Option<Box<V>>, View<V::Entry, V::Tag>> for Compare {
     ghost then = { Compares V.by };
 }
 

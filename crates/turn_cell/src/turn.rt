@@ -16,7 +16,7 @@ use std::sync::Wait;
 pub struct Turn<'a, V: Kept> {
     pub(crate) cell: &'a Cell<V>,
     /// The value, which the holder may change in place.
-    pub value: V,
+    pub value: Box<V>,
 }
 
 impl<V: Kept> Cell<V> {
@@ -26,7 +26,7 @@ impl<V: Kept> Cell<V> {
     pub fn take<'a, R: Wait>(&'a self, rt: &R, pass: &mut Pass<V>) -> Turn<'a, V>
         requires { IsReady V.tag self.now pass.old }
         ensures turn { HasTurn V.tag self.now pass.new × (result.cell.now ≡ self.now) }
-        ensures value { V.stands result.value (seen pass.new) × (V.tag result.value ≡ cell_tag V.tag self.now) }
+        ensures value { V.stands result.value.value (seen pass.new) × (V.tag result.value.value ≡ cell_tag V.tag self.now) }
         ensures seen { IsPrefix (seen pass.old) (seen pass.new) }
         ensures made { IsSameMaker pass.old pass.new × Accounts V.by pass.new (seen pass.new) }
     {
@@ -60,9 +60,9 @@ impl<V: Kept> Cell<V> {
 impl<'a, V: Kept> Turn<'a, V> {
     /// The value, to look at.
     pub fn value(&self) -> &V
-        ensures { result.now ≡ self.now.value }
+        ensures { result.now ≡ self.now.value.value }
     {
-        &self.value
+        self.value.as_ref()
     }
 
     /// Ends the turn. With an entry added to the value the answer is the entry's place, counted from 0, and without
@@ -70,12 +70,12 @@ impl<'a, V: Kept> Turn<'a, V> {
     #[inline]
     pub fn put(self, pass: &mut Pass<V>) -> At
         requires turn { HasTurn V.tag self.cell.now pass.old }
-        requires tag { V.tag self.value ≡ cell_tag V.tag self.cell.now }
-        requires value { MayPut V.stands V.by V.newest self.value pass.old }
+        requires tag { V.tag self.value.value ≡ cell_tag V.tag self.cell.now }
+        requires value { MayPut V.stands V.by V.newest self.value.value pass.old }
         ensures ready { IsReady V.tag self.entry.cell.now pass.new }
-        ensures value { V.stands self.entry.value (seen pass.new) }
-        ensures look { V.stands self.entry.value (seen pass.old) → IsLook pass.old pass.new result }
-        ensures event { (e : V.Entry) → Adds V.stands V.by V.newest self.entry.value pass.old e
+        ensures value { V.stands self.entry.value.value (seen pass.new) }
+        ensures look { V.stands self.entry.value.value (seen pass.old) → IsLook pass.old pass.new result }
+        ensures event { (e : V.Entry) → Adds V.stands V.by V.newest self.entry.value.value pass.old e
             → IsEvent e pass.old pass.new result }
     {
         let Turn { cell, value } = self;

@@ -5,7 +5,7 @@ use Rattle.turn_bench.proofs.Hiring.{moved_one}
 use Rattle.turn_bench.proofs.writers.dismiss.Goals as goal
 
 pub loop-writer-preserved : goal.loop-writer-preserved
-loop-writer-preserved c =
+loop-writer-preserved g c =
     let i = c.loop-writer.invariant in
     let e = c.in-Some.ensures.items in
     let r = left_at c.loop-writer.writers.items c.pop.new.self.items c.in-Some.writer (λ _. IsWriter c.args.cell.now) e

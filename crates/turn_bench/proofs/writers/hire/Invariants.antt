@@ -4,7 +4,7 @@ use Rattle.turn_bench.specs.Writers.{no_tag, AreWriters}
 use Rattle.turn_bench.proofs.writers.hire.Given as goal
 
 abbrev pub invariant-loop-pass : goal.invariant-loop-pass
-invariant-loop-pass l = record {
+invariant-loop-pass g l = record {
   left : AreNewPasses no_tag l.cell (length l.passes.items) l.passes.items;
   hired : AreWriters l.cell l.writers.items;
   few : length l.passes.items ≤ 255;
@@ -12,4 +12,4 @@ invariant-loop-pass l = record {
 }
 
 abbrev pub decreases-loop-pass : goal.decreases-loop-pass
-decreases-loop-pass l = length l.passes.items
+decreases-loop-pass g l = length l.passes.items

@@ -5,7 +5,7 @@ use Rattle.col_core.specs.declared.Entry.{Entry}
 use Rattle.col_core.specs.History.{has_entered}
 use Rattle.col_core.proofs.CallerLemmas.{same_id-true, same_id-refl}
 use Rattle.std.proofs.lemmas.List.{length-set}
-use Rattle.column.specs.Columns.{ColumnState, with_room, after_propose, stamp_for}
+use Rattle.column.specs.Columns.{ColumnState, HasEnterCause, with_room, after_propose, stamp_for}
 use Rattle.chain_store.specs.declared.told.Told.{Told}
 use Rattle.chain_store.specs.Entered.{AreBelow}
 use Rattle.chain_store.specs.Columns.{told_propose, Enters}
@@ -34,6 +34,7 @@ invariant_of-self c =
     let t = told_propose s.column.colour c.args.by x (stamp_for s.column x) in
     let same = c.in-Ok-propose.ensures.entry ∙ ap (after_propose (with_room s.column) c.args.by) c.in-Ok.ensures.cases in
     record {
+      same = s.same ∙ sym (ap (λ (q : ColumnState). q.colour) same);
       all = length-set s.entered c.deref.result.now.id.client (c.deref-2.result.now.id.count + 1) ∙ s.all;
       above = entered_below s.column c.propose.new.self t x refl (propose_entered s.column c.propose.new.self c.args.by x same)
           s.entered c.deref.result.now.id.client c.deref-2.result.now.id.count s.above
@@ -45,6 +46,7 @@ invariant_of-self c =
 
 pub invariant_of-self-in-Err-propose : goal.invariant_of-self-in-Err-propose
 invariant_of-self-in-Err-propose c = record {
+  same = c.args.self.now.same ∙ sym (ap (λ (s : ColumnState). s.colour) c.in-Err.ensures.err);
   all = c.args.self.now.all;
   above = subst (λ (s : ColumnState). AreBelow s.journal c.args.self.now.entered) (sym c.in-Err.ensures.err)
       c.args.self.now.above;
@@ -76,5 +78,12 @@ returns-in-Ok-propose-clause-ok c =
       entered_newest s.column c.propose.new.self t x refl h,
       subst (λ (l : List Entry). length l < 18446744073709551616) c.journal-few.ensures c.journal-few.type_inv.0,
       λ log g. entered_gains s.column c.propose.new.self t x refl h s.seat.inner.me.0.size.clients log
-          c.requires.maker.0 tt (x, refl, c.requires.node.0, refl) (same_id-refl x.id) g,
+          c.requires.maker.0 tt (x, refl, c.requires.row, refl, c.requires.node) (same_id-refl x.id) g,
     )
+
+pub returns-in-Err-clause-cause : goal.returns-in-Err-clause-cause
+returns-in-Err-clause-cause c =
+    let x = c.args.node.now.value in
+    c.why.ensures c.args.self.now.column x.floor
+    (subst (λ (y : Node). HasEnterCause c.args.self.now.column y.floor c.in-Err.fault) c.in-Ok.ensures.cases
+    c.in-Err.ensures.cause)

@@ -1,4 +1,4 @@
-use Rattle.std.proofs.Common.{ℕ, refl, ap, sym, subst, ◌∙◌, ◌≡◌, ◌≤◌, ◌<◌, arith, length, false, true, List, ◌+◌}
+use Rattle.std.proofs.Common.{ℕ, refl, ap, sym, subst, inl, ◌∙◌, ◌≡◌, ◌≤◌, ◌<◌, arith, length, false, true, List, ◌+◌}
 use Rattle.std.specs.Prelude.{slice_index, Some}
 use Rattle.log_node.specs.declared.ids.Id.{Id}
 use Rattle.log_node.specs.declared.node.Node.{Node}
@@ -9,9 +9,12 @@ use Rattle.column.specs.Columns.{ColumnState, with_room, after_single}
 use Rattle.chain_store.specs.declared.told.Told.{Told}
 use Rattle.chain_store.specs.Entered.{AreBelow}
 use Rattle.chain_store.specs.Columns.{IsOfHistory}
-use Rattle.chain_store.proofs.Entering.{fresh, single_entered, entered_below, entered_newest, entered_gains}
+use Rattle.chain_store.proofs.Entering.{fresh, single_entered, entered_below, entered_newest, entered_gains, stamp_small}
 use Rattle.col_core.proofs.CallerLemmas.{same_id-true, same_id-refl}
 use Rattle.chain_store.specs.Columns.{single_told}
+use Rattle.col_core.specs.Computed.{dated}
+use Rattle.col_core.specs.Legal.{IsColumnHistory}
+use Rattle.col_core.specs.Rows.{node_wants}
 use Rattle.chain_store.proofs.Backing.{backed_more}
 use Rattle.chain_store.proofs.seated.Seated.single.Goals as goal
 
@@ -32,6 +35,7 @@ invariant_of-self c =
     let s = c.args.self.now in
     let same = c.in-Ok-single.ensures.entry ∙ ap (after_single (with_room s.column) c.args.by) c.in-Ok.ensures.cases in
     record {
+      same = c.args.self.now.same ∙ sym (ap (λ (s : ColumnState). s.colour) same);
       all = length-set s.entered c.args.by (c.deref.result.now.id.count + 1) ∙ s.all;
       above = entered_below s.column c.single.new.self (single_told s.column c.args.by x) x refl (single_entered s.column c.single.new.self c.args.by x same) s.entered c.args.by c.deref.result.now.id.count s.above
           (let long = s.all in let few = c.requires.maker.0 in omega (arith, long, few)) (c.is_new.ensures c.if-not-is_new.false)
@@ -40,6 +44,7 @@ invariant_of-self c =
 
 pub invariant_of-self-in-Err-single : goal.invariant_of-self-in-Err-single
 invariant_of-self-in-Err-single c = record {
+  same = c.args.self.now.same ∙ sym (ap (λ (s : ColumnState). s.colour) c.in-Err.ensures.err);
   all = c.args.self.now.all;
   above = subst (λ (s : ColumnState). AreBelow s.journal c.args.self.now.entered) (sym c.in-Err.ensures.err)
       c.args.self.now.above;
@@ -55,7 +60,12 @@ returns-in-Ok-single-clause-ok c =
       λ log h. (
         entered_gains s.column c.single.new.self (single_told s.column c.args.by x) x refl
             (single_entered s.column c.single.new.self c.args.by x same) s.seat.inner.me.0.size.clients log
-            c.requires.maker.1 c.requires.maker.2 (x, refl, c.requires.node.0, refl) (same_id-refl x.id) h.0,
-        backed_more s.seat log (single_told s.column c.args.by x) (λ row. refl) tt h.1,
+            c.requires.maker.1 c.requires.maker.2 (x, refl, c.requires.row, refl, c.requires.node) (same_id-refl x.id) h.0,
+        backed_more s.seat log (single_told s.column c.args.by x) (λ row. refl)
+            (stamp_small s.column.region s.column.regions s.column.journal (single_told s.column c.args.by x).entry
+            (subst (λ (q : ColumnState). IsColumnHistory q.region q.regions (dated q.region q.journal)) same
+            c.agrees.ensures.lawful)
+            x.id x.floor (node_wants x s.column.colour) (inl refl))
+            tt h.1,
       ),
     )

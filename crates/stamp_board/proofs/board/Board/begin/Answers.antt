@@ -3,7 +3,10 @@ use Rattle.log_node.specs.declared.node.Node.{Node}
 use Rattle.stamp_board.specs.declared.view.Size.{Size}
 use Rattle.stamp_board.specs.Rows.{AreColours}
 use Rattle.stamp_board.specs.Views.{KnowsBegun}
-use Rattle.stamp_board.proofs.Marking.{next_begun}
+use Rattle.stamp_board.specs.Law.{IsNewTo}
+use Rattle.stamp_board.specs.Seats.{next_row_of}
+use Rattle.stamp_board.proofs.CallerLemmas.{rows_below_more}
+use Rattle.stamp_board.proofs.Marking.{next_begun, new_to}
 use Rattle.stamp_board.proofs.board.Board.begin.Goals as goal
 
 pub set_row-requires-clause-node : goal.set_row-requires-clause-node
@@ -72,3 +75,21 @@ returns-clause-begun c = let b = c.args.self.now in let s = c.args.seat.now in l
       knows = subst (KnowsBegun t.new.seat.me.0 record { client = s.client; number = s.used }) c.deref-node.ensures
           next.knows;
     }
+
+pub set_row-requires-clause-new : goal.set_row-requires-clause-new
+set_row-requires-clause-new c = let b = c.args.self.now in let s = c.args.seat.now in
+    let e : s.inner.me.0.size.rows ≡ b.size.rows = ap (λ (z : Size). z.rows) c.requires.seat.0.1 in
+    let few : s.used ≤ s.inner.me.0.size.rows = s.few in
+    let apart = c.if-seat-self.false in
+    let next = c.requires.next (omega (arith, apart)) in
+    subst (λ (z : Node). IsNewTo s.inner.me.0 s.client z.id) (sym c.deref-node.ensures)
+    (new_to s.inner.me.0 s.client s.used c.args.node.now.value.id s.begun next.1)
+
+pub returns-clause-counts : goal.returns-clause-counts
+returns-clause-counts c =
+    let b = c.args.self.now in let s = c.args.seat.now in
+    let e : s.inner.me.0.size.rows ≡ b.size.rows = ap (λ (z : Size). z.rows) c.requires.seat.0.1 in
+    let few : s.used ≤ s.inner.me.0.size.rows = s.few in
+    let apart = c.if-seat-self.false in
+    rows_below_more s _ (next_row_of s) c.args.node.now.value refl (returns-clause-begun c)
+    (c.requires.next (omega (arith, apart))).1

@@ -11,7 +11,7 @@ compare_exchange_with-requires c = let b = c.args.self.now in let s = c.args.sea
       begins_at b.size b.table.shared.key b.key_is b.table.shared.table_id.slots s.id s.me c.requires.seat.1
           c.word-word.result c.bits_of-bits.result c.args.row c.args.node.now
           c.word-word.ensures.word c.word-word.ensures.inside c.requires.row.1 c.requires.part.0 c.requires.part.1
-          c.bits_of-bits.ensures.same small c.requires.node,
+          c.bits_of-bits.ensures.same small c.requires.node c.requires.client c.requires.new,
     )
 
 pub returns-clause-view : goal.returns-clause-view

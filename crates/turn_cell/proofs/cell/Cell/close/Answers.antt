@@ -1,4 +1,4 @@
-use Rattle.std.proofs.Common.{rules, ◌∙◌, subst}
+use Rattle.std.proofs.Common.{rules, ◌∙◌, subst, sym}
 use Rattle.std.specs.List.{AllByRecursion}
 use Rattle.turn_cell.specs.Histories.{IsWhole}
 use Rattle.turn_cell.specs.Cells.{seen}
@@ -13,7 +13,7 @@ load-requires g c =
 pub returns-clause-history : goal.returns-clause-history
 returns-clause-history g c = let made = c.take-value.ensures.made in let log = seen c.take-value.new.pass in (
   log,
-  c.take-value.ensures.value.0,
+  subst (λ x. g.V.Kept.stands x log) (sym c.into_inner.ensures) c.take-value.ensures.value.0,
   c.take-value.ensures.seen,
   ((λ h e. made.1.0 h (made.0.0 ∙ e)), subst (AllByRecursion (IsWhole g.V.Kept.by log)) made.0.1 made.1.1),
 )

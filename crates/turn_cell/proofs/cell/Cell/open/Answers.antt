@@ -1,4 +1,5 @@
 use Rattle.std.proofs.Common.{rules, ◌≡◌, ◌∷◌, ◌++◌, [], Some, Option, ap, sym, subst, ◌∙◌, arith, length, List}
+use Rattle.std.specs.Global.{Box}
 use Rattle.atomic_table.specs.Table.{opening}
 use Rattle.turn_cell.specs.Rule.{Turns, first_view}
 use Rattle.turn_cell.specs.Steps.{giver_after, numbered}
@@ -7,22 +8,26 @@ use Rattle.turn_cell.proofs.Lists.{one_longer}
 use Rattle.turn_cell.proofs.Opens.{none_yet, one_more}
 use Rattle.turn_cell.proofs.cell.Cell.open.Goals as goal
 
-pub new-requires : goal.new-requires
-new-requires g c =
+pub new-requires-2 : goal.new-requires-2
+new-requires-2 g c =
     let t = g.V.Kept.tag c.of-opening.result.value in
-    let is : c.push.new.self.items ≡ Some c.args.value ∷ [] =
-    c.in_ok-push.ensures.items ∙ ap (λ l. l ++ Some c.args.value ∷ []) c.new-slots.ensures.items in
-    subst (λ (xs : List (Option g.row.V.Denot)).
-    Turns g.V.Kept.stands g.V.Kept.by g.V.Kept.tag t (opening (0 ∷ 0 ∷ []) xs (first_view t)))
+    let x = c.in_ok-boxed.boxed in
+    let is : c.push.new.self.items ≡ Some x ∷ [] =
+    c.in_ok-push.ensures.items ∙ ap (λ l. l ++ Some x ∷ []) c.new-slots.ensures.items in
+    let same : c.args.value ≡ x.value = sym c.in_ok-boxed.ensures.ok in
+    subst (λ (xs : List (Option (Box g.row.V.Denot))).
+    Turns (λ (b : Box g.row.V.Denot). g.V.Kept.stands b.value) g.V.Kept.by (λ b. g.V.Kept.tag b.value) t
+    (opening (0 ∷ 0 ∷ []) xs (first_view t)))
     (sym is)
-    (opens g.V.Kept.stands g.V.Kept.by g.V.Kept.tag t c.args.value (ap g.V.Kept.tag (sym c.of-opening.ensures))
-    c.requires.value)
+    (opens (λ (b : Box g.row.V.Denot). g.V.Kept.stands b.value) g.V.Kept.by (λ b. g.V.Kept.tag b.value) t x
+    (ap g.V.Kept.tag (sym same ∙ sym c.of-opening.ensures))
+    (subst (λ y. g.V.Kept.stands y []) same c.requires.value))
 
 pub loop-init : goal.loop-init
 loop-init g c =
     let ok = c.in-Ok.ensures.ok in
-    let is : c.push.new.self.items ≡ Some c.args.value ∷ [] =
-    c.in_ok-push.ensures.items ∙ ap (λ l. l ++ Some c.args.value ∷ []) c.new-slots.ensures.items in record {
+    let is : c.push.new.self.items ≡ Some c.in_ok-boxed.boxed ∷ [] =
+    c.in_ok-push.ensures.items ∙ ap (λ l. l ++ Some c.in_ok-boxed.boxed ∷ []) c.new-slots.ensures.items in record {
       sized = (ok.0, ok.1 ∙ ap length is);
       key = ap (λ k. k.value) ok.5 ∙ c.of-opening.ensures;
       dealer = (ok.2, ok.4 ∙ ap (λ v. (first_view (g.V.Kept.tag v), [])) c.of-opening.ensures);

@@ -26,9 +26,9 @@ returns-then-compare_exchange-eq-FREE g c =
         search rules,
       );
       value = (
-        subst (λ x. g.V.Kept.stands x c.exchange.new.seat.me.0.seen) is
-            (subst (g.V.Kept.stands t.0) (sym (ap (λ m. m.0.seen) e)) t.4),
-        subst (λ x. g.V.Kept.tag x ≡ g.V.Kept.tag c.args.self.now.table.shared.key.value) is
+        subst (λ x. g.V.Kept.stands x.value c.exchange.new.seat.me.0.seen) is
+            (subst (g.V.Kept.stands t.0.value) (sym (ap (λ m. m.0.seen) e)) t.4),
+        subst (λ x. g.V.Kept.tag x.value ≡ g.V.Kept.tag c.args.self.now.table.shared.key.value) is
             (t.5 _ (ap (λ m. m.0.tag) before ∙ c.requires.0.1)),
       );
       seen = subst (IsPrefix c.args.pass.now.me.0.seen) (sym (ap (λ m. m.0.seen) e))

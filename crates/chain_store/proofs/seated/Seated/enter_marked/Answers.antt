@@ -1,0 +1,24 @@
+use Rattle.std.proofs.Common.{◌≡◌, ◌≤◌, ℕ, refl, ap, sym, subst, ◌∙◌, arith}
+use Rattle.log_node.specs.declared.marks.Mark.TheVariants as marks
+use Rattle.col_core.specs.History.{last_stamp}
+use Rattle.stamp_board.specs.declared.seats.ColumnSeat.{ColumnSeat}
+use Rattle.stamp_board.specs.Seats.{IsLaterColumn, SetsMark}
+use Rattle.chain_store.proofs.Proposed.{proposed}
+use Rattle.chain_store.proofs.seated.Seated.enter_marked.Goals as goal
+
+pub returns-in-Set-clause-step : goal.returns-in-Set-clause-step
+returns-in-Set-clause-step c =
+    let s = c.args.self.now in
+    let x = c.args.node.now.value in
+    let n = c.in-Ok.stamp in
+    let s3 = c.mark.new.seat in
+    let e = c.in-Ok.ensures.ok in
+    let small : n ≤ last_stamp = let st = c.in-Ok.ensures.stamp.1 in omega (arith, st) in (
+      e.0,
+      e.1,
+      λ log h. proposed s s3 c.enter_open.new.self.column c.args.row x c.args.by n
+          (subst (λ (z : ColumnSeat). IsLaterColumn z s3) c.enter_open.ensures.seat c.mark.ensures.seat)
+          (subst (λ (z : ColumnSeat). SetsMark z s3 c.args.row (marks.Number n)) c.enter_open.ensures.seat
+          c.in-Set.ensures.value)
+          c.requires.row.0 small e log h,
+    )
