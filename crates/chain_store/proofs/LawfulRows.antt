@@ -35,7 +35,7 @@ use Rattle.stamp_board.specs.Rows.{AreColours, IsBegun, IsRow, colours_in, kept_
 use Rattle.stamp_board.specs.Views.{KnowsBegun, KnowsOutcome, MayBe}
 use Rattle.chain_store.specs.declared.told.Told.{Told}
 use Rattle.chain_store.specs.Histories.{entries_in, Brings}
-use Rattle.chain_store.specs.Marks.{same_row, is_row, is_first_of, proposes, stamps_of, numbers, Backs, IsOfRow, IsEnded}
+use Rattle.chain_store.specs.Marks.{same_row, is_row, is_first_of, proposes, stamps_of, numbers, Backs, IsRowOf, IsEnded}
 use Rattle.chain_store.proofs.Backing.{same_row-is, same_row-refl}
 
 -- lists by place
@@ -92,14 +92,11 @@ pub record Lists (k : Size) (ws : List ℕ) (rows : List Row) : Type 0 where
   pub order : (client : ℕ)
       → (n : ℕ) × (map (λ (r : Row). r.number) (filter (λ (r : Row). r.client == client) rows) ≡ range_with_len 0 n)
 
--- each begun row has its client's node, of an id of its own
+-- each begun row is known as begun for its node, which names it and is of the region
 pub record Owned (region : ℕ) (k : Size) (ws : List ℕ) (v : View) (node : Row → Node) : Type 0 where
   pub knows : (row : Row) → IsRow k row → IsBegun k ws row → KnowsBegun v row (node row)
-  pub mine : (row : Row) → IsRow k row → IsBegun k ws row → (node row).id.client ≡ row.client
   pub of_row : (row : Row) → IsRow k row → IsBegun k ws row → (node row).row ≡ Some row
   pub in_region : (row : Row) → IsRow k row → IsBegun k ws row → (node row).region ≡ region
-  pub one_row : (a b : Row) → IsRow k a → IsBegun k ws a → IsRow k b → IsBegun k ws b
-      → (node a).id ≡ (node b).id → a ≡ b
 
 -- the column's history agrees with the board and the nodes
 pub record Agrees (region : ℕ) (k : Size) (ws : List ℕ) (v : View) (node : Row → Node) (c : ℕ) (log : List Told) : Type 0 where
@@ -111,33 +108,30 @@ pub record Agrees (region : ℕ) (k : Size) (ws : List ℕ) (v : View) (node : R
   pub singles : (n : ℕ) (t : Told) (id : Id) (floor : ℕ) (wants : Counts) → slice_get log n ≡ Some t
       → t.entry.event ≡ Single id floor wants → (row : Row) → IsRow k row → IsBegun k ws row → (node row).id ≢ id
 
--- an entry that proposes the node of a row
+-- the entry proposes the node of this row
 record IsProposal (v : View) (c : ℕ) (t : Told) (id : Id) (floor : ℕ) (wants : Counts) : Type 0 where
   x : Node
   row : Row
   brought : t.nodes ≡ x ∷ []
-  of_row : x.row ≡ Some row
-  inside : IsRow v.size row
-  begun : KnowsBegun v row x
+  of : IsRowOf v row x
   id_is : x.id ≡ id
   floor_is : x.floor ≡ floor
   wants_are : node_wants x c ≡ wants
   coloured : has x.colours c ≡ true
 
 proposal : (v : View) (region c : ℕ) (t : Told) (id : Id) (floor : ℕ) (wants : Counts)
-    → Brings region c (Propose id floor wants) t.nodes → IsOfRow v t.nodes → IsProposal v c t id floor wants
+    → Brings region c (Propose id floor wants) t.nodes → Backs v (Propose id floor wants) t.nodes
+    → IsProposal v c t id floor wants
 proposal v region c t id floor wants brings backs =
-    let x = backs.node in
-    let both : brings.0 ∷ [] ≡ x ∷ [] = sym brings.1 ∙ backs.brought in
+    let x = backs.0 in
+    let both : brings.0 ∷ [] ≡ x ∷ [] = sym brings.1 ∙ backs.2 in
     let one : brings.0 ≡ x = cc both in
     let e : Propose id floor wants ≡ propose_event c x = brings.3 ∙ ap (propose_event c) one in
     record {
       x = x;
-      row = backs.row;
-      brought = backs.brought;
-      of_row = backs.of_row;
-      inside = backs.inside;
-      begun = backs.knows;
+      row = backs.1;
+      brought = backs.2;
+      of = backs.3;
       id_is = cc e;
       floor_is = cc e;
       wants_are = cc e;
@@ -223,8 +217,8 @@ module _ (region : ℕ) (k : Size) (ws : List ℕ) (v : View) (size : v.size ≡
         let e = proposing row p.1.entry.event p.1.nodes p.3 in
         let q = proposed p.0 p.1 e.0 e.1 e.2 p.2 e.3 in
         let here : is_row row q.x.row ≡ true = sym (ap (λ ev. proposes row ev p.1.nodes) e.3 ∙ ap (is_first_of row) q.brought) ∙ p.3 in
-        let same : q.row ≡ row = same_row-is q.row row (sym (ap (is_row row) q.of_row) ∙ here) in
-        let known : KnowsBegun v row q.x = subst (λ (r : Row). KnowsBegun v r q.x) same q.begun in
+        let same : q.row ≡ row = same_row-is q.row row (sym (ap (is_row row) q.of.of_row) ∙ here) in
+        let known : KnowsBegun v row q.x = subst (λ (r : Row). KnowsBegun v r q.x) same q.of.knows in
         let own : q.x ≡ node row = node_is row q.x inside known in
         let id_is : e.0 ≡ (node row).id = sym q.id_is ∙ ap (λ (y : Node). y.id) own in
         (p.0, p.1.entry, e.1, e.2, at_entry log p.0 p.1 p.2,
@@ -236,12 +230,12 @@ module _ (region : ℕ) (k : Size) (ws : List ℕ) (v : View) (size : v.size ≡
     not_proposed row inside begun none s p =
         let t = entry_at log p.0 p.1 p.4 in
         let q = proposed p.0 t.0 (node row).id p.2 p.3 t.1 (ap (λ (e : Entry). e.event) t.2 ∙ p.5) in
-        let other = in_size q.row q.inside in
-        let same : q.row ≡ row = owned.one_row q.row row other (begun_of q.row q.x q.begun) inside begun
-            (sym (ap (λ (y : Node). y.id) (node_is q.row q.x other q.begun)) ∙ q.id_is) in
+        let other = in_size q.row q.of.inside in
+        let same : q.row ≡ row =
+            board.ids q.row row q.x (node row) other inside q.of.knows (owned.knows row inside begun) q.id_is in
         let here : proposes row t.0.entry.event t.0.nodes ≡ true =
             ap (λ (e : Event). proposes row e t.0.nodes) (ap (λ (e : Entry). e.event) t.2 ∙ p.5)
-            ∙ ap (is_first_of row) q.brought ∙ ap (is_row row) q.of_row ∙ ap (λ (r : Row). same_row r row) same ∙ same_row-refl row in
+            ∙ ap (is_first_of row) q.brought ∙ ap (is_row row) q.of.of_row ∙ ap (λ (r : Row). same_row r row) same ∙ same_row-refl row in
         stamps_some row log p.0 t.0 t.1 here (a.numbered row inside ∙ none)
 
     is_mark : (row : Row) → IsRow k row → IsBegun k ws row → (m : Mark) → mark_in k ws row c ≡ m
@@ -272,7 +266,7 @@ module _ (region : ℕ) (k : Size) (ws : List ℕ) (v : View) (size : v.size ≡
 
   fits_row : (row : Row) → IsRow k row → IsBegun k ws row → FitsRow region (begun_row row)
   fits_row row inside begun = record {
-    client = owned.mine row inside begun;
+    client = board.clients row (node row) inside (owned.knows row inside begun);
     row = owned.of_row row inside begun;
     in_region = owned.in_region row inside begun;
     several = subst (λ (s : Colours). 2 ≤ length (members s)) (colours_are row inside begun) (board.colours row begun).many;
@@ -314,7 +308,8 @@ module _ (region : ℕ) (k : Size) (ws : List ℕ) (v : View) (size : v.size ≡
     ids_apart = λ i j d lt near same.
         let a = row_at_place i (get_or begun_rows i d) (slice_get-get_or begun_rows i d (omega arith)) in
         let b = row_at_place j (get_or begun_rows j d) (slice_get-get_or begun_rows j d near) in
-        lists.once i j a.0 b.0 lt a.1 b.1 (owned.one_row a.0 b.0 a.3 a.4 b.3 b.4
+        lists.once i j a.0 b.0 lt a.1 b.1 (board.ids a.0 b.0 (node a.0) (node b.0) a.3 b.3
+        (owned.knows a.0 a.3 a.4) (owned.knows b.0 b.3 b.4)
         (ap (λ (r : BegunRow). r.node.id) a.2 ∙ same ∙ sym (ap (λ (r : BegunRow). r.node.id) b.2)))
 
     -- the rows of a client
@@ -345,9 +340,9 @@ module _ (region : ℕ) (k : Size) (ws : List ℕ) (v : View) (size : v.size ≡
           → t.entry.event ≡ Propose id floor wants → FitsRows begun_rows c (Propose id floor wants)
       fits_proposal n t id floor wants at is =
           let q = proposed c log a n t id floor wants at is in
-          let inside = in_size q.row q.inside in
-          let begun = begun_of q.row q.x q.begun in
-          let own : q.x ≡ node q.row = node_is q.row q.x inside q.begun in
+          let inside = in_size q.row q.of.inside in
+          let begun = begun_of q.row q.x q.of.knows in
+          let own : q.x ≡ node q.row = node_is q.row q.x inside q.of.knows in
           let p = begun_place q.row inside begun in
           let m = member_at (node q.row).colours c (omega (arith, inside_c, few))
               (subst (λ (y : Node). has y.colours c ≡ true) own q.coloured) in
@@ -359,11 +354,12 @@ module _ (region : ℕ) (k : Size) (ws : List ℕ) (v : View) (size : v.size ≡
           → t.entry.event ≡ Settle id outcome → FitsRows begun_rows c (Settle id outcome)
       fits_settling n t id outcome at is =
           let q = subst (λ (e : Event). Backs v e t.nodes) is (a.backs n t at) in
-          let inside = in_size q.row q.inside in
-          let begun = begun_of q.row q.node q.knows in
-          let own : q.node ≡ node q.row = node_is q.row q.node inside q.knows in
-          let p = begun_place q.row inside begun in
-          (p.0, begun_row q.row, p.1, sym (ap (λ (y : Node). y.id) own) ∙ q.of_id, board.outcomes q.row outcome q.kept)
+          let x = q.0 in
+          let row = q.1 in
+          let inside = in_size row q.3.inside in
+          let own : x ≡ node row = node_is row x inside q.3.knows in
+          let p = begun_place row inside (begun_of row x q.3.knows) in
+          (p.0, begun_row row, p.1, sym (ap (λ (y : Node). y.id) own) ∙ q.2, board.outcomes row outcome q.4)
 
       fits_rows : (n : ℕ) (t : Told) → slice_get log n ≡ Some t → (e : Event) → t.entry.event ≡ e → FitsRows begun_rows c e
       fits_rows n t at (Single id floor wants) is = each_row (λ (r : BegunRow). r.node.id ≢ id)

@@ -1,0 +1,310 @@
+-- What a region ends with, from what its columns and its board end with.
+use Rattle.std.proofs.Common.{◌≡◌, ◌≢◌, ℕ, zero, suc, ◌+◌, ◌<◌, ◌≤◌, Bool, true, false, List, [], ◌∷◌, ◌++◌, length, map, get_or, Some, None, slice_get, refl, ap, sym, subst, ◌∙◌, arith, inl, inr, ◌⊎◌, eq-eqb}
+use Rattle.std.specs.Prelude.{◌==◌, ◌↔◌}
+use Rattle.std.specs.List.{All, Contains, filter}
+use mathlib.Core.List.{IsPrefix}
+use Rattle.std.proofs.lemmas.Bool.{cases_order}
+use Rattle.std.proofs.lemmas.List.{length-map}
+use Rattle.std.proofs.lemmas.Option.{slice_get_within, get_or_from_slice_get}
+use Rattle.std.proofs.lemmas.Simd.{map-map}
+use Rattle.log_node.specs.declared.ids.Id.{Id}
+use Rattle.log_node.specs.declared.ids.Row.{Row}
+use Rattle.log_node.specs.declared.ids.Counts.{Counts}
+use Rattle.log_node.specs.declared.node.Node.{Node}
+use Rattle.log_node.specs.Sets.{has, members}
+use Rattle.log_node.specs.declared.marks.Why.TheVariants.{StampEnd}
+use Rattle.log_node.specs.declared.marks.Mark.{Mark}
+use Rattle.log_node.specs.declared.marks.Mark.TheVariants as marks
+use Rattle.log_node.specs.declared.marks.ColourMark.{ColourMark}
+use Rattle.log_node.specs.declared.marks.Outcome.{Outcome}
+use Rattle.col_core.specs.declared.Event.{Event}
+use Rattle.col_core.specs.declared.Event.TheVariants.{Single, Propose, Settle, Raise, Give, Carry, Trim}
+use Rattle.col_core.specs.Computed.{dated}
+use Rattle.col_core.specs.Legal.{IsColumnHistory}
+use Rattle.col_core.specs.Rows.{BegunRow}
+use Rattle.col_core.proofs.CallerLemmas.{by_test, if_true, if_false}
+use Rattle.column.specs.Columns.{ColumnState}
+use Rattle.stamp_board.specs.declared.view.Size.{Size}
+use Rattle.stamp_board.specs.declared.view.View.{View}
+use Rattle.stamp_board.specs.declared.seats.Seat.{Seat}
+use Rattle.stamp_board.specs.declared.seats.ColumnSeat.{ColumnSeat}
+use Rattle.stamp_board.specs.declared.rows.ClosedRow.{ClosedRow}
+use Rattle.stamp_board.specs.Rows.{IsBegun, AreColours, IsRow, colours_in, mark_in}
+use Rattle.stamp_board.specs.Views.{Learns, KnowsBegun, KnowsMark, KnowsOutcome}
+use Rattle.stamp_board.specs.Seats.{column_seen}
+use Rattle.stamp_board.specs.Closing.{Closes, all_begun, closed_row}
+use Rattle.stamp_board.proofs.CallerLemmas.{begun_learnt, mark_learnt, outcome_learnt}
+use Rattle.turn_cell.specs.Histories.{made_by}
+use Rattle.turn_cell.specs.Cells.{seen}
+use Rattle.chain_store.specs.declared.told.Tag.{Tag}
+use Rattle.chain_store.specs.declared.told.Told.{Told}
+use Rattle.chain_store.specs.declared.hold.Hold.{Hold}
+use Rattle.chain_store.specs.declared.hold.ColumnPasses.{ColumnPasses}
+use Rattle.chain_store.specs.declared.seated.Seated.{Seated}
+use Rattle.chain_store.specs.declared.region.Region.{Region}
+use Rattle.chain_store.specs.declared.closed.ClosedRegion.{ClosedRegion}
+use Rattle.chain_store.specs.Tags.{tag}
+use Rattle.chain_store.specs.Tied.{AreTied}
+use Rattle.chain_store.specs.Histories.{entries_in, maker, Brings, IsOfMaker}
+use Rattle.chain_store.specs.Marks.{Backs, IsRowOf, IsEnded, numbers, stamps_of}
+use Rattle.chain_store.specs.Columns.{IsOfHistory, tag_of}
+use Rattle.chain_store.specs.Passes.{ColumnCell, ColumnPass, tag_in, dated_in}
+use Rattle.chain_store.specs.Ends.{EndsAs}
+use Rattle.chain_store.specs.Owning.{IsAccountedFor, row_of}
+use Rattle.chain_store.specs.Holds.{IsHold, history_seen, passes_of, seen_in, made_in, view_of}
+use Rattle.chain_store.specs.Closings.{AreOfColour, IsClosed, AreClosed}
+use Rattle.chain_store.specs.Closing.{AreHoldsOf, closed_of, ClosesColumn, ClosesFor, AgreesWith, Closed}
+use Rattle.chain_store.proofs.LawfulRows.{image_at, at_image, Lists, Owned, Agrees, begun_row, begun_rows, lawful_rows, node_is, begun_of, begun_place, row_at_place, member_at}
+use Rattle.chain_store.proofs.ListedRows.{got, lists_begun}
+
+-- a choice for each number below a bound
+choose : {A : Type 0} (P : ℕ → A → Type 0) (n : ℕ) → 0 < n → ((c : ℕ) → c < n → (x : A) × P c x)
+    → (f : ℕ → A) × ((c : ℕ) → c < n → P c (f c))
+choose {A} P n some h = (λ c. (total c).0, λ c lt. (total c).1 lt) where
+  total : (c : ℕ) → (x : A) × (c < n → P c x)
+  total c = elim (cases_order c n) [
+    | inl e ↦ ((h 0 some).0, λ lt. absurd (omega (arith, e, lt)))
+    | inr (inl below) ↦ ((h c below).0, λ lt. (h c below).1)
+    | inr (inr above) ↦ ((h 0 some).0, λ lt. absurd (omega (arith, above, lt)))
+  ]
+
+-- what a seat knows of an entry is known to whom it was told
+backs_learnt : (v w : View) → Learns v w → w.size ≡ v.size → (e : Event) (nodes : List Node) → Backs v e nodes → Backs w e nodes
+backs_learnt v w learns size e nodes b = by e b where
+  of_row : (row : Row) (x : Node) → IsRowOf v row x → IsRowOf w row x
+  of_row row x h = record {
+    of_row = h.of_row;
+    mine = h.mine;
+    inside = subst (λ (k : Size). IsRow k row) (sym size) h.inside;
+    knows = begun_learnt v w row size learns x h.knows;
+    several = subst (λ (k : Size). AreColours k x.colours) (sym size) h.several;
+  }
+
+  by : (e : Event) → Backs v e nodes → Backs w e nodes
+  by (Single id floor wants) b = tt
+  by (Propose id floor wants) b = (b.0, b.1, b.2, of_row b.1 b.0 b.3)
+  by (Settle id outcome) b = (b.0, b.1, b.2, of_row b.1 b.0 b.3, outcome_learnt v w b.1 size learns outcome b.4)
+  by (Raise to) b = tt
+  by (Give region from) b = tt
+  by (Carry region start heads) b = tt
+  by (Trim counts) b = tt
+
+-- an entry that its maker made is among those
+made_place : (n : ℕ) (log : List Told) (i : ℕ) (t : Told) → slice_get log i ≡ Some t → maker t ≡ n
+    → (j : ℕ) × (slice_get (made_by maker n log) j ≡ Some t)
+made_place n [] i t at by = absurd cc
+made_place n (u ∷ log) zero t at by =
+    let same : u ≡ t = cc at in
+    (0, ap (λ l. slice_get l 0) (if_true (maker u == n) (u ∷ made_by maker n log) (made_by maker n log)
+    (eq-eqb (maker u) n (ap maker same ∙ by))) ∙ at)
+made_place n (u ∷ log) (suc i) t at by =
+    let r = made_place n log i t at by in
+    by_test ((j : ℕ) × (slice_get (made_by maker n (u ∷ log)) j ≡ Some t)) (maker u == n)
+    (λ here. (suc r.0, ap (λ l. slice_get l (suc r.0))
+    (if_true (maker u == n) (u ∷ made_by maker n log) (made_by maker n log) here) ∙ r.1))
+    (λ other. (r.0, ap (λ l. slice_get l r.0)
+    (if_false (maker u == n) (u ∷ made_by maker n log) (made_by maker n log) other) ∙ r.1))
+
+-- an element at a place is one of the list
+contained : {A : Type 0} (xs : List A) (i : ℕ) (x : A) → slice_get xs i ≡ Some x → Contains xs x
+contained xs i x at = (i, slice_get_within xs i x at, get_or_from_slice_get xs i x x at)
+
+-- a client's hold
+record HoldOf (r : Region) : Type 0 where
+  pub hold : Hold
+  pub good : IsHold r hold
+
+-- a column that is closed
+record ColumnEnd : Type 0 where
+  pub cell : ColumnCell
+  pub seated : Seated
+  pub passes : List ColumnPass
+  pub ends : EndsAs (tag_in cell) passes seated
+
+module _ (r : Region) (hs : List Hold) (closed : List Seated) (ws : List ℕ) (v : View)
+    (tied : AreTied r.board r.number r.regions r.columns.items)
+    (many : length hs ≡ r.board.size.clients)
+    (few : r.board.size.colours ≤ 64)
+    (z : Closes r.board.size ws v (map (λ (h : Hold). h.seat) hs) (map (λ (s : Seated). s.seat) closed))
+    (holder : ℕ → HoldOf r)
+    (holders : (n : ℕ) → n < r.board.size.clients
+        → (slice_get hs n ≡ Some (holder n).hold) × ((holder n).hold.passes.number ≡ n))
+    (end : ℕ → ColumnEnd)
+    (ends : (c : ℕ) → c < r.board.size.colours
+        → (slice_get r.columns.items c ≡ Some (end c).cell) × (slice_get closed c ≡ Some (end c).seated)
+        × AreOfColour (map (λ (h : Hold). h.passes) hs) c (end c).passes) where
+  -- the node for which a client began its row
+  abbrev node : Row → Node
+  node row = (holder row.client).good.owns.nodes row.number
+
+  abbrev logs : ℕ → List Told
+  logs c = (end c).ends.log
+
+  -- clients
+
+  seat_at : (n : ℕ) → n < r.board.size.clients
+      → slice_get (map (λ (h : Hold). h.seat) hs) n ≡ Some (holder n).hold.seat
+  seat_at n lt = at_image (λ (h : Hold). h.seat) hs n (holder n).hold (holders n lt).0
+
+  -- a hold of the list is that of its client
+  is_holder : (n : ℕ) (h : Hold) (lt : n < r.board.size.clients) → slice_get hs n ≡ Some h → (holder n).hold ≡ h
+  is_holder n h lt at = let two : Some (holder n).hold ≡ Some h = sym (holders n lt).0 ∙ at in cc two
+
+  within : (n : ℕ) (h : Hold) → slice_get hs n ≡ Some h → n < r.board.size.clients
+  within n h at = let near = slice_get_within hs n h at in omega (arith, near, many)
+
+  seen_size : (n : ℕ) → v.size ≡ (view_of (holder n).hold).size
+  seen_size n = z.size ∙ sym (holder n).good.seat.1
+
+  learns : (n : ℕ) (lt : n < r.board.size.clients) → Learns (view_of (holder n).hold) v
+  learns n lt = z.seats n (holder n).hold.seat (seat_at n lt)
+
+  used : (row : Row) → IsRow r.board.size row → IsBegun r.board.size ws row → row.number < (holder row.client).hold.seat.used
+  used row inside begun = (z.begun row.client (holder row.client).hold.seat (seat_at row.client inside.0) row.number inside.1).0 begun
+
+  row_is : (row : Row) → IsRow r.board.size row → row_of (holder row.client).hold.passes.number row.number ≡ row
+  row_is row inside = ap (λ c. row_of c row.number) (holders row.client inside.0).1
+
+  owned : Owned r.number r.board.size ws v node
+  owned = record {
+    knows = λ row inside begun. subst (λ (s : Row). KnowsBegun v s (node row)) (row_is row inside)
+        (begun_learnt (view_of (holder row.client).hold) v
+        (row_of (holder row.client).hold.passes.number row.number) (seen_size row.client) (learns row.client inside.0)
+        (node row) ((holder row.client).good.owns.known row.number (used row inside begun)));
+    of_row = λ row inside begun.
+        ((holder row.client).good.owns.fit row.number (used row inside begun)).named ∙ ap Some (row_is row inside);
+    in_region = λ row inside begun.
+        ((holder row.client).good.owns.fit row.number (used row inside begun)).in_region;
+  }
+
+  -- the seats' counts of rows
+  lists : Lists r.board.size ws (all_begun (map (λ (h : Hold). h.seat) hs))
+  lists = lists_begun r.board.size ws (map (λ (h : Hold). h.seat) hs) (length-map hs (λ (h : Hold). h.seat) ∙ many)
+      (λ n s at.
+      let t = image_at (λ (h : Hold). h.seat) hs n s at in
+      let lt = within n t.0 t.1 in
+      let same : (holder n).hold.seat ≡ s = ap (λ (h : Hold). h.seat) (is_holder n t.0 lt t.1) ∙ t.2 in
+      let few_used = (holder n).hold.seat.few in
+      let size = (holder n).good.seat.1 in
+      subst (λ (s : Seat). (s.client ≡ n) × (s.used ≤ r.board.size.rows)
+      × ((j : ℕ) → j < r.board.size.rows → IsBegun r.board.size ws (row_of n j) ↔ (j < s.used))) same
+      ((holder n).good.number ∙ (holders n lt).1,
+      subst (λ (k : Size). (holder n).hold.seat.used ≤ k.rows) size few_used,
+      z.begun n (holder n).hold.seat (seat_at n lt)))
+
+  -- columns
+
+  module _ (c : ℕ) (lt : c < r.board.size.colours) where
+    tag_is : tag_of (end c).seated ≡ tag r.number c r.regions r.board.size r.board.table.shared.table_id
+    tag_is = (end c).ends.tagged ∙ tied c (end c).cell (ends c lt).0
+
+    region_is : (end c).seated.column.region ≡ r.number
+    region_is = ap (λ (t : Tag). t.region) tag_is
+
+    colour_is : (end c).seated.column.colour ≡ c
+    colour_is = ap (λ (t : Tag). t.colour) tag_is
+
+    regions_are : (end c).seated.column.regions ≡ r.regions
+    regions_are = ap (λ (t : Tag). t.regions) tag_is
+
+    size_is : (column_seen (end c).seated.seat).size ≡ r.board.size
+    size_is = ap (λ (t : Tag). t.size) tag_is
+
+    column_seat : slice_get (map (λ (s : Seated). s.seat) closed) c ≡ Some (end c).seated.seat
+    column_seat = at_image (λ (s : Seated). s.seat) closed c (end c).seated (ends c lt).1
+
+    column_learns : Learns (column_seen (end c).seated.seat) v
+    column_learns = z.columns c (end c).seated.seat column_seat
+
+    column_size : v.size ≡ (column_seen (end c).seated.seat).size
+    column_size = z.size ∙ sym size_is
+
+    -- a hold's pass of the column
+    hold_pass : (n : ℕ) (h : Hold) → slice_get hs n ≡ Some h
+        → (p : ColumnPass) × (slice_get (end c).passes n ≡ Some p) × (slice_get (passes_of h) c ≡ Some p)
+    hold_pass n h at =
+        let of = (ends c lt).2 in
+        let near = slice_get_within hs n h at in
+        let count = of.count ∙ length-map hs (λ (h : Hold). h.passes) in
+        let p = got (end c).passes n (omega (arith, near, count)) in
+        (p.0, p.1, of.each n h.passes p.0 (at_image (λ (h : Hold). h.passes) hs n h at) p.1)
+
+    closes_for : (n : ℕ) (h : Hold) → slice_get hs n ≡ Some h → ClosesFor h c (logs c)
+    closes_for n h at =
+        let p = hold_pass n h at in
+        let turned : seen_in h c ≡ seen p.0 = ap history_seen p.2 in
+        let number : h.passes.number ≡ n =
+            sym (ap (λ (g : Hold). g.passes.number) (is_holder n h (within n h at) at)) ∙ (holders n (within n h at)).1 in
+        record {
+          seen = subst (λ (l : List Told). IsPrefix l (logs c)) (sym turned) ((end c).ends.seen_by n p.0 p.1);
+          made = ap (λ m. made_by maker m (logs c)) number ∙ (end c).ends.made_by_each n p.0 p.1
+              ∙ ap (made_by maker n) (sym turned) ∙ ap (λ m. made_by maker m (seen_in h c)) (sym number);
+        }
+
+    -- each entry was made by its maker's hold
+    made_at : (i : ℕ) (t : Told) → slice_get (logs c) i ≡ Some t
+        → (t.entry.by < r.board.size.clients)
+        × ((j : ℕ) × (slice_get (made_in (holder t.entry.by).hold c) j ≡ Some t))
+    made_at i t at =
+        let m = (end c).ends.stands.0.makers i t at in
+        let by = subst (λ (k : Size). t.entry.by < k.clients) size_is m.0 in
+        let h = (holder t.entry.by).hold in
+        let made = (closes_for t.entry.by h (holders t.entry.by by).0).made in
+        let p = made_place h.passes.number (logs c) i t at (sym (holders t.entry.by by).1) in
+        (by, p.0, ap (λ l. slice_get l p.0) (sym made) ∙ p.1)
+
+    single_apart : (i : ℕ) (t : Told) (id : Id) (floor : ℕ) (wants : Counts) → slice_get (logs c) i ≡ Some t
+        → t.entry.event ≡ Single id floor wants → (row : Row) → IsRow r.board.size row → IsBegun r.board.size ws row
+        → (node row).id ≢ id
+    single_apart i t id floor wants at is row inside begun same =
+        let m = made_at i t at in
+        let of : id.client ≡ t.entry.by =
+            subst (IsOfMaker t.entry.by) is ((end c).ends.stands.0.makers i t at).1 in
+        let mine : (node row).id.client ≡ row.client = z.board.clients row (node row) inside (owned.knows row inside begun) in
+        let by : t.entry.by ≡ row.client = sym of ∙ sym (ap (λ (x : Id). x.client) same) ∙ mine in
+        let there : slice_get (made_in (holder row.client).hold c) m.1.0 ≡ Some t =
+            subst (λ n. slice_get (made_in (holder n).hold c) m.1.0 ≡ Some t) by m.1.1 in
+        let own = (holder row.client).good.owns in
+        let entry = own.entries c m.1.0 t there in
+        let single = subst (IsAccountedFor (holder row.client).hold.passes.number (holder row.client).hold.seat.used
+            (holder row.client).hold.next own.nodes) is entry in
+        single.1 row.number (used row inside begun) (ap (λ (x : Id). x.count) same)
+
+    agrees : Agrees r.number r.board.size ws v node c (logs c)
+    agrees = record {
+      numbered = λ row inside.
+          (end c).ends.stands.1.numbered row (subst (λ (k : Size). IsRow k row) (sym size_is) inside)
+          ∙ ap numbers (sym (z.marks c (end c).seated.seat column_seat row));
+      ended = λ row inside is.
+          let e = (end c).ends.stands.1.ended row (subst (λ (k : Size). IsRow k row) (sym size_is) inside)
+              (sym (z.marks c (end c).seated.seat column_seat row) ∙ is) in record {
+            node = e.node;
+            knows = begun_learnt (column_seen (end c).seated.seat) v row column_size column_learns e.node e.knows;
+            ends = e.ends;
+          };
+      brings = λ n t at.
+          subst (λ (x : ℕ). Brings x c t.entry.event t.nodes) region_is
+          (subst (λ (x : ℕ). Brings (end c).seated.column.region x t.entry.event t.nodes) colour_is
+          ((end c).ends.stands.0.brings n t at));
+      backs = λ n t at. backs_learnt (column_seen (end c).seated.seat) v column_learns column_size t.entry.event t.nodes
+          ((end c).ends.stands.1.backs n t at);
+      singles = single_apart;
+    }
+
+    closes_column : (s : Seated) → slice_get closed c ≡ Some s → ClosesColumn r c s.column (logs c)
+    closes_column s at =
+        let two : Some (end c).seated ≡ Some s = sym (ends c lt).1 ∙ at in
+        let same : (end c).seated ≡ s = cc two in
+        subst (λ (x : Seated). ClosesColumn r c x.column (logs c)) same (record {
+          region = region_is;
+          colour_is = colour_is;
+          regions = regions_are;
+          stands = subst (λ (k : Size). IsOfHistory (end c).seated.column k.clients (logs c)) size_is (end c).ends.stands.0;
+          lawful = subst (λ (t : Tag). IsColumnHistory t.region t.regions (dated_in t (logs c)))
+              (tied c (end c).cell (ends c lt).0) (end c).ends.lawful;
+        })
+
+  -- rows
+
+  begun : List BegunRow
+  begun = begun_rows r.number r.board.size ws v z.size few z.board node owned (all_begun (map (λ (h : Hold). h.seat) hs)) lists
