@@ -1,7 +1,8 @@
 -- A hold after a turn at one column.
-use Rattle.std.proofs.Common.{◌≡◌, ◌≢◌, ℕ, zero, suc, ◌+◌, ◌<◌, ◌≤◌, List, [], ◌∷◌, ◌++◌, length, Option, Some, None, set, refl, ap, sym, subst, ◌∙◌, arith, inl, inr, ◌⊎◌, length-set}
+use Rattle.std.proofs.Common.{◌≡◌, ◌≢◌, ℕ, zero, suc, ◌+◌, ◌<◌, ◌≤◌, List, [], ◌∷◌, ◌++◌, length, Option, Some, None, set, get_or, refl, ap, sym, subst, ◌∙◌, arith, inl, inr, ◌⊎◌, length-set}
 use Rattle.std.specs.Prelude.{slice_get}
 use Rattle.std.proofs.lemmas.Bool.{cases_eq}
+use Rattle.std.proofs.lemmas.Option.{slice_get_read}
 use mathlib.Core.List.{IsPrefix}
 use Rattle.log_node.specs.declared.ids.Id.{Id}
 use Rattle.log_node.specs.declared.node.Node.{Node}
@@ -12,8 +13,8 @@ use Rattle.stamp_board.specs.declared.view.Size.{Size}
 use Rattle.stamp_board.specs.declared.view.View.{View}
 use Rattle.stamp_board.specs.declared.seats.Seat.{Seat}
 use Rattle.stamp_board.specs.Views.{Grows, KnowsBegun}
-use Rattle.stamp_board.specs.Seats.{IsLater, IsClients}
-use Rattle.stamp_board.proofs.CallerLemmas.{Learns-from, begun_learnt}
+use Rattle.stamp_board.specs.Seats.{IsLater, IsClients, seen as seat_seen}
+use Rattle.stamp_board.proofs.CallerLemmas.{Learns-from, Grows-refl, begun_learnt}
 use Rattle.turn_cell.specs.Histories.{made_by}
 use Rattle.turn_cell.specs.Cells.{seen}
 use Rattle.chain_store.specs.declared.told.Told.{Told}
@@ -21,6 +22,7 @@ use Rattle.chain_store.specs.declared.hold.Hold.{Hold}
 use Rattle.chain_store.specs.declared.region.Region.{Region}
 use Rattle.chain_store.specs.Histories.{maker}
 use Rattle.chain_store.specs.Passes.{ColumnCell, ColumnPass, IsHolder, SeesMore, MakesOne}
+use Rattle.chain_store.specs.Regions.{IsColumnAt}
 use Rattle.chain_store.specs.Owning.{Owns, HasRowOf, IsAccountedFor, row_of}
 use Rattle.chain_store.specs.Holds.{history_seen, passes_of, turned_in, made_in, view_of, HasPasses, IsHold, SameBut, SeesMoreIn, MakesOneIn}
 use Rattle.chain_store.proofs.Entering.{get_cases}
@@ -104,7 +106,7 @@ clients_later r s t later is = (
 module _ (r : Region) (h g : Hold) (k : ℕ) (c : ColumnCell) (p q : ColumnPass) (is : IsHold r h)
     (cell_at : slice_get r.columns.items k ≡ Some c) (pass_at : slice_get (passes_of h) k ≡ Some p)
     (number : g.passes.number ≡ h.passes.number) (changed : passes_of g ≡ set (passes_of h) k q) where
-  n : ℕ
+  abbrev n : ℕ
   n = h.passes.number
 
   was : turned_in h k ≡ seen p
@@ -187,3 +189,29 @@ module _ (r : Region) (h g : Hold) (k : ℕ) (c : ColumnCell) (p q : ColumnPass)
           ]
           | inr ne ↦ inl (ap (λ (l : List Told). slice_get l i) (sym (made_else j ne)) ∙ at)
         ]))
+
+-- the pass of a colour's column
+pub reached : (r : Region) (h : Hold) (k : ℕ) (p : ColumnPass) → IsHold r h → k < r.board.size.colours
+    → p ≡ get_or (passes_of h) k p → slice_get (passes_of h) k ≡ Some p
+reached r h k p is lt e =
+    let many = is.passes.0 in
+    let all = r.count in
+    slice_get_read (passes_of h) (length (passes_of h)) k p refl (omega (arith, many, all, lt)) e
+
+-- it is a holder of it
+pub holder : (r : Region) (h : Hold) (k : ℕ) (c : ColumnCell) (p : ColumnPass) → IsHold r h
+    → k < r.board.size.colours → IsColumnAt r k c → p ≡ get_or (passes_of h) k p → IsHolder c h.passes.number p
+holder r h k c p is lt at e = is.passes.1 k c p at.there (reached r h k p is lt e)
+
+-- the client is one of the board's, of which there are at most 16
+pub client_few : (r : Region) (h : Hold) → IsHold r h
+    → (h.passes.number < 16) × (h.passes.number < r.board.size.clients)
+client_few r h is =
+    let inside = is.clients.0 in
+    let number = is.number in
+    let few = r.board.is_size.1 in
+    (omega (arith, inside, number, few), omega (arith, inside, number))
+
+-- a hold whose passes alone have changed, or that has given out more counts
+pub same_seat : (s : Seat) → IsLater s s
+same_seat s = record { board = refl; client = refl; used = refl; grows = Grows-refl (seat_seen s) }
