@@ -29,9 +29,9 @@ use Rattle.stamp_board.specs.declared.view.View.{View}
 use Rattle.stamp_board.specs.declared.seats.Seat.{Seat}
 use Rattle.stamp_board.specs.declared.seats.ColumnSeat.{ColumnSeat}
 use Rattle.stamp_board.specs.declared.rows.ClosedRow.{ClosedRow}
-use Rattle.stamp_board.specs.Rows.{IsBegun, AreColours, IsRow, colours_in, mark_in}
+use Rattle.stamp_board.specs.Rows.{IsBegun, AreColours, IsRow, IsSize, colours_in, mark_in}
 use Rattle.stamp_board.specs.Views.{Learns, KnowsBegun, KnowsMark, KnowsOutcome}
-use Rattle.stamp_board.specs.Seats.{column_seen}
+use Rattle.stamp_board.specs.Seats.{IsColumnOf, column_seen}
 use Rattle.stamp_board.specs.Closing.{Closes, all_begun, closed_row}
 use Rattle.stamp_board.proofs.CallerLemmas.{begun_learnt, mark_learnt, outcome_learnt}
 use Rattle.turn_cell.specs.Histories.{made_by}
@@ -108,6 +108,13 @@ made_place n (u ∷ log) (suc i) t at by =
 -- an element at a place is one of the list
 contained : {A : Type 0} (xs : List A) (i : ℕ) (x : A) → slice_get xs i ≡ Some x → Contains xs x
 contained xs i x at = (i, slice_get_within xs i x at, get_or_from_slice_get xs i x x at)
+
+abbrev colour_mark : ℕ → Mark → ColourMark
+colour_mark c m = record { colour = c; mark = m }
+
+same_rows : (rows : List Row) → map (λ (row : Row). row) rows ≡ rows
+same_rows [] = refl
+same_rows (row ∷ rows) = ap (λ l. row ∷ l) (same_rows rows)
 
 -- a client's hold
 record HoldOf (r : Region) : Type 0 where
@@ -251,7 +258,7 @@ module _ (r : Region) (hs : List Hold) (closed : List Seated) (ws : List ℕ) (v
         let h = (holder t.entry.by).hold in
         let made = (closes_for t.entry.by h (holders t.entry.by by).0).made in
         let p = made_place h.passes.number (logs c) i t at (sym (holders t.entry.by by).1) in
-        (by, p.0, ap (λ l. slice_get l p.0) (sym made) ∙ p.1)
+        (by, (p.0, ap (λ l. slice_get l p.0) (sym made) ∙ p.1))
 
     single_apart : (i : ℕ) (t : Told) (id : Id) (floor : ℕ) (wants : Counts) → slice_get (logs c) i ≡ Some t
         → t.entry.event ≡ Single id floor wants → (row : Row) → IsRow r.board.size row → IsBegun r.board.size ws row
@@ -306,5 +313,146 @@ module _ (r : Region) (hs : List Hold) (closed : List Seated) (ws : List ℕ) (v
 
   -- rows
 
-  begun : List BegunRow
-  begun = begun_rows r.number r.board.size ws v z.size few z.board node owned (all_begun (map (λ (h : Hold). h.seat) hs)) lists
+  abbrev own_rows : List Row
+  own_rows = all_begun (map (λ (h : Hold). h.seat) hs)
+
+  abbrev own_row : Row → BegunRow
+  own_row row = begun_row r.number r.board.size ws v z.size few z.board node owned row
+
+  abbrev begun : List BegunRow
+  begun = begun_rows r.number r.board.size ws v z.size few z.board node owned own_rows lists
+
+  -- what a hold knows of a row, the board's seats knew
+  known_row : (n : ℕ) (h : Hold) (lt : n < r.board.size.clients) → (holder n).hold ≡ h → (row : Row) (x : Node)
+      → KnowsBegun (view_of h) row x → KnowsBegun v row x
+  known_row n h lt same row x knows = begun_learnt (view_of (holder n).hold) v row (seen_size n) (learns n lt) x
+      (subst (λ (g : Hold). KnowsBegun (view_of g) row x) (sym same) knows)
+
+  known_mark : (n : ℕ) (h : Hold) (lt : n < r.board.size.clients) → (holder n).hold ≡ h → (row : Row) (c : ℕ) (m : Mark)
+      → KnowsMark (view_of h) row c m → KnowsMark v row c m
+  known_mark n h lt same row c m knows = mark_learnt (view_of (holder n).hold) v row (seen_size n) (learns n lt) c m
+      (subst (λ (g : Hold). KnowsMark (view_of g) row c m) (sym same) knows)
+
+  known_outcome : (n : ℕ) (h : Hold) (lt : n < r.board.size.clients) → (holder n).hold ≡ h → (row : Row) (o : Outcome)
+      → KnowsOutcome (view_of h) row o → KnowsOutcome v row o
+  known_outcome n h lt same row o knows = outcome_learnt (view_of (holder n).hold) v row (seen_size n) (learns n lt) o
+      (subst (λ (g : Hold). KnowsOutcome (view_of g) row o) (sym same) knows)
+
+  row_there : (row : Row) (x : Node) → IsRow r.board.size row → KnowsBegun v row x
+      → (i : ℕ) × (b : BegunRow) × (slice_get begun i ≡ Some b) × (b.row ≡ row) × (b.node ≡ x)
+  row_there row x inside knows =
+      let place = begun_place r.number r.board.size ws v z.size few z.board node owned own_rows lists row inside
+          (begun_of r.number r.board.size ws v z.size few z.board node owned row x knows) in
+      (place.0, own_row row, place.1, refl,
+          sym (node_is r.number r.board.size ws v z.size few z.board node owned row x inside knows))
+
+  agrees_with : (n : ℕ) (h : Hold) → slice_get hs n ≡ Some h → (i : ℕ) (b : BegunRow) → slice_get begun i ≡ Some b
+      → AgreesWith h b
+  agrees_with n h at i b bat =
+      let lt = within n h at in
+      let same = is_holder n h lt at in
+      let t = row_at_place r.number r.board.size ws v z.size few z.board node owned own_rows lists i b bat in
+      let row = t.0 in
+      let colours = (z.board.begun row (node row) (owned.knows row t.3 t.4)).1 in
+      subst (AgreesWith h) t.2 (record {
+        node = λ x knows. sym (node_is r.number r.board.size ws v z.size few z.board node owned row x t.3
+            (known_row n h lt same row x knows));
+        marks = λ c m coloured knows.
+            let of : has (colours_in r.board.size ws row) c ≡ true = ap (λ s. has s c) colours ∙ coloured in
+            let inside = (z.board.colours row t.4).within c of in
+            let p = member_at (colours_in r.board.size ws row) c (omega (arith, inside, few)) of in
+            let is : mark_in r.board.size ws row c ≡ m = z.board.marks row c m (known_mark n h lt same row c m knows) in
+            contained (own_row row).marks p.0 (colour_mark c m)
+            (at_image (λ (d : ℕ). colour_mark d (mark_in r.board.size ws row d))
+            (members (colours_in r.board.size ws row)) p.0 c p.1 ∙ ap (λ k. Some (colour_mark c k)) is);
+        last = λ o knows. z.board.outcomes row o (known_outcome n h lt same row o knows);
+      })
+
+  proposal_named : (c n : ℕ) (t : Told) (id : Id) (floor : ℕ) (wants : Counts) → c < r.board.size.colours
+      → slice_get (logs c) n ≡ Some t → t.entry.event ≡ Propose id floor wants
+      → (i : ℕ) × (b : BegunRow) × (slice_get begun i ≡ Some b) × (t.nodes ≡ b.node ∷ [])
+  proposal_named c n t id floor wants lt at is =
+      let q = subst (λ (e : Event). Backs v e t.nodes) is ((agrees c lt).backs n t at) in
+      let inside = subst (λ (k : Size). IsRow k q.1) z.size q.3.inside in
+      let p = row_there q.1 q.0 inside q.3.knows in
+      (p.0, p.1, p.2, q.2 ∙ ap (λ (x : Node). x ∷ []) (sym p.4))
+
+  region_closes : (closes : ClosedRegion) → length closed ≡ r.board.size.colours
+      → closes.columns ≡ map (λ (s : Seated). s.column) closed
+      → closes.rows ≡ map (closed_row r.board.size ws) own_rows
+      → Closed r hs closes
+  region_closes closes count columns rows = record {
+    logs = logs;
+    begun = begun;
+    count = ap length columns ∙ length-map closed (λ (s : Seated). s.column) ∙ count;
+    columns = λ c column at.
+        let t = image_at (λ (s : Seated). s.column) closed c column (ap (λ l. slice_get l c) (sym columns) ∙ at) in
+        let near = slice_get_within closed c t.0 t.1 in
+        subst (λ (x : ColumnState). ClosesColumn r c x (logs c)) t.2 (closes_column c (omega (arith, near, count)) t.0 t.1);
+    rows = lawful_rows r.number r.board.size ws v z.size few z.board node owned own_rows lists logs agrees;
+    closing = rows ∙ sym (map-map closed_of own_row own_rows);
+    in_order = map-map (λ (b : BegunRow). b.row) own_row own_rows ∙ same_rows own_rows;
+    holds = λ n h at c lt. closes_for c lt n h at;
+    agree = agrees_with;
+    known = λ n h at row x inside knows.
+        row_there row x inside (known_row n h (within n h at) (is_holder n h (within n h at) at) row x knows);
+    makers = λ c n t lt at.
+        let m = made_at c lt n t at in
+        ((holder t.entry.by).hold, (holders t.entry.by m.0).0,
+            contained (made_in (holder t.entry.by).hold c) m.1.0 t m.1.1);
+    named = λ c n t id floor wants lt at is. proposal_named c n t id floor wants lt at is;
+  }
+
+-- the seat of a closed column is its colour's
+pub closed_seat : (r : Region) (clients : List ColumnPasses) (closed : List Seated)
+    → AreTied r.board r.number r.regions r.columns.items
+    → length closed ≡ length r.columns.items
+    → AreClosed r.columns.items clients closed
+    → (c : ℕ) (s : Seated) → slice_get closed c ≡ Some s → IsColumnOf r.board s.seat × (s.seat.colour ≡ c)
+closed_seat r clients closed tied many shut c s at =
+    let near = slice_get_within closed c s at in
+    let cell = got r.columns.items c (omega (arith, near, many)) in
+    let e = (shut c cell.0 s cell.1 at).ends.tagged ∙ tied c cell.0 cell.1 in
+    ((ap (λ (t : Tag). t.board) e, ap (λ (t : Tag). t.size) e), s.same ∙ ap (λ (t : Tag). t.colour) e)
+
+-- what the board says of its end
+abbrev pub CloseOf : Size → List Seat → List ColumnSeat → List ClosedRow → Type 0
+CloseOf k seats columns rows =
+    (ws : List ℕ) × (v : View) × Closes k ws v seats columns × (rows ≡ map (closed_row k ws) (all_begun seats))
+
+-- the end of a region, from the lists into which it was taken apart
+pub ends_region : (r : Region) (hs : List Hold) (clients : List ColumnPasses) (seats : List Seat) (closed : List Seated)
+    (columns : List ColumnState) (column_seats : List ColumnSeat) (rows : List ClosedRow) (closes : ClosedRegion)
+    → AreTied r.board r.number r.regions r.columns.items
+    → length r.columns.items ≡ r.board.size.colours
+    → IsSize r.board.size
+    → AreHoldsOf r hs
+    → clients ≡ map (λ (h : Hold). h.passes) hs
+    → seats ≡ map (λ (h : Hold). h.seat) hs
+    → columns ≡ map (λ (s : Seated). s.column) closed
+    → column_seats ≡ map (λ (s : Seated). s.seat) closed
+    → length closed ≡ length r.columns.items
+    → AreClosed r.columns.items clients closed
+    → CloseOf r.board.size seats column_seats rows
+    → closes.columns ≡ columns → closes.rows ≡ rows
+    → Closed r hs closes
+ends_region r hs clients seats closed columns column_seats rows closes tied cells size holds cs ss ds ts many shut z ec er =
+    let some_clients = size.0 in
+    let some_colours = size.2 in
+    let few = size.3 in
+    let holder = choose (λ (n : ℕ) (x : HoldOf r). (slice_get hs n ≡ Some x.hold) × (x.hold.passes.number ≡ n))
+        r.board.size.clients some_clients
+        (λ n lt. let count = holds.0 in let t = got hs n (omega (arith, lt, count)) in let h = holds.1 n t.0 t.1 in
+        (record { hold = t.0; good = h.0 }, (t.1, h.1))) in
+    let end = choose (λ (c : ℕ) (x : ColumnEnd). (slice_get r.columns.items c ≡ Some x.cell)
+        × (slice_get closed c ≡ Some x.seated) × AreOfColour (map (λ (h : Hold). h.passes) hs) c x.passes)
+        r.board.size.colours some_colours
+        (λ c lt. let cell = got r.columns.items c (omega (arith, lt, cells)) in
+        let s = got closed c (omega (arith, lt, cells, many)) in
+        let e = shut c cell.0 s.0 cell.1 s.1 in
+        (record { cell = cell.0; seated = s.0; passes = e.passes; ends = e.ends }, (cell.1, s.1,
+            subst (λ (l : List ColumnPasses). AreOfColour l c e.passes) cs e.of_colour))) in
+    let closing : Closes r.board.size z.0 z.1 (map (λ (h : Hold). h.seat) hs) (map (λ (s : Seated). s.seat) closed) =
+        subst (λ (l : List Seat × List ColumnSeat). Closes r.board.size z.0 z.1 l.0 l.1) (λ i. (ss i, ts i)) z.2 in
+    region_closes r hs closed z.0 z.1 tied holds.0 (omega (arith, few)) closing holder.0 holder.1 end.0 end.1 closes
+    (many ∙ cells) (ec ∙ ds) (er ∙ z.3 ∙ ap (λ l. map (closed_row r.board.size z.0) (all_begun l)) ss)

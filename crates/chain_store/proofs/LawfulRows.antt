@@ -81,7 +81,7 @@ passed test c a (suc n) le lt holds = elim (cases_eq c a) [
 member_has : (set : Colours) (i c : ℕ) → slice_get (members set) i ≡ Some c → has set c ≡ true
 member_has set i c at = passes (has set) (range_with_len 0 64) i c at
 
-member_at : (set : Colours) (c : ℕ) → c < 64 → has set c ≡ true → (i : ℕ) × (slice_get (members set) i ≡ Some c)
+pub member_at : (set : Colours) (c : ℕ) → c < 64 → has set c ≡ true → (i : ℕ) × (slice_get (members set) i ≡ Some c)
 member_at set c lt holds = passed (has set) c 0 64 (omega arith) (omega (arith, lt)) holds
 
 -- the begun rows, each once, and each client's in the order 0, 1, 2
@@ -192,10 +192,10 @@ proposing row (Trim counts) nodes e = absurd (false≢true e)
 module _ (region : ℕ) (k : Size) (ws : List ℕ) (v : View) (size : v.size ≡ k) (few : k.colours ≤ 64) (board : MayBe k ws v)
     (node : Row → Node) (owned : Owned region k ws v node) where
   -- the row of a node that is known as begun
-  begun_of : (row : Row) (x : Node) → KnowsBegun v row x → IsBegun k ws row
+  pub begun_of : (row : Row) (x : Node) → KnowsBegun v row x → IsBegun k ws row
   begun_of row x knows = (board.begun row x knows).0
 
-  node_is : (row : Row) (x : Node) → IsRow k row → KnowsBegun v row x → x ≡ node row
+  pub node_is : (row : Row) (x : Node) → IsRow k row → KnowsBegun v row x → x ≡ node row
   node_is row x inside knows = board.one_node row x (node row) knows (owned.knows row inside (begun_of row x knows))
 
   in_size : (row : Row) → IsRow v.size row → IsRow k row
@@ -255,7 +255,7 @@ module _ (region : ℕ) (k : Size) (ws : List ℕ) (v : View) (size : v.size ≡
   colours_are : (row : Row) → IsRow k row → IsBegun k ws row → colours_in k ws row ≡ (node row).colours
   colours_are row inside begun = (board.begun row (node row) (owned.knows row inside begun)).1
 
-  marks_are : (row : Row)
+  pub marks_are : (row : Row)
       → map (λ (m : ColourMark). m.mark) (marks_in k ws row) ≡ map (mark_in k ws row) (members (colours_in k ws row))
   marks_are row = map-map (λ (m : ColourMark). m.mark)
       (λ (c : ℕ). record { colour = c; mark = mark_in k ws row c }) (members (colours_in k ws row))
@@ -294,14 +294,14 @@ module _ (region : ℕ) (k : Size) (ws : List ℕ) (v : View) (size : v.size ≡
     begun_rows = map begun_row rows
 
     -- a begun row among them
-    row_at_place : (i : ℕ) (r : BegunRow) → slice_get begun_rows i ≡ Some r
+    pub row_at_place : (i : ℕ) (r : BegunRow) → slice_get begun_rows i ≡ Some r
         → (row : Row) × (slice_get rows i ≡ Some row) × (begun_row row ≡ r) × IsRow k row × IsBegun k ws row
     row_at_place i r at = let t = image_at begun_row rows i r at in let h = lists.inside i t.0 t.1 in (t.0, t.1, t.2, h.0, h.1)
 
     each_row : (P : BegunRow → Type 0) → ((row : Row) → IsRow k row → IsBegun k ws row → P (begun_row row)) → All P begun_rows
     each_row P h = all_by P begun_rows (λ i r at. let t = row_at_place i r at in subst P t.2 (h t.0 t.3 t.4))
 
-    begun_place : (row : Row) → IsRow k row → IsBegun k ws row → (n : ℕ) × (slice_get begun_rows n ≡ Some (begun_row row))
+    pub begun_place : (row : Row) → IsRow k row → IsBegun k ws row → (n : ℕ) × (slice_get begun_rows n ≡ Some (begun_row row))
     begun_place row inside begun = let t = lists.listed row inside begun in (t.0, at_image begun_row rows t.0 row t.1)
 
     ids_apart : AllPairs (λ (r s : BegunRow). r.node.id ≢ s.node.id) begun_rows
