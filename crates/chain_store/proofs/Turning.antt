@@ -115,6 +115,20 @@ makes n t p q r at s e = record {
   place = e.0;
 }
 
+-- the same, with what was seen before
+pub makes_at : (n : ℕ) (t : Told) (p q r : ColumnPass) (at : At) → SeesMore n p q → IsEvent t q r at
+    → (m : MakesOne n t p r at) × (m.before ≡ seen q)
+makes_at n t p q r at s e = (
+  record {
+    before = seen q;
+    more = s.more;
+    none = s.none;
+    adds = e.1.0;
+    place = e.0;
+  },
+  refl,
+)
+
 -- the pass is at rest again
 pub at_rest : (there cell : ColumnCell) (n : ℕ) (q r : ColumnPass) → there ≡ cell → HasTurnOf cell n q
     → ((m : ℕ) → HasTurnOf there m q → IsHolder there m r) → IsHolder cell n r

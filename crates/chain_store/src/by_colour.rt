@@ -6,7 +6,8 @@ ghost use Rattle.chain_store.specs.Passes.{ShowsHistory, tag_in};
 ghost use Rattle.chain_store.specs.Regions.{tag_at, IsColumnAt};
 ghost use Rattle.chain_store.specs.Holds.{IsHold, SameBut, SeesMoreIn, MakesOneIn, seen_in};
 
-use crate::calls::{look_in, single_in};
+use crate::calls::single_in;
+use crate::looks::look_in;
 use crate::hold::Hold;
 use crate::region::Region;
 use crate::seated::Seated;
@@ -49,15 +50,14 @@ impl Region {
         ensures err { OnErr result (SeesMoreIn colour hold.old hold.new × (hold.new.next ≡ hold.old.next)) }
     {
         let by = hold.passes.number;
-        let answer = single_in(
-            rt,
-            self.column(colour),
-            &mut hold.passes.items[colour as usize],
-            by,
-            node,
-        )?;
-        hold.next = node.id.count + 1;
-        Ok(answer)
+        let pass = &mut hold.passes.items[colour as usize];
+        match single_in(rt, self.column(colour), pass, by, node) {
+            Ok(answer) => {
+                hold.next = node.id.count + 1;
+                Ok(answer)
+            }
+            Err(fault) => Err(fault),
+        }
     }
 
     /// What a reader sees of the colour's column who has these counts.

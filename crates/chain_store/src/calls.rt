@@ -45,22 +45,3 @@ pub fn single_in<R: Wait>(
         }
     }
 }
-
-/// What a reader sees who has these counts. Waits for the turn.
-pub fn look_in<R: Wait>(
-    rt: &R,
-    alloc: Global,
-    cell: &Cell<Seated>,
-    pass: &mut Pass<Seated>,
-    by: u8,
-    from: Counts,
-) -> Result<View, AllocError>
-    requires pass { IsHolder cell.now by pass.old }
-    ensures pass { IsHolder cell.now by pass.new × SeesMore by pass.old pass.new }
-    ensures view { IfOk result (λ view. ShowsHistory (tag_in cell.now) (seen pass.new) from view) }
-{
-    let turn = begin(rt, cell, pass, by);
-    let view = turn.value.column.look(alloc, from);
-    end(turn, pass);
-    view
-}

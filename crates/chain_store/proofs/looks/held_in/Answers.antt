@@ -1,0 +1,30 @@
+use Rattle.std.proofs.Common.{inl, ap, ◌∙◌, List}
+use Rattle.turn_cell.specs.Cells.{seen}
+use Rattle.chain_store.specs.Passes.{tag_in}
+use Rattle.chain_store.proofs.Turning.{at_rest, tagged}
+use Rattle.chain_store.proofs.Moved.{looks_at, journal_at, held_at}
+use Rattle.chain_store.proofs.looks.held_in.Goals as goal
+
+pub end-requires-clause-value : goal.end-requires-clause-value
+end-requires-clause-value g c = inl c.begin-turn.ensures.value
+
+pub returns-clause-pass : goal.returns-clause-pass
+returns-clause-pass g c =
+    at_rest c.begin-turn.result.cell.now c.args.cell.now c.args.by c.begin-turn.new.pass c.end.new.pass
+    c.begin-turn.ensures.turn.1 c.begin-turn.ensures.turn.0 c.end.ensures.holder
+
+pub returns-clause-look : goal.returns-clause-look
+returns-clause-look g c =
+    looks_at c.args.by c.args.pass.now c.begin-turn.new.pass c.end.new.pass c.end.result c.begin-turn.ensures.more
+    (c.end.ensures.look c.begin-turn.ensures.value)
+
+pub returns-clause-held : goal.returns-clause-held
+returns-clause-held g c =
+    let q = c.begin-turn.new.pass in
+    let r = c.end.new.pass in
+    let x = c.begin-turn.result.value.value in
+    let y = c.deref.result.now in
+    let j = journal_at x y q r c.deref.ensures c.begin-turn.ensures.value (c.end.ensures.look c.begin-turn.ensures.value).1.0 in
+    c.held-held.ensures
+    ∙ held_at y (tag_in c.args.cell.now) (seen r) j
+    (tagged x y (tag_in c.args.cell.now) c.deref.ensures c.begin-turn.ensures.tag)

@@ -1,0 +1,7 @@
+-- Parts of chains that are given and carried.
+use Rattle.std.specs.Prelude.{◌≡◌, ℕ, List, Some, slice_get}
+use Rattle.log_node.specs.Seen.{PlacedNode}
+
+-- each node has its head's id
+abbrev pub OfTheirHeads : List PlacedNode → Type 0
+OfTheirHeads items = (n : ℕ) (i : PlacedNode) → slice_get items n ≡ Some i → i.node.id ≡ i.head.key.id

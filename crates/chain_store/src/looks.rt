@@ -1,0 +1,89 @@
+// Calls on one column that change nothing, each under one turn.
+ghost use Rattle.std.specs.Prelude.{◌≡◌, IfOk};
+ghost use Rattle.std.specs.List.{position};
+ghost use Rattle.log_node.specs.Order.{same_key};
+ghost use Rattle.col_core.specs.History.{clock, line};
+ghost use Rattle.col_core.specs.Cuts.{held};
+ghost use Rattle.turn_cell.specs.Cells.{seen};
+ghost use Rattle.chain_store.specs.Histories.{entries_in};
+ghost use Rattle.chain_store.specs.Moves.{LooksAt};
+ghost use Rattle.chain_store.specs.Passes.{IsHolder, SeesMore, ShowsHistory, dated_in, tag_in};
+
+use crate::seated::Seated;
+use crate::turns::{begin, end};
+use col_core::View;
+use log_node::{At, Counts, Key};
+use std::alloc::{AllocError, Global};
+use std::sync::Wait;
+use turn_cell::{Cell, Pass};
+
+/// What a reader sees who has these counts. Waits for the turn.
+pub fn look_in<R: Wait>(
+    rt: &R,
+    alloc: Global,
+    cell: &Cell<Seated>,
+    pass: &mut Pass<Seated>,
+    by: u8,
+    from: Counts,
+) -> Result<View, AllocError>
+    requires pass { IsHolder cell.now by pass.old }
+    ensures pass { IsHolder cell.now by pass.new × SeesMore by pass.old pass.new }
+    ensures view { IfOk result (λ view. ShowsHistory (tag_in cell.now) (seen pass.new) from view) }
+{
+    let turn = begin(rt, cell, pass, by);
+    let view = turn.value.column.look(alloc, from);
+    end(turn, pass);
+    view
+}
+
+/// The position of a key in the line, counted from 0; `None` exactly where it is not in the line. Waits for the turn.
+pub fn place_in<R: Wait>(
+    rt: &R,
+    cell: &Cell<Seated>,
+    pass: &mut Pass<Seated>,
+    by: u8,
+    key: Key,
+) -> (At, Option<u64>)
+    requires pass { IsHolder cell.now by pass.old }
+    ensures pass { IsHolder cell.now by pass.new }
+    ensures look { LooksAt by pass.old pass.new result.0 }
+    ensures place { result.1 ≡ position (λ k. same_key k key) (line (entries_in (seen pass.new))) }
+{
+    let turn = begin(rt, cell, pass, by);
+    let place = turn.value.column.place(key);
+    (end(turn, pass), place)
+}
+
+/// The clock. Waits for the turn.
+pub fn clock_in<R: Wait>(
+    rt: &R,
+    cell: &Cell<Seated>,
+    pass: &mut Pass<Seated>,
+    by: u8,
+) -> (At, u64)
+    requires pass { IsHolder cell.now by pass.old }
+    ensures pass { IsHolder cell.now by pass.new }
+    ensures look { LooksAt by pass.old pass.new result.0 }
+    ensures clock { result.1 ≡ clock (entries_in (seen pass.new)) }
+{
+    let turn = begin(rt, cell, pass, by);
+    let clock = turn.value.column.clock();
+    (end(turn, pass), clock)
+}
+
+/// How many nodes of each region's chain are here. Waits for the turn.
+pub fn held_in<R: Wait>(
+    rt: &R,
+    cell: &Cell<Seated>,
+    pass: &mut Pass<Seated>,
+    by: u8,
+) -> (At, Counts)
+    requires pass { IsHolder cell.now by pass.old }
+    ensures pass { IsHolder cell.now by pass.new }
+    ensures look { LooksAt by pass.old pass.new result.0 }
+    ensures held { result.1 ≡ held (tag_in cell.now).region (dated_in (tag_in cell.now) (seen pass.new)) }
+{
+    let turn = begin(rt, cell, pass, by);
+    let held = turn.value.column.held();
+    (end(turn, pass), held)
+}
