@@ -54,60 +54,11 @@ use Rattle.chain_store.specs.Owning.{IsAccountedFor, row_of}
 use Rattle.chain_store.specs.Holds.{IsHold, history_seen, passes_of, seen_in, made_in, view_of}
 use Rattle.chain_store.specs.Closings.{AreOfColour, IsClosed, AreClosed}
 use Rattle.chain_store.specs.Closing.{AreHoldsOf, closed_of, ClosesColumn, ClosesFor, AgreesWith, Closed}
-use Rattle.chain_store.proofs.LawfulRows.{image_at, at_image, Lists, Owned, Agrees, begun_row, begun_rows, lawful_rows, node_is, begun_of, begun_place, row_at_place, member_at}
-use Rattle.chain_store.proofs.ListedRows.{got, lists_begun}
-
--- a choice for each number below a bound
-choose : {A : Type 0} (P : ℕ → A → Type 0) (n : ℕ) → 0 < n → ((c : ℕ) → c < n → (x : A) × P c x)
-    → (f : ℕ → A) × ((c : ℕ) → c < n → P c (f c))
-choose {A} P n some h = (λ c. (total c).0, λ c lt. (total c).1 lt) where
-  total : (c : ℕ) → (x : A) × (c < n → P c x)
-  total c = elim (cases_order c n) [
-    | inl e ↦ ((h 0 some).0, λ lt. absurd (omega (arith, e, lt)))
-    | inr (inl below) ↦ ((h c below).0, λ lt. (h c below).1)
-    | inr (inr above) ↦ ((h 0 some).0, λ lt. absurd (omega (arith, above, lt)))
-  ]
-
--- what a seat knows of an entry is known to whom it was told
-backs_learnt : (v w : View) → Learns v w → w.size ≡ v.size → (e : Event) (nodes : List Node) → Backs v e nodes → Backs w e nodes
-backs_learnt v w learns size e nodes b = by e b where
-  of_row : (row : Row) (x : Node) → IsRowOf v row x → IsRowOf w row x
-  of_row row x h = record {
-    of_row = h.of_row;
-    mine = h.mine;
-    inside = subst (λ (k : Size). IsRow k row) (sym size) h.inside;
-    knows = begun_learnt v w row size learns x h.knows;
-    several = subst (λ (k : Size). AreColours k x.colours) (sym size) h.several;
-  }
-
-  by : (e : Event) → Backs v e nodes → Backs w e nodes
-  by (Single id floor wants) b = tt
-  by (Propose id floor wants) b = (b.0, b.1, b.2, of_row b.1 b.0 b.3)
-  by (Settle id outcome) b = (b.0, b.1, b.2, of_row b.1 b.0 b.3, outcome_learnt v w b.1 size learns outcome b.4)
-  by (Raise to) b = tt
-  by (Give region from) b = tt
-  by (Carry region start heads) b = tt
-  by (Trim counts) b = tt
-
--- an entry that its maker made is among those
-made_place : (n : ℕ) (log : List Told) (i : ℕ) (t : Told) → slice_get log i ≡ Some t → maker t ≡ n
-    → (j : ℕ) × (slice_get (made_by maker n log) j ≡ Some t)
-made_place n [] i t at by = absurd cc
-made_place n (u ∷ log) zero t at by =
-    let same : u ≡ t = cc at in
-    (0, ap (λ l. slice_get l 0) (if_true (maker u == n) (u ∷ made_by maker n log) (made_by maker n log)
-    (eq-eqb (maker u) n (ap maker same ∙ by))) ∙ at)
-made_place n (u ∷ log) (suc i) t at by =
-    let r = made_place n log i t at by in
-    by_test ((j : ℕ) × (slice_get (made_by maker n (u ∷ log)) j ≡ Some t)) (maker u == n)
-    (λ here. (suc r.0, ap (λ l. slice_get l (suc r.0))
-    (if_true (maker u == n) (u ∷ made_by maker n log) (made_by maker n log) here) ∙ r.1))
-    (λ other. (r.0, ap (λ l. slice_get l r.0)
-    (if_false (maker u == n) (u ∷ made_by maker n log) (made_by maker n log) other) ∙ r.1))
-
--- an element at a place is one of the list
-contained : {A : Type 0} (xs : List A) (i : ℕ) (x : A) → slice_get xs i ≡ Some x → Contains xs x
-contained xs i x at = (i, slice_get_within xs i x at, get_or_from_slice_get xs i x x at)
+use Rattle.chain_store.proofs.Backing.{backs_learnt}
+use Rattle.chain_store.proofs.Passing.{made_place}
+use Rattle.chain_store.proofs.Places.{image_at, at_image, contained, got, choose, member_at}
+use Rattle.chain_store.proofs.LawfulRows.{Lists, Owned, Agrees, begun_row, begun_rows, lawful_rows, node_is, begun_of, begun_place, row_at_place}
+use Rattle.chain_store.proofs.ListedRows.{lists_begun}
 
 abbrev colour_mark : ℕ → Mark → ColourMark
 colour_mark c m = record { colour = c; mark = m }

@@ -8,19 +8,8 @@ use Rattle.chain_store.specs.Passes.{ColumnCell, ColumnPass, tag_in}
 use Rattle.chain_store.specs.Ends.{AreHolders, EndsAs}
 use Rattle.chain_store.specs.Closings.{HaveOneMore, Gave, Gathered, AllHold, AreOfColour, IsClosed}
 use Rattle.chain_store.proofs.Holding.{set_got, set_other}
-use Rattle.chain_store.proofs.ListedRows.{got}
-
--- a list with one more at its end
-
-module _ {A : Type 0} where
-  pub got_end : (xs : List A) (x : A) → slice_get (xs ++ x ∷ []) (length xs) ≡ Some x
-  got_end [] x = refl
-  got_end (y ∷ xs) x = got_end xs x
-
-  pub got_front : (xs : List A) (x y : A) (k : ℕ) → slice_get xs k ≡ Some y → slice_get (xs ++ x ∷ []) k ≡ Some y
-  got_front [] x y k e = absurd cc
-  got_front (z ∷ xs) x y zero e = e
-  got_front (z ∷ xs) x y (suc k) e = got_front xs x y k e
+use Rattle.chain_store.proofs.Entering.{get_last, get_old}
+use Rattle.chain_store.proofs.Places.{got}
 
 -- one client more gave its last pass
 pub gathered_one : (old now : List ColumnPasses) (ps qs : List ColumnPass) (i : ℕ) (c d : ColumnPasses) (p : ColumnPass)
@@ -35,11 +24,11 @@ gathered_one old now ps qs i c d p g near here gave e =
             let was : Some c ≡ Some b = sym here ∙ g.later i (omega arith) ∙ ap (slice_get old) (sym is) ∙ at in
             let same : c ≡ b = cc was in
             (d, p, ap (slice_get (set now i d)) is ∙ set_got now i d c here,
-                ap (λ l. slice_get l j) e ∙ ap (slice_get (ps ++ p ∷ [])) (is ∙ sym count) ∙ got_end ps p,
+                ap (λ l. slice_get l j) e ∙ ap (slice_get (ps ++ p ∷ [])) (is ∙ sym count) ∙ get_last ps p,
                 subst (λ (z : ColumnPasses). Gave z d p) same gave)
         | inr other ↦
             let b = g.gave j b (omega (arith, lt, other)) at in
-            (b.0, b.1, set_other now i j d other ∙ b.2, ap (λ l. slice_get l j) e ∙ got_front ps p b.1 j b.3, b.4)
+            (b.0, b.1, set_other now i j d other ∙ b.2, ap (λ l. slice_get l j) e ∙ get_old ps (p ∷ []) j b.1 b.3, b.4)
       ];
       later = λ j after. set_other now i j d (λ is. omega (arith, after, is)) ∙ g.later j (omega (arith, after));
     }
@@ -92,7 +81,7 @@ module _ (old now : List ColumnPasses) (n m : ℕ) (s : Shrunk old now n) (more 
           let l = t.0 in
           let short : length d.items.items + length (v.1 ∷ []) ≡ n = sym long ∙ l in
           (omega (arith, short, more),
-              λ k p e. t.1 k p (ap (λ z. slice_get z k) gave ∙ got_front d.items.items v.1 p k e));
+              λ k p e. t.1 k p (ap (λ z. slice_get z k) gave ∙ get_old d.items.items (v.1 ∷ []) k p e));
     }
 
     -- what was given are the passes of the last colour
@@ -112,7 +101,7 @@ module _ (old now : List ColumnPasses) (n m : ℕ) (s : Shrunk old now n) (more 
           let all : length v.0.items.items + length (v.1 ∷ []) ≡ n = sym long ∙ l in
           let short : length v.0.items.items ≡ m = omega (arith, all, more) in
           t.1 m p (ap (λ z. slice_get z m) v.4 ∙ ap (slice_get (v.0.items.items ++ v.1 ∷ [])) (sym short)
-          ∙ got_end v.0.items.items v.1 ∙ ap Some is);
+          ∙ get_last v.0.items.items v.1 ∙ ap Some is);
     }
 
 -- passes of a colour are of clients of its cell

@@ -37,52 +37,7 @@ use Rattle.chain_store.specs.declared.told.Told.{Told}
 use Rattle.chain_store.specs.Histories.{entries_in, Brings}
 use Rattle.chain_store.specs.Marks.{same_row, is_row, is_first_of, proposes, stamps_of, numbers, Backs, IsRowOf, IsEnded}
 use Rattle.chain_store.proofs.Backing.{same_row-is, same_row-refl}
-
--- lists by place
-
-pub all_by : {A : Type 0} (P : A → Type 0) (xs : List A) → ((i : ℕ) (x : A) → slice_get xs i ≡ Some x → P x) → All P xs
-all_by P xs h = λ i d lt. h i (get_or xs i d) (slice_get-get_or xs i d lt)
-
-pub image_at : {A B : Type 0} (f : A → B) (xs : List A) (i : ℕ) (y : B) → slice_get (map f xs) i ≡ Some y
-    → (x : A) × (slice_get xs i ≡ Some x) × (f x ≡ y)
-image_at f [] i y e = absurd cc
-image_at f (x ∷ xs) zero y e = (x, refl, cc e)
-image_at f (x ∷ xs) (suc i) y e = image_at f xs i y e
-
-pub at_image : {A B : Type 0} (f : A → B) (xs : List A) (i : ℕ) (x : A) → slice_get xs i ≡ Some x
-    → slice_get (map f xs) i ≡ Some (f x)
-at_image f xs i x e = slice_get-map f xs i ∙ ap (option_map f) e
-
--- the members of a set are the colours that it has
-
-passes : (test : ℕ → Bool) (xs : List ℕ) (i x : ℕ) → slice_get (filter test xs) i ≡ Some x → test x ≡ true
-passes test [] i x at = absurd cc
-passes test (y ∷ ys) i x at = by_case (test y) refl i at (λ j. passes test ys j x) where
-  by_case : (b : Bool) → test y ≡ b → (i : ℕ)
-      → slice_get (cond b (y ∷ filter test ys) (filter test ys)) i ≡ Some x
-      → ((j : ℕ) → slice_get (filter test ys) j ≡ Some x → test x ≡ true) → test x ≡ true
-  by_case true e zero at rest = let same : y ≡ x = cc at in sym (ap test same) ∙ e
-  by_case true e (suc i) at rest = rest i at
-  by_case false e i at rest = rest i at
-
-passed : (test : ℕ → Bool) (c a n : ℕ) → a ≤ c → c < a + n → test c ≡ true
-    → (i : ℕ) × (slice_get (filter test (range_with_len a n)) i ≡ Some c)
-passed test c a zero le lt holds = absurd (omega (arith, le, lt))
-passed test c a (suc n) le lt holds = elim (cases_eq c a) [
-  | inl same ↦ (0, ap (λ l. slice_get l 0) (if_true (test a) (a ∷ filter test (range_with_len (a + 1) n))
-      (filter test (range_with_len (a + 1) n)) (sym (ap test same) ∙ holds)) ∙ ap Some (sym same))
-  | inr other ↦ next (test a) (passed test c (a + 1) n (omega (arith, le, other)) (omega (arith, lt)) holds)
-] where
-  next : (b : Bool) → (i : ℕ) × (slice_get (filter test (range_with_len (a + 1) n)) i ≡ Some c)
-      → (i : ℕ) × (slice_get (cond b (a ∷ filter test (range_with_len (a + 1) n)) (filter test (range_with_len (a + 1) n))) i ≡ Some c)
-  next true r = (suc r.0, r.1)
-  next false r = r
-
-member_has : (set : Colours) (i c : ℕ) → slice_get (members set) i ≡ Some c → has set c ≡ true
-member_has set i c at = passes (has set) (range_with_len 0 64) i c at
-
-pub member_at : (set : Colours) (c : ℕ) → c < 64 → has set c ≡ true → (i : ℕ) × (slice_get (members set) i ≡ Some c)
-member_at set c lt holds = passed (has set) c 0 64 (omega arith) (omega (arith, lt)) holds
+use Rattle.chain_store.proofs.Places.{all_by, image_at, at_image, member_has, member_at}
 
 -- the begun rows, each once, and each client's in the order 0, 1, 2
 pub record Lists (k : Size) (ws : List ℕ) (rows : List Row) : Type 0 where

@@ -14,60 +14,9 @@ use Rattle.stamp_board.specs.declared.seats.Seat.{Seat}
 use Rattle.stamp_board.specs.Rows.{IsBegun, IsRow}
 use Rattle.stamp_board.specs.Closing.{all_begun, rows_begun}
 use Rattle.chain_store.specs.Owning.{row_of}
+use Rattle.chain_store.proofs.Entering.{get_old}
+use Rattle.chain_store.proofs.Places.{got, got_split, got_second, first_place, first_at}
 use Rattle.chain_store.proofs.LawfulRows.{Lists}
-
--- lists one behind another
-
-got_split : {A : Type 0} (xs ys : List A) (i : ℕ) (x : A) → slice_get (xs ++ ys) i ≡ Some x
-    → (slice_get xs i ≡ Some x) ⊎ ((j : ℕ) × (i ≡ length xs + j) × (slice_get ys j ≡ Some x))
-got_split [] ys i x e = inr (i, omega arith, e)
-got_split (y ∷ xs) ys zero x e = inl e
-got_split (y ∷ xs) ys (suc i) x e = ⊎_elim (λ l. inl l) (λ r. let q = r.1 in inr (r.0, omega (arith, q), r.2)) (got_split xs ys i x e)
-
-got_first : {A : Type 0} (xs ys : List A) (i : ℕ) (x : A) → slice_get xs i ≡ Some x → slice_get (xs ++ ys) i ≡ Some x
-got_first [] ys i x e = absurd cc
-got_first (y ∷ xs) ys zero x e = e
-got_first (y ∷ xs) ys (suc i) x e = got_first xs ys i x e
-
-got_second : {A : Type 0} (xs ys : List A) (i : ℕ) (x : A) → slice_get ys i ≡ Some x → slice_get (xs ++ ys) (length xs + i) ≡ Some x
-got_second {A} [] ys i x e = let z : i ≡ 0 + i = omega arith in subst (λ (k : ℕ). slice_get ys k ≡ Some x) z e
-got_second {A} (y ∷ xs) ys i x e =
-    let z : suc (length xs + i) ≡ suc (length xs) + i = omega arith in
-    subst (λ (k : ℕ). slice_get ((y ∷ xs) ++ ys) k ≡ Some x) z (got_second xs ys i x e)
-
-pub got : {A : Type 0} (xs : List A) (i : ℕ) → i < length xs → (x : A) × (slice_get xs i ≡ Some x)
-got [] i lt = absurd (omega (arith, lt))
-got (x ∷ xs) zero lt = (x, refl)
-got (x ∷ xs) (suc i) lt = got xs i (omega (arith, lt))
-
--- a place of the images of n numbers
-range_place : {A : Type 0} (f : ℕ → A) (a n i : ℕ) (y : A) → slice_get (map f (range_with_len a n)) i ≡ Some y
-    → (i < n) × (f (a + i) ≡ y)
-range_place f a zero i y e = absurd cc
-range_place f a (suc n) zero y e = (omega arith, let s : a + 0 ≡ a = omega arith in ap f s ∙ cc e)
-range_place f a (suc n) (suc i) y e =
-    let r = range_place f (a + 1) n i y e in
-    let l = r.0 in
-    let s : a + suc i ≡ a + 1 + i = omega arith in
-    (omega (arith, l), ap f s ∙ r.1)
-
-range_at : {A : Type 0} (f : ℕ → A) (a n i : ℕ) → i < n → slice_get (map f (range_with_len a n)) i ≡ Some (f (a + i))
-range_at f a zero i lt = absurd (omega (arith, lt))
-range_at f a (suc n) zero lt = let s : a ≡ a + 0 = omega arith in ap (λ j. Some (f j)) s
-range_at f a (suc n) (suc i) lt =
-    let s : a + 1 + i ≡ a + suc i = omega arith in
-    range_at f (a + 1) n i (omega (arith, lt)) ∙ ap (λ j. Some (f j)) s
-
--- the first n numbers
-first_place : {A : Type 0} (f : ℕ → A) (n i : ℕ) (y : A) → slice_get (map f (range_with_len 0 n)) i ≡ Some y
-    → (i < n) × (f i ≡ y)
-first_place f n i y e =
-    let r = range_place f 0 n i y e in
-    let s : i ≡ 0 + i = omega arith in
-    (r.0, ap f s ∙ r.1)
-
-first_at : {A : Type 0} (f : ℕ → A) (n i : ℕ) → i < n → slice_get (map f (range_with_len 0 n)) i ≡ Some (f i)
-first_at f n i lt = let s : 0 + i ≡ i = omega arith in range_at f 0 n i lt ∙ ap (λ j. Some (f j)) s
 
 -- a row that was begun, and whose it is
 pub record IsAmong (ss : List Seat) (row : Row) : Type 0 where
@@ -104,7 +53,7 @@ row_listed [] n s j at lt = absurd cc
 row_listed (t ∷ ss) zero s j at lt =
     let same : t ≡ s = cc at in
     (j, subst (λ (z : Seat). slice_get (all_begun (z ∷ ss)) j ≡ Some (row_of s.client j)) (sym same)
-    (got_first (rows_begun s) (all_begun ss) j (row_of s.client j) (first_at (row_of s.client) s.used j lt)))
+    (get_old (rows_begun s) (all_begun ss) j (row_of s.client j) (first_at (row_of s.client) s.used j lt)))
 row_listed (t ∷ ss) (suc n) s j at lt =
     let r = row_listed ss n s j at lt in
     (length (rows_begun t) + r.0, got_second (rows_begun t) (all_begun ss) r.0 (row_of s.client j) r.1)

@@ -2,7 +2,8 @@ use Rattle.std.proofs.Common.{rules, ℕ, subst, sym, ◌≡◌, ◌+◌, ◌∷
 use Rattle.chain_store.specs.Passes.{tag_in}
 use Rattle.chain_store.specs.Ends.{EndsAs}
 use Rattle.chain_store.specs.Closings.{IsClosed}
-use Rattle.chain_store.proofs.Gathering.{got_end, got_front, one_more, shrinks, of_last, are_holders, closed_more}
+use Rattle.chain_store.proofs.Entering.{get_last, get_old}
+use Rattle.chain_store.proofs.Gathering.{one_more, shrinks, of_last, are_holders, closed_more}
 use Rattle.chain_store.proofs.closing.close_columns.Goals as goal
 
 pub gather-requires : goal.gather-requires
@@ -18,7 +19,7 @@ close_column-requires-clause-holders g c =
     let items = c.in-Some.ensures.items in
     let long = ap length items ∙ length-append rest (c.in-Some.cell ∷ []) in
     let at = c.loop-cell.invariant.cells (length rest) c.in-Some.cell
-        (ap (λ l. slice_get l (length rest)) items ∙ got_end rest c.in-Some.cell) in
+        (ap (λ l. slice_get l (length rest)) items ∙ get_last rest c.in-Some.cell) in
     let of = of_last c.args.clients.items c.loop-cell.clients.items (length c.loop-cell.cells.items) (length rest)
         c.loop-cell.invariant.passes long c.gather.new.clients.items c.in_ok-passes.passes.items c.in_ok-passes.ensures in
     λ n p pat. are_holders c.args.cells.items c.args.clients.items (length rest) c.in-Some.cell c.in_ok-passes.passes.items
@@ -31,14 +32,14 @@ loop-cell-preserved g c =
     let items = c.in-Some.ensures.items in
     let long : length c.loop-cell.cells.items ≡ length rest + 1 =
         ap length items ∙ length-append rest (c.in-Some.cell ∷ []) in
-    let at = i.cells (length rest) c.in-Some.cell (ap (λ l. slice_get l (length rest)) items ∙ got_end rest c.in-Some.cell) in
+    let at = i.cells (length rest) c.in-Some.cell (ap (λ l. slice_get l (length rest)) items ∙ get_last rest c.in-Some.cell) in
     let of = of_last c.args.clients.items c.loop-cell.clients.items (length c.loop-cell.cells.items) (length rest)
         i.passes long c.gather.new.clients.items c.in_ok-passes.passes.items c.in_ok-passes.ensures in
     let new = c.in_ok-insert.ensures.items in
     let more = ap length new in
     let count = i.count in
     record {
-      cells = λ k d e. i.cells k d (ap (λ l. slice_get l k) items ∙ got_front rest c.in-Some.cell d k e);
+      cells = λ k d e. i.cells k d (ap (λ l. slice_get l k) items ∙ get_old rest (c.in-Some.cell ∷ []) k d e);
       count = omega (arith, more, count, long);
       passes = shrinks c.args.clients.items c.loop-cell.clients.items (length c.loop-cell.cells.items) (length rest)
           i.passes long c.gather.new.clients.items c.in_ok-passes.passes.items c.in_ok-passes.ensures;

@@ -7,7 +7,7 @@ use Rattle.chain_store.specs.declared.hold.ColumnPasses.{ColumnPasses}
 use Rattle.chain_store.specs.declared.seated.Seated.{Seated}
 use Rattle.chain_store.specs.Holds.{HasPasses}
 use Rattle.chain_store.proofs.Ending.{CloseOf, closed_seat, ends_region}
-use Rattle.chain_store.proofs.LawfulRows.{image_at}
+use Rattle.chain_store.proofs.Places.{image_at}
 use Rattle.chain_store.proofs.region.Region.close.Goals as goal
 
 pub close_columns-requires-clause-passes : goal.close_columns-requires-clause-passes
