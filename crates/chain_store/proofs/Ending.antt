@@ -1,35 +1,29 @@
 -- What a region ends with, from what its columns and its board end with.
-use Rattle.std.proofs.Common.{◌≡◌, ◌≢◌, ℕ, zero, suc, ◌+◌, ◌<◌, ◌≤◌, Bool, true, false, List, [], ◌∷◌, ◌++◌, length, map, get_or, Some, None, slice_get, refl, ap, sym, subst, ◌∙◌, arith, inl, inr, ◌⊎◌, eq-eqb}
-use Rattle.std.specs.Prelude.{◌==◌, ◌↔◌}
-use Rattle.std.specs.List.{All, Contains, filter}
+use Rattle.std.proofs.Common.{◌≡◌, ◌≢◌, ℕ, ◌<◌, ◌≤◌, true, List, [], ◌∷◌, length, map, Some, slice_get, refl, ap, sym, subst, ◌∙◌, arith}
+use Rattle.std.specs.Prelude.{◌↔◌}
 use mathlib.Core.List.{IsPrefix}
-use Rattle.std.proofs.lemmas.Bool.{cases_order}
 use Rattle.std.proofs.lemmas.List.{length-map}
-use Rattle.std.proofs.lemmas.Option.{slice_get_within, get_or_from_slice_get}
+use Rattle.std.proofs.lemmas.Option.{slice_get_within}
 use Rattle.std.proofs.lemmas.Simd.{map-map}
 use Rattle.log_node.specs.declared.ids.Id.{Id}
 use Rattle.log_node.specs.declared.ids.Row.{Row}
 use Rattle.log_node.specs.declared.ids.Counts.{Counts}
 use Rattle.log_node.specs.declared.node.Node.{Node}
 use Rattle.log_node.specs.Sets.{has, members}
-use Rattle.log_node.specs.declared.marks.Why.TheVariants.{StampEnd}
 use Rattle.log_node.specs.declared.marks.Mark.{Mark}
-use Rattle.log_node.specs.declared.marks.Mark.TheVariants as marks
 use Rattle.log_node.specs.declared.marks.ColourMark.{ColourMark}
 use Rattle.log_node.specs.declared.marks.Outcome.{Outcome}
 use Rattle.col_core.specs.declared.Event.{Event}
-use Rattle.col_core.specs.declared.Event.TheVariants.{Single, Propose, Settle, Raise, Give, Carry, Trim}
-use Rattle.col_core.specs.Computed.{dated}
+use Rattle.col_core.specs.declared.Event.TheVariants.{Single, Propose}
 use Rattle.col_core.specs.Legal.{IsColumnHistory}
 use Rattle.col_core.specs.Rows.{BegunRow}
-use Rattle.col_core.proofs.CallerLemmas.{by_test, if_true, if_false}
 use Rattle.column.specs.Columns.{ColumnState}
 use Rattle.stamp_board.specs.declared.view.Size.{Size}
 use Rattle.stamp_board.specs.declared.view.View.{View}
 use Rattle.stamp_board.specs.declared.seats.Seat.{Seat}
 use Rattle.stamp_board.specs.declared.seats.ColumnSeat.{ColumnSeat}
 use Rattle.stamp_board.specs.declared.rows.ClosedRow.{ClosedRow}
-use Rattle.stamp_board.specs.Rows.{IsBegun, AreColours, IsRow, IsSize, colours_in, mark_in}
+use Rattle.stamp_board.specs.Rows.{IsBegun, IsRow, IsSize, colours_in, mark_in}
 use Rattle.stamp_board.specs.Views.{Learns, KnowsBegun, KnowsMark, KnowsOutcome}
 use Rattle.stamp_board.specs.Seats.{IsColumnOf, column_seen}
 use Rattle.stamp_board.specs.Closing.{Closes, all_begun, closed_row}
@@ -45,14 +39,14 @@ use Rattle.chain_store.specs.declared.region.Region.{Region}
 use Rattle.chain_store.specs.declared.closed.ClosedRegion.{ClosedRegion}
 use Rattle.chain_store.specs.Tags.{tag}
 use Rattle.chain_store.specs.Tied.{AreTied}
-use Rattle.chain_store.specs.Histories.{entries_in, maker, Brings, IsOfMaker}
-use Rattle.chain_store.specs.Marks.{Backs, IsRowOf, IsEnded, numbers, stamps_of}
+use Rattle.chain_store.specs.Histories.{maker, Brings, IsOfMaker}
+use Rattle.chain_store.specs.Marks.{Backs, numbers}
 use Rattle.chain_store.specs.Columns.{IsOfHistory, tag_of}
 use Rattle.chain_store.specs.Passes.{ColumnCell, ColumnPass, tag_in, dated_in}
 use Rattle.chain_store.specs.Ends.{EndsAs}
 use Rattle.chain_store.specs.Owning.{IsAccountedFor, row_of}
 use Rattle.chain_store.specs.Holds.{IsHold, history_seen, passes_of, seen_in, made_in, view_of}
-use Rattle.chain_store.specs.Closings.{AreOfColour, IsClosed, AreClosed}
+use Rattle.chain_store.specs.Closings.{AreOfColour, AreClosed}
 use Rattle.chain_store.specs.Closing.{AreHoldsOf, closed_of, ClosesColumn, ClosesFor, AgreesWith, Closed}
 use Rattle.chain_store.proofs.Backing.{backs_learnt}
 use Rattle.chain_store.proofs.Passing.{made_place}
@@ -86,11 +80,11 @@ module _ (r : Region) (hs : List Hold) (closed : List Seated) (ws : List ℕ) (v
     (z : Closes r.board.size ws v (map (λ (h : Hold). h.seat) hs) (map (λ (s : Seated). s.seat) closed))
     (holder : ℕ → HoldOf r)
     (holders : (n : ℕ) → n < r.board.size.clients
-        → (slice_get hs n ≡ Some (holder n).hold) × ((holder n).hold.passes.number ≡ n))
+    → (slice_get hs n ≡ Some (holder n).hold) × ((holder n).hold.passes.number ≡ n))
     (end : ℕ → ColumnEnd)
     (ends : (c : ℕ) → c < r.board.size.colours
-        → (slice_get r.columns.items c ≡ Some (end c).cell) × (slice_get closed c ≡ Some (end c).seated)
-        × AreOfColour (map (λ (h : Hold). h.passes) hs) c (end c).passes) where
+    → (slice_get r.columns.items c ≡ Some (end c).cell) × (slice_get closed c ≡ Some (end c).seated)
+    × AreOfColour (map (λ (h : Hold). h.passes) hs) c (end c).passes) where
   -- the node for which a client began its row
   abbrev node : Row → Node
   node row = (holder row.client).good.owns.nodes row.number
@@ -145,10 +139,11 @@ module _ (r : Region) (hs : List Hold) (closed : List Seated) (ws : List ℕ) (v
       let few_used = (holder n).hold.seat.few in
       let size = (holder n).good.seat.1 in
       subst (λ (s : Seat). (s.client ≡ n) × (s.used ≤ r.board.size.rows)
-      × ((j : ℕ) → j < r.board.size.rows → IsBegun r.board.size ws (row_of n j) ↔ (j < s.used))) same
-      ((holder n).good.number ∙ (holders n lt).1,
-      subst (λ (k : Size). (holder n).hold.seat.used ≤ k.rows) size few_used,
-      z.begun n (holder n).hold.seat (seat_at n lt)))
+      × ((j : ℕ) → j < r.board.size.rows → IsBegun r.board.size ws (row_of n j) ↔ (j < s.used))) same (
+        (holder n).good.number ∙ (holders n lt).1,
+        subst (λ (k : Size). (holder n).hold.seat.used ≤ k.rows) size few_used,
+        z.begun n (holder n).hold.seat (seat_at n lt),
+      ))
 
   -- columns
 
@@ -192,7 +187,7 @@ module _ (r : Region) (hs : List Hold) (closed : List Seated) (ws : List ℕ) (v
         let p = hold_pass n h at in
         let turned : seen_in h c ≡ seen p.0 = ap history_seen p.2 in
         let number : h.passes.number ≡ n =
-            sym (ap (λ (g : Hold). g.passes.number) (is_holder n h (within n h at) at)) ∙ (holders n (within n h at)).1 in
+        sym (ap (λ (g : Hold). g.passes.number) (is_holder n h (within n h at) at)) ∙ (holders n (within n h at)).1 in
         record {
           seen = subst (λ (l : List Told). IsPrefix l (logs c)) (sym turned) ((end c).ends.seen_by n p.0 p.1);
           made = ap (λ m. made_by maker m (logs c)) number ∙ (end c).ends.made_by_each n p.0 p.1
@@ -217,15 +212,15 @@ module _ (r : Region) (hs : List Hold) (closed : List Seated) (ws : List ℕ) (v
     single_apart i t id floor wants at is row inside begun same =
         let m = made_at i t at in
         let of : id.client ≡ t.entry.by =
-            subst (IsOfMaker t.entry.by) is ((end c).ends.stands.0.makers i t at).1 in
+        subst (IsOfMaker t.entry.by) is ((end c).ends.stands.0.makers i t at).1 in
         let mine : (node row).id.client ≡ row.client = z.board.clients row (node row) inside (owned.knows row inside begun) in
         let by : t.entry.by ≡ row.client = sym of ∙ sym (ap (λ (x : Id). x.client) same) ∙ mine in
         let there : slice_get (made_in (holder row.client).hold c) m.1.0 ≡ Some t =
-            subst (λ n. slice_get (made_in (holder n).hold c) m.1.0 ≡ Some t) by m.1.1 in
+        subst (λ n. slice_get (made_in (holder n).hold c) m.1.0 ≡ Some t) by m.1.1 in
         let own = (holder row.client).good.owns in
         let entry = own.entries c m.1.0 t there in
         let single = subst (IsAccountedFor (holder row.client).hold.passes.number (holder row.client).hold.seat.used
-            (holder row.client).hold.next own.nodes) is entry in
+        (holder row.client).hold.next own.nodes) is entry in
         single.1 row.number (used row inside begun) (ap (λ (x : Id). x.count) same)
 
     agrees : Agrees r.number r.board.size ws v node c (logs c)
@@ -235,7 +230,7 @@ module _ (r : Region) (hs : List Hold) (closed : List Seated) (ws : List ℕ) (v
           ∙ ap numbers (sym (z.marks c (end c).seated.seat column_seat row));
       ended = λ row inside is.
           let e = (end c).ends.stands.1.ended row (subst (λ (k : Size). IsRow k row) (sym size_is) inside)
-              (sym (z.marks c (end c).seated.seat column_seat row) ∙ is) in record {
+          (sym (z.marks c (end c).seated.seat column_seat row) ∙ is) in record {
             node = e.node;
             knows = begun_learnt (column_seen (end c).seated.seat) v row column_size column_learns e.node e.knows;
             ends = e.ends;
@@ -293,9 +288,13 @@ module _ (r : Region) (hs : List Hold) (closed : List Seated) (ws : List ℕ) (v
       → (i : ℕ) × (b : BegunRow) × (slice_get begun i ≡ Some b) × (b.row ≡ row) × (b.node ≡ x)
   row_there row x inside knows =
       let place = begun_place r.number r.board.size ws v z.size few z.board node owned own_rows lists row inside
-          (begun_of r.number r.board.size ws v z.size few z.board node owned row x knows) in
-      (place.0, own_row row, place.1, refl,
-          sym (node_is r.number r.board.size ws v z.size few z.board node owned row x inside knows))
+      (begun_of r.number r.board.size ws v z.size few z.board node owned row x knows) in (
+        place.0,
+        own_row row,
+        place.1,
+        refl,
+        sym (node_is r.number r.board.size ws v z.size few z.board node owned row x inside knows),
+      )
 
   agrees_with : (n : ℕ) (h : Hold) → slice_get hs n ≡ Some h → (i : ℕ) (b : BegunRow) → slice_get begun i ≡ Some b
       → AgreesWith h b
@@ -348,9 +347,11 @@ module _ (r : Region) (hs : List Hold) (closed : List Seated) (ws : List ℕ) (v
     known = λ n h at row x inside knows.
         row_there row x inside (known_row n h (within n h at) (is_holder n h (within n h at) at) row x knows);
     makers = λ c n t lt at.
-        let m = made_at c lt n t at in
-        ((holder t.entry.by).hold, (holders t.entry.by m.0).0,
-            contained (made_in (holder t.entry.by).hold c) m.1.0 t m.1.1);
+        let m = made_at c lt n t at in (
+          (holder t.entry.by).hold,
+          (holders t.entry.by m.0).0,
+          contained (made_in (holder t.entry.by).hold c) m.1.0 t m.1.1,
+        );
     named = λ c n t id floor wants lt at is. proposal_named c n t id floor wants lt at is;
   }
 
@@ -392,18 +393,23 @@ ends_region r hs clients seats closed columns column_seats rows closes tied cell
     let some_colours = size.2 in
     let few = size.3 in
     let holder = choose (λ (n : ℕ) (x : HoldOf r). (slice_get hs n ≡ Some x.hold) × (x.hold.passes.number ≡ n))
-        r.board.size.clients some_clients
-        (λ n lt. let count = holds.0 in let t = got hs n (omega (arith, lt, count)) in let h = holds.1 n t.0 t.1 in
-        (record { hold = t.0; good = h.0 }, (t.1, h.1))) in
+    r.board.size.clients some_clients
+    (λ n lt. let count = holds.0 in let t = got hs n (omega (arith, lt, count)) in let h = holds.1 n t.0 t.1 in
+    (record { hold = t.0; good = h.0 }, (t.1, h.1))) in
     let end = choose (λ (c : ℕ) (x : ColumnEnd). (slice_get r.columns.items c ≡ Some x.cell)
-        × (slice_get closed c ≡ Some x.seated) × AreOfColour (map (λ (h : Hold). h.passes) hs) c x.passes)
-        r.board.size.colours some_colours
-        (λ c lt. let cell = got r.columns.items c (omega (arith, lt, cells)) in
-        let s = got closed c (omega (arith, lt, cells, many)) in
-        let e = shut c cell.0 s.0 cell.1 s.1 in
-        (record { cell = cell.0; seated = s.0; passes = e.passes; ends = e.ends }, (cell.1, s.1,
-            subst (λ (l : List ColumnPasses). AreOfColour l c e.passes) cs e.of_colour))) in
+    × (slice_get closed c ≡ Some x.seated) × AreOfColour (map (λ (h : Hold). h.passes) hs) c x.passes)
+    r.board.size.colours some_colours
+    (λ c lt. let cell = got r.columns.items c (omega (arith, lt, cells)) in
+    let s = got closed c (omega (arith, lt, cells, many)) in
+    let e = shut c cell.0 s.0 cell.1 s.1 in (
+      record { cell = cell.0; seated = s.0; passes = e.passes; ends = e.ends },
+      (
+        cell.1,
+        s.1,
+        subst (λ (l : List ColumnPasses). AreOfColour l c e.passes) cs e.of_colour,
+      ),
+    )) in
     let closing : Closes r.board.size z.0 z.1 (map (λ (h : Hold). h.seat) hs) (map (λ (s : Seated). s.seat) closed) =
-        subst (λ (l : List Seat × List ColumnSeat). Closes r.board.size z.0 z.1 l.0 l.1) (λ i. (ss i, ts i)) z.2 in
+    subst (λ (l : List Seat × List ColumnSeat). Closes r.board.size z.0 z.1 l.0 l.1) (λ i. (ss i, ts i)) z.2 in
     region_closes r hs closed z.0 z.1 tied holds.0 (omega (arith, few)) closing holder.0 holder.1 end.0 end.1 closes
     (many ∙ cells) (ec ∙ ds) (er ∙ z.3 ∙ ap (λ l. map (closed_row r.board.size z.0) (all_begun l)) ss)

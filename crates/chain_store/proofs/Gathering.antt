@@ -1,11 +1,11 @@
 -- The clients' passes while the columns are closed, the last one first.
-use Rattle.std.proofs.Common.{◌≡◌, ◌≢◌, ℕ, zero, suc, ◌+◌, ◌<◌, List, [], ◌∷◌, ◌++◌, length, set, Some, slice_get, refl, ap, sym, subst, ◌∙◌, arith, inl, inr, ◌⊎◌, length-append, length-set}
+use Rattle.std.proofs.Common.{◌≡◌, ℕ, zero, suc, ◌+◌, ◌<◌, List, [], ◌∷◌, ◌++◌, length, set, Some, slice_get, refl, ap, sym, subst, ◌∙◌, arith, inl, inr, length-append, length-set}
 use Rattle.std.proofs.lemmas.Bool.{cases_eq}
 use Rattle.std.proofs.lemmas.Option.{slice_get_within}
 use Rattle.chain_store.specs.declared.hold.ColumnPasses.{ColumnPasses}
 use Rattle.chain_store.specs.declared.seated.Seated.{Seated}
-use Rattle.chain_store.specs.Passes.{ColumnCell, ColumnPass, tag_in}
-use Rattle.chain_store.specs.Ends.{AreHolders, EndsAs}
+use Rattle.chain_store.specs.Passes.{ColumnCell, ColumnPass}
+use Rattle.chain_store.specs.Ends.{AreHolders}
 use Rattle.chain_store.specs.Closings.{HaveOneMore, Gave, Gathered, AllHold, AreOfColour, IsClosed}
 use Rattle.chain_store.proofs.Holding.{set_got, set_other}
 use Rattle.chain_store.proofs.Entering.{get_last, get_old}
@@ -22,10 +22,13 @@ gathered_one old now ps qs i c d p g near here gave e =
       gave = λ j b lt at. elim (cases_eq j i) [
         | inl is ↦
             let was : Some c ≡ Some b = sym here ∙ g.later i (omega arith) ∙ ap (slice_get old) (sym is) ∙ at in
-            let same : c ≡ b = cc was in
-            (d, p, ap (slice_get (set now i d)) is ∙ set_got now i d c here,
-                ap (λ l. slice_get l j) e ∙ ap (slice_get (ps ++ p ∷ [])) (is ∙ sym count) ∙ get_last ps p,
-                subst (λ (z : ColumnPasses). Gave z d p) same gave)
+            let same : c ≡ b = cc was in (
+              d,
+              p,
+              ap (slice_get (set now i d)) is ∙ set_got now i d c here,
+              ap (λ l. slice_get l j) e ∙ ap (slice_get (ps ++ p ∷ [])) (is ∙ sym count) ∙ get_last ps p,
+              subst (λ (z : ColumnPasses). Gave z d p) same gave,
+            )
         | inr other ↦
             let b = g.gave j b (omega (arith, lt, other)) at in
             (b.0, b.1, set_other now i j d other ∙ b.2, ap (λ l. slice_get l j) e ∙ get_old ps (p ∷ []) j b.1 b.3, b.4)
@@ -79,9 +82,10 @@ module _ (old now : List ColumnPasses) (n m : ℕ) (s : Shrunk old now n) (more 
           let gave : Gave b.0 d v.1 = subst (λ (z : ColumnPasses). Gave b.0 z v.1) is v.4 in
           let long = ap length gave ∙ length-append d.items.items (v.1 ∷ []) in
           let l = t.0 in
-          let short : length d.items.items + length (v.1 ∷ []) ≡ n = sym long ∙ l in
-          (omega (arith, short, more),
-              λ k p e. t.1 k p (ap (λ z. slice_get z k) gave ∙ get_old d.items.items (v.1 ∷ []) k p e));
+          let short : length d.items.items + length (v.1 ∷ []) ≡ n = sym long ∙ l in (
+            omega (arith, short, more),
+            λ k p e. t.1 k p (ap (λ z. slice_get z k) gave ∙ get_old d.items.items (v.1 ∷ []) k p e),
+          );
     }
 
     -- what was given are the passes of the last colour

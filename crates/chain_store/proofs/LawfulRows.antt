@@ -1,11 +1,10 @@
 -- The rows with which a region closes are lawful beside its columns' histories.
-use Rattle.std.proofs.Common.{◌≡◌, ◌≢◌, ℕ, zero, suc, ◌+◌, ◌<◌, ◌≤◌, Bool, true, false, cond, List, [], ◌∷◌, ◌++◌, length, map, get_or, Some, None, slice_get, slice_index, refl, ap, sym, subst, ◌∙◌, arith, eq-eqb, ne_eqb, inl, inr, ◌⊎◌}
+use Rattle.std.proofs.Common.{◌≡◌, ◌≢◌, ℕ, zero, suc, ◌<◌, ◌≤◌, Bool, true, false, cond, List, [], ◌∷◌, ◌++◌, length, map, get_or, Some, slice_get, slice_index, refl, ap, sym, subst, ◌∙◌, arith, ne_eqb}
 use Rattle.std.specs.Prelude.{◌==◌, if◌then◌else◌}
 use Rattle.std.specs.List.{All, AllPairs, filter, range_with_len}
-use Rattle.std.specs.Option.{option_map}
 use Rattle.std.proofs.lemmas.List.{length-map}
-use Rattle.std.proofs.lemmas.Option.{slice_get_within, slice_get-get_or, slice_get-map}
-use Rattle.std.proofs.lemmas.Bool.{cases_eq, false≢true}
+use Rattle.std.proofs.lemmas.Option.{slice_get-get_or}
+use Rattle.std.proofs.lemmas.Bool.{false≢true}
 use Rattle.std.proofs.lemmas.Simd.{map-map}
 use Rattle.std.proofs.lemmas.List.FromFn.{length-range_with_len}
 use Rattle.log_node.specs.declared.ids.Id.{Id}
@@ -31,8 +30,8 @@ use Rattle.column.specs.Columns.{propose_event}
 use Rattle.stamp_board.specs.declared.view.Size.{Size}
 use Rattle.stamp_board.specs.declared.view.View.{View}
 use Rattle.stamp_board.specs.Words.{row_at, word_at}
-use Rattle.stamp_board.specs.Rows.{AreColours, IsBegun, IsRow, colours_in, kept_in, mark_in, marks_in, outcome_in}
-use Rattle.stamp_board.specs.Views.{KnowsBegun, KnowsOutcome, MayBe}
+use Rattle.stamp_board.specs.Rows.{IsBegun, IsRow, colours_in, kept_in, mark_in, marks_in, outcome_in}
+use Rattle.stamp_board.specs.Views.{KnowsBegun, MayBe}
 use Rattle.chain_store.specs.declared.told.Told.{Told}
 use Rattle.chain_store.specs.Histories.{entries_in, Brings}
 use Rattle.chain_store.specs.Marks.{same_row, is_row, is_first_of, proposes, stamps_of, numbers, Backs, IsRowOf, IsEnded}
@@ -101,11 +100,11 @@ stamps_place row (t ∷ log) s rest e =
     by_test ((n : ℕ) × (u : Told) × (slice_get (t ∷ log) n ≡ Some u) × (proposes row u.entry.event u.nodes ≡ true) × (u.entry.stamp ≡ s))
     (proposes row t.entry.event t.nodes)
     (λ yes. let now : t.entry.stamp ∷ stamps_of row log ≡ s ∷ rest =
-        sym (ap (λ l. l ++ stamps_of row log) (if_true (proposes row t.entry.event t.nodes) (t.entry.stamp ∷ []) [] yes)) ∙ e in
-        (0, t, refl, yes, cc now))
+    sym (ap (λ l. l ++ stamps_of row log) (if_true (proposes row t.entry.event t.nodes) (t.entry.stamp ∷ []) [] yes)) ∙ e in
+    (0, t, refl, yes, cc now))
     (λ no. let r = stamps_place row log s rest
-        (sym (ap (λ l. l ++ stamps_of row log) (if_false (proposes row t.entry.event t.nodes) (t.entry.stamp ∷ []) [] no)) ∙ e) in
-        (suc r.0, r.1, r.2, r.3, r.4))
+    (sym (ap (λ l. l ++ stamps_of row log) (if_false (proposes row t.entry.event t.nodes) (t.entry.stamp ∷ []) [] no)) ∙ e) in
+    (suc r.0, r.1, r.2, r.3, r.4))
 
 -- where an entry proposes the row, its stamp is among them
 stamps_some : (row : Row) (log : List Told) (n : ℕ) (t : Told) → slice_get log n ≡ Some t
@@ -114,14 +113,14 @@ stamps_some row [] n t at said none = absurd cc
 stamps_some row (u ∷ log) zero t at said none =
     let same : u ≡ t = cc at in
     let now : t.entry.stamp ∷ stamps_of row log ≡ [] =
-        sym (ap (λ l. l ++ stamps_of row log) (if_true (proposes row t.entry.event t.nodes) (t.entry.stamp ∷ []) [] said))
-        ∙ ap (λ (z : Told). (if proposes row z.entry.event z.nodes then z.entry.stamp ∷ [] else []) ++ stamps_of row log) (sym same) ∙ none in
+    sym (ap (λ l. l ++ stamps_of row log) (if_true (proposes row t.entry.event t.nodes) (t.entry.stamp ∷ []) [] said))
+    ∙ ap (λ (z : Told). (if proposes row z.entry.event z.nodes then z.entry.stamp ∷ [] else []) ++ stamps_of row log) (sym same) ∙ none in
     let f : ⊥ = cc now in f
 stamps_some row (u ∷ log) (suc n) t at said none =
     by_test ⊥ (proposes row u.entry.event u.nodes)
     (λ here. let now : u.entry.stamp ∷ stamps_of row log ≡ [] =
-        sym (ap (λ l. l ++ stamps_of row log) (if_true (proposes row u.entry.event u.nodes) (u.entry.stamp ∷ []) [] here)) ∙ none in
-        let f : ⊥ = cc now in f)
+    sym (ap (λ l. l ++ stamps_of row log) (if_true (proposes row u.entry.event u.nodes) (u.entry.stamp ∷ []) [] here)) ∙ none in
+    let f : ⊥ = cc now in f)
     (λ no. stamps_some row log n t at said
     (sym (ap (λ l. l ++ stamps_of row log) (if_false (proposes row u.entry.event u.nodes) (u.entry.stamp ∷ []) [] no)) ∙ none))
 
@@ -175,9 +174,15 @@ module _ (region : ℕ) (k : Size) (ws : List ℕ) (v : View) (size : v.size ≡
         let same : q.row ≡ row = same_row-is q.row row (sym (ap (is_row row) q.of.of_row) ∙ here) in
         let known : KnowsBegun v row q.x = subst (λ (r : Row). KnowsBegun v r q.x) same q.of.knows in
         let own : q.x ≡ node row = node_is row q.x inside known in
-        let id_is : e.0 ≡ (node row).id = sym q.id_is ∙ ap (λ (y : Node). y.id) own in
-        (p.0, p.1.entry, e.1, e.2, at_entry log p.0 p.1 p.2,
-            e.3 ∙ ap (λ (i : Id). Propose i e.1 e.2) id_is, p.4)
+        let id_is : e.0 ≡ (node row).id = sym q.id_is ∙ ap (λ (y : Node). y.id) own in (
+          p.0,
+          p.1.entry,
+          e.1,
+          e.2,
+          at_entry log p.0 p.1 p.2,
+          e.3 ∙ ap (λ (i : Id). Propose i e.1 e.2) id_is,
+          p.4,
+        )
 
     -- where the mark is no number, the row was not proposed
     not_proposed : (row : Row) → IsRow k row → IsBegun k ws row → numbers (mark_in k ws row c) ≡ []
@@ -187,10 +192,10 @@ module _ (region : ℕ) (k : Size) (ws : List ℕ) (v : View) (size : v.size ≡
         let q = proposed p.0 t.0 (node row).id p.2 p.3 t.1 (ap (λ (e : Entry). e.event) t.2 ∙ p.5) in
         let other = in_size q.row q.of.inside in
         let same : q.row ≡ row =
-            board.ids q.row row q.x (node row) other inside q.of.knows (owned.knows row inside begun) q.id_is in
+        board.ids q.row row q.x (node row) other inside q.of.knows (owned.knows row inside begun) q.id_is in
         let here : proposes row t.0.entry.event t.0.nodes ≡ true =
-            ap (λ (e : Event). proposes row e t.0.nodes) (ap (λ (e : Entry). e.event) t.2 ∙ p.5)
-            ∙ ap (is_first_of row) q.brought ∙ ap (is_row row) q.of.of_row ∙ ap (λ (r : Row). same_row r row) same ∙ same_row-refl row in
+        ap (λ (e : Event). proposes row e t.0.nodes) (ap (λ (e : Entry). e.event) t.2 ∙ p.5)
+        ∙ ap (is_first_of row) q.brought ∙ ap (is_row row) q.of.of_row ∙ ap (λ (r : Row). same_row r row) same ∙ same_row-refl row in
         stamps_some row log p.0 t.0 t.1 here (a.numbered row inside ∙ none)
 
     is_mark : (row : Row) → IsRow k row → IsBegun k ws row → (m : Mark) → mark_in k ws row c ≡ m
@@ -199,9 +204,10 @@ module _ (region : ℕ) (k : Size) (ws : List ℕ) (v : View) (size : v.size ≡
     is_mark row inside begun (marks.Number s) is = is_proposed row s inside begun is
     is_mark row inside begun (marks.Fenced Memory) is = not_proposed row inside begun (ap numbers is)
     is_mark row inside begun (marks.Fenced StampEnd) is =
-        let e = a.ended row inside is in
-        (not_proposed row inside begun (ap numbers is),
-            subst (λ (y : Node). IsAtEnd (entries_in log) y.floor) (node_is row e.node inside e.knows) e.ends)
+        let e = a.ended row inside is in (
+          not_proposed row inside begun (ap numbers is),
+          subst (λ (y : Node). IsAtEnd (entries_in log) y.floor) (node_is row e.node inside e.knows) e.ends,
+        )
 
   -- the row as the region closes with it
   abbrev pub begun_row : Row → BegunRow
@@ -287,7 +293,7 @@ module _ (region : ℕ) (k : Size) (ws : List ℕ) (v : View) (size : v.size ≡
         let t = lists.order client in
         let e = of_client client rows ∙ t.1 in
         let long = sym (length-map (filter (is_of client) begun_rows) (λ (r : BegunRow). r.row.number)) ∙ ap length e
-            ∙ length-range_with_len 0 t.0 in
+        ∙ length-range_with_len 0 t.0 in
         e ∙ ap (range_with_len 0) (sym long)
 
     module _ (c : ℕ) (inside_c : c < k.colours) (log : List Told) (a : Agrees region k ws v node c log) where
@@ -300,10 +306,16 @@ module _ (region : ℕ) (k : Size) (ws : List ℕ) (v : View) (size : v.size ≡
           let own : q.x ≡ node q.row = node_is q.row q.x inside q.of.knows in
           let p = begun_place q.row inside begun in
           let m = member_at (node q.row).colours c (omega (arith, inside_c, few))
-              (subst (λ (y : Node). has y.colours c ≡ true) own q.coloured) in
-          (p.0, begun_row q.row, p.1, sym (ap (λ (y : Node). y.id) own) ∙ q.id_is,
-              sym (ap (λ (y : Node). node_wants y c) own) ∙ q.wants_are,
-              sym (ap (λ (y : Node). y.floor) own) ∙ q.floor_is, m.0, m.1)
+          (subst (λ (y : Node). has y.colours c ≡ true) own q.coloured) in (
+            p.0,
+            begun_row q.row,
+            p.1,
+            sym (ap (λ (y : Node). y.id) own) ∙ q.id_is,
+            sym (ap (λ (y : Node). node_wants y c) own) ∙ q.wants_are,
+            sym (ap (λ (y : Node). y.floor) own) ∙ q.floor_is,
+            m.0,
+            m.1,
+          )
 
       fits_settling : (n : ℕ) (t : Told) (id : Id) (outcome : Outcome) → slice_get log n ≡ Some t
           → t.entry.event ≡ Settle id outcome → FitsRows begun_rows c (Settle id outcome)

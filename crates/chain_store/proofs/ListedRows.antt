@@ -1,17 +1,15 @@
 -- The rows that clients' seats have begun, as a list.
-use Rattle.std.proofs.Common.{◌≡◌, ◌≢◌, ℕ, zero, suc, ◌+◌, ◌<◌, ◌≤◌, Bool, true, false, cond, List, [], ◌∷◌, ◌++◌, length, map, Some, None, slice_get, refl, ap, sym, subst, ◌∙◌, arith, inl, inr, ◌⊎◌, ⊎_elim, eq-eqb, ne_eqb, append-nil}
+use Rattle.std.proofs.Common.{◌≡◌, ◌≢◌, ℕ, zero, suc, ◌+◌, ◌<◌, ◌≤◌, List, [], ◌∷◌, ◌++◌, length, map, Some, slice_get, refl, ap, sym, subst, ◌∙◌, arith, inl, inr, ⊎_elim, eq-eqb, ne_eqb, append-nil}
 use Rattle.std.specs.Prelude.{◌==◌, ◌↔◌}
-use Rattle.std.specs.List.{filter, flat_map, range_with_len}
+use Rattle.std.specs.List.{filter, range_with_len}
 use Rattle.std.proofs.lemmas.Bool.{cases_eq}
-use Rattle.std.proofs.lemmas.List.{map-append}
 use Rattle.std.proofs.lemmas.List.Elements.{filter-append}
-use Rattle.std.proofs.lemmas.List.FromFn.{length-map-range_with_len}
 use Rattle.std.proofs.lemmas.Option.{slice_get_within}
 use Rattle.log_node.specs.declared.ids.Row.{Row}
 use Rattle.col_core.proofs.CallerLemmas.{if_true, if_false}
 use Rattle.stamp_board.specs.declared.view.Size.{Size}
 use Rattle.stamp_board.specs.declared.seats.Seat.{Seat}
-use Rattle.stamp_board.specs.Rows.{IsBegun, IsRow}
+use Rattle.stamp_board.specs.Rows.{IsBegun}
 use Rattle.stamp_board.specs.Closing.{all_begun, rows_begun}
 use Rattle.chain_store.specs.Owning.{row_of}
 use Rattle.chain_store.proofs.Entering.{get_old}
@@ -30,14 +28,14 @@ pub row_place : (ss : List Seat) (i : ℕ) (row : Row) → slice_get (all_begun 
 row_place [] i row e = absurd cc
 row_place (s ∷ ss) i row e = ⊎_elim
     (λ here. let r = first_place (row_of s.client) s.used i row here in
-        let l = r.0 in
-        let n : i ≡ row.number = ap (λ (x : Row). x.number) r.1 in record {
-          place = 0;
-          seat = s;
-          there = refl;
-          used = omega (arith, l, n);
-          mine = sym (ap (λ (x : Row). x.client) r.1);
-        })
+    let l = r.0 in
+    let n : i ≡ row.number = ap (λ (x : Row). x.number) r.1 in record {
+      place = 0;
+      seat = s;
+      there = refl;
+      used = omega (arith, l, n);
+      mine = sym (ap (λ (x : Row). x.client) r.1);
+    })
     (λ later. let r = row_place ss later.0 row later.2 in record {
       place = suc r.place;
       seat = r.seat;
@@ -51,9 +49,11 @@ pub row_listed : (ss : List Seat) (n : ℕ) (s : Seat) (j : ℕ) → slice_get s
     → (i : ℕ) × (slice_get (all_begun ss) i ≡ Some (row_of s.client j))
 row_listed [] n s j at lt = absurd cc
 row_listed (t ∷ ss) zero s j at lt =
-    let same : t ≡ s = cc at in
-    (j, subst (λ (z : Seat). slice_get (all_begun (z ∷ ss)) j ≡ Some (row_of s.client j)) (sym same)
-    (get_old (rows_begun s) (all_begun ss) j (row_of s.client j) (first_at (row_of s.client) s.used j lt)))
+    let same : t ≡ s = cc at in (
+      j,
+      subst (λ (z : Seat). slice_get (all_begun (z ∷ ss)) j ≡ Some (row_of s.client j)) (sym same)
+          (get_old (rows_begun s) (all_begun ss) j (row_of s.client j) (first_at (row_of s.client) s.used j lt)),
+    )
 row_listed (t ∷ ss) (suc n) s j at lt =
     let r = row_listed ss n s j at lt in
     (length (rows_begun t) + r.0, got_second (rows_begun t) (all_begun ss) r.0 (row_of s.client j) r.1)
@@ -131,15 +131,15 @@ ordered : (first : ℕ) (ss : List Seat) → AreFrom first ss → (client : ℕ)
 ordered first [] from client = (0, refl)
 ordered first (s ∷ ss) from client = elim (cases_eq s.client client) [
   | inl same ↦ (
-      s.used,
-      ap (map (λ (r : Row). r.number)) (filter-append (λ (r : Row). r.client == client) (rows_begun s) (all_begun ss)
-          ∙ ap (λ l. l ++ filter (λ (r : Row). r.client == client) (all_begun ss)) (all_of client (rows_begun s)
-          (λ i row at. sym (ap (λ (x : Row). x.client) (first_place (row_of s.client) s.used i row at).1) ∙ same))
-          ∙ ap (λ l. rows_begun s ++ l) (none_of client (all_begun ss) (λ i row at e.
-          let l = later_client first s ss from i row at in omega (arith, e, l, same)))
-          ∙ append-nil (rows_begun s))
-          ∙ numbers_of s.client 0 s.used,
-    )
+    s.used,
+    ap (map (λ (r : Row). r.number)) (filter-append (λ (r : Row). r.client == client) (rows_begun s) (all_begun ss)
+        ∙ ap (λ l. l ++ filter (λ (r : Row). r.client == client) (all_begun ss)) (all_of client (rows_begun s)
+        (λ i row at. sym (ap (λ (x : Row). x.client) (first_place (row_of s.client) s.used i row at).1) ∙ same))
+        ∙ ap (λ l. rows_begun s ++ l) (none_of client (all_begun ss) (λ i row at e.
+        let l = later_client first s ss from i row at in omega (arith, e, l, same)))
+        ∙ append-nil (rows_begun s))
+        ∙ numbers_of s.client 0 s.used,
+  )
   | inr other ↦
       let r = ordered (first + 1) ss (rest_from first s ss from) client in (
         r.0,
@@ -153,7 +153,7 @@ ordered first (s ∷ ss) from client = elim (cases_eq s.client client) [
 -- The begun rows are those below what each client's seat has used.
 pub lists_begun : (k : Size) (ws : List ℕ) (ss : List Seat) → length ss ≡ k.clients
     → ((n : ℕ) (s : Seat) → slice_get ss n ≡ Some s → (s.client ≡ n) × (s.used ≤ k.rows)
-        × ((j : ℕ) → j < k.rows → IsBegun k ws (row_of n j) ↔ (j < s.used)))
+    × ((j : ℕ) → j < k.rows → IsBegun k ws (row_of n j) ↔ (j < s.used)))
     → Lists k ws (all_begun ss)
 lists_begun k ws ss many seats = record {
   inside = λ i row at.
@@ -165,9 +165,10 @@ lists_begun k ws ss many seats = record {
       let few = s.1 in
       let used = r.used in
       let lt : row.number < k.rows = omega (arith, few, used) in
-      let same : r.place ≡ row.client = sym (r.mine ∙ s.0) in
-      ((omega (arith, near, mine, e, many), lt),
-      subst (λ (c : ℕ). IsBegun k ws (row_of c row.number)) same ((s.2 row.number lt).1 r.used));
+      let same : r.place ≡ row.client = sym (r.mine ∙ s.0) in (
+        (omega (arith, near, mine, e, many), lt),
+        subst (λ (c : ℕ). IsBegun k ws (row_of c row.number)) same ((s.2 row.number lt).1 r.used),
+      );
   listed = λ row inside begun.
       let t = got ss row.client (let l = inside.0 in omega (arith, l, many)) in
       let s = seats row.client t.0 t.1 in

@@ -100,8 +100,11 @@ passed : (test : ℕ → Bool) (c a n : ℕ) → a ≤ c → c < a + n → test 
     → (i : ℕ) × (slice_get (filter test (range_with_len a n)) i ≡ Some c)
 passed test c a zero le lt holds = absurd (omega (arith, le, lt))
 passed test c a (suc n) le lt holds = elim (cases_eq c a) [
-  | inl same ↦ (0, ap (λ l. slice_get l 0) (if_true (test a) (a ∷ filter test (range_with_len (a + 1) n))
-      (filter test (range_with_len (a + 1) n)) (sym (ap test same) ∙ holds)) ∙ ap Some (sym same))
+  | inl same ↦ (
+    0,
+    ap (λ l. slice_get l 0) (if_true (test a) (a ∷ filter test (range_with_len (a + 1) n))
+        (filter test (range_with_len (a + 1) n)) (sym (ap test same) ∙ holds)) ∙ ap Some (sym same),
+  )
   | inr other ↦ next (test a) (passed test c (a + 1) n (omega (arith, le, other)) (omega (arith, lt)) holds)
 ] where
   next : (b : Bool) → (i : ℕ) × (slice_get (filter test (range_with_len (a + 1) n)) i ≡ Some c)

@@ -9,13 +9,11 @@ use Rattle.log_node.specs.declared.node.Node.{Node}
 use Rattle.log_node.specs.Sets.{has}
 use Rattle.log_node.specs.declared.marks.Mark.{Mark}
 use Rattle.log_node.specs.declared.marks.Outcome.{Outcome}
-use Rattle.log_node.specs.declared.marks.ColourMark.{ColourMark}
 use Rattle.col_core.specs.declared.Event.TheVariants.{Propose}
 use Rattle.col_core.specs.Computed.{dated}
 use Rattle.col_core.specs.Legal.{IsColumnHistory}
 use Rattle.col_core.specs.Rows.{BegunRow, AreLawfulRows}
 use Rattle.column.specs.Columns.{ColumnState}
-use Rattle.stamp_board.specs.declared.view.View.{View}
 use Rattle.stamp_board.specs.declared.rows.ClosedRow.{ClosedRow}
 use Rattle.stamp_board.specs.Rows.{IsRow}
 use Rattle.stamp_board.specs.Views.{KnowsBegun, KnowsMark, KnowsOutcome}

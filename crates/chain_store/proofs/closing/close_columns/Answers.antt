@@ -19,9 +19,9 @@ close_column-requires-clause-holders g c =
     let items = c.in-Some.ensures.items in
     let long = ap length items ∙ length-append rest (c.in-Some.cell ∷ []) in
     let at = c.loop-cell.invariant.cells (length rest) c.in-Some.cell
-        (ap (λ l. slice_get l (length rest)) items ∙ get_last rest c.in-Some.cell) in
+    (ap (λ l. slice_get l (length rest)) items ∙ get_last rest c.in-Some.cell) in
     let of = of_last c.args.clients.items c.loop-cell.clients.items (length c.loop-cell.cells.items) (length rest)
-        c.loop-cell.invariant.passes long c.gather.new.clients.items c.in_ok-passes.passes.items c.in_ok-passes.ensures in
+    c.loop-cell.invariant.passes long c.gather.new.clients.items c.in_ok-passes.passes.items c.in_ok-passes.ensures in
     λ n p pat. are_holders c.args.cells.items c.args.clients.items (length rest) c.in-Some.cell c.in_ok-passes.passes.items
     c.requires.passes at of n p (ap (λ l. slice_get l n) (sym c.into.ensures) ∙ pat)
 
@@ -31,10 +31,10 @@ loop-cell-preserved g c =
     let rest = c.pop.new.self.items in
     let items = c.in-Some.ensures.items in
     let long : length c.loop-cell.cells.items ≡ length rest + 1 =
-        ap length items ∙ length-append rest (c.in-Some.cell ∷ []) in
+    ap length items ∙ length-append rest (c.in-Some.cell ∷ []) in
     let at = i.cells (length rest) c.in-Some.cell (ap (λ l. slice_get l (length rest)) items ∙ get_last rest c.in-Some.cell) in
     let of = of_last c.args.clients.items c.loop-cell.clients.items (length c.loop-cell.cells.items) (length rest)
-        i.passes long c.gather.new.clients.items c.in_ok-passes.passes.items c.in_ok-passes.ensures in
+    i.passes long c.gather.new.clients.items c.in_ok-passes.passes.items c.in_ok-passes.ensures in
     let new = c.in_ok-insert.ensures.items in
     let more = ap length new in
     let count = i.count in
