@@ -55,12 +55,14 @@ base_at y t log same is =
     ∙ ap (λ (u : Tag). base_in u log) is
 
 -- a step that adds its entry where a test holds
+pub may_move : (cell : ColumnCell) (n : ℕ) (q : ColumnPass) → HasTurnOf cell n q → (x y : Seated) (t : Told)
+    → Stands x (seen q) → maker t ≡ n → (b : Bool) → (b ≡ true → Gains x y t) → (b ≡ false → Stays x y)
+    → MayPut Stands maker newest_of y q
+may_move cell n q turn x y t stands by true gains stays = inr (t, adds cell n q turn x y t stands (gains refl) by)
+may_move cell n q turn x y t stands by false gains stays = inl (stays refl (seen q) stands)
+
 module _ (cell : ColumnCell) (n : ℕ) (p q r : ColumnPass) (at : At) (turn : HasTurnOf cell n q) (s : SeesMore n p q)
     (x y : Seated) (t : Told) (stands : Stands x (seen q)) (by : maker t ≡ n) where
-  pub may_move : (b : Bool) → (b ≡ true → Gains x y t) → (b ≡ false → Stays x y) → MayPut Stands maker newest_of y q
-  may_move true gains stays = inr (t, adds cell n q turn x y t stands (gains refl) by)
-  may_move false gains stays = inl (stays refl (seen q) stands)
-
   module _ (look : Stands y (seen q) → IsLook q r at)
       (event : (u : Told) → Adds Stands maker newest_of y q u → IsEvent u q r at) where
     pub made_at : Gains x y t → (m : MakesOne n t p r at) × (m.before ≡ seen q)
@@ -69,7 +71,7 @@ module _ (cell : ColumnCell) (n : ℕ) (p q r : ColumnPass) (at : At) (turn : Ha
     pub moved_at : (b : Bool) → (b ≡ true → Gains x y t) → (b ≡ false → Stays x y)
         → ((b ≡ false) × LooksAt n p r at × (seen r ≡ seen q))
         ⊎ ((b ≡ true) × (m : MakesOne n t p r at) × (m.before ≡ seen q))
-    moved_at true gains stays = inr (refl, made_at (gains refl))
+    moved_at true gains stays = let m = made_at (gains refl) in inr (refl, m.0, m.1)
     moved_at false gains stays =
         let w = look (stays refl (seen q) stands) in inl (refl, looks_at n p q r at s w, w.1.0)
 

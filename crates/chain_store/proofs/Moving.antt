@@ -1,6 +1,6 @@
 -- A column with one entry more by which no node enters.
-use Rattle.std.proofs.Common.{◌≡◌, ◌≢◌, ℕ, zero, suc, get_or, ◌+◌, ◌-◌, ◌<◌, ◌≤◌, Bool, true, false, List, [], ◌∷◌, ◌++◌, length, map, drop, Option, Some, None, refl, ap, sym, subst, ◌∙◌, arith, min, inl, inr, ◌⊎◌, length-append, append_assoc, append-nil}
-use Rattle.std.specs.Prelude.{if◌then◌else◌, nat_lt, slice_get, slice_set, slice_index, slice_index_or}
+use Rattle.std.proofs.Common.{Result, Ok, Err, ◌≡◌, ◌≢◌, ℕ, zero, suc, get_or, ◌+◌, ◌-◌, ◌<◌, ◌≤◌, Bool, true, false, List, [], ◌∷◌, ◌++◌, length, map, drop, Option, Some, None, refl, ap, sym, subst, ◌∙◌, arith, min, inl, inr, ◌⊎◌, length-append, append_assoc, append-nil}
+use Rattle.std.specs.Prelude.{OnOk, OnErr, if◌then◌else◌, nat_lt, slice_get, slice_set, slice_index, slice_index_or}
 use Rattle.std.specs.List.{Contains}
 use Rattle.std.specs.Option.{option_map}
 use Rattle.std.proofs.lemmas.Bool.{cases_eq, ltb-true, ltb-false}
@@ -320,6 +320,25 @@ module _ (column new : ColumnState) (seat : ColumnSeat) (by : ℕ) (short : leng
         (ids_of_heads (first ∷ rest) heads) (λ row. refl) (omega arith) tt),
     λ none. absurd (let le = ltb-false 0 count none in let f : ⊥ = omega (arith, le, is) in f),
   )
+
+-- a carry leaves the counts of what has entered
+pub carried_below : {T E : Type 0} (r : Result T E) (column new : ColumnState) (by region : ℕ) (items : List PlacedNode)
+    (numbers : List ℕ) → OnOk r (new ≡ with_items column by region items) → OnErr r (new ≡ column)
+    → AreBelow column.journal numbers → (new.colour ≡ column.colour) × AreBelow new.journal numbers
+carried_below (Ok x) column new by region [] numbers ok err below = (
+  ap (λ (c : ColumnState). c.colour) ok,
+  subst (λ (c : ColumnState). AreBelow c.journal numbers) (sym ok) below,
+)
+carried_below (Ok x) column new by region (item ∷ items) numbers ok err below = (
+  ap (λ (c : ColumnState). c.colour) ok,
+  subst (λ (c : ColumnState). AreBelow c.journal numbers) (sym ok)
+      (below_same column.journal numbers (told_carry by region (held_of column region) (item ∷ items)).entry (λ id. refl)
+      below),
+)
+carried_below (Err e) column new by region items numbers ok err below = (
+  ap (λ (c : ColumnState). c.colour) err,
+  subst (λ (c : ColumnState). AreBelow c.journal numbers) (sym err) below,
+)
 
 -- what is new of a part has its heads' ids as the part does
 pub new_heads : (column : ColumnState) (region : ℕ) (given : Given) → OfTheirHeads given.items

@@ -41,7 +41,7 @@ end-requires-clause-value g c =
     let stands = stood z x (seen q) c.deref_mut.ensures.value t.value in
     let is = tagged z x (tag_in cell) c.deref_mut.ensures.value t.tag in
     let e = told_carry c.args.by c.args.region (held_of x.column c.args.region) (new_items x.column c.args.region c.args.given.now) in
-    may_move cell c.args.by p q c.end.new.pass c.end.result t.turn.0 t.more x y e stands refl c.in-Ok.event
+    may_move cell c.args.by q t.turn.0 x y e stands refl c.in-Ok._event
     c.in-Ok.ensures.carried c.in-Ok.ensures.kept
 
 pub returns-in-Ok-clause-pass : goal.returns-in-Ok-clause-pass
@@ -62,10 +62,10 @@ returns-in-Ok-clause-ok g c =
     let is = tagged z x (tag_in cell) c.deref_mut.ensures.value t.tag in
     let r = c.end.new.pass in
     let e = told_carry c.args.by c.args.region (held_of x.column c.args.region) (new_items x.column c.args.region c.args.given.now) in
-    carries_at (tag_in cell) x c.args.by c.args.region c.args.given.now p q r c.end.result c.in-Ok.event stands is
+    carries_at (tag_in cell) x c.args.by c.args.region c.args.given.now p q r c.end.result c.in-Ok._event stands is
     c.requires.other c.in-Ok.ensures.event
     (moved_at cell c.args.by p q r c.end.result t.turn.0 t.more x y e stands refl c.end.ensures.look c.end.ensures.event
-    c.in-Ok.event c.in-Ok.ensures.carried c.in-Ok.ensures.kept)
+    c.in-Ok._event c.in-Ok.ensures.carried c.in-Ok.ensures.kept)
 
 pub end-requires-in-Err-clause-value : goal.end-requires-in-Err-clause-value
 end-requires-in-Err-clause-value g c =

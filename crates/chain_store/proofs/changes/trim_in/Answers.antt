@@ -12,11 +12,11 @@ use Rattle.chain_store.proofs.Turning.{at_rest, stood, tagged, saw, may, adds}
 use Rattle.chain_store.proofs.Moved.{made_at, base_at}
 use Rattle.chain_store.proofs.changes.trim_in.Goals as goal
 
-pub trim-requires-clause-maker : goal.trim-requires-clause-maker
-trim-requires-clause-maker g c =
+pub trim-requires : goal.trim-requires
+trim-requires g c =
     let is = tagged c.begin-turn.result.value.value c.deref_mut.result.now (tag_in c.args.cell.now)
     c.deref_mut.ensures.value c.begin-turn.ensures.tag in
-    subst (λ (t : Tag). c.args.by < t.size.clients) (sym is) c.requires.maker
+    record { maker = subst (λ (t : Tag). c.args.by < t.size.clients) (sym is) c.requires.maker; }
 
 pub end-requires-clause-value : goal.end-requires-clause-value
 end-requires-clause-value g c =
