@@ -21,11 +21,9 @@ use Rattle.column.specs.Columns.{ColumnState}
 use Rattle.stamp_board.specs.declared.view.Size.{Size}
 use Rattle.stamp_board.specs.declared.view.View.{View}
 use Rattle.stamp_board.specs.declared.seats.Seat.{Seat}
-use Rattle.stamp_board.specs.declared.seats.ColumnSeat.{ColumnSeat}
-use Rattle.stamp_board.specs.declared.rows.ClosedRow.{ClosedRow}
-use Rattle.stamp_board.specs.Rows.{IsBegun, IsRow, IsSize, colours_in, mark_in}
+use Rattle.stamp_board.specs.Rows.{IsBegun, IsRow, colours_in, mark_in}
 use Rattle.stamp_board.specs.Views.{Learns, KnowsBegun, KnowsMark, KnowsOutcome}
-use Rattle.stamp_board.specs.Seats.{IsColumnOf, column_seen}
+use Rattle.stamp_board.specs.Seats.{column_seen}
 use Rattle.stamp_board.specs.Closing.{Closes, all_begun, closed_row}
 use Rattle.stamp_board.proofs.CallerLemmas.{begun_learnt, mark_learnt, outcome_learnt}
 use Rattle.turn_cell.specs.Histories.{made_by}
@@ -33,7 +31,6 @@ use Rattle.turn_cell.specs.Cells.{seen}
 use Rattle.chain_store.specs.declared.told.Tag.{Tag}
 use Rattle.chain_store.specs.declared.told.Told.{Told}
 use Rattle.chain_store.specs.declared.hold.Hold.{Hold}
-use Rattle.chain_store.specs.declared.hold.ColumnPasses.{ColumnPasses}
 use Rattle.chain_store.specs.declared.seated.Seated.{Seated}
 use Rattle.chain_store.specs.declared.region.Region.{Region}
 use Rattle.chain_store.specs.declared.closed.ClosedRegion.{ClosedRegion}
@@ -46,11 +43,11 @@ use Rattle.chain_store.specs.Passes.{ColumnCell, ColumnPass, tag_in, dated_in}
 use Rattle.chain_store.specs.Ends.{EndsAs}
 use Rattle.chain_store.specs.Owning.{IsAccountedFor, row_of}
 use Rattle.chain_store.specs.Holds.{IsHold, history_seen, passes_of, seen_in, made_in, view_of}
-use Rattle.chain_store.specs.Closings.{AreOfColour, AreClosed}
-use Rattle.chain_store.specs.Closing.{AreHoldsOf, closed_of, ClosesColumn, ClosesFor, AgreesWith, Closed}
+use Rattle.chain_store.specs.Closings.{AreOfColour}
+use Rattle.chain_store.specs.Closing.{closed_of, ClosesColumn, ClosesFor, AgreesWith, Closed}
 use Rattle.chain_store.proofs.Backing.{backs_learnt}
 use Rattle.chain_store.proofs.Passing.{made_place}
-use Rattle.chain_store.proofs.Places.{image_at, at_image, contained, got, choose, member_at}
+use Rattle.chain_store.proofs.Places.{image_at, at_image, contained, got, member_at}
 use Rattle.chain_store.proofs.LawfulRows.{Lists, Owned, Agrees, begun_row, begun_rows, lawful_rows, node_is, begun_of, begun_place, row_at_place}
 use Rattle.chain_store.proofs.ListedRows.{lists_begun}
 
@@ -62,12 +59,12 @@ same_rows [] = refl
 same_rows (row ∷ rows) = ap (λ l. row ∷ l) (same_rows rows)
 
 -- a client's hold
-record HoldOf (r : Region) : Type 0 where
+pub record HoldOf (r : Region) : Type 0 where
   pub hold : Hold
   pub good : IsHold r hold
 
 -- a column that is closed
-record ColumnEnd : Type 0 where
+pub record ColumnEnd : Type 0 where
   pub cell : ColumnCell
   pub seated : Seated
   pub passes : List ColumnPass
@@ -327,7 +324,7 @@ module _ (r : Region) (hs : List Hold) (closed : List Seated) (ws : List ℕ) (v
       let p = row_there q.1 q.0 inside q.3.knows in
       (p.0, p.1, p.2, q.2 ∙ ap (λ (x : Node). x ∷ []) (sym p.4))
 
-  region_closes : (closes : ClosedRegion) → length closed ≡ r.board.size.colours
+  pub region_closes : (closes : ClosedRegion) → length closed ≡ r.board.size.colours
       → closes.columns ≡ map (λ (s : Seated). s.column) closed
       → closes.rows ≡ map (closed_row r.board.size ws) own_rows
       → Closed r hs closes
@@ -354,62 +351,3 @@ module _ (r : Region) (hs : List Hold) (closed : List Seated) (ws : List ℕ) (v
         );
     named = λ c n t id floor wants lt at is. proposal_named c n t id floor wants lt at is;
   }
-
--- the seat of a closed column is its colour's
-pub closed_seat : (r : Region) (clients : List ColumnPasses) (closed : List Seated)
-    → AreTied r.board r.number r.regions r.columns.items
-    → length closed ≡ length r.columns.items
-    → AreClosed r.columns.items clients closed
-    → (c : ℕ) (s : Seated) → slice_get closed c ≡ Some s → IsColumnOf r.board s.seat × (s.seat.colour ≡ c)
-closed_seat r clients closed tied many shut c s at =
-    let near = slice_get_within closed c s at in
-    let cell = got r.columns.items c (omega (arith, near, many)) in
-    let e = (shut c cell.0 s cell.1 at).ends.tagged ∙ tied c cell.0 cell.1 in
-    ((ap (λ (t : Tag). t.board) e, ap (λ (t : Tag). t.size) e), s.same ∙ ap (λ (t : Tag). t.colour) e)
-
--- what the board says of its end
-abbrev pub CloseOf : Size → List Seat → List ColumnSeat → List ClosedRow → Type 0
-CloseOf k seats columns rows =
-    (ws : List ℕ) × (v : View) × Closes k ws v seats columns × (rows ≡ map (closed_row k ws) (all_begun seats))
-
--- the end of a region, from the lists into which it was taken apart
-pub ends_region : (r : Region) (hs : List Hold) (clients : List ColumnPasses) (seats : List Seat) (closed : List Seated)
-    (columns : List ColumnState) (column_seats : List ColumnSeat) (rows : List ClosedRow) (closes : ClosedRegion)
-    → AreTied r.board r.number r.regions r.columns.items
-    → length r.columns.items ≡ r.board.size.colours
-    → IsSize r.board.size
-    → AreHoldsOf r hs
-    → clients ≡ map (λ (h : Hold). h.passes) hs
-    → seats ≡ map (λ (h : Hold). h.seat) hs
-    → columns ≡ map (λ (s : Seated). s.column) closed
-    → column_seats ≡ map (λ (s : Seated). s.seat) closed
-    → length closed ≡ length r.columns.items
-    → AreClosed r.columns.items clients closed
-    → CloseOf r.board.size seats column_seats rows
-    → closes.columns ≡ columns → closes.rows ≡ rows
-    → Closed r hs closes
-ends_region r hs clients seats closed columns column_seats rows closes tied cells size holds cs ss ds ts many shut z ec er =
-    let some_clients = size.0 in
-    let some_colours = size.2 in
-    let few = size.3 in
-    let holder = choose (λ (n : ℕ) (x : HoldOf r). (slice_get hs n ≡ Some x.hold) × (x.hold.passes.number ≡ n))
-    r.board.size.clients some_clients
-    (λ n lt. let count = holds.0 in let t = got hs n (omega (arith, lt, count)) in let h = holds.1 n t.0 t.1 in
-    (record { hold = t.0; good = h.0 }, (t.1, h.1))) in
-    let end = choose (λ (c : ℕ) (x : ColumnEnd). (slice_get r.columns.items c ≡ Some x.cell)
-    × (slice_get closed c ≡ Some x.seated) × AreOfColour (map (λ (h : Hold). h.passes) hs) c x.passes)
-    r.board.size.colours some_colours
-    (λ c lt. let cell = got r.columns.items c (omega (arith, lt, cells)) in
-    let s = got closed c (omega (arith, lt, cells, many)) in
-    let e = shut c cell.0 s.0 cell.1 s.1 in (
-      record { cell = cell.0; seated = s.0; passes = e.passes; ends = e.ends },
-      (
-        cell.1,
-        s.1,
-        subst (λ (l : List ColumnPasses). AreOfColour l c e.passes) cs e.of_colour,
-      ),
-    )) in
-    let closing : Closes r.board.size z.0 z.1 (map (λ (h : Hold). h.seat) hs) (map (λ (s : Seated). s.seat) closed) =
-    subst (λ (l : List Seat × List ColumnSeat). Closes r.board.size z.0 z.1 l.0 l.1) (λ i. (ss i, ts i)) z.2 in
-    region_closes r hs closed z.0 z.1 tied holds.0 (omega (arith, few)) closing holder.0 holder.1 end.0 end.1 closes
-    (many ∙ cells) (ec ∙ ds) (er ∙ z.3 ∙ ap (λ l. map (closed_row r.board.size z.0) (all_begun l)) ss)

@@ -6,7 +6,7 @@ use Rattle.chain_store.specs.declared.hold.Hold.{Hold}
 use Rattle.chain_store.specs.declared.hold.ColumnPasses.{ColumnPasses}
 use Rattle.chain_store.specs.declared.seated.Seated.{Seated}
 use Rattle.chain_store.specs.Holds.{HasPasses}
-use Rattle.chain_store.proofs.Ending.{CloseOf, closed_seat, ends_region}
+use Rattle.chain_store.proofs.TakenApart.{CloseOf, closed_seat, ends_region}
 use Rattle.chain_store.proofs.Places.{image_at}
 use Rattle.chain_store.proofs.region.Region.close.Goals as goal
 
