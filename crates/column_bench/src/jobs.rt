@@ -64,14 +64,15 @@ fn hire<'a>(
 }
 
 // Appends so many nodes, and says how many entered.
-fn append_all<R: Wait>(rt: &R, alloc: Global, mut job: Job, appends: u64) -> u64
+fn append_all<R: Wait>(rt: &R, alloc: Global, job: Job, appends: u64) -> u64
     requires job { IsJob job }
     requires appends { appends < 2 ^ 63 }
 {
+    let Job { cell, by, mut pass } = job;
     let mut entered = 0u64;
     for count in 0..appends {
-        if let Ok(node) = node(alloc, job.by, count) {
-            if single_in(rt, job.cell, &mut job.pass, job.by, &node).is_ok() {
+        if let Ok(node) = node(alloc, by, count) {
+            if single_in(rt, cell, &mut pass, by, &node).is_ok() {
                 entered = entered.wrapping_add(1);
             }
         }
