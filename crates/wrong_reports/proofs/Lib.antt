@@ -23,3 +23,4 @@ mod WrongPoints
 mod WrongProposals
 mod WrongRefusals
 mod WrongLooks
+mod FollowingLaws

@@ -14,3 +14,4 @@ pub mod Points
 pub mod Proposals
 pub mod Hidden
 pub mod Looks
+pub mod Following

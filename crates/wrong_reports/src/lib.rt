@@ -3,6 +3,7 @@
 
 mod columns;
 mod events;
+mod following;
 mod helping;
 mod hidden;
 mod looks;
@@ -40,6 +41,8 @@ pub use events::a_trim_with_a_stamp_is_unlawful;
 pub use events::an_event_by_nobody_is_unlawful;
 pub use events::an_id_that_enters_twice_is_unlawful;
 pub use events::noted_more_than_is_held_is_unlawful;
+pub use following::enters_above_its_floor;
+pub use following::raises_once;
 pub use helping::a_helped_append_left_open_is_unlawful;
 pub use helping::a_helped_append_open_in_a_colour_is_unlawful;
 pub use helping::a_phantom_of_another_region_is_unlawful;
