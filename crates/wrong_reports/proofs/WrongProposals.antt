@@ -9,10 +9,10 @@ use Rattle.log_node.specs.declared.ids.Colours.{Colours}
 use Rattle.log_node.specs.declared.node.Node.{Node}
 use Rattle.log_node.specs.Sets.{members}
 use Rattle.log_node.specs.Vectors.{at, zeros}
-use Rattle.skeen_core.specs.declared.marks.ColourMark.{ColourMark}
-use Rattle.skeen_core.specs.declared.marks.Mark.TheVariants as marks
-use Rattle.skeen_core.specs.declared.marks.Why.TheVariants.{Memory}
-use Rattle.skeen_core.specs.declared.marks.Outcome.TheVariants.{Open, Gone, Final}
+use Rattle.log_node.specs.declared.marks.ColourMark.{ColourMark}
+use Rattle.log_node.specs.declared.marks.Mark.TheVariants as marks
+use Rattle.log_node.specs.declared.marks.Why.TheVariants.{Memory}
+use Rattle.log_node.specs.declared.marks.Outcome.TheVariants.{Open, Gone, Final}
 use Rattle.col_core.specs.declared.Event as events
 use Rattle.col_core.specs.declared.Event.TheVariants.{Propose, Trim}
 use Rattle.col_core.specs.declared.Entry.{Entry}

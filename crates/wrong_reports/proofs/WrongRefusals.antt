@@ -13,7 +13,8 @@ use Rattle.log_node.specs.Vectors.{at}
 use Rattle.col_core.specs.declared.Event.TheVariants.{Raise}
 use Rattle.col_core.specs.declared.Entry.{Entry}
 use Rattle.col_core.specs.History.{clock}
-use Rattle.col_core.specs.Cuts.{IsGreatestReachable, chain, base}
+use Rattle.log_node.specs.Reach.{IsGreatestReachable}
+use Rattle.col_core.specs.Cuts.{chain, base}
 use Rattle.col_core.specs.Computed.{dated}
 use Rattle.col_core.specs.Log.{Log, places_of}
 use Rattle.col_core.specs.Keeping.{Kept, nothing_kept, updated}

@@ -3,9 +3,9 @@ use Rattle.std.specs.Prelude.{ℕ, List, [], ◌∷◌, codes, Some, None}
 use Rattle.log_node.specs.declared.ids.Colours.{Colours}
 use Rattle.log_node.specs.declared.node.At.TheVariants.{Event}
 use Rattle.log_node.specs.Seen.{PlacedNode}
-use Rattle.skeen_core.specs.declared.marks.Mark.TheVariants as marks
-use Rattle.skeen_core.specs.declared.marks.Why.TheVariants.{StampEnd}
-use Rattle.skeen_core.specs.declared.marks.Outcome.TheVariants.{Open, Gone, Final}
+use Rattle.log_node.specs.declared.marks.Mark.TheVariants as marks
+use Rattle.log_node.specs.declared.marks.Why.TheVariants.{StampEnd}
+use Rattle.log_node.specs.declared.marks.Outcome.TheVariants.{Open, Gone, Final}
 use Rattle.col_core.specs.declared.Event.TheVariants.{Single, Raise}
 use Rattle.col_core.specs.declared.Entry.{Entry}
 use Rattle.script_text.specs.declared.script.What.TheVariants as whats
