@@ -2,13 +2,11 @@
 ghost use Rattle.wrong_reports.specs.Following.{EntersAboveItsFloor, RaisesOnce};
 
 /// A node's stamp is above its floor.
-#[tactic(auto, using(crate::proofs::FollowingLaws::above_floor))]
 pub fn enters_above_its_floor()
     ensures { EntersAboveItsFloor }
 {}
 
 /// There is one raise to a stamp at most.
-#[tactic(auto, using(crate::proofs::FollowingLaws::once))]
 pub fn raises_once()
     ensures { RaisesOnce }
 {}
