@@ -7,9 +7,10 @@ ghost use Rattle.stamp_board.specs.Seats.{IsSeatOf, IsClients, IsColumnOf, IsLat
 ghost use Rattle.stamp_board.specs.Seats.{IsFreshClient, IsFreshColumn, AreFreshClients, AreFreshColumns};
 ghost use Rattle.stamp_board.specs.declared.view.Size.{Size};
 
+use log_node::{
+    ColourMark, Colours, Full, Id, ListOf, Mark, Marked, Node, Outcome, Row, Text, Wants, Why,
+};
 use stamp_board::{Board, ClosedRow, ClosedRows, ColumnSeat, ColumnSeats, Seat, Seats};
-use log_node::{Colours, Id, ListOf, Node, Row, Text, Wants};
-use skeen_core::{ColourMark, Full, Mark, Marked, Outcome, Why};
 use std::alloc::{AllocError, Global};
 use std::sync::Arc;
 use std::test::Fail;

@@ -1,17 +1,18 @@
 // Histories of a column worked out by hand.
 ghost use Rattle.std.specs.Prelude.{◌≡◌, ◌<◌, Some, IfOk};
 ghost use Rattle.skeen_core.specs.Queues.{MaySettle};
-ghost use Rattle.skeen_core.specs.declared.marks.Outcome.TheVariants.{Final};
+ghost use Rattle.log_node.specs.declared.marks.Outcome.TheVariants.{Final};
 ghost use Rattle.col_core.specs.History.{entries, last_stamp};
 ghost use Rattle.column.specs.Columns.{new_column};
 ghost use Rattle.column.specs.Views.{IsOfTwo};
 
 mod moves;
 
-use column::{Column, ColumnFault, Given};
 use col_core::View;
-use log_node::{At, Colours, Counts, Head, Id, Item, Key, ListOf, Node, Row, Shape, Text, Wants};
-use skeen_core::{Outcome, Why};
+use column::{Column, ColumnFault, Given};
+use log_node::{
+    At, Colours, Counts, Head, Id, Item, Key, ListOf, Node, Outcome, Row, Shape, Text, Wants, Why,
+};
 use std::alloc::{AllocError, Global};
 use std::process::Abort;
 use std::sync::Arc;
@@ -90,7 +91,7 @@ fn pair(rt: &impl Abort, alloc: Global) -> Result<Column, Fail>
 }
 
 // What a column says of itself, in a value that needs no memory.
-#[derive(Clone, Copy, Debug, PartialEq)]
+#[derive(Clone, Copy)]
 struct Seen {
     line: [Option<Key>; 2],
     waiting: [Option<(Key, bool)>; 2],

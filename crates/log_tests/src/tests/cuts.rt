@@ -2,8 +2,8 @@
 ghost use Rattle.std.specs.Prelude.{◌≡◌, [], ◌∷◌, ◌==◌, if◌then◌else◌};
 ghost use Rattle.log_node.specs.Vectors.{zeros};
 
-use snapshot_cut::{NeedsView, admit};
 use log_node::Counts;
+use snapshot_cut::{NeedsView, admit};
 use std::test::Fail;
 
 // One node of the region 0, which needs so many nodes, and none of another region.

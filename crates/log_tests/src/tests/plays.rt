@@ -184,11 +184,12 @@ fn play_trimmed(
 #[test]
 fn trimmed_nodes_are_not_played(rt: HostRuntime) -> Result<(), Fail> {
     let base = Counts([0, 2, 0, 0]);
-    for (count, answer, after) in [
-        (1, Err(PlayFault::Trimmed { base }), 1),
-        (2, Ok(1), 3),
-    ] {
-        assert_eq!(rt; play_trimmed(rt.alloc(), base, count)?, (answer, after), "at {count}");
+    for (count, answer, after) in [(1, Err(PlayFault::Trimmed { base }), 1), (2, Ok(1), 3)] {
+        assert_eq!(rt;
+            play_trimmed(rt.alloc(), base, count)?,
+            (answer, after),
+            "at {count}"
+        );
     }
     Ok(())
 }

@@ -2,8 +2,8 @@
 ghost use Rattle.std.specs.Prelude.{◌≡◌, ◌∷◌, [], IfOk, Some};
 ghost use Rattle.skeen_core.specs.Boards.{fresh_row};
 
-use skeen_core::{Full, Mark, Marked, Outcome, Queue, Rows, StampEnd, Why, outcome};
-use log_node::{Colours, Id, Key, Node, Row, Text, Wants};
+use log_node::{Colours, Full, Id, Key, Mark, Marked, Node, Outcome, Row, Text, Wants, Why};
+use skeen_core::{Queue, Rows, StampEnd, outcome};
 use std::alloc::{AllocError, Global};
 use std::sync::Arc;
 use std::test::Fail;

@@ -1,6 +1,7 @@
 // Each call once with ample memory, and faults in mid-stream.
 use fuzzy_io::{
-    Failed, MemorySink, MemorySource, ReadSource, ReadStop, Sink, Source, WriteSink, read_all, write_all,
+    Failed, MemorySink, MemorySource, ReadSource, ReadStop, Sink, Source, WriteSink, read_all,
+    write_all,
 };
 use std::test::Fail;
 
