@@ -9,4 +9,3 @@ mod plays;
 mod queues;
 mod scripts;
 mod streams;
-mod worlds;
