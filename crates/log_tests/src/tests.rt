@@ -9,3 +9,4 @@ mod plays;
 mod queues;
 mod scripts;
 mod streams;
+mod worlds;
