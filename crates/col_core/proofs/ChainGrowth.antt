@@ -12,12 +12,13 @@ use Rattle.log_node.specs.declared.ids.Counts.{Counts}
 use Rattle.log_node.specs.declared.node.Head.{Head}
 use Rattle.log_node.specs.Vectors.{at, vector, IsWithin, one_more}
 use Rattle.log_node.specs.Order.{key_below}
-use Rattle.skeen_core.specs.Standings.{Standing, is_delivered, line_of}
+use Rattle.log_node.specs.Standings.{Standing, is_delivered, line_of}
 use Rattle.log_node.proofs.CallerLemmas.{each_region}
 use Rattle.col_core.specs.declared.Entry.{Entry}
 use Rattle.col_core.specs.History as History
 use Rattle.col_core.specs.History.{line, enters, has_entered}
-use Rattle.col_core.specs.Cuts.{Chains, Dated, Reachable, nothing, next, entries_of, needs_of, carried, chain, held, base, base_from, trimmed_to}
+use Rattle.log_node.specs.Reach.{Chains, Reachable, nothing, next}
+use Rattle.col_core.specs.Cuts.{Dated, entries_of, needs_of, carried, chain, held, base, base_from, trimmed_to}
 use Rattle.col_core.specs.Computed.{cut}
 use Rattle.col_core.specs.Legal.{IsColumnHistory}
 use Rattle.col_core.proofs.CutLaws.{cut-is_greatest, within}

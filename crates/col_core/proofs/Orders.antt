@@ -10,7 +10,7 @@ use Rattle.log_node.specs.declared.ids.Counts.{Counts}
 use Rattle.log_node.specs.declared.node.Head.{Head}
 use Rattle.log_node.specs.Order.{same_id, same_key, key_below}
 use Rattle.log_node.specs.Vectors.{at}
-use Rattle.col_core.specs.Cuts.{Chains, Reachable}
+use Rattle.log_node.specs.Reach.{Chains, Reachable}
 use Rattle.col_core.specs.PlayOrder.{Place, same_place, Stands, is_between, WaitsFor, goes_first, IsPlayOrder}
 use Rattle.col_core.proofs.CutLaws.{reached_within}
 use Rattle.col_core.proofs.Basics.{by_test, if_true, if_false}

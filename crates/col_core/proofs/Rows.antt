@@ -2,8 +2,8 @@
 use Rattle.std.proofs.Common.{◌≡◌, ℕ, List, [], ◌∷◌, true, false, refl}
 use Rattle.log_node.specs.declared.ids.Id.{Id}
 use Rattle.log_node.specs.Vectors.{zeros}
-use Rattle.skeen_core.specs.declared.marks.Outcome.TheVariants.{Final}
-use Rattle.skeen_core.specs.Standings.{queue_of}
+use Rattle.log_node.specs.declared.marks.Outcome.TheVariants.{Final}
+use Rattle.log_node.specs.Standings.{queue_of}
 use Rattle.col_core.specs.declared.Event.{Event}
 use Rattle.col_core.specs.declared.Event.TheVariants.{Single, Propose, Settle, Give, Carry}
 use Rattle.col_core.specs.declared.Entry.{Entry}

@@ -4,7 +4,8 @@ use Rattle.std.specs.Prelude.{slice_get}
 use Rattle.log_node.specs.declared.ids.Counts.{Counts}
 use Rattle.log_node.specs.Vectors.{at, vector, IsWithin}
 use Rattle.col_core.specs.declared.Entry.{Entry}
-use Rattle.col_core.specs.Cuts.{Chains, Dated, Reachable, nothing, next, entries_of, chain, IsGreatestReachable, IsDated}
+use Rattle.log_node.specs.Reach.{Chains, Reachable, nothing, next, IsGreatestReachable}
+use Rattle.col_core.specs.Cuts.{Dated, entries_of, chain, IsDated}
 use Rattle.col_core.specs.Computed.{cut, dated}
 use Rattle.col_core.proofs.CutLaws.{cut-is_greatest, within-at}
 use Rattle.col_core.proofs.DatedLaws.{AreCuts, later, with_date, fold-later}

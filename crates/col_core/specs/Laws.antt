@@ -8,13 +8,14 @@ use Rattle.log_node.specs.declared.ids.Counts.{Counts}
 use Rattle.log_node.specs.declared.node.Node.{Node}
 use Rattle.log_node.specs.Order.{key_below}
 use Rattle.log_node.specs.Vectors.{IsWithin}
-use Rattle.skeen_core.specs.declared.marks.Mark.{Mark}
-use Rattle.skeen_core.specs.declared.marks.Mark.TheVariants as marks
-use Rattle.skeen_core.specs.declared.marks.Outcome.{Outcome}
-use Rattle.skeen_core.specs.declared.marks.Outcome.TheVariants.{Open}
+use Rattle.log_node.specs.declared.marks.Mark.{Mark}
+use Rattle.log_node.specs.declared.marks.Mark.TheVariants as marks
+use Rattle.log_node.specs.declared.marks.Outcome.{Outcome}
+use Rattle.log_node.specs.declared.marks.Outcome.TheVariants.{Open}
 use Rattle.col_core.specs.declared.Entry.{Entry}
 use Rattle.col_core.specs.History.{line}
-use Rattle.col_core.specs.Cuts.{Chains, Dated, Reachable, IsGreatestReachable, IsDated, entries_of, chain, held, base}
+use Rattle.log_node.specs.Reach.{Chains, Reachable, IsGreatestReachable}
+use Rattle.col_core.specs.Cuts.{Dated, IsDated, entries_of, chain, held, base}
 use Rattle.col_core.specs.Computed.{cut, dated}
 use Rattle.col_core.specs.PlayOrder.{Place, IsPlayOrder}
 use Rattle.col_core.specs.Legal.{IsColumnHistory}

@@ -8,7 +8,7 @@ use Rattle.std.proofs.lemmas.Bool.{cond-true, cond-false, cases_Bool, cases_lt}
 use Rattle.log_node.specs.declared.ids.Key.{Key}
 use Rattle.log_node.specs.Order.{key_below}
 use Rattle.skeen_core.specs.declared.waiting.Waiting.{Waiting}
-use Rattle.skeen_core.specs.Standings.{Standing, is_delivered, queue_of}
+use Rattle.log_node.specs.Standings.{Standing, is_delivered, queue_of}
 use Rattle.skeen_core.specs.Queues.{standing_of}
 use Rattle.skeen_core.proofs.CallerLemmas.{each-at, each-map}
 use Rattle.col_core.specs.declared.Entry.{Entry}

@@ -12,7 +12,8 @@ use Rattle.col_core.specs.declared.Event.{Event}
 use Rattle.col_core.specs.declared.Event.TheVariants as events
 use Rattle.col_core.specs.declared.Entry.{Entry}
 use Rattle.col_core.specs.History.{line}
-use Rattle.col_core.specs.Cuts.{Chains, Dated, Reachable, IsGreatestReachable, carried, chain, entries_of, trimmed_to}
+use Rattle.log_node.specs.Reach.{Chains, Reachable, IsGreatestReachable}
+use Rattle.col_core.specs.Cuts.{Dated, carried, chain, entries_of, trimmed_to}
 use Rattle.col_core.specs.Cuts.{noted, noted_by_all, base, base_from}
 use Rattle.col_core.specs.Computed.{cut, dated}
 use Rattle.col_core.specs.Legal.{IsColumnHistory}

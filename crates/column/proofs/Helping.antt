@@ -10,7 +10,7 @@ use Rattle.std.proofs.lemmas.Option.{none-some, same_Some}
 use Rattle.log_node.specs.declared.ids.Key.{Key}
 use Rattle.log_node.specs.Seen.{BegunAppend}
 use Rattle.skeen_core.specs.declared.waiting.Waiting.{Waiting}
-use Rattle.skeen_core.specs.Standings.{Standing, is_delivered, queue_of}
+use Rattle.log_node.specs.Standings.{Standing, is_delivered, queue_of}
 use Rattle.skeen_core.specs.Queues.{standing_of}
 use Rattle.skeen_core.proofs.CallerLemmas.{filter-map}
 use Rattle.column.specs.Entering.{EnteredNode}

@@ -11,7 +11,7 @@ use Rattle.log_node.specs.Seen.{PlacedNode}
 use Rattle.skeen_core.specs.declared.waiting.Waiting.{Waiting}
 use Rattle.log_node.specs.declared.ids.Counts.{Counts}
 use Rattle.log_node.specs.Vectors.{at}
-use Rattle.skeen_core.specs.Standings.{line_of}
+use Rattle.log_node.specs.Standings.{line_of}
 use Rattle.skeen_core.specs.Queues.{kept_entries, kept_count}
 use Rattle.skeen_core.proofs.CallerLemmas.{each-drop}
 use Rattle.col_core.specs.declared.Entry.{Entry}

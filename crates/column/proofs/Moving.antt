@@ -8,7 +8,7 @@ use Rattle.log_node.specs.declared.ids.Counts.{Counts}
 use Rattle.log_node.specs.declared.node.Head.{Head}
 use Rattle.log_node.specs.Seen.{PlacedNode}
 use Rattle.log_node.specs.Vectors.{at, vector, IsWithin, all_regions}
-use Rattle.skeen_core.specs.Standings.{line_of}
+use Rattle.log_node.specs.Standings.{line_of}
 use Rattle.skeen_core.specs.Queues.{Queued, dropped_queue}
 use Rattle.skeen_core.proofs.CallerLemmas.{each-drop}
 use Rattle.col_core.specs.declared.Event.TheVariants as events

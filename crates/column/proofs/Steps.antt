@@ -14,16 +14,15 @@ use Rattle.log_node.specs.Seen.{PlacedNode}
 use Rattle.log_node.specs.Sets.{has}
 use Rattle.log_node.specs.Vectors.{at, zeros}
 use Rattle.log_node.specs.declared.limits.TheConstants.{MAX_STAMP}
-use Rattle.skeen_core.specs.declared.marks.Outcome.{Outcome}
-use Rattle.skeen_core.specs.declared.marks.Outcome.TheVariants.{Open, Gone, Final}
-use Rattle.skeen_core.specs.Outcomes as outcomes
-use Rattle.skeen_core.specs.Standings.{Standing, is_open_id, open_entry, with_entry, settled_entries}
+use Rattle.log_node.specs.declared.marks.Outcome.{Outcome}
+use Rattle.log_node.specs.declared.marks.Outcome.TheVariants.{Open, Gone, Final}
+use Rattle.log_node.specs.Standings.{Standing, is_open_id, open_entry, with_entry, settled_entries}
 use Rattle.skeen_core.specs.Queues.{Queued, entry_under, has_open, is_decided, MaySettle}
 use Rattle.skeen_core.proofs.CallerLemmas.{each-append}
 use Rattle.col_core.specs.declared.Event.{Event}
 use Rattle.col_core.specs.declared.Event.TheVariants as events
 use Rattle.col_core.specs.declared.Entry.{Entry}
-use Rattle.col_core.specs.History.{clock, final_number, last_stamp, next_stamp, entries, line, has_entered}
+use Rattle.col_core.specs.History.{clock, last_stamp, next_stamp, entries, line, has_entered}
 use Rattle.col_core.specs.Cuts.{Dated, entries_of, carried, chain, noted_from, noted, trimmed_to, base, base_from}
 use Rattle.col_core.specs.Computed.{cut, dated}
 use Rattle.col_core.specs.Legal.{IsColumnHistory, IsLawfulEvent, IsSettling, MayEnter}
@@ -289,11 +288,6 @@ settling id outcome es some decided may =
       each (Gone why) decided may = tt
       each (Final f) decided may = may (opened id es some).0 (opened id es some).1
 
-same_final : (outcome : Outcome) → outcomes.final_number outcome ≡ final_number outcome
-same_final Open = refl
-same_final (Gone why) = refl
-same_final (Final f) = refl
-
 -- an open id is settled
 module _ (column : ColumnState) (by : ℕ) (id : Id) (outcome : Outcome) (h : IsColumn column)
     (some : has_open id (entries column.journal) ≡ true) (decided : is_decided outcome ≡ true)
@@ -317,8 +311,7 @@ module _ (column : ColumnState) (by : ℕ) (id : Id) (outcome : Outcome) (h : Is
 
   pub settle_is : IsColumn (after_settle column by id outcome)
   settle_is = quiet_is column settlement h settle_next settle_quiet (after_settle column by id outcome).queue
-      (let a = h.clock_is in let b = clock-append column.journal settlement in let c = same_final outcome in
-      omega (arith, a, b, c))
+      (let a = h.clock_is in let b = clock-append column.journal settlement in omega (arith, a, b))
       (ap (settled_entries id outcome) h.entries_are ∙ sym (entries-append column.journal settlement)) refl
       (all-settled column.region column.colour (column.journal ++ settlement ∷ []) id outcome column.queue.stored
       (all-more column.region column.colour column.journal settlement column.queue.stored h.things))

@@ -8,10 +8,10 @@ use Rattle.std.proofs.lemmas.Option.{same_Some, none-some}
 use Rattle.log_node.specs.declared.ids.Id.{Id}
 use Rattle.log_node.specs.Order.{same_id, key_below}
 use Rattle.log_node.specs.Sets.{has}
-use Rattle.skeen_core.specs.declared.marks.Outcome.{Outcome}
-use Rattle.skeen_core.specs.declared.marks.Outcome.TheVariants.{Open, Gone, Final}
+use Rattle.log_node.specs.declared.marks.Outcome.{Outcome}
+use Rattle.log_node.specs.declared.marks.Outcome.TheVariants.{Open, Gone, Final}
 use Rattle.skeen_core.specs.declared.waiting.Waiting.{Waiting}
-use Rattle.skeen_core.specs.Standings.{is_open_id}
+use Rattle.log_node.specs.Standings.{is_open_id}
 use Rattle.skeen_core.specs.Queues.{standing_of, final_entry, with_stored, stored_without, with_found, settled_stored}
 use Rattle.skeen_core.proofs.CallerLemmas.{each-weaker, each-filter}
 use Rattle.col_core.specs.declared.Entry.{Entry}

@@ -10,15 +10,16 @@ use Rattle.log_node.specs.Order.{key_below}
 use Rattle.log_node.specs.Vectors.{at, vector, least, all_regions}
 pub use Rattle.log_node.specs.Vectors.{greater}
 use Rattle.log_node.specs.Seen.{PlacedNode, BegunAppend}
-use Rattle.skeen_core.specs.declared.marks.Outcome.{Outcome}
+use Rattle.log_node.specs.declared.marks.Outcome.{Outcome}
 use Rattle.skeen_core.specs.declared.waiting.Waiting.{Waiting}
-use Rattle.skeen_core.specs.Standings.{Standing}
+use Rattle.log_node.specs.Standings.{Standing}
 use Rattle.skeen_core.specs.Queues.{Queued, entry_under, entered_queue, settled_queue, dropped_queue}
 use Rattle.col_core.specs.declared.Event.{Event}
 use Rattle.col_core.specs.declared.Event.TheVariants as events
 use Rattle.col_core.specs.declared.Entry.{Entry}
 use Rattle.col_core.specs.History.{last_stamp, next_stamp, line, IsAtEnd}
-use Rattle.col_core.specs.Cuts.{Chains, Dated, chain, base}
+use Rattle.log_node.specs.Reach.{Chains}
+use Rattle.col_core.specs.Cuts.{Dated, chain, base}
 use Rattle.col_core.specs.Computed.{cut, dated}
 use Rattle.col_core.specs.Rows.{node_wants}
 use Rattle.column.specs.declared.faults.ColumnFault.{ColumnFault}

@@ -10,12 +10,13 @@ use Rattle.log_node.specs.Vectors.{at, IsWithin}
 use Rattle.log_node.specs.Order.{key_below}
 use Rattle.log_node.specs.Sets.{has}
 use Rattle.skeen_core.specs.declared.waiting.Waiting.{Waiting}
-use Rattle.skeen_core.specs.Standings.{Standing}
+use Rattle.log_node.specs.Standings.{Standing}
 use Rattle.col_core.specs.declared.Event.{Event}
 use Rattle.col_core.specs.declared.Event.TheVariants.{Single, Propose, Settle, Raise, Give, Carry, Trim}
 use Rattle.col_core.specs.declared.Entry.{Entry}
 use Rattle.col_core.specs.History.{clock, entries, has_entered}
-use Rattle.col_core.specs.Cuts.{Reachable, needs_of, noted}
+use Rattle.log_node.specs.Reach.{Reachable}
+use Rattle.col_core.specs.Cuts.{needs_of, noted}
 use Rattle.col_core.specs.Computed.{dated}
 use Rattle.col_core.specs.Legal.{IsColumnHistory}
 use Rattle.col_core.specs.Rows.{node_wants}

@@ -6,7 +6,7 @@ use Rattle.log_node.specs.declared.ids.Key.{Key}
 use Rattle.log_node.specs.declared.ids.Counts.{Counts}
 use Rattle.log_node.specs.Vectors.{at}
 use Rattle.log_node.specs.Seen.{BegunAppend}
-use Rattle.skeen_core.specs.Standings.{Standing}
+use Rattle.log_node.specs.Standings.{Standing}
 use Rattle.skeen_core.specs.Queues.{waiting_entries}
 use Rattle.col_core.specs.History.{entries}
 use Rattle.col_core.specs.declared.view.View.{View}

@@ -11,13 +11,12 @@ ghost use Rattle.col_core.specs.History.{clock, last_stamp, next_stamp, entries,
 ghost use Rattle.column.specs.Columns.{new_column, with_room, after_single, after_propose, after_settle, after_raise};
 ghost use Rattle.column.specs.Columns.{after_give, after_carry, after_trim, new_items, chains_of, base_of, cut_of};
 ghost use Rattle.column.specs.Columns.{stamp_for, HasEnterCause, AreItems, IsGiven};
-ghost use Rattle.col_core.specs.Cuts.{Reachable};
+ghost use Rattle.log_node.specs.Reach.{Reachable};
 
 use crate::contents::Contents;
 use crate::faults::ColumnFault;
 use crate::given::Given;
-use log_node::{At, Counts, Id, Items, MAX_COLOURS, MAX_REGIONS, MAX_STAMP, Node, Shape};
-use skeen_core::Outcome;
+use log_node::{At, Counts, Id, Items, MAX_COLOURS, MAX_REGIONS, MAX_STAMP, Node, Outcome, Shape};
 use snapshot_cut::admit;
 use std::alloc::{AllocError, Global};
 use std::marker::Model;

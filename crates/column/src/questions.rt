@@ -4,7 +4,7 @@ ghost use Rattle.std.specs.List.{position};
 ghost use Rattle.std.specs.Option.{option_map};
 ghost use Rattle.log_node.specs.Order.{same_key};
 ghost use Rattle.log_node.specs.Vectors.{at, IsWithin};
-ghost use Rattle.skeen_core.specs.Standings.{queue_of};
+ghost use Rattle.log_node.specs.Standings.{queue_of};
 ghost use Rattle.col_core.specs.History.{clock, entries, line};
 ghost use Rattle.col_core.specs.Cuts.{held};
 ghost use Rattle.column.specs.Columns.{history_of, copy_of, cut_of, base_of, AreItems};

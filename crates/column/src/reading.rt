@@ -6,7 +6,7 @@ ghost use Rattle.std.specs.Option.{option_map};
 ghost use Rattle.log_node.specs.Seen.{PlacedNode};
 ghost use Rattle.log_node.specs.Order.{same_key};
 ghost use Rattle.log_node.specs.Vectors.{at};
-ghost use Rattle.skeen_core.specs.Standings.{queue_of};
+ghost use Rattle.log_node.specs.Standings.{queue_of};
 ghost use Rattle.col_core.specs.History.{clock, entries, line};
 ghost use Rattle.col_core.specs.Cuts.{held};
 ghost use Rattle.column.specs.Columns.{history_of, chains_of, copy_of, held_of, base_of, items_under, AreItems};

@@ -1,7 +1,7 @@
 // Histories of a column worked out by hand.
 ghost use Rattle.std.specs.Prelude.{◌≡◌, ◌<◌, Some, IfOk};
 ghost use Rattle.skeen_core.specs.Queues.{MaySettle};
-ghost use Rattle.skeen_core.specs.declared.marks.Outcome.TheVariants.{Final};
+ghost use Rattle.log_node.specs.declared.marks.Outcome.TheVariants.{Final};
 ghost use Rattle.col_core.specs.History.{entries, last_stamp};
 ghost use Rattle.column.specs.Columns.{new_column};
 ghost use Rattle.column.specs.Views.{IsOfTwo};
@@ -10,8 +10,9 @@ mod moves;
 
 use super::*;
 use col_core::View;
-use log_node::{At, Colours, Counts, Head, Id, Item, Key, ListOf, Node, Row, Shape, Text, Wants};
-use skeen_core::{Outcome, Why};
+use log_node::{
+    At, Colours, Counts, Head, Id, Item, Key, ListOf, Node, Outcome, Row, Shape, Text, Wants, Why,
+};
 use std::alloc::{AllocError, Global};
 use std::process::Abort;
 use std::sync::Arc;

@@ -5,11 +5,11 @@ use Rattle.log_node.specs.declared.node.At.{At}
 use Rattle.log_node.specs.declared.node.At.TheVariants.{Event, Look}
 use Rattle.log_node.specs.declared.node.Node.{Node}
 use Rattle.log_node.specs.Sets.{members}
-use Rattle.skeen_core.specs.declared.marks.Why.{Why}
-use Rattle.skeen_core.specs.declared.marks.Why.TheVariants.{Memory, StampEnd}
-use Rattle.skeen_core.specs.declared.marks.Mark.TheVariants as marks
-use Rattle.skeen_core.specs.Standings.{open_entry}
-use Rattle.skeen_core.specs.declared.marks.Outcome.TheVariants.{Gone}
+use Rattle.log_node.specs.declared.marks.Why.{Why}
+use Rattle.log_node.specs.declared.marks.Why.TheVariants.{Memory, StampEnd}
+use Rattle.log_node.specs.declared.marks.Mark.TheVariants as marks
+use Rattle.log_node.specs.Standings.{open_entry}
+use Rattle.log_node.specs.declared.marks.Outcome.TheVariants.{Gone}
 use Rattle.col_core.specs.declared.Entry.{Entry}
 use Rattle.col_core.specs.History.{IsAtEnd, entries, has_entered}
 use Rattle.col_core.specs.Log.{Log, IsLater, HasMark}

@@ -4,8 +4,8 @@ use Rattle.std.specs.List.{All, AllZip}
 use Rattle.log_node.specs.declared.ids.Id.{Id}
 use Rattle.log_node.specs.declared.ids.Key.{Key}
 use Rattle.log_node.specs.declared.node.Node.{Node}
-use Rattle.skeen_core.specs.declared.marks.ColourMark.{ColourMark}
-use Rattle.skeen_core.specs.declared.marks.Outcome.TheVariants.{Final}
+use Rattle.log_node.specs.declared.marks.ColourMark.{ColourMark}
+use Rattle.log_node.specs.declared.marks.Outcome.TheVariants.{Final}
 use Rattle.col_core.specs.declared.Entry.{Entry}
 use Rattle.col_core.specs.History.{line}
 use Rattle.col_core.specs.Computed.{dated}

@@ -10,7 +10,8 @@ use Rattle.log_node.specs.Seen.{PlacedNode}
 use Rattle.log_node.specs.Vectors.{IsWithin}
 use Rattle.col_core.specs.declared.Entry.{Entry}
 use Rattle.col_core.specs.History.{clock, line}
-use Rattle.col_core.specs.Cuts.{Dated, IsGreatestReachable, chain, base}
+use Rattle.log_node.specs.Reach.{IsGreatestReachable}
+use Rattle.col_core.specs.Cuts.{Dated, chain, base}
 use Rattle.col_core.specs.PlayOrder.{Place, Stands, IsPlayOrder, greatest_between}
 use Rattle.col_core.specs.Log.{Log, IsLater}
 use Rattle.col_core.specs.Keeping.{Kept, updated, kept_after_sync}

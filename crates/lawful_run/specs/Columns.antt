@@ -2,10 +2,11 @@
 use Rattle.std.specs.Prelude.{◌≡◌, ℕ, ◌<◌, List, length, map, Some, slice_get, slice_index}
 use Rattle.std.specs.List.{All, flat_map, range_with_len}
 use Rattle.std.specs.List.Sorted.{IsNonDecreasing}
-use Rattle.skeen_core.specs.Standings.{queue_of}
+use Rattle.log_node.specs.Standings.{queue_of}
 use Rattle.col_core.specs.declared.Entry.{Entry}
 use Rattle.col_core.specs.History.{clock, entries, line}
-use Rattle.col_core.specs.Cuts.{IsGreatestReachable, chain, base}
+use Rattle.log_node.specs.Reach.{IsGreatestReachable}
+use Rattle.col_core.specs.Cuts.{chain, base}
 use Rattle.col_core.specs.Computed.{dated}
 use Rattle.col_core.specs.Legal.{IsColumnHistory}
 use Rattle.col_core.specs.Rows.{BegunRow, AreLawfulRows}

@@ -13,7 +13,8 @@ use Rattle.object_fold.specs.Maps.{Value, shard_value}
 use Rattle.object_fold.specs.Queues.{front_after}
 use Rattle.object_fold.specs.Causal.{ChainNode, IsCausalAnswer}
 use Rattle.col_core.specs.History.{line}
-use Rattle.col_core.specs.Cuts.{Chains, chain}
+use Rattle.log_node.specs.Reach.{Chains}
+use Rattle.col_core.specs.Cuts.{chain}
 use Rattle.col_core.specs.PlayOrder.{Place, Stands}
 use Rattle.col_core.specs.Log.{Log, first, HasText}
 use Rattle.report_text.specs.declared.report.KeyAnswer.{KeyAnswer}

@@ -8,10 +8,11 @@ use Rattle.log_node.specs.declared.node.At.TheVariants.{Event, Look}
 use Rattle.log_node.specs.declared.node.Head.{Head}
 use Rattle.log_node.specs.Seen.{PlacedNode}
 use Rattle.log_node.specs.Vectors.{at, IsWithin, is_within}
-use Rattle.skeen_core.specs.Outcomes.{greatest}
+use Rattle.log_node.specs.Outcomes.{greatest}
 use Rattle.col_core.specs.declared.Event.TheVariants.{Raise}
 use Rattle.col_core.specs.History.{clock, line}
-use Rattle.col_core.specs.Cuts.{IsGreatestReachable, chain, base}
+use Rattle.log_node.specs.Reach.{IsGreatestReachable}
+use Rattle.col_core.specs.Cuts.{chain, base}
 use Rattle.col_core.specs.PlayOrder.{Place, Stands, IsPlayOrder, greatest_between}
 use Rattle.col_core.specs.RegionOrder.{IsRegionOrder, IsClearUpTo}
 use Rattle.col_core.specs.Log.{Log, first, HasText}

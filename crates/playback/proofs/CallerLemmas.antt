@@ -6,7 +6,7 @@ use Rattle.log_node.specs.declared.ids.Counts.{Counts}
 use Rattle.log_node.specs.Seen.{PlacedNode}
 use Rattle.log_node.specs.Vectors.{at}
 use Rattle.col_core.specs.declared.view.View.{View}
-use Rattle.col_core.specs.Cuts.{Chains}
+use Rattle.log_node.specs.Reach.{Chains}
 use Rattle.col_core.specs.PlayOrder.{Place}
 use Rattle.playback.specs.Orders.{play_order}
 use Rattle.playback.specs.Playing.{items_of, ShowsChains, item_at, ArePlayed}

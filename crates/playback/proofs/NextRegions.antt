@@ -7,8 +7,7 @@ use Rattle.std.proofs.lemmas.Bool.{false_from_ne_true}
 use Rattle.log_node.specs.declared.ids.Counts.{Counts}
 use Rattle.log_node.specs.declared.node.Head.{Head}
 use Rattle.log_node.specs.Vectors.{at, IsWithin, all_regions}
-use Rattle.col_core.specs.Cuts.{Chains}
-use Rattle.col_core.specs.Computed.{is_covered}
+use Rattle.log_node.specs.Reach.{Chains, is_covered}
 use Rattle.col_core.specs.PlayOrder.{goes_first}
 use Rattle.col_core.proofs.CallerLemmas.{by_test, one_goes_first}
 use Rattle.playback.specs.Orders.{next_place, is_free, goes_before, is_before, first_region, next_region}

@@ -10,7 +10,7 @@ use Rattle.log_node.specs.Seen.{PlacedNode}
 use Rattle.log_node.specs.Vectors.{at, IsWithin, with_number, one_more, all_regions}
 use Rattle.log_node.proofs.CallerLemmas.{within-at, at-vector}
 use Rattle.col_core.specs.declared.view.View.{View}
-use Rattle.col_core.specs.Cuts.{Chains, Reachable}
+use Rattle.log_node.specs.Reach.{Chains, Reachable}
 use Rattle.col_core.specs.PlayOrder.{Place, nodes_between}
 use Rattle.col_core.proofs.CallerLemmas.{reached_within}
 use Rattle.playback.specs.Orders.{next_place, next_region, order_of, play_order}

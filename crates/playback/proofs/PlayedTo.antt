@@ -10,7 +10,7 @@ use Rattle.std.proofs.lemmas.Option.{slice_get_within}
 use Rattle.log_node.specs.declared.ids.Counts.{Counts}
 use Rattle.log_node.specs.declared.node.Head.{Head}
 use Rattle.log_node.specs.Vectors.{at, IsWithin, one_more}
-use Rattle.col_core.specs.Cuts.{Chains}
+use Rattle.log_node.specs.Reach.{Chains}
 use Rattle.col_core.specs.PlayOrder.{Place, same_place, Stands, is_between, WaitsFor, goes_first}
 use Rattle.log_node.proofs.CallerLemmas.{within, within-at}
 use Rattle.col_core.proofs.CallerLemmas.{by_test, Between, between_is, is_in_between, same_place-is}

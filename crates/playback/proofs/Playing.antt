@@ -5,7 +5,7 @@ use Rattle.std.specs.Prelude.{sum, map}
 use Rattle.std.specs.Option.{option_map_or}
 use Rattle.log_node.specs.declared.ids.Counts.{Counts}
 use Rattle.log_node.specs.Vectors.{at, IsWithin, one_more, all_regions}
-use Rattle.col_core.specs.Cuts.{Chains, Reachable}
+use Rattle.log_node.specs.Reach.{Chains, Reachable}
 use Rattle.col_core.specs.PlayOrder.{Place, IsPlayOrder}
 use Rattle.playback.specs.Orders.{next_place, next_region, order_of, play_order}
 use Rattle.playback.proofs.NextRegions.{IsFirst, IsNext, next_is, among_all, among_four}

@@ -9,7 +9,7 @@ use Rattle.log_node.specs.declared.node.Head.{Head}
 use Rattle.log_node.specs.Seen.{PlacedNode}
 use Rattle.log_node.specs.Vectors.{at}
 use Rattle.col_core.specs.declared.view.View.{View}
-use Rattle.col_core.specs.Cuts.{Chains}
+use Rattle.log_node.specs.Reach.{Chains}
 use Rattle.col_core.specs.PlayOrder.{Place, nodes_between}
 use Rattle.playback.specs.Playing.{items_of, ShowsChains, item_at, head_at}
 

@@ -10,8 +10,7 @@ use Rattle.log_node.specs.Order.{key_below, same_key}
 use Rattle.log_node.specs.Seen.{PlacedNode}
 use Rattle.log_node.specs.Vectors.{at, IsWithin, is_within, all_regions}
 use Rattle.col_core.specs.declared.view.View.{View}
-use Rattle.col_core.specs.Cuts.{Chains}
-use Rattle.col_core.specs.Computed.{is_covered}
+use Rattle.log_node.specs.Reach.{Chains, is_covered}
 use Rattle.col_core.proofs.CallerLemmas.{by_test}
 use Rattle.log_node.proofs.CallerLemmas.{within-at}
 use Rattle.playback.specs.declared.free.Free.{Free}

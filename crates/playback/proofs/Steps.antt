@@ -8,7 +8,7 @@ use Rattle.log_node.specs.declared.ids.Counts.{Counts}
 use Rattle.log_node.specs.Seen.{PlacedNode}
 use Rattle.log_node.specs.Vectors.{at, vector, IsWithin, one_more, all_regions}
 use Rattle.col_core.specs.declared.view.View.{View}
-use Rattle.col_core.specs.Cuts.{Chains, Reachable}
+use Rattle.log_node.specs.Reach.{Chains, Reachable}
 use Rattle.col_core.specs.PlayOrder.{Place}
 use Rattle.log_node.proofs.CallerLemmas.{within, within-at}
 use Rattle.playback.specs.Orders.{next_place, next_region, order_of, play_order}

@@ -5,7 +5,7 @@ use Rattle.std.specs.Prelude.{slice_get}
 use Rattle.std.proofs.lemmas.Bool.{cases_eq}
 use Rattle.log_node.specs.declared.ids.Counts.{Counts}
 use Rattle.log_node.specs.Vectors.{at, zeros, IsWithin, one_more}
-use Rattle.col_core.specs.Cuts.{Chains, Reachable, nothing, next}
+use Rattle.log_node.specs.Reach.{Chains, Reachable, nothing, next}
 use Rattle.col_core.specs.PlayOrder.{Place, is_between, IsPlayOrder}
 use Rattle.log_node.proofs.CallerLemmas.{within, within-at}
 use Rattle.col_core.proofs.CallerLemmas.{between_is, is_in_between}

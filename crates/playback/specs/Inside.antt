@@ -5,7 +5,7 @@ use Rattle.log_node.specs.Order.{key_below, same_key}
 use Rattle.log_node.specs.Seen.{PlacedNode}
 use Rattle.log_node.specs.Vectors.{at, is_within, with_number, all_regions}
 use Rattle.col_core.specs.declared.view.View.{View}
-use Rattle.col_core.specs.Cuts.{Chains, Reachable}
+use Rattle.log_node.specs.Reach.{Chains, Reachable}
 use Rattle.playback.specs.declared.free.Free.{Free}
 use Rattle.playback.specs.Orders.{next_place, next_region, play_order}
 use Rattle.playback.specs.Playing.{ShowsChains, item_at}

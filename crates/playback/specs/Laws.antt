@@ -1,7 +1,7 @@
 -- What the computed order has for a consequence.
 use Rattle.log_node.specs.declared.ids.Counts.{Counts}
 use Rattle.log_node.specs.Vectors.{IsWithin}
-use Rattle.col_core.specs.Cuts.{Chains, Reachable}
+use Rattle.log_node.specs.Reach.{Chains, Reachable}
 use Rattle.col_core.specs.PlayOrder.{IsPlayOrder}
 use Rattle.playback.specs.Orders.{play_order}
 

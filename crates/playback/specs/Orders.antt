@@ -5,8 +5,7 @@ use Rattle.std.specs.Option.{option_map_or}
 use Rattle.log_node.specs.declared.ids.Counts.{Counts}
 use Rattle.log_node.specs.declared.node.Head.{Head}
 use Rattle.log_node.specs.Vectors.{at, all_regions, one_more}
-use Rattle.col_core.specs.Cuts.{Chains}
-use Rattle.col_core.specs.Computed.{is_covered}
+use Rattle.log_node.specs.Reach.{Chains, is_covered}
 use Rattle.col_core.specs.PlayOrder.{Place, goes_first}
 
 -- where a region's chain goes on, where so many nodes of each chain are played

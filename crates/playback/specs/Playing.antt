@@ -6,7 +6,7 @@ use Rattle.log_node.specs.declared.node.Head.{Head}
 use Rattle.log_node.specs.Seen.{PlacedNode}
 use Rattle.log_node.specs.Vectors.{at, vector, is_within}
 use Rattle.col_core.specs.declared.view.View.{View}
-use Rattle.col_core.specs.Cuts.{Chains}
+use Rattle.log_node.specs.Reach.{Chains}
 use Rattle.col_core.specs.PlayOrder.{Place, IsPlayOrder, nodes_between}
 use Rattle.playback.specs.declared.faults.PlayFault.{PlayFault}
 use Rattle.playback.specs.declared.faults.PlayFault.TheVariants.{Trimmed, NoMemory}

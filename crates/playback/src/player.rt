@@ -1,7 +1,7 @@
 // What a client plays of a colour of its region.
 ghost use Rattle.std.specs.Prelude.{◌≡◌, ◌<◌, IfOk, IfErr, OnOk, OnErr};
 ghost use Rattle.log_node.specs.Vectors.{at, IsWithin, one_more};
-ghost use Rattle.col_core.specs.Cuts.{Chains, Reachable};
+ghost use Rattle.log_node.specs.Reach.{Chains, Reachable};
 ghost use Rattle.playback.specs.Playing.{IsLookedFrom, ShowsChains, ArePlayed, HasPlayCause};
 ghost use Rattle.playback.specs.Inside.{AreInOrder};
 

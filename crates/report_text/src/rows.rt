@@ -6,7 +6,7 @@ use crate::names::NameIndex;
 use crate::output::{Output, put_number};
 use crate::printed::{Printed, print_spaced};
 use crate::report::RowReport;
-use skeen_core::{ColourMark, Mark, Outcome, Why};
+use log_node::{ColourMark, Mark, Outcome, Why};
 
 fn print_why<O: Output>(why: Why, out: &mut O)
     ensures { Adds (O.state out.old) (O.state out.new) (why_text why) }

@@ -7,8 +7,8 @@ use Rattle.log_node.specs.declared.ids.Row.{Row}
 use Rattle.log_node.specs.declared.ids.Colours.{Colours}
 use Rattle.log_node.specs.declared.node.At.TheVariants.{Event}
 use Rattle.log_node.specs.Sets.{members}
-use Rattle.skeen_core.specs.declared.marks.Outcome.TheVariants.{Gone, Final}
-use Rattle.skeen_core.specs.declared.marks.Why.TheVariants.{StampEnd}
+use Rattle.log_node.specs.declared.marks.Outcome.TheVariants.{Gone, Final}
+use Rattle.log_node.specs.declared.marks.Why.TheVariants.{StampEnd}
 use Rattle.std.specs.List.{fold}
 use Rattle.col_core.specs.History.{entry_key, line}
 use Rattle.world_laws.specs.declared.steps.Step.TheVariants.{Begin, Single, Seen}

@@ -10,8 +10,8 @@ use Rattle.log_node.specs.declared.ids.Colours.{Colours}
 use Rattle.log_node.specs.Sets.{members}
 use Rattle.world_laws.specs.declared.steps.Step.TheVariants.{Begin, Single}
 use Rattle.world_laws.specs.declared.steps.Reply.TheVariants as replies
-use Rattle.skeen_core.specs.declared.marks.Mark.TheVariants as marks
-use Rattle.skeen_core.specs.declared.marks.Outcome.TheVariants.{Open}
+use Rattle.log_node.specs.declared.marks.Mark.TheVariants as marks
+use Rattle.log_node.specs.declared.marks.Outcome.TheVariants.{Open}
 use Rattle.world_laws.specs.Worlds.{World, ClientState, RowState, after, reply, home_of, home_history, is_client}
 use Rattle.world_laws.specs.Worlds.{is_column, may_begin, may_single, next_row, next_id, single_stamp, after_begin}
 use Rattle.world_laws.specs.Worlds.{after_single, begun_node, is_begun, row_of}

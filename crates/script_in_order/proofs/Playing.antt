@@ -10,7 +10,7 @@ use Rattle.log_node.specs.declared.node.Node.{Node}
 use Rattle.log_node.specs.Seen.{PlacedNode}
 use Rattle.log_node.specs.Vectors.{at, vector, is_within, IsWithin}
 use Rattle.col_core.specs.declared.view.View.{View}
-use Rattle.col_core.specs.Cuts.{Chains, Reachable}
+use Rattle.log_node.specs.Reach.{Chains, Reachable}
 use Rattle.col_core.specs.Computed.{dated}
 use Rattle.col_core.specs.PlayOrder.{Place}
 use Rattle.col_core.proofs.CallerLemmas.{cut-is_greatest, reached_within, within-at}

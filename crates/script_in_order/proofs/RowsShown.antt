@@ -10,8 +10,8 @@ use Rattle.log_node.specs.declared.ids.Colours.{Colours}
 use Rattle.log_node.specs.declared.ids.Id.{Id}
 use Rattle.log_node.specs.declared.ids.Row.{Row}
 use Rattle.log_node.specs.declared.node.Node.{Node}
-use Rattle.skeen_core.specs.declared.marks.ColourMark.{ColourMark}
-use Rattle.skeen_core.specs.declared.marks.Outcome.{Outcome}
+use Rattle.log_node.specs.declared.marks.ColourMark.{ColourMark}
+use Rattle.log_node.specs.declared.marks.Outcome.{Outcome}
 use Rattle.world_laws.specs.Worlds.{World, home_of, is_begun, row_of, is_member, no_row}
 use Rattle.world_laws.specs.Laws.{begun_row, rows_of_client}
 use Rattle.world_code.specs.WorldView.{WorldView, world_of, client_at, IsWhole}

@@ -5,7 +5,7 @@ use Rattle.std.proofs.Common.{Bool, Some, None}
 use Rattle.std.specs.Prelude.{slice_get}
 use Rattle.std.specs.Option.{option_map}
 use Rattle.log_node.specs.declared.ids.Key.{Key}
-use Rattle.skeen_core.specs.Standings.{Standing}
+use Rattle.log_node.specs.Standings.{Standing}
 use Rattle.report_text.specs.declared.report.QueueKey.{QueueKey}
 use Rattle.script_in_order.specs.Reports.{waiting_shown}
 use Rattle.std.proofs.lemmas.List.{take_more, map-append}

@@ -7,7 +7,7 @@ use Rattle.std.proofs.lemmas.Bool.{eq-eqb, ltb-false}
 use Rattle.log_node.specs.declared.ids.Id.{Id}
 use Rattle.log_node.specs.declared.ids.Key.{Key}
 use Rattle.log_node.specs.Order.{same_id, same_key}
-use Rattle.skeen_core.specs.Standings.{Standing}
+use Rattle.log_node.specs.Standings.{Standing}
 use Rattle.col_core.specs.History.{entries, line}
 use Rattle.col_core.proofs.CallerLemmas.{by_test, same_id-true, In, in_line}
 use Rattle.world_laws.specs.Worlds.{World}

@@ -1,7 +1,7 @@
 -- What the report shows of a world and its replies.
 use Rattle.std.specs.Prelude.{ℕ, List, [], map, length, unwrap_or, slice_get, slice_index_or}
 use Rattle.std.specs.List.{flat_map, range_with_len}
-use Rattle.skeen_core.specs.Standings.{Standing, queue_of}
+use Rattle.log_node.specs.Standings.{Standing, queue_of}
 use Rattle.col_core.specs.declared.Entry.{Entry}
 use Rattle.col_core.specs.History.{clock, entries, line}
 use Rattle.world_laws.specs.Worlds.{World, cut_after, base_after}

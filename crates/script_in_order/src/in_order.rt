@@ -9,10 +9,10 @@ ghost use Rattle.script_meaning.specs.Meaning.{IsStepReport, FindsMemory, step_r
 
 use crate::reports::report;
 use crate::run::{do_next, open_world, room_for_replies};
+use log_node::MAX_ROWS;
 use report_text::Report;
 use script_meaning::{runs_are_exact, runs_are_lawful};
 use script_text::Script;
-use skeen_core::MAX_ROWS;
 use std::alloc::{AllocError, Global};
 
 /// Does the commands of a script in the order of the file. A command that finds no memory is answered so, and the

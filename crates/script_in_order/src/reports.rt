@@ -3,7 +3,7 @@ ghost use Rattle.std.specs.Prelude.{◌≡◌, ℕ, slice_index_or, ◌<◌, ◌
 ghost use Rattle.std.specs.Prelude.{IfOk, OnOk};
 ghost use Rattle.std.specs.List.{All, enumerate_from};
 ghost use Rattle.script_text.specs.Fitting.{IsFitting};
-ghost use Rattle.skeen_core.specs.Standings.{queue_of};
+ghost use Rattle.log_node.specs.Standings.{queue_of};
 ghost use Rattle.col_core.specs.History.{entries};
 ghost use Rattle.world_code.specs.WorldView.{IsPlaced, no_column, column_at};
 ghost use Rattle.script_meaning.specs.Meaning.{report_of};

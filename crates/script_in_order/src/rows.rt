@@ -6,9 +6,8 @@ ghost use Rattle.world_laws.specs.Worlds.{is_begun, is_member};
 ghost use Rattle.world_code.specs.WorldView.{world_of};
 ghost use Rattle.script_in_order.specs.Reports.{client_rows_shown, region_rows_shown};
 
-use log_node::{Colours, ListOf, MAX_COLOURS, Row};
+use log_node::{ColourMark, Colours, ListOf, MAX_CLIENTS, MAX_COLOURS, Marks, Row};
 use report_text::RowReport;
-use skeen_core::{ColourMark, MAX_CLIENTS, Marks};
 use std::alloc::{AllocError, Global};
 use world_code::World;
 use world_laws::is_lawful;

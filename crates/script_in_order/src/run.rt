@@ -11,9 +11,8 @@ ghost use Rattle.script_in_order.specs.Runs.{no_replies, replies_at, asks, IsDon
 
 use crate::answers::{answer, reply_of};
 use crate::replies::Replies;
-use log_node::{ListOf, Shape};
+use log_node::{ListOf, MAX_ROWS, Shape};
 use script_text::{Command, Script};
-use skeen_core::MAX_ROWS;
 use std::alloc::{AllocError, Global};
 use world_code::World;
 

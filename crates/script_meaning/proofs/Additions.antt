@@ -8,7 +8,7 @@ use Rattle.log_node.specs.declared.ids.Id.{Id}
 use Rattle.log_node.specs.declared.ids.Row.{Row}
 use Rattle.log_node.specs.declared.node.Node.{Node}
 use Rattle.log_node.specs.declared.node.Shape.{Shape}
-use Rattle.skeen_core.specs.declared.marks.Mark.TheVariants as marks
+use Rattle.log_node.specs.declared.marks.Mark.TheVariants as marks
 use Rattle.col_core.specs.declared.Event.{Event}
 use Rattle.col_core.specs.declared.Event.TheVariants as events
 use Rattle.col_core.specs.declared.Entry.{Entry}

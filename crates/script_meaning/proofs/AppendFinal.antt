@@ -13,12 +13,12 @@ use Rattle.log_node.specs.declared.node.At.TheVariants.{Event}
 use Rattle.log_node.specs.declared.node.Node.{Node}
 use Rattle.log_node.specs.declared.node.Shape.{Shape}
 use Rattle.log_node.specs.Sets.{members}
-use Rattle.skeen_core.specs.declared.marks.Mark.TheVariants as marks
-use Rattle.skeen_core.specs.declared.marks.Outcome.TheVariants.{Final}
-use Rattle.skeen_core.specs.Outcomes.{is_missing, is_stamp_end_fence, is_memory_fence, number_of, greatest}
+use Rattle.log_node.specs.declared.marks.Mark.TheVariants as marks
+use Rattle.log_node.specs.declared.marks.Outcome.TheVariants.{Final}
+use Rattle.log_node.specs.Outcomes.{is_missing, is_stamp_end_fence, is_memory_fence, number_of, greatest}
 use Rattle.col_core.specs.declared.Event.TheVariants as events
 use Rattle.col_core.specs.History.{clock, entries, entry_key, line}
-use Rattle.skeen_core.specs.Standings.{Standing}
+use Rattle.log_node.specs.Standings.{Standing}
 use Rattle.col_core.specs.Rows.{node_wants}
 use Rattle.col_core.specs.Log.{IsLater, HasOutcome}
 use Rattle.col_core.specs.Keeping.{Kept, with_made, with_row, with_floor}

@@ -10,8 +10,8 @@ use Rattle.log_node.specs.declared.ids.Counts.{Counts}
 use Rattle.log_node.specs.declared.node.Node.{Node}
 use Rattle.log_node.specs.declared.node.Shape.{Shape}
 use Rattle.log_node.specs.Sets.{members}
-use Rattle.skeen_core.specs.declared.marks.Mark.TheVariants as marks
-use Rattle.skeen_core.specs.declared.marks.Outcome.TheVariants.{Open}
+use Rattle.log_node.specs.declared.marks.Mark.TheVariants as marks
+use Rattle.log_node.specs.declared.marks.Outcome.TheVariants.{Open}
 use Rattle.col_core.specs.declared.Entry.{Entry}
 use Rattle.col_core.specs.History.{line}
 use Rattle.col_core.specs.Log.{Log, IsLater, IsBegunFor, places_from, places_of}

@@ -4,9 +4,9 @@ use Rattle.std.specs.Prelude.{◌==◌, ◌&&◌, slice_get}
 use Rattle.std.proofs.lemmas.Bool.{lt-ltb}
 use Rattle.log_node.specs.declared.ids.Id.{Id}
 use Rattle.log_node.specs.declared.ids.Row.{Row}
-use Rattle.skeen_core.specs.declared.marks.Why.TheVariants.{Memory, StampEnd}
-use Rattle.skeen_core.specs.Outcomes.{is_missing}
-use Rattle.skeen_core.specs.Standings.{Standing}
+use Rattle.log_node.specs.declared.marks.Why.TheVariants.{Memory, StampEnd}
+use Rattle.log_node.specs.Outcomes.{is_missing}
+use Rattle.log_node.specs.Standings.{Standing}
 use Rattle.col_core.specs.History.{entries}
 use Rattle.col_core.proofs.CallerLemmas.{choice, open_waits, In, Status, Absent, Alone, Waits, standing_of}
 use Rattle.world_laws.specs.declared.steps.Step.{Step}

@@ -4,7 +4,7 @@ use Rattle.std.specs.Prelude.{◌&&◌, ◌≢◌, not}
 use Rattle.std.specs.List.{filter}
 use Rattle.log_node.specs.declared.ids.Key.{Key}
 use Rattle.log_node.specs.Order.{key_below}
-use Rattle.skeen_core.specs.Standings.{Standing}
+use Rattle.log_node.specs.Standings.{Standing}
 use Rattle.col_core.proofs.CallerLemmas.{key-irrefl, entries-of, In, Rises, rises, rises-filter}
 use Rattle.world_laws.specs.Worlds.{World}
 use Rattle.world_laws.proofs.CallerLemmas.{Held, lawful_past_in}

@@ -7,9 +7,9 @@ use Rattle.std.proofs.lemmas.Grind.{fold-append}
 use Rattle.std.proofs.lemmas.Option.{slice_get-map}
 use Rattle.std.specs.Option.{option_map}
 use Rattle.log_node.specs.declared.node.Shape.{Shape}
-use Rattle.skeen_core.specs.declared.marks.Why.TheVariants.{Memory}
-use Rattle.skeen_core.specs.declared.marks.Mark.TheVariants as marks
-use Rattle.skeen_core.specs.declared.marks.ColourMark.{ColourMark}
+use Rattle.log_node.specs.declared.marks.Why.TheVariants.{Memory}
+use Rattle.log_node.specs.declared.marks.Mark.TheVariants as marks
+use Rattle.log_node.specs.declared.marks.ColourMark.{ColourMark}
 use Rattle.col_core.proofs.CallerLemmas.{In}
 use Rattle.world_laws.specs.Worlds.{home_of, row_of}
 use Rattle.world_laws.specs.Completing.{colours_of}

@@ -7,10 +7,10 @@ use Rattle.log_node.specs.declared.ids.Key.{Key}
 use Rattle.log_node.specs.declared.ids.Row.{Row}
 use Rattle.log_node.specs.declared.node.Node.{Node}
 use Rattle.log_node.specs.Sets.{members}
-use Rattle.skeen_core.specs.declared.marks.Why.TheVariants.{Memory, StampEnd}
-use Rattle.skeen_core.specs.declared.marks.Mark.TheVariants as marks
-use Rattle.skeen_core.specs.Outcomes.{is_missing}
-use Rattle.skeen_core.specs.Standings.{Standing}
+use Rattle.log_node.specs.declared.marks.Why.TheVariants.{Memory, StampEnd}
+use Rattle.log_node.specs.declared.marks.Mark.TheVariants as marks
+use Rattle.log_node.specs.Outcomes.{is_missing}
+use Rattle.log_node.specs.Standings.{Standing}
 use Rattle.col_core.specs.Keeping.{updated}
 use Rattle.col_core.proofs.CallerLemmas.{by_test, if_true, if_false, In}
 use Rattle.world_laws.specs.declared.steps.Step.{Step}

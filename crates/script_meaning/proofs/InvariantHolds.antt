@@ -6,9 +6,9 @@ use Rattle.std.proofs.lemmas.Bool.{and_from, ltb-true, lt-ltb, cases_lt}
 use Rattle.log_node.specs.declared.ids.Row.{Row}
 use Rattle.log_node.specs.declared.ids.Colours.{Colours}
 use Rattle.log_node.specs.Sets.{members}
-use Rattle.skeen_core.specs.declared.marks.Why.TheVariants.{Memory, StampEnd}
-use Rattle.skeen_core.specs.declared.marks.Outcome.{Outcome}
-use Rattle.skeen_core.specs.declared.marks.Outcome.TheVariants.{Open, Gone, Final}
+use Rattle.log_node.specs.declared.marks.Why.TheVariants.{Memory, StampEnd}
+use Rattle.log_node.specs.declared.marks.Outcome.{Outcome}
+use Rattle.log_node.specs.declared.marks.Outcome.TheVariants.{Open, Gone, Final}
 use Rattle.col_core.proofs.CallerLemmas.{choice, both, apart, not_true, if_true, In}
 use Rattle.world_laws.specs.declared.steps.Step.TheVariants.{Seen}
 use Rattle.world_laws.specs.Worlds.{World, home_of, after, run_steps, row_of, next_row, is_client, is_column, may_begin, may_single, after_begin, single_stamp, next_id}

@@ -9,8 +9,8 @@ use Rattle.std.proofs.lemmas.List.Elements.{All-nil, All-append, All-map}
 use Rattle.std.proofs.lemmas.Option.{slice_get-map}
 use Rattle.std.proofs.lemmas.Simd.{map-map}
 use Rattle.log_node.specs.declared.node.Shape.{Shape}
-use Rattle.skeen_core.specs.declared.marks.Outcome.TheVariants.{Open}
-use Rattle.skeen_core.specs.Standings.{Standing, queue_of, open_entry}
+use Rattle.log_node.specs.declared.marks.Outcome.TheVariants.{Open}
+use Rattle.log_node.specs.Standings.{Standing, queue_of, open_entry}
 use Rattle.col_core.specs.declared.Entry.{Entry}
 use Rattle.col_core.specs.History.{entries}
 use Rattle.col_core.specs.Computed.{dated}

@@ -9,8 +9,8 @@ use Rattle.log_node.specs.declared.ids.Counts.{Counts}
 use Rattle.log_node.specs.declared.node.Head.{Head}
 use Rattle.log_node.specs.Seen.{PlacedNode}
 use Rattle.log_node.specs.Vectors.{at, all_regions}
-use Rattle.skeen_core.specs.Outcomes.{greatest}
-use Rattle.col_core.specs.Cuts.{Chains, Reachable}
+use Rattle.log_node.specs.Outcomes.{greatest}
+use Rattle.log_node.specs.Reach.{Chains, Reachable}
 use Rattle.col_core.specs.PlayOrder.{Place, same_place, is_between, Stands, IsPlayOrder, nodes_between, greatest_between}
 use Rattle.col_core.proofs.CallerLemmas.{by_test, both, reached_within, In, same_place-is, same_place-itself}
 use Rattle.world_laws.proofs.CallerLemmas.{in_left, in_right, in_flat_map}

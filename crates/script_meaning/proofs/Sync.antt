@@ -12,7 +12,8 @@ use Rattle.log_node.specs.Seen.{PlacedNode}
 use Rattle.log_node.specs.Vectors.{at, IsWithin, is_within}
 use Rattle.col_core.specs.declared.Entry.{Entry}
 use Rattle.col_core.specs.History.{line}
-use Rattle.col_core.specs.Cuts.{Chains, Dated, Reachable, IsGreatestReachable, chain, base}
+use Rattle.log_node.specs.Reach.{Chains, Reachable, IsGreatestReachable}
+use Rattle.col_core.specs.Cuts.{Dated, chain, base}
 use Rattle.col_core.specs.Computed.{dated}
 use Rattle.col_core.specs.Copies.{AreTrueCopies}
 use Rattle.col_core.specs.Log.{Log, first}

@@ -2,10 +2,10 @@
 use Rattle.std.specs.Prelude.{◌≡◌, ◌≢◌, ℕ, List, [], ◌∷◌, ◌++◌, map, unwrap_or, slice_get, if◌then◌else◌}
 use Rattle.std.specs.List.{All, fold, flat_map, range_with_len, enumerate_from}
 use Rattle.log_node.specs.Sets.{members}
-use Rattle.skeen_core.specs.declared.marks.Why.TheVariants.{Memory}
-use Rattle.skeen_core.specs.declared.marks.Mark.TheVariants as marks
-use Rattle.skeen_core.specs.declared.marks.ColourMark.{ColourMark}
-use Rattle.skeen_core.specs.Standings.{Standing, queue_of}
+use Rattle.log_node.specs.declared.marks.Why.TheVariants.{Memory}
+use Rattle.log_node.specs.declared.marks.Mark.TheVariants as marks
+use Rattle.log_node.specs.declared.marks.ColourMark.{ColourMark}
+use Rattle.log_node.specs.Standings.{Standing, queue_of}
 use Rattle.col_core.specs.History.{clock, entries, line}
 use Rattle.world_laws.specs.Worlds.{World, cut_after, base_after}
 use Rattle.world_laws.specs.Laws.{rows_of_region}

@@ -12,7 +12,7 @@ use Rattle.script_text.specs.declared.script.Command.{Command}
 use Rattle.report_text.specs.declared.report.Answer.TheVariants as answers
 use Rattle.log_node.specs.declared.node.At.{At}
 use Rattle.log_node.specs.Vectors.{zeros}
-use Rattle.col_core.specs.Cuts.{Chains}
+use Rattle.log_node.specs.Reach.{Chains}
 use Rattle.playback.specs.Orders.{play_order}
 use Rattle.script_meaning.specs.States.{State, Grants, answered}
 use Rattle.script_meaning.specs.Helping.{node_with}

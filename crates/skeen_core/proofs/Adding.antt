@@ -8,7 +8,7 @@ use Rattle.log_node.specs.declared.ids.Key.{Key}
 use Rattle.log_node.specs.Order.{same_id, key_below}
 use Rattle.log_node.specs.declared.limits.TheConstants.{MAX_STAMP}
 use Rattle.skeen_core.specs.declared.waiting.Waiting.{Waiting}
-use Rattle.skeen_core.specs.Standings.{Standing, with_entry, line_of}
+use Rattle.log_node.specs.Standings.{Standing, with_entry, line_of}
 use Rattle.skeen_core.specs.Queues.{Queued, standing_of, has_id, entered_queue}
 use Rattle.skeen_core.specs.Inside.{final_at, all_entries, all_stored, with_things, queued, AreEntries, StartsOpen}
 use Rattle.skeen_core.specs.Inside.{IsQueue, ready_keys, ready_things, left}

@@ -9,7 +9,7 @@ use Rattle.std.proofs.lemmas.List.{map-append, drop-append-le, length-map}
 use Rattle.log_node.specs.declared.ids.Key.{Key}
 use Rattle.log_node.specs.declared.limits.TheConstants.{MAX_STAMP}
 use Rattle.skeen_core.specs.declared.waiting.Waiting.{Waiting}
-use Rattle.skeen_core.specs.Standings.{Standing, line_of}
+use Rattle.log_node.specs.Standings.{Standing, line_of}
 use Rattle.skeen_core.specs.Queues.{Queued, standing_of, IsContinued}
 use Rattle.skeen_core.specs.Inside.{final_at, all_stored, all_entries, with_things, queued, AreEntries, StartsOpen}
 use Rattle.skeen_core.specs.Inside.{IsQueue, ready, ready_keys, ready_things, left}

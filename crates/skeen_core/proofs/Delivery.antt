@@ -11,7 +11,7 @@ use Rattle.std.proofs.lemmas.List.Folds.{list_all-append}
 use Rattle.log_node.specs.declared.ids.Key.{Key}
 use Rattle.log_node.specs.Order.{key_below}
 use Rattle.skeen_core.specs.declared.waiting.Waiting.{Waiting}
-use Rattle.skeen_core.specs.Standings.{Standing, is_delivered, line_of, queue_of}
+use Rattle.log_node.specs.Standings.{Standing, is_delivered, line_of, queue_of}
 use Rattle.skeen_core.specs.Queues.{standing_of}
 use Rattle.skeen_core.specs.Inside.{final_at, all_entries, all_stored, with_things, StartsOpen, IsRising, AreEntries}
 use Rattle.skeen_core.proofs.Lists.{each-weaker, each-append, each-map, each-of_map, filter-all, filter-none}

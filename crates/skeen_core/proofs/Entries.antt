@@ -6,7 +6,7 @@ use Rattle.std.specs.List.{AllByRecursion, filter, list_all}
 use Rattle.std.proofs.lemmas.Bool.{cond_both, cond-true, cond-false, not-true, false≢true, both_ways}
 use Rattle.log_node.specs.declared.ids.Id.{Id}
 use Rattle.log_node.specs.Order.{same_id, key_below}
-use Rattle.skeen_core.specs.Standings.{Standing, with_entry, without_id}
+use Rattle.log_node.specs.Standings.{Standing, with_entry, without_id}
 use Rattle.skeen_core.specs.Inside.{IsRising, AreApart, AreEntries}
 use Rattle.skeen_core.proofs.Lists.{each-weaker, each-append, each-left, each-right, each-both, each-filter}
 use Rattle.skeen_core.proofs.Lists.{each-filtered}

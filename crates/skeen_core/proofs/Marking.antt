@@ -3,8 +3,8 @@ use Rattle.std.proofs.Common.{◌≡◌, ℕ, ◌<◌, List, length, get_or, set
 use Rattle.std.specs.Prelude.{slice_get}
 use Rattle.std.proofs.lemmas.List.{set-get_or}
 use Rattle.std.proofs.lemmas.Option.{slice_get-get_or}
-use Rattle.skeen_core.specs.declared.marks.Mark.{Mark}
-use Rattle.skeen_core.specs.declared.marks.Mark.TheVariants as marks
+use Rattle.log_node.specs.declared.marks.Mark.{Mark}
+use Rattle.log_node.specs.declared.marks.Mark.TheVariants as marks
 use Rattle.skeen_core.specs.declared.board_row.BoardRow.{BoardRow}
 use Rattle.skeen_core.specs.Boards.{mark_at, first_mark, with_mark, changed_at, changed_by}
 

@@ -10,7 +10,7 @@ use Rattle.std.proofs.lemmas.List.{get_or-map}
 use Rattle.log_node.specs.declared.ids.Key.{Key}
 use Rattle.log_node.specs.Order.{key_below}
 use Rattle.skeen_core.specs.declared.waiting.Waiting.{Waiting}
-use Rattle.skeen_core.specs.Standings.{Standing}
+use Rattle.log_node.specs.Standings.{Standing}
 use Rattle.skeen_core.specs.Queues.{standing_of, with_stored}
 use Rattle.skeen_core.specs.Inside.{IsRising, IsRisingStored}
 use Rattle.skeen_core.proofs.Lists.{each-at, each-map, each-left, each-right}

@@ -10,12 +10,12 @@ use Rattle.std.proofs.lemmas.List.{append-nil}
 use Rattle.std.proofs.lemmas.List.Elements.{filter-append}
 use Rattle.log_node.specs.declared.ids.Colours.{Colours}
 use Rattle.log_node.specs.Sets.{has, members}
-use Rattle.skeen_core.specs.declared.marks.Mark.{Mark}
-use Rattle.skeen_core.specs.declared.marks.Why.TheVariants.{Memory, StampEnd}
-use Rattle.skeen_core.specs.declared.marks.Outcome.{Outcome}
-use Rattle.skeen_core.specs.declared.marks.Outcome.TheVariants.{Open, Gone, Final}
+use Rattle.log_node.specs.declared.marks.Mark.{Mark}
+use Rattle.log_node.specs.declared.marks.Why.TheVariants.{Memory, StampEnd}
+use Rattle.log_node.specs.declared.marks.Outcome.{Outcome}
+use Rattle.log_node.specs.declared.marks.Outcome.TheVariants.{Open, Gone, Final}
 use Rattle.skeen_core.specs.declared.board_row.BoardRow.{BoardRow}
-use Rattle.skeen_core.specs.Outcomes.{outcome_of, is_missing, is_stamp_end_fence, is_memory_fence, number_of, greatest}
+use Rattle.log_node.specs.Outcomes.{outcome_of, is_missing, is_stamp_end_fence, is_memory_fence, number_of, greatest}
 use Rattle.skeen_core.specs.Boards.{mark_at, marks_above, row_marks}
 
 range_split : (a n m : ℕ) → range_with_len a (n + m) ≡ range_with_len a n ++ range_with_len (a + n) m

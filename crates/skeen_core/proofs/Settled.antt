@@ -9,11 +9,11 @@ use Rattle.log_node.specs.declared.ids.Id.{Id}
 use Rattle.log_node.specs.declared.ids.Key.{Key}
 use Rattle.log_node.specs.Order.{same_id, key_below}
 use Rattle.log_node.specs.declared.limits.TheConstants.{MAX_STAMP}
-use Rattle.skeen_core.specs.declared.marks.Outcome.{Outcome}
-use Rattle.skeen_core.specs.declared.marks.Outcome.TheVariants.{Open, Gone, Final}
+use Rattle.log_node.specs.declared.marks.Outcome.{Outcome}
+use Rattle.log_node.specs.declared.marks.Outcome.TheVariants.{Open, Gone, Final}
 use Rattle.skeen_core.specs.declared.waiting.Waiting.{Waiting}
-use Rattle.skeen_core.specs.Outcomes.{final_number}
-use Rattle.skeen_core.specs.Standings.{Standing, with_entry, without_id, settled_entries, is_open_id, open_entry}
+use Rattle.log_node.specs.Outcomes.{final_number}
+use Rattle.log_node.specs.Standings.{Standing, with_entry, without_id, settled_entries, is_open_id, open_entry}
 use Rattle.skeen_core.specs.Queues.{Queued, standing_of, final_entry, with_stored, stored_without, with_found}
 use Rattle.skeen_core.specs.Queues.{settled_stored, settled_queue, MaySettle}
 use Rattle.skeen_core.specs.Inside.{final_at, all_entries, all_stored, with_things, queued, AreEntries, IsQueue}

@@ -11,11 +11,11 @@ use Rattle.std.proofs.lemmas.List.Folds.{list_any_at, list_any-append}
 use Rattle.log_node.specs.declared.ids.Id.{Id}
 use Rattle.log_node.specs.declared.ids.Key.{Key}
 use Rattle.log_node.specs.Order.{same_id, key_below}
-use Rattle.skeen_core.specs.declared.marks.Outcome.{Outcome}
-use Rattle.skeen_core.specs.declared.marks.Outcome.TheVariants.{Open, Gone, Final}
+use Rattle.log_node.specs.declared.marks.Outcome.{Outcome}
+use Rattle.log_node.specs.declared.marks.Outcome.TheVariants.{Open, Gone, Final}
 use Rattle.skeen_core.specs.declared.waiting.Waiting.{Waiting}
-use Rattle.skeen_core.specs.Outcomes.{final_number}
-use Rattle.skeen_core.specs.Standings.{Standing, with_entry, without_id, settled_entries, is_open_id, open_entry}
+use Rattle.log_node.specs.Outcomes.{final_number}
+use Rattle.log_node.specs.Standings.{Standing, with_entry, without_id, settled_entries, is_open_id, open_entry}
 use Rattle.skeen_core.specs.Queues.{Queued, standing_of, has_open, final_entry, with_stored, stored_without}
 use Rattle.skeen_core.specs.Queues.{with_found, settled_stored, settled_queue, MaySettle}
 use Rattle.skeen_core.specs.Inside.{final_at, all_entries, all_stored, with_things, queued, AreEntries, AreApart}

@@ -8,7 +8,7 @@ use Rattle.std.proofs.lemmas.List.{take_at, drop_at, drop-append-le, drop-drop}
 use Rattle.log_node.specs.declared.ids.Key.{Key}
 use Rattle.skeen_core.specs.declared.waiting.Waiting.{Waiting}
 use Rattle.skeen_core.specs.Queues.{Queued, kept_entries, waiting_entries}
-use Rattle.skeen_core.specs.Standings.{line_of}
+use Rattle.log_node.specs.Standings.{line_of}
 use Rattle.skeen_core.specs.Inside.{all_stored, all_entries, with_things, queued, IsQueue}
 use Rattle.skeen_core.proofs.Delivery.{line-is}
 

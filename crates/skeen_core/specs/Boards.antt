@@ -7,15 +7,15 @@ use Rattle.log_node.specs.declared.ids.Colours.{Colours}
 use Rattle.log_node.specs.declared.ids.Row.{Row}
 use Rattle.log_node.specs.declared.node.Node.{Node}
 use Rattle.log_node.specs.Sets.{has, members}
-use Rattle.skeen_core.specs.declared.marks.Mark.{Mark}
-use Rattle.skeen_core.specs.declared.marks.Mark.TheVariants as marks
-use Rattle.skeen_core.specs.declared.marks.Marked.{Marked}
-use Rattle.skeen_core.specs.declared.marks.Marked.TheVariants.{Set, Already}
-use Rattle.skeen_core.specs.declared.marks.Outcome.{Outcome}
-use Rattle.skeen_core.specs.declared.marks.Outcome.TheVariants.{Open, Gone, Final}
+use Rattle.log_node.specs.declared.marks.Mark.{Mark}
+use Rattle.log_node.specs.declared.marks.Mark.TheVariants as marks
+use Rattle.log_node.specs.declared.marks.Marked.{Marked}
+use Rattle.log_node.specs.declared.marks.Marked.TheVariants.{Set, Already}
+use Rattle.log_node.specs.declared.marks.Outcome.{Outcome}
+use Rattle.log_node.specs.declared.marks.Outcome.TheVariants.{Open, Gone, Final}
 use Rattle.log_node.specs.declared.limits.TheConstants.{MAX_COLOURS}
 use Rattle.skeen_core.specs.declared.board_row.BoardRow.{BoardRow}
-use Rattle.skeen_core.specs.Outcomes.{outcome_of, is_missing}
+use Rattle.log_node.specs.Outcomes.{outcome_of, is_missing}
 
 -- a board: its numbers of colours and of rows for each client, and the begun rows of each client in their order
 pub record Board : Type 0 where

@@ -3,7 +3,7 @@ use Rattle.std.specs.Prelude.{Bool, ℕ, refl}
 use Rattle.std.specs.Coded.{Coded, code_by, coded×, coded_ℕ, coded_bool}
 use Rattle.log_node.specs.declared.ids.Key.{Key}
 use Rattle.skeen_core.specs.declared.waiting.Waiting.{Waiting}
-use Rattle.skeen_core.specs.Standings.{Standing}
+use Rattle.log_node.specs.Standings.{Standing}
 
 abbrev pub key_code : Coded Key
 key_code =

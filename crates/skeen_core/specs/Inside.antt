@@ -4,13 +4,13 @@ use Rattle.std.specs.Prelude.{List, [], ◌∷◌, ◌++◌, map, take, drop, le
 use Rattle.std.specs.List.{AllByRecursion, prefix_len}
 use Rattle.log_node.specs.declared.ids.Key.{Key}
 use Rattle.log_node.specs.Order.{same_id, key_below}
-use Rattle.skeen_core.specs.declared.marks.Why.TheVariants.{Memory, StampEnd}
-use Rattle.skeen_core.specs.declared.marks.Outcome.{Outcome}
-use Rattle.skeen_core.specs.declared.marks.Outcome.TheVariants.{Open, Gone, Final}
+use Rattle.log_node.specs.declared.marks.Why.TheVariants.{Memory, StampEnd}
+use Rattle.log_node.specs.declared.marks.Outcome.{Outcome}
+use Rattle.log_node.specs.declared.marks.Outcome.TheVariants.{Open, Gone, Final}
 use Rattle.skeen_core.specs.declared.outcomes.Tally.{Tally}
 use Rattle.log_node.specs.declared.limits.TheConstants.{MAX_STAMP}
 use Rattle.skeen_core.specs.declared.waiting.Waiting.{Waiting}
-use Rattle.skeen_core.specs.Standings.{Standing}
+use Rattle.log_node.specs.Standings.{Standing}
 use Rattle.skeen_core.specs.Queues.{Queued, standing_of}
 
 -- the final entry under a key

@@ -7,12 +7,12 @@ use Rattle.log_node.specs.declared.ids.Id.{Id}
 use Rattle.log_node.specs.declared.ids.Key.{Key}
 use Rattle.log_node.specs.Order.{same_id, key_below}
 use Rattle.log_node.specs.declared.limits.TheConstants.{MAX_STAMP}
-use Rattle.skeen_core.specs.declared.marks.Outcome.{Outcome}
-use Rattle.skeen_core.specs.declared.marks.Outcome.TheVariants.{Open, Gone, Final}
+use Rattle.log_node.specs.declared.marks.Outcome.{Outcome}
+use Rattle.log_node.specs.declared.marks.Outcome.TheVariants.{Open, Gone, Final}
 use Rattle.skeen_core.specs.declared.waiting.Waiting.{Waiting}
-use Rattle.skeen_core.specs.Outcomes.{final_number}
+use Rattle.log_node.specs.Outcomes.{final_number}
 use Rattle.skeen_core.specs.Codes.{standing_code, waiting_code}
-use Rattle.skeen_core.specs.Standings.{Standing, is_open_id, open_entry, settled_entries, with_entry, line_of}
+use Rattle.log_node.specs.Standings.{Standing, is_open_id, open_entry, settled_entries, with_entry, line_of}
 
 -- a delivery queue: its clock, all its entries in rising key, how many things of its line are dropped, the entries
 -- from there on with their things, and for how many more entries it has memory

@@ -1,13 +1,12 @@
 // A begun row: its marks, one after another, and the outcome that they have.
 ghost use Rattle.std.specs.Prelude.{◌≡◌, ◌+◌, ◌-◌, ◌<◌, ◌≤◌, ◌||◌, ◌==◌, map, length};
 ghost use Rattle.std.specs.List.{list_any};
-ghost use Rattle.skeen_core.specs.Outcomes.{outcome_of, is_missing, is_stamp_end_fence, is_memory_fence};
-ghost use Rattle.skeen_core.specs.Outcomes.{number_of, greatest};
+ghost use Rattle.log_node.specs.Outcomes.{outcome_of, is_missing, is_stamp_end_fence, is_memory_fence};
+ghost use Rattle.log_node.specs.Outcomes.{number_of, greatest};
 ghost use Rattle.skeen_core.specs.Boards.{row_marks, marks_above};
 
-use crate::marks::{Mark, Outcome};
 use crate::outcomes::{Tally, outcome_of_tally, with_mark};
-use log_node::{Colours, Id, MAX_COLOURS};
+use log_node::{Colours, Id, MAX_COLOURS, Mark, Outcome};
 
 // A mark for every colour that there may be.
 pub(crate) const MARKS: usize = MAX_COLOURS as usize;

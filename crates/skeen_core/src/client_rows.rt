@@ -4,8 +4,7 @@ ghost use Rattle.std.specs.Option.{option_copied};
 ghost use Rattle.skeen_core.specs.Boards.{changed_at, mark_in, with_mark, decided, outcome_in};
 
 use crate::board_row::{BoardRow, outcome_of_row};
-use crate::marks::{Mark, Outcome};
-use log_node::{MAX_COLOURS, MAX_ROWS};
+use log_node::{MAX_COLOURS, MAX_ROWS, Mark, Outcome};
 use std::alloc::{AllocError, Global};
 use std::marker::Model;
 

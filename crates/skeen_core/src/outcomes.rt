@@ -1,11 +1,11 @@
 // The outcome of a row's marks.
 ghost use Rattle.std.specs.Prelude.{◌≡◌, ◌<◌, ◌||◌, max, map, length};
 ghost use Rattle.std.specs.List.{list_any};
-ghost use Rattle.skeen_core.specs.Outcomes.{outcome_of, is_missing, is_stamp_end_fence, is_memory_fence};
-ghost use Rattle.skeen_core.specs.Outcomes.{number_of, greatest, final_number};
+ghost use Rattle.log_node.specs.Outcomes.{outcome_of, is_missing, is_stamp_end_fence, is_memory_fence};
+ghost use Rattle.log_node.specs.Outcomes.{number_of, greatest, final_number};
 ghost use Rattle.skeen_core.specs.Inside.{outcome_among};
 
-use crate::marks::{Mark, Outcome, Why};
+use log_node::{Mark, Outcome, Why};
 
 // What the marks seen so far have among them.
 #[derive(Clone, Copy)]

@@ -3,17 +3,16 @@
 // Communication in the Presence of Failures" (1987). That things can be dropped and keys stay is this project's own.
 ghost use Rattle.std.specs.Prelude.{◌≡◌, ◌+◌, ◌-◌, ◌<◌, ◌≤◌, ◌&&◌, max, nat_lt, false, true, [], ◌++◌};
 ghost use Rattle.std.specs.Prelude.{map, drop, length, vec_len, vec_capacity, if◌then◌else◌, IfOk, IfErr, OnOk, OnErr};
-ghost use Rattle.skeen_core.specs.Standings.{line_of, queue_of};
+ghost use Rattle.log_node.specs.Standings.{line_of, queue_of};
 ghost use Rattle.skeen_core.specs.Queues.{Queued, standing_of, entry_under, has_id, has_open, is_decided, IsContinued};
 ghost use Rattle.skeen_core.specs.Queues.{stamp_after, HasStamp, IsAtEnd, MaySettle};
 ghost use Rattle.skeen_core.specs.Queues.{entered_queue, settled_queue, dropped_queue, kept_entries, waiting_entries};
 ghost use Rattle.skeen_core.specs.Inside.{ready_keys, ready_things, left};
 
-use crate::marks::Outcome;
 use crate::outcomes::final_number;
 use crate::stamps::StampEnd;
 use crate::waiting::{Waiting, final_front, put, settle_entry};
-use log_node::{Id, Key, MAX_STAMP};
+use log_node::{Id, Key, MAX_STAMP, Outcome};
 use std::alloc::{AllocError, Global};
 use std::marker::Model;
 

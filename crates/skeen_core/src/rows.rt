@@ -1,14 +1,13 @@
 // The stamp board of one thread: the rows of a region's clients, each with a mark for every colour.
 ghost use Rattle.std.specs.Prelude.{◌≡◌, ◌<◌, ◌≤◌, length, Some, IfOk, IfErr, OnOk, OnErr};
-ghost use Rattle.skeen_core.specs.Marks.{IsStamp};
+ghost use Rattle.log_node.specs.Marks.{IsStamp};
 ghost use Rattle.skeen_core.specs.Boards.{Board, begun_at, next_of, HasRow, IsFull, IsRow, IsBegunWith};
 ghost use Rattle.skeen_core.specs.Boards.{mark_in, outcome_in, last_in, first_mark, marked};
 ghost use Rattle.skeen_core.specs.Boards.{with_mark, decided, with_changed, with_begun, fresh_row_of, empty_board};
 
 use crate::board_row::{BoardRow, MARKS};
 use crate::client_rows::ClientRows;
-use crate::marks::{Full, Mark, Marked, Outcome, Why};
-use log_node::{MAX_CLIENTS, MAX_COLOURS, MAX_ROWS, Node, Row};
+use log_node::{Full, MAX_CLIENTS, MAX_COLOURS, MAX_ROWS, Mark, Marked, Node, Outcome, Row, Why};
 use std::alloc::{AllocError, Global};
 use std::marker::Model;
 use std::sync::Arc;

@@ -2,13 +2,12 @@
 ghost use Rattle.std.specs.Prelude.{◌≡◌, ◌<◌, ◌≤◌, ◌&&◌, ◌++◌, ◌∷◌, []};
 ghost use Rattle.std.specs.Prelude.{if◌then◌else◌, map, length, slice_index_or, vec_len, vec_capacity};
 ghost use Rattle.std.specs.List.{list_any, position, remove};
-ghost use Rattle.skeen_core.specs.Standings.{is_open_id};
+ghost use Rattle.log_node.specs.Standings.{is_open_id};
 ghost use Rattle.skeen_core.specs.Queues.{standing_of, final_entry, with_stored, settled_stored, is_decided};
 ghost use Rattle.skeen_core.specs.Inside.{IsRisingStored, AreApart, ready};
 ghost use Rattle.skeen_core.specs.declared.waiting.Waiting.{Waiting};
 
-use crate::marks::Outcome;
-use log_node::{Id, Key};
+use log_node::{Id, Key, Outcome};
 
 /// An entry that is not in the line yet: its key, whether it is final, and its thing.
 #[derive(Drop)]

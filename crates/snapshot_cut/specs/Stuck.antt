@@ -1,14 +1,9 @@
--- Where nodes can be added to a vector.
-use Rattle.std.specs.Prelude.{◌≡◌, ℕ, ◌+◌, ◌-◌, ◌<◌, ◌^◌, true, false, map, length, slice_get}
+-- Where a node can be added to a vector, and how many it does not count.
+use Rattle.std.specs.Prelude.{◌≡◌, ℕ, ◌+◌, ◌-◌, ◌<◌, ◌^◌, true, map, length, slice_get}
 use Rattle.std.specs.List.{sum}
 use Rattle.log_node.specs.declared.ids.Counts.{Counts}
 use Rattle.log_node.specs.Vectors.{at, all_regions}
-use Rattle.col_core.specs.Cuts.{Chains}
-use Rattle.col_core.specs.Computed.{is_covered}
-
--- no region's next node can be added
-abbrev pub IsStuck : Chains → Counts → Type 0
-IsStuck chains v = (region : ℕ) → region < 4 → is_covered v (slice_get (chains region) (at v region)) ≡ false
+use Rattle.log_node.specs.Reach.{Chains, is_covered}
 
 -- this region's next node can be added
 pub record IsFree (chains : Chains) (v : Counts) (region : ℕ) : Type 0 where

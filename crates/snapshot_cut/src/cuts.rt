@@ -2,9 +2,8 @@
 // this project's own; needs are the cross-edges of Lockerman et al., "The FuzzyLog" (OSDI 2018).
 ghost use Rattle.std.specs.Prelude.{◌≡◌, ◌+◌, ◌<◌, ◌≤◌, ◌^◌, IsTrue, MatchOption, slice_get};
 ghost use Rattle.log_node.specs.Vectors.{at, IsWithin};
-ghost use Rattle.col_core.specs.Cuts.{Reachable, IsGreatestReachable};
-ghost use Rattle.col_core.specs.Computed.{is_covered};
-ghost use Rattle.snapshot_cut.specs.Stuck.{IsStuck, IsFree};
+ghost use Rattle.log_node.specs.Reach.{Reachable, IsGreatestReachable, is_covered, IsStuck};
+ghost use Rattle.snapshot_cut.specs.Stuck.{IsFree};
 
 use crate::needs_view::NeedsView;
 use log_node::Counts;

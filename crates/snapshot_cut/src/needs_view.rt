@@ -3,7 +3,7 @@ ghost use Rattle.std.specs.Prelude.{◌≡◌, ℕ, ◌<◌, ◌≤◌, Some, le
 ghost use Rattle.log_node.specs.declared.ids.Counts.{Counts};
 ghost use Rattle.log_node.specs.declared.node.Head.{Head};
 ghost use Rattle.log_node.specs.Vectors.{at};
-ghost use Rattle.col_core.specs.Cuts.{Chains};
+ghost use Rattle.log_node.specs.Reach.{Chains};
 
 use log_node::Counts;
 

@@ -9,7 +9,7 @@ use Rattle.std.proofs.lemmas.List.{append-nil, map-append}
 use Rattle.std.proofs.lemmas.List.Elements.{filter-append, filter_passes}
 use Rattle.log_node.specs.declared.ids.Colours.{Colours}
 use Rattle.log_node.specs.Sets.{has, members}
-use Rattle.skeen_core.specs.declared.marks.Mark.{Mark}
+use Rattle.log_node.specs.declared.marks.Mark.{Mark}
 use Rattle.stamp_board.specs.declared.view.Size.{Size}
 use Rattle.stamp_board.specs.Words.{word_at, mark_from}
 use Rattle.stamp_board.specs.Rows.{marks_at}

@@ -14,7 +14,7 @@ use lib.ListN.{get_elem?}
 use Rattle.atomic_table.specs.Table.{Final, Seen}
 use Rattle.log_node.specs.declared.node.Node.{Node}
 use Rattle.log_node.specs.declared.ids.Row.{Row}
-use Rattle.skeen_core.specs.declared.marks.ColourMark.{ColourMark}
+use Rattle.log_node.specs.declared.marks.ColourMark.{ColourMark}
 use Rattle.stamp_board.specs.declared.view.Size.{Size}
 use Rattle.stamp_board.specs.declared.view.View.{View}
 use Rattle.stamp_board.specs.declared.board.Board.{Board}

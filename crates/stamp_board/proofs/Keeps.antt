@@ -15,7 +15,7 @@ use Rattle.atomic_table.proofs.Lists.{at_set, exchanged}
 use Rattle.log_node.specs.declared.node.Node.{Node}
 use Rattle.log_node.specs.declared.ids.Row.{Row}
 use Rattle.log_node.specs.Sets.{has}
-use Rattle.skeen_core.specs.declared.marks.Outcome.TheVariants.{Open}
+use Rattle.log_node.specs.declared.marks.Outcome.TheVariants.{Open}
 use Rattle.stamp_board.specs.declared.view.Size.{Size}
 use Rattle.stamp_board.specs.declared.view.View.{View}
 use Rattle.stamp_board.specs.Words.{width, words_of, word_at, row_at, owner_of, outcome_from}

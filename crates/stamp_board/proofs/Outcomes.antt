@@ -4,12 +4,12 @@ use Rattle.std.proofs.Common.{[], ◌∷◌, get_or, sym, refl, ap, ◌∙◌, s
 use Rattle.std.specs.Prelude.{if◌then◌else◌, ◌==◌}
 use mathlib.Core.Logic.{dite}
 use native.Mathlib.Decide.{ℕ_discrete}
-use Rattle.skeen_core.specs.declared.marks.Mark.{Mark}
-use Rattle.skeen_core.specs.declared.marks.Why.TheVariants.{Memory, StampEnd}
-use Rattle.skeen_core.specs.declared.marks.Outcome.TheVariants.{Open, Gone, Final}
+use Rattle.log_node.specs.declared.marks.Mark.{Mark}
+use Rattle.log_node.specs.declared.marks.Why.TheVariants.{Memory, StampEnd}
+use Rattle.log_node.specs.declared.marks.Outcome.TheVariants.{Open, Gone, Final}
 use Rattle.std.specs.List.{list_any, range_with_len}
 use Rattle.std.proofs.lemmas.List.Folds.{list_any-append}
-use Rattle.skeen_core.specs.Outcomes.{is_missing, is_stamp_end_fence, is_memory_fence, number_of, greatest, outcome_of}
+use Rattle.log_node.specs.Outcomes.{is_missing, is_stamp_end_fence, is_memory_fence, number_of, greatest, outcome_of}
 use Rattle.stamp_board.specs.declared.view.Size.{Size}
 use Rattle.stamp_board.specs.Words.{word_at, mark_from, outcome_from}
 use Rattle.stamp_board.specs.Rows.{marks_at, outcome_at}

@@ -4,8 +4,8 @@ use Rattle.log_node.specs.declared.ids.Row.{Row}
 use Rattle.log_node.specs.declared.node.Node.{Node}
 use Rattle.stamp_board.specs.declared.view.Size.{Size}
 use Rattle.stamp_board.specs.declared.view.View.{View}
-use Rattle.skeen_core.specs.declared.marks.Mark.{Mark}
-use Rattle.skeen_core.specs.declared.marks.Outcome.{Outcome}
+use Rattle.log_node.specs.declared.marks.Mark.{Mark}
+use Rattle.log_node.specs.declared.marks.Outcome.{Outcome}
 use Rattle.stamp_board.specs.Words.{owner_of, row_at, word_at, mark_from, outcome_from}
 use Rattle.stamp_board.specs.Views.{Agree, at, Has, Grows, Learns, KnowsBegun, KnowsWord, KnowsMark, KnowsOutcome}
 use Rattle.stamp_board.specs.Law.{Told, heard, both}

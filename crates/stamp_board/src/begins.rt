@@ -5,8 +5,7 @@ ghost use Rattle.stamp_board.specs.Seats.{IsSeatOf, IsClients, IsNext, IsFull, B
 
 use crate::board::Board;
 use crate::seats::Seat;
-use log_node::{Node, Row};
-use skeen_core::Full;
+use log_node::{Full, Node, Row};
 use std::alloc::Global;
 use std::sync::Arc;
 

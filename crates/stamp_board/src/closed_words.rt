@@ -10,8 +10,7 @@ use crate::rows::{ClosedRow, ClosedRows};
 use crate::view::Size;
 use crate::words::{index, mark_of, outcome_of_word};
 use atomic_table::Closed;
-use log_node::{ListOf, Node, Row};
-use skeen_core::{ColourMark, Marks};
+use log_node::{ColourMark, ListOf, Marks, Node, Row};
 use std::alloc::{AllocError, Global};
 
 pub(crate) struct ClosedWords {

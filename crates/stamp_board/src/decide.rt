@@ -1,7 +1,7 @@
 // The outcome of a row, kept in its final word.
 ghost use Rattle.std.specs.Prelude.{◌≡◌, ◌≢◌, ℕ, ◌+◌, ◌^◌, ◌<◌, ◌≤◌, List, length, take};
-ghost use Rattle.skeen_core.specs.Outcomes.{outcome_of};
-ghost use Rattle.skeen_core.specs.Marks.{IsOutcome};
+ghost use Rattle.log_node.specs.Outcomes.{outcome_of};
+ghost use Rattle.log_node.specs.Marks.{IsOutcome};
 ghost use Rattle.stamp_board.specs.Words.{outcome_from};
 ghost use Rattle.stamp_board.specs.Rows.{IsRow, outcome_in};
 ghost use Rattle.stamp_board.specs.Views.{Grows, KnowsAll, KnowsOutcome, Possibly, Surely};
@@ -13,8 +13,8 @@ use crate::board::Board;
 use crate::seats::Seat;
 use crate::steps::Inner;
 use crate::words::mark_of;
-use log_node::{MAX_COLOURS, Row};
-use skeen_core::{Mark, Outcome, Why, outcome};
+use log_node::{MAX_COLOURS, Mark, Outcome, Row, Why};
+use skeen_core::outcome;
 
 // A mark for every colour that there may be.
 const MARKS: usize = MAX_COLOURS as usize;

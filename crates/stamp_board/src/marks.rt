@@ -1,6 +1,6 @@
 // Marks that columns set.
 ghost use Rattle.std.specs.Prelude.{◌≡◌, ◌≢◌};
-ghost use Rattle.skeen_core.specs.Marks.{IsStamp, MatchMarked};
+ghost use Rattle.log_node.specs.Marks.{IsStamp, MatchMarked};
 ghost use Rattle.stamp_board.specs.Rows.{IsRow};
 ghost use Rattle.stamp_board.specs.Views.{KnowsColour, KnowsMark};
 ghost use Rattle.stamp_board.specs.Seats.{IsColumnOf, IsLaterColumn, SetsMark, MarkStood, column_seen, set_mark};
@@ -8,8 +8,7 @@ ghost use Rattle.stamp_board.specs.Seats.{IsColumnOf, IsLaterColumn, SetsMark, M
 use crate::board::Board;
 use crate::seats::ColumnSeat;
 use crate::words::{mark_of, word_of_why};
-use log_node::Row;
-use skeen_core::{Mark, Marked, Why};
+use log_node::{Mark, Marked, Row, Why};
 
 impl Board {
     /// Sets the mark of the seat's colour to a number, where it was not set.

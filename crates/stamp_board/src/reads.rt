@@ -1,6 +1,6 @@
 // What stands in a row: loads of one word.
 ghost use Rattle.std.specs.Prelude.{◌≡◌, ◌≢◌, ◌<◌};
-ghost use Rattle.skeen_core.specs.Marks.{IsMark, IsOutcome};
+ghost use Rattle.log_node.specs.Marks.{IsMark, IsOutcome};
 ghost use Rattle.stamp_board.specs.Rows.{IsRow, mark_in, kept_in};
 ghost use Rattle.stamp_board.specs.Views.{KnowsMark, KnowsOutcome, Possibly};
 ghost use Rattle.stamp_board.specs.Seats.{IsSeatOf, IsColumnOf, IsLater, IsLaterColumn, SetsNone};
@@ -9,8 +9,7 @@ ghost use Rattle.stamp_board.specs.Seats.{seen, column_seen, set_mark};
 use crate::board::Board;
 use crate::seats::{ColumnSeat, Seat};
 use crate::words::{mark_of, outcome_of_word};
-use log_node::Row;
-use skeen_core::{Mark, Outcome};
+use log_node::{Mark, Outcome, Row};
 
 impl Board {
     /// The row's mark of the colour, as the board has it. A mark that the seat knew is the answer.

@@ -1,6 +1,5 @@
 // Rows as a board closes with them.
-use log_node::{ListOf, Row};
-use skeen_core::{Marks, Outcome};
+use log_node::{ListOf, Marks, Outcome, Row};
 
 /// A begun row: the mark of each of its colours, the smallest colour first, and the outcome that was kept for it.
 #[derive(Drop)]

@@ -8,8 +8,9 @@ ghost use Rattle.stamp_board.specs.Seats.{IsFreshClient, IsFreshColumn, AreFresh
 ghost use Rattle.stamp_board.specs.declared.view.Size.{Size};
 
 use crate::{Board, ClosedRow, ClosedRows, ColumnSeat, ColumnSeats, Seat, Seats};
-use log_node::{Colours, Id, ListOf, Node, Row, Text, Wants};
-use skeen_core::{ColourMark, Full, Mark, Marked, Outcome, Why};
+use log_node::{
+    ColourMark, Colours, Full, Id, ListOf, Mark, Marked, Node, Outcome, Row, Text, Wants, Why,
+};
 use std::alloc::{AllocError, Global};
 use std::sync::Arc;
 use std::test::Fail;

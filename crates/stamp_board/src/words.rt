@@ -5,8 +5,7 @@ ghost use Rattle.stamp_board.specs.Rows.{IsRow, IsSize};
 
 use crate::board::Board;
 use crate::view::Size;
-use log_node::Row;
-use skeen_core::{Mark, Outcome, Why};
+use log_node::{Mark, Outcome, Row, Why};
 
 pub(crate) fn mark_of(n: u64) -> Mark
     ensures { result ≡ mark_from n }

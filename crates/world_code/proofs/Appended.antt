@@ -10,10 +10,10 @@ use Rattle.log_node.specs.declared.ids.Id.{Id}
 use Rattle.log_node.specs.declared.ids.Row.{Row}
 use Rattle.log_node.specs.declared.node.Node.{Node}
 use Rattle.log_node.specs.Order.{same_id, key_below}
-use Rattle.skeen_core.specs.declared.marks.Outcome.{Outcome}
-use Rattle.skeen_core.specs.declared.marks.Outcome.TheVariants.{Open, Gone, Final}
+use Rattle.log_node.specs.declared.marks.Outcome.{Outcome}
+use Rattle.log_node.specs.declared.marks.Outcome.TheVariants.{Open, Gone, Final}
 use Rattle.skeen_core.specs.declared.waiting.Waiting.{Waiting}
-use Rattle.skeen_core.specs.Standings.{is_open_id}
+use Rattle.log_node.specs.Standings.{is_open_id}
 use Rattle.skeen_core.specs.Queues.{standing_of, entry_under, final_entry, with_stored, stored_without, with_found}
 use Rattle.skeen_core.specs.Queues.{settled_stored}
 use Rattle.skeen_core.proofs.CallerLemmas.{each-weaker, each-append, each-filter, each-drop}

@@ -4,9 +4,9 @@ use Rattle.std.specs.Prelude.{◌&&◌, not}
 use mathlib.Core.Path.{fun_ext}
 use Rattle.std.proofs.lemmas.Bool.{cond-true, cond-false, lt-ltb}
 use Rattle.log_node.specs.declared.ids.Row.{Row}
-use Rattle.skeen_core.specs.declared.marks.Outcome.{Outcome}
-use Rattle.skeen_core.specs.declared.marks.Outcome.TheVariants.{Open, Gone, Final}
-use Rattle.skeen_core.specs.Outcomes.{outcome_of}
+use Rattle.log_node.specs.declared.marks.Outcome.{Outcome}
+use Rattle.log_node.specs.declared.marks.Outcome.TheVariants.{Open, Gone, Final}
+use Rattle.log_node.specs.Outcomes.{outcome_of}
 use Rattle.skeen_core.specs.Queues.{is_decided}
 use Rattle.skeen_core.specs.Boards.{begun_at, outcome_in, with_changed, decided, IsRow}
 use Rattle.col_core.specs.Keeping.{updated_at}

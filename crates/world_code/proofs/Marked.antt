@@ -11,11 +11,11 @@ use Rattle.log_node.specs.declared.ids.Row.{Row}
 use Rattle.log_node.specs.declared.node.Node.{Node}
 use Rattle.log_node.specs.Sets.{has}
 use Rattle.log_node.proofs.CallerLemmas.{members-low}
-use Rattle.skeen_core.specs.Outcomes.{is_missing}
+use Rattle.log_node.specs.Outcomes.{is_missing}
 use Rattle.col_core.proofs.CallerLemmas.{choice}
 use Rattle.world_laws.specs.declared.steps.Step.{Step}
 use Rattle.world_laws.specs.declared.steps.Step.TheVariants.{Propose, Fence}
-use Rattle.skeen_core.specs.declared.marks.Why.TheVariants.{Memory}
+use Rattle.log_node.specs.declared.marks.Why.TheVariants.{Memory}
 use Rattle.world_laws.specs.declared.steps.Reply.{Reply}
 use Rattle.world_laws.specs.Worlds.{World, after, reply, run_steps, is_begun, row_of, is_member, is_row_at_end, may_mark}
 use Rattle.world_laws.specs.Completing.{mark_step, mark_steps, colours_of}

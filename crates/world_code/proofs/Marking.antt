@@ -12,10 +12,10 @@ use Rattle.log_node.specs.declared.ids.Row.{Row}
 use Rattle.log_node.specs.declared.node.Node.{Node}
 use Rattle.log_node.specs.Sets.{members}
 use Rattle.skeen_core.specs.declared.board_row.BoardRow.{BoardRow}
-use Rattle.skeen_core.specs.declared.marks.Mark.{Mark}
-use Rattle.skeen_core.specs.declared.marks.Mark.TheVariants as marks
-use Rattle.skeen_core.specs.declared.marks.Outcome.{Outcome}
-use Rattle.skeen_core.specs.Outcomes.{outcome_of}
+use Rattle.log_node.specs.declared.marks.Mark.{Mark}
+use Rattle.log_node.specs.declared.marks.Mark.TheVariants as marks
+use Rattle.log_node.specs.declared.marks.Outcome.{Outcome}
+use Rattle.log_node.specs.Outcomes.{outcome_of}
 use Rattle.skeen_core.specs.Boards.{Board, rows_of, begun_at, mark_at, mark_in, last_in, row_marks, first_mark}
 use Rattle.skeen_core.specs.Boards.{with_changed, changed_at, changed_by, decided}
 use Rattle.skeen_core.specs.Boards as boards

@@ -6,7 +6,7 @@ use Rattle.std.proofs.lemmas.Option.{get_or_from_slice_get}
 use Rattle.log_node.specs.declared.ids.Row.{Row}
 use Rattle.log_node.specs.declared.node.Node.{Node}
 use Rattle.log_node.specs.Sets.{has}
-use Rattle.skeen_core.specs.Outcomes.{is_missing}
+use Rattle.log_node.specs.Outcomes.{is_missing}
 use Rattle.world_laws.specs.Worlds.{no_row, row_of, is_begun, is_member, may_mark}
 use Rattle.world_code.specs.WorldView.{WorldView, client_at, world_of, IsWhole}
 use Rattle.world_code.proofs.Sets.{member_is}

@@ -9,10 +9,11 @@ use Rattle.log_node.specs.declared.ids.Counts.{Counts}
 use Rattle.log_node.specs.declared.node.Head.{Head}
 use Rattle.log_node.specs.Seen.{PlacedNode}
 use Rattle.log_node.specs.Vectors.{at, IsWithin}
-use Rattle.skeen_core.specs.Outcomes.{greatest}
+use Rattle.log_node.specs.Outcomes.{greatest}
 use Rattle.col_core.specs.declared.Entry.{Entry}
 use Rattle.col_core.specs.History.{line}
-use Rattle.col_core.specs.Cuts.{Chains, needs_of}
+use Rattle.log_node.specs.Reach.{Chains}
+use Rattle.col_core.specs.Cuts.{needs_of}
 use Rattle.col_core.specs.PlayOrder.{greatest_between, nodes_between}
 use Rattle.col_core.proofs.CallerLemmas.{within-at}
 use Rattle.column.specs.Columns.{ColumnState, history_of, chains_of, cut_of, base_of, copy_of}

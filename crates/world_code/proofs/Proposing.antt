@@ -8,8 +8,8 @@ use Rattle.log_node.specs.declared.ids.Counts.{Counts}
 use Rattle.log_node.specs.declared.node.Node.{Node}
 use Rattle.log_node.specs.Sets.{has}
 use Rattle.skeen_core.specs.declared.board_row.BoardRow.{BoardRow}
-use Rattle.skeen_core.specs.declared.marks.Why.{Why}
-use Rattle.skeen_core.specs.declared.marks.Mark.TheVariants as marks
+use Rattle.log_node.specs.declared.marks.Why.{Why}
+use Rattle.log_node.specs.declared.marks.Mark.TheVariants as marks
 use Rattle.skeen_core.specs.Boards.{Board, begun_at, with_changed, has_in}
 use Rattle.skeen_core.specs.Boards as boards
 use Rattle.col_core.specs.declared.Event.TheVariants as events

@@ -6,7 +6,7 @@ use Rattle.log_node.specs.declared.ids.Id.{Id}
 use Rattle.log_node.specs.declared.ids.Row.{Row}
 use Rattle.log_node.specs.declared.node.At.{At}
 use Rattle.log_node.specs.declared.node.At.TheVariants as ats
-use Rattle.skeen_core.specs.declared.marks.Outcome.{Outcome}
+use Rattle.log_node.specs.declared.marks.Outcome.{Outcome}
 use Rattle.skeen_core.specs.Queues.{has_open, is_decided, MaySettle}
 use Rattle.col_core.specs.History.{last_stamp, entries}
 use Rattle.col_core.proofs.CallerLemmas.{by_test}

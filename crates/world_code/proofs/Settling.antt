@@ -8,10 +8,10 @@ use Rattle.std.proofs.lemmas.List.{set-get_or}
 use Rattle.log_node.specs.declared.ids.Id.{Id}
 use Rattle.log_node.specs.declared.ids.Row.{Row}
 use Rattle.log_node.specs.Sets.{members}
-use Rattle.skeen_core.specs.declared.marks.Mark.TheVariants as marks
-use Rattle.skeen_core.specs.declared.marks.Outcome.{Outcome}
-use Rattle.skeen_core.specs.declared.marks.Outcome.TheVariants.{Open, Gone, Final}
-use Rattle.skeen_core.specs.Standings.{Standing, open_entry, is_open_id}
+use Rattle.log_node.specs.declared.marks.Mark.TheVariants as marks
+use Rattle.log_node.specs.declared.marks.Outcome.{Outcome}
+use Rattle.log_node.specs.declared.marks.Outcome.TheVariants.{Open, Gone, Final}
+use Rattle.log_node.specs.Standings.{Standing, open_entry, is_open_id}
 use Rattle.skeen_core.specs.Queues.{has_open, is_decided, MaySettle}
 use Rattle.col_core.specs.History.{last_stamp, entries}
 use Rattle.col_core.specs.Legal.{IsSettling}
@@ -22,7 +22,7 @@ use Rattle.column.specs.Columns as columns
 use Rattle.world_laws.specs.declared.steps.Step.TheVariants as steps
 use Rattle.world_laws.specs.Worlds.{World, home_of, row_of, is_begun, may_settle, after_settle, after}
 use Rattle.world_laws.specs.Worlds.{marks_of, settled_entry}
-use Rattle.skeen_core.specs.Outcomes.{outcome_of}
+use Rattle.log_node.specs.Outcomes.{outcome_of}
 use Rattle.world_laws.proofs.CallerLemmas.{Held, has_colour, final_is, number_within, greatest_within, agrees-settled}
 use Rattle.world_laws.proofs.CallerLemmas.{lawful_past_in, may_settle_open, row_agrees, may_settle_is, mark-at_home}
 use Rattle.world_code.specs.WorldView.{WorldView, no_column, column_at, client_at, world_of, IsPlaced, HasAppended}

@@ -8,7 +8,7 @@ use Rattle.log_node.specs.declared.ids.Row.{Row}
 use Rattle.log_node.specs.Order.{key_below}
 use Rattle.log_node.specs.Seen.{PlacedNode}
 use Rattle.log_node.specs.Vectors.{at}
-use Rattle.skeen_core.specs.Standings.{Standing}
+use Rattle.log_node.specs.Standings.{Standing}
 use Rattle.col_core.specs.declared.Entry.{Entry}
 use Rattle.col_core.specs.History.{entries}
 use Rattle.col_core.specs.declared.view.View.{View}

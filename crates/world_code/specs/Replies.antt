@@ -3,9 +3,9 @@ use Rattle.std.specs.Prelude.{ℕ, Option, None, Some}
 use Rattle.log_node.specs.declared.ids.Counts.{Counts}
 use Rattle.log_node.specs.declared.node.At.{At}
 use Rattle.log_node.specs.declared.node.At.TheVariants as ats
-use Rattle.skeen_core.specs.declared.marks.Mark.{Mark}
-use Rattle.skeen_core.specs.declared.marks.Outcome.{Outcome}
-use Rattle.skeen_core.specs.declared.marks.Outcome.TheVariants.{Open, Gone, Final}
+use Rattle.log_node.specs.declared.marks.Mark.{Mark}
+use Rattle.log_node.specs.declared.marks.Outcome.{Outcome}
+use Rattle.log_node.specs.declared.marks.Outcome.TheVariants.{Open, Gone, Final}
 use Rattle.world_laws.specs.declared.steps.Reply.{Reply}
 use Rattle.world_laws.specs.declared.steps.Reply.TheVariants as replies
 use Rattle.world_code.specs.declared.replies.Placed.{Placed}

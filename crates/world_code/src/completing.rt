@@ -8,8 +8,7 @@ ghost use Rattle.world_code.specs.Completed.{done_count, IsMarkStep, AreTaken, I
 
 use crate::replies::{decided_reply, marked_reply, place_reply, placed_reply};
 use crate::world::World;
-use log_node::{Colours, MAX_COLOURS, Row};
-use skeen_core::{Outcome, Why};
+use log_node::{Colours, MAX_COLOURS, Outcome, Row, Why};
 use world_laws::{Reply, can_complete};
 
 /// What completing an append came to: the outcome that its row keeps, and how many steps were done.

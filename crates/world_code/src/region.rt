@@ -11,8 +11,7 @@ ghost use Rattle.world_code.specs.WorldView.{column_in, fresh_columns};
 
 use crate::replies::{Placed, number_of};
 use column::{Column, ColumnFault, Given};
-use log_node::{At, Counts, Id, Node, Shape};
-use skeen_core::{MAX_STAMP, Outcome};
+use log_node::{At, Counts, Id, MAX_STAMP, Node, Outcome, Shape};
 use std::alloc::{AllocError, Global};
 use std::marker::Model;
 use std::sync::Arc;

@@ -3,8 +3,7 @@ ghost use Rattle.std.specs.Prelude.{◌≡◌};
 ghost use Rattle.world_code.specs.Replies.{placed_reply, place_reply, begun_reply, marked_reply, decided_reply};
 ghost use Rattle.world_code.specs.Replies.{played_reply, number_of, event_at, kept_outcome};
 
-use log_node::{At, Counts, Id, Row};
-use skeen_core::{Mark, Outcome};
+use log_node::{At, Counts, Id, Mark, Outcome, Row};
 use world_laws::Reply;
 
 /// Where a node entered a column: the event's place in the column's history, and the stamp that it gave.

@@ -4,7 +4,7 @@ ghost use Rattle.std.specs.Prelude.{Some, OnErr, not, max, ◌==◌, slice_get};
 ghost use Rattle.world_laws.specs.Worlds.{after, reply, home_of, event_reply, row_of};
 ghost use Rattle.world_laws.specs.Worlds.{is_begun, may_mark, is_row_at_end, after_propose, proposed_stamp};
 ghost use Rattle.world_laws.specs.Worlds.{may_fence, with_mark};
-ghost use Rattle.skeen_core.specs.Outcomes.{is_missing};
+ghost use Rattle.log_node.specs.Outcomes.{is_missing};
 ghost use Rattle.skeen_core.specs.Queues.{is_decided};
 ghost use Rattle.world_code.specs.WorldView.{world_of, client_at};
 ghost use Rattle.world_code.specs.Replies.{placed_reply, place_reply, marked_reply, decided_reply};
@@ -12,8 +12,7 @@ ghost use Rattle.world_code.specs.Replies.{placed_reply, place_reply, marked_rep
 use crate::replies::{Placed, event_at, kept_outcome};
 use crate::world::World;
 use column::ColumnFault;
-use log_node::{Colours, Id, MAX_COLOURS, Node, Row};
-use skeen_core::{MAX_STAMP, Mark, Outcome, Why};
+use log_node::{Colours, Id, MAX_COLOURS, MAX_STAMP, Mark, Node, Outcome, Row, Why};
 use std::alloc::AllocError;
 use std::sync::Arc;
 use world_laws::{Step, is_lawful};

@@ -3,8 +3,7 @@ ghost use Rattle.std.specs.Prelude.{◌≡◌, ◌<◌, ◌≤◌, IfOk, length}
 ghost use Rattle.std.specs.List.{All};
 
 use super::*;
-use log_node::{Colours, Counts, Id, ListOf, Row, Shape, Text};
-use skeen_core::{MAX_STAMP, Mark, Outcome, Why};
+use log_node::{Colours, Counts, Id, ListOf, MAX_STAMP, Mark, Outcome, Row, Shape, Text, Why};
 use std::alloc::{AllocError, Global};
 use std::process::Abort;
 use std::test::Fail;

@@ -1,7 +1,7 @@
 // What a client has not played of a column.
 ghost use Rattle.std.specs.Prelude.{◌≡◌, ◌≤◌, ◌<◌, map, drop, take};
 ghost use Rattle.log_node.specs.Vectors.{at, IsWithin};
-ghost use Rattle.skeen_core.specs.Outcomes.{greatest};
+ghost use Rattle.log_node.specs.Outcomes.{greatest};
 ghost use Rattle.col_core.specs.PlayOrder.{greatest_between, nodes_between};
 ghost use Rattle.column.specs.Columns.{chains_of, cut_of, base_of};
 

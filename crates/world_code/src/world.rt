@@ -15,8 +15,8 @@ use crate::replies::{
     begun_reply, decided_reply, marked_reply, place_reply, placed_reply, played_reply,
 };
 use column::Column;
-use log_node::Shape;
-use skeen_core::{MAX_CLIENTS, MAX_ROWS, MAX_STAMP, Rows};
+use log_node::{MAX_CLIENTS, MAX_ROWS, MAX_STAMP, Shape};
+use skeen_core::Rows;
 use std::alloc::{AllocError, Global};
 use std::marker::Model;
 use world_laws::{Reply, Step};

@@ -7,20 +7,20 @@ use Rattle.log_node.specs.declared.ids.Row.{Row}
 use Rattle.log_node.specs.declared.ids.Key.{Key}
 use Rattle.log_node.specs.Order.{same_id, key_below}
 use Rattle.log_node.specs.Sets.{members}
-use Rattle.skeen_core.specs.declared.marks.Why.{Why}
-use Rattle.skeen_core.specs.declared.marks.Why.TheVariants.{Memory, StampEnd}
-use Rattle.skeen_core.specs.declared.marks.Mark.{Mark}
-use Rattle.skeen_core.specs.declared.marks.Mark.TheVariants as marks
-use Rattle.skeen_core.specs.declared.marks.Outcome.{Outcome}
-use Rattle.skeen_core.specs.declared.marks.Outcome.TheVariants.{Open, Gone, Final}
-use Rattle.skeen_core.specs.Outcomes.{outcome_of, is_stamp_end_fence, is_memory_fence}
-use Rattle.skeen_core.specs.Standings.{Standing}
+use Rattle.log_node.specs.declared.marks.Why.{Why}
+use Rattle.log_node.specs.declared.marks.Why.TheVariants.{Memory, StampEnd}
+use Rattle.log_node.specs.declared.marks.Mark.{Mark}
+use Rattle.log_node.specs.declared.marks.Mark.TheVariants as marks
+use Rattle.log_node.specs.declared.marks.Outcome.{Outcome}
+use Rattle.log_node.specs.declared.marks.Outcome.TheVariants.{Open, Gone, Final}
+use Rattle.log_node.specs.Outcomes.{outcome_of, is_stamp_end_fence, is_memory_fence, final_number}
+use Rattle.log_node.specs.Standings.{Standing}
 use Rattle.col_core.specs.declared.Event.TheVariants as events
 use Rattle.col_core.specs.declared.Event.{Event}
 use Rattle.col_core.specs.declared.Entry.{Entry}
 use Rattle.col_core.specs.Cuts.{entries_of}
 use Rattle.col_core.specs.Computed.{dated}
-use Rattle.col_core.specs.History.{entries, line, entry_key, final_number}
+use Rattle.col_core.specs.History.{entries, line, entry_key}
 use Rattle.col_core.proofs.CallerLemmas.{choice, by_test, if_true, apart, same_id-refl, same_id-true, line_rises}
 use Rattle.col_core.proofs.CallerLemmas.{key-trans, key-irrefl, entries-of, In, shown, in_line, Status, Absent, Alone}
 use Rattle.col_core.proofs.CallerLemmas.{Waits, Settled, status, after_event, standing_of, IsLawfulPast, IsLawfulNext}

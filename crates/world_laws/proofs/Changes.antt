@@ -9,7 +9,7 @@ use Rattle.log_node.specs.declared.ids.Key.{Key}
 use Rattle.log_node.specs.declared.ids.Counts.{Counts}
 use Rattle.log_node.specs.declared.node.Head.{Head}
 use Rattle.log_node.specs.Vectors.{vector}
-use Rattle.skeen_core.specs.Standings.{Standing, line_of}
+use Rattle.log_node.specs.Standings.{Standing, line_of}
 use Rattle.col_core.specs.declared.Event.{Event}
 use Rattle.col_core.specs.declared.Event.TheVariants as events
 use Rattle.col_core.specs.declared.Entry.{Entry}

@@ -8,11 +8,11 @@ use Rattle.log_node.specs.declared.ids.Colours.{Colours}
 use Rattle.log_node.specs.declared.node.Head.{Head}
 use Rattle.log_node.specs.Order.{same_id}
 use Rattle.log_node.specs.Vectors.{at, all_regions}
-use Rattle.skeen_core.specs.Outcomes.{greatest}
-use Rattle.skeen_core.specs.Standings.{Standing}
-use Rattle.skeen_core.specs.declared.marks.Mark.{Mark}
-use Rattle.skeen_core.specs.declared.marks.Mark.TheVariants as marks
-use Rattle.skeen_core.specs.declared.marks.Outcome.TheVariants.{Open}
+use Rattle.log_node.specs.Outcomes.{greatest}
+use Rattle.log_node.specs.Standings.{Standing}
+use Rattle.log_node.specs.declared.marks.Mark.{Mark}
+use Rattle.log_node.specs.declared.marks.Mark.TheVariants as marks
+use Rattle.log_node.specs.declared.marks.Outcome.TheVariants.{Open}
 use Rattle.col_core.specs.declared.Event.TheVariants as events
 use Rattle.col_core.specs.declared.Entry.{Entry}
 use Rattle.col_core.specs.History.{clock, entries, line, last_stamp}

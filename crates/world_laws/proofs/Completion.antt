@@ -7,10 +7,10 @@ use Rattle.std.proofs.lemmas.Bool.{true≢false, ltb-true, eq-eqb, or_from, or_l
 use Rattle.log_node.specs.declared.ids.Row.{Row}
 use Rattle.log_node.specs.declared.node.Node.{Node}
 use Rattle.log_node.specs.Sets.{members}
-use Rattle.skeen_core.specs.declared.marks.Mark.{Mark}
-use Rattle.skeen_core.specs.declared.marks.Mark.TheVariants as marks
-use Rattle.skeen_core.specs.declared.marks.Outcome.TheVariants.{Open, Final}
-use Rattle.skeen_core.specs.Outcomes.{outcome_of, is_missing, is_stamp_end_fence, is_memory_fence, number_of, greatest}
+use Rattle.log_node.specs.declared.marks.Mark.{Mark}
+use Rattle.log_node.specs.declared.marks.Mark.TheVariants as marks
+use Rattle.log_node.specs.declared.marks.Outcome.TheVariants.{Open, Final}
+use Rattle.log_node.specs.Outcomes.{outcome_of, is_missing, is_stamp_end_fence, is_memory_fence, number_of, greatest}
 use Rattle.col_core.specs.declared.Entry.{Entry}
 use Rattle.col_core.specs.Keeping.{updated}
 use Rattle.col_core.proofs.CallerLemmas.{choice, if_true, if_false, apart}

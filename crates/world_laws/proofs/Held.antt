@@ -5,11 +5,11 @@ use Rattle.std.specs.List.{flat_map}
 use Rattle.log_node.specs.declared.ids.Id.{Id}
 use Rattle.log_node.specs.declared.node.Head.{Head}
 use Rattle.log_node.specs.Order.{same_id}
-use Rattle.skeen_core.specs.declared.marks.Mark.{Mark}
-use Rattle.skeen_core.specs.declared.marks.Mark.TheVariants as marks
-use Rattle.skeen_core.specs.declared.marks.Outcome.{Outcome}
-use Rattle.skeen_core.specs.declared.marks.Outcome.TheVariants.{Open}
-use Rattle.skeen_core.specs.Outcomes.{outcome_of}
+use Rattle.log_node.specs.declared.marks.Mark.{Mark}
+use Rattle.log_node.specs.declared.marks.Mark.TheVariants as marks
+use Rattle.log_node.specs.declared.marks.Outcome.{Outcome}
+use Rattle.log_node.specs.declared.marks.Outcome.TheVariants.{Open}
+use Rattle.log_node.specs.Outcomes.{outcome_of}
 use Rattle.col_core.specs.declared.Entry.{Entry}
 use Rattle.col_core.specs.History.{last_stamp}
 use Rattle.col_core.specs.Cuts.{carried}

@@ -5,7 +5,7 @@ use Rattle.std.proofs.lemmas.List.{reverse-append, take-append-drop}
 use Rattle.log_node.specs.declared.ids.Id.{Id}
 use Rattle.log_node.specs.declared.ids.Counts.{Counts}
 use Rattle.log_node.specs.Order.{same_id}
-use Rattle.skeen_core.specs.Standings.{Standing}
+use Rattle.log_node.specs.Standings.{Standing}
 use Rattle.col_core.specs.declared.Event.TheVariants as events
 use Rattle.col_core.specs.declared.Event.{Event}
 use Rattle.col_core.specs.declared.Entry.{Entry}

@@ -13,7 +13,8 @@ use Rattle.col_core.specs.declared.Event.TheVariants as events
 use Rattle.col_core.specs.declared.Event.{Event}
 use Rattle.col_core.specs.declared.Entry.{Entry}
 use Rattle.col_core.specs.History.{line, enters}
-use Rattle.col_core.specs.Cuts.{Dated, Reachable, next, chain, entries_of, needs_in, needs_of}
+use Rattle.log_node.specs.Reach.{Reachable, next}
+use Rattle.col_core.specs.Cuts.{Dated, chain, entries_of, needs_in, needs_of}
 use Rattle.col_core.specs.Computed.{cut, dated}
 use Rattle.col_core.specs.Legal.{IsColumnHistory}
 use Rattle.col_core.proofs.CallerLemmas.{choice, if_true, chains_grow, reachable_grows, within, within-at}

@@ -6,8 +6,8 @@ use Rattle.log_node.specs.declared.ids.Row.{Row}
 use Rattle.log_node.specs.declared.ids.Counts.{Counts}
 use Rattle.log_node.specs.declared.node.Node.{Node}
 use Rattle.log_node.specs.declared.node.Shape.{Shape}
-use Rattle.skeen_core.specs.declared.marks.Why.TheVariants.{Memory}
-use Rattle.skeen_core.specs.declared.marks.Outcome.TheVariants.{Gone, Final}
+use Rattle.log_node.specs.declared.marks.Why.TheVariants.{Memory}
+use Rattle.log_node.specs.declared.marks.Outcome.TheVariants.{Gone, Final}
 use Rattle.col_core.specs.History.{line, entry_key}
 use Rattle.world_laws.specs.declared.steps.Step.TheVariants.{Begin, Propose, Fence, Decide, Settle, Single, Raise, Give, Carry, Trim, Play, Seen}
 use Rattle.world_laws.specs.declared.steps.Reply.TheVariants as replies

@@ -5,9 +5,9 @@ use Rattle.log_node.specs.declared.ids.Row.{Row}
 use Rattle.log_node.specs.declared.ids.Colours.{Colours}
 use Rattle.log_node.specs.Sets.{members}
 use Rattle.log_node.specs.Vectors.{at, is_within}
-use Rattle.skeen_core.specs.declared.marks.Why.{Why}
-use Rattle.skeen_core.specs.declared.marks.Why.TheVariants.{Memory, StampEnd}
-use Rattle.skeen_core.specs.Outcomes.{outcome_of, is_missing}
+use Rattle.log_node.specs.declared.marks.Why.{Why}
+use Rattle.log_node.specs.declared.marks.Why.TheVariants.{Memory, StampEnd}
+use Rattle.log_node.specs.Outcomes.{outcome_of, is_missing}
 use Rattle.skeen_core.specs.Queues.{has_open, is_decided}
 use Rattle.col_core.specs.History.{clock, last_stamp, entries, line}
 use Rattle.world_laws.specs.States.{World, is_client, is_column, home_of, home_history, is_begun, row_of}

@@ -1,8 +1,8 @@
 -- The steps of the world, and their replies. A step is done where its guard holds; else it changes nothing and its
 -- reply is `Nothing`.
 use Rattle.std.specs.Prelude.{ℕ, List, [], ◌∷◌, length, if◌then◌else◌}
-use Rattle.skeen_core.specs.declared.marks.Mark.TheVariants as marks
-use Rattle.skeen_core.specs.Outcomes.{outcome_of}
+use Rattle.log_node.specs.declared.marks.Mark.TheVariants as marks
+use Rattle.log_node.specs.Outcomes.{outcome_of}
 use Rattle.world_laws.specs.declared.steps.Step.{Step}
 use Rattle.world_laws.specs.declared.steps.Step.TheVariants as steps
 use Rattle.world_laws.specs.declared.steps.Reply.{Reply}

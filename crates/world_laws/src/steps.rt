@@ -1,6 +1,5 @@
 // The steps of the world, and their replies.
-use log_node::{Colours, Counts, Id, Row, Text};
-use skeen_core::{Mark, Outcome, Why};
+use log_node::{Colours, Counts, Id, Mark, Outcome, Row, Text, Why};
 
 /// A step of the world. Where its guard fails it changes nothing.
 #[derive(Drop)]

@@ -11,7 +11,8 @@ use Rattle.log_node.specs.declared.node.Node.{Node}
 use Rattle.log_node.specs.Seen.{PlacedNode}
 use Rattle.log_node.specs.Vectors.{at}
 use Rattle.col_core.specs.declared.Entry.{Entry}
-use Rattle.col_core.specs.Cuts.{Chains, chain}
+use Rattle.log_node.specs.Reach.{Chains}
+use Rattle.col_core.specs.Cuts.{chain}
 use Rattle.col_core.specs.Computed.{dated}
 use Rattle.col_core.specs.PlayOrder.{Place, IsPlayOrder, WaitsFor, goes_first}
 use Rattle.col_core.specs.Keeping.{Kept}

@@ -5,7 +5,8 @@ use Rattle.std.specs.List.{All, Contains}
 use Rattle.col_core.specs.declared.Event.TheVariants.{Raise}
 use Rattle.col_core.specs.declared.Entry.{Entry}
 use Rattle.col_core.specs.History.{clock}
-use Rattle.col_core.specs.Cuts.{IsGreatestReachable, chain}
+use Rattle.log_node.specs.Reach.{IsGreatestReachable}
+use Rattle.col_core.specs.Cuts.{chain}
 use Rattle.col_core.specs.Computed.{dated}
 use Rattle.col_core.specs.Log.{places_of}
 use Rattle.col_core.proofs.CallerLemmas.{cut-is_greatest, cut_unique}

@@ -5,9 +5,9 @@ use Rattle.std.specs.List.{All, Contains}
 use Rattle.log_node.specs.declared.ids.Id.{Id}
 use Rattle.log_node.specs.declared.node.Node.{Node}
 use Rattle.log_node.specs.Vectors.{zeros}
-use Rattle.skeen_core.specs.declared.marks.ColourMark.{ColourMark}
-use Rattle.skeen_core.specs.declared.marks.Mark.TheVariants as marks
-use Rattle.skeen_core.specs.declared.marks.Outcome.TheVariants.{Open, Final}
+use Rattle.log_node.specs.declared.marks.ColourMark.{ColourMark}
+use Rattle.log_node.specs.declared.marks.Mark.TheVariants as marks
+use Rattle.log_node.specs.declared.marks.Outcome.TheVariants.{Open, Final}
 use Rattle.col_core.specs.declared.Event.TheVariants.{Propose, Settle}
 use Rattle.col_core.specs.declared.Entry.{Entry}
 use Rattle.col_core.specs.Rows.{BegunRow, AreLawfulRows, FitsRow, FitsRows, IsMarkOf, IsKept}
@@ -21,7 +21,7 @@ use Rattle.wrong_reports.specs.Rows.{an_outcome_of_other_marks, a_settling_unlik
 use Rattle.wrong_reports.specs.Rows.{a_proposal_without_a_row, rows_out_of_order, full_too_early, two_orders}
 use Rattle.wrong_reports.specs.Rows.{a_settling_under_a_lesser_stamp}
 use Rattle.std.specs.Prelude.{max}
-use Rattle.skeen_core.specs.declared.marks.Why.TheVariants.{StampEnd}
+use Rattle.log_node.specs.declared.marks.Why.TheVariants.{StampEnd}
 use Rattle.log_node.specs.declared.ids.Colours.{Colours}
 use Rattle.log_node.specs.Sets.{members}
 use Rattle.col_core.specs.History.{clock, last_stamp}

@@ -5,7 +5,7 @@ use Rattle.std.proofs.Common.{◌∷◌, []}
 use Rattle.std.specs.List.{Contains, filter}
 use Rattle.log_node.specs.declared.ids.Id.{Id}
 use Rattle.log_node.specs.declared.ids.Counts.{Counts}
-use Rattle.skeen_core.specs.declared.marks.Outcome.TheVariants.{Open, Final}
+use Rattle.log_node.specs.declared.marks.Outcome.TheVariants.{Open, Final, Gone}
 use Rattle.col_core.specs.declared.Event.TheVariants.{Single}
 use Rattle.col_core.specs.declared.Entry.{Entry}
 use Rattle.col_core.specs.History.{line}
@@ -18,9 +18,8 @@ use Rattle.wrong_reports.specs.Several.{no_memory_for_what_stands, another_rows_
 use Rattle.wrong_reports.specs.Several.{stood_before_it_is_settled, stood_before_it_is_decided}
 use Rattle.wrong_reports.specs.Several.{a_row_that_no_command_began, an_append_to_several_that_leaves_the_floor}
 use Rattle.script_text.specs.declared.script.What.TheVariants.{Append}
-use Rattle.skeen_core.specs.declared.marks.Mark.TheVariants as marks
-use Rattle.skeen_core.specs.declared.marks.Why.TheVariants.{Memory}
-use Rattle.skeen_core.specs.declared.marks.Outcome.TheVariants.{Gone}
+use Rattle.log_node.specs.declared.marks.Mark.TheVariants as marks
+use Rattle.log_node.specs.declared.marks.Why.TheVariants.{Memory}
 use Rattle.col_core.specs.Keeping.{nothing_kept, seen_past}
 use Rattle.col_core.specs.Log.{places_of}
 use Rattle.lawful_run.specs.Callers.{caller_of}

@@ -10,7 +10,8 @@ use Rattle.log_node.specs.declared.node.Head.{Head}
 use Rattle.log_node.specs.declared.node.Node.{Node}
 use Rattle.log_node.specs.Seen.{PlacedNode}
 use Rattle.col_core.specs.declared.Entry.{Entry}
-use Rattle.col_core.specs.Cuts.{Chains, chain}
+use Rattle.log_node.specs.Reach.{Chains}
+use Rattle.col_core.specs.Cuts.{chain}
 use Rattle.col_core.specs.Computed.{dated}
 use Rattle.col_core.specs.PlayOrder.{Place, IsPlayOrder, same_place}
 use Rattle.col_core.specs.Log.{Log, first}

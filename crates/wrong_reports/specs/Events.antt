@@ -1,7 +1,7 @@
 -- Reports with an event that may not come, or that another region does not know.
 use Rattle.log_node.specs.declared.node.At.TheVariants.{Event}
 use Rattle.std.specs.Prelude.{List, [], ◌∷◌, codes, None, ℕ}
-use Rattle.skeen_core.specs.declared.marks.Outcome.TheVariants.{Final}
+use Rattle.log_node.specs.declared.marks.Outcome.TheVariants.{Final}
 use Rattle.col_core.specs.declared.Event.TheVariants.{Settle, Raise, Give, Carry, Trim}
 use Rattle.col_core.specs.declared.Entry.{Entry}
 use Rattle.script_text.specs.declared.script.What.TheVariants.{Append}

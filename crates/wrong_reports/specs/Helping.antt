@@ -1,9 +1,9 @@
 -- Reports with phantoms, with appends that stop and go on, and with wrong helpers.
-use Rattle.skeen_core.specs.declared.marks.Mark.{Mark}
+use Rattle.log_node.specs.declared.marks.Mark.{Mark}
 use Rattle.std.specs.Prelude.{ℕ, [], ◌∷◌, codes, None, false}
-use Rattle.skeen_core.specs.declared.marks.Mark.TheVariants as marks
-use Rattle.skeen_core.specs.declared.marks.Outcome.{Outcome}
-use Rattle.skeen_core.specs.declared.marks.Outcome.TheVariants.{Open, Final}
+use Rattle.log_node.specs.declared.marks.Mark.TheVariants as marks
+use Rattle.log_node.specs.declared.marks.Outcome.{Outcome}
+use Rattle.log_node.specs.declared.marks.Outcome.TheVariants.{Open, Final}
 use Rattle.script_text.specs.declared.script.What.TheVariants.{Append, Stop, Sync}
 use Rattle.script_text.specs.declared.script.Word.TheVariants as words
 use Rattle.report_text.specs.declared.report.Answer.TheVariants as answers

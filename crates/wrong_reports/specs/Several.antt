@@ -1,10 +1,10 @@
 -- Replies to an append to several colours that are unlike its row.
 use Rattle.log_node.specs.declared.node.At.TheVariants.{Look}
 use Rattle.std.specs.Prelude.{List, [], ◌∷◌, codes, Some, None}
-use Rattle.skeen_core.specs.declared.marks.Mark.TheVariants as marks
-use Rattle.skeen_core.specs.declared.marks.Outcome.{Outcome}
-use Rattle.skeen_core.specs.declared.marks.Outcome.TheVariants.{Open, Gone, Final}
-use Rattle.skeen_core.specs.declared.marks.Why.TheVariants.{Memory, StampEnd}
+use Rattle.log_node.specs.declared.marks.Mark.TheVariants as marks
+use Rattle.log_node.specs.declared.marks.Outcome.{Outcome}
+use Rattle.log_node.specs.declared.marks.Outcome.TheVariants.{Open, Gone, Final}
+use Rattle.log_node.specs.declared.marks.Why.TheVariants.{Memory, StampEnd}
 use Rattle.script_text.specs.declared.script.What.TheVariants.{Append, Stop, Sync}
 use Rattle.script_text.specs.declared.script.Word.TheVariants as words
 use Rattle.report_text.specs.declared.report.Answer.{Answer}

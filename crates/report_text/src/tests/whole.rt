@@ -5,9 +5,8 @@ use super::made::{
 };
 use crate::{Answer, ClientReport, ColumnReport, ReplyLine, Report, RowReport};
 use col_core::{Entries, Entry, Event};
-use log_node::{Key, ListOf, Row};
+use log_node::{ColourMark, Key, ListOf, Mark, Marks, Outcome, Row};
 use script_text::Word;
-use skeen_core::{ColourMark, Mark, Marks, Outcome};
 use std::alloc::{AllocError, Global};
 use std::test::Fail;
 

@@ -3,14 +3,14 @@ use Rattle.std.specs.List.{All, Contains}
 use Rattle.log_node.specs.Sets.{members}
 use Rattle.log_node.specs.declared.node.Shape.{Shape}
 use Rattle.report_text.specs.declared.report.PointPiece.{PointPiece}
-use Rattle.skeen_core.specs.declared.marks.Outcome.{Outcome}
+use Rattle.log_node.specs.declared.marks.Outcome.{Outcome}
 use Rattle.world_laws.specs.declared.steps.Step.TheVariants.{Seen}
 use Rattle.world_laws.specs.Laws.{LogGrows, IsFinal}
 use Rattle.log_node.specs.declared.ids.Id.{Id}
 use Rattle.log_node.specs.declared.ids.Row.{Row}
-use Rattle.skeen_core.specs.declared.marks.Why.{Why}
-use Rattle.skeen_core.specs.declared.marks.Why.TheVariants.{StampEnd}
-use Rattle.skeen_core.specs.declared.marks.Outcome.TheVariants.{Gone, Final}
+use Rattle.log_node.specs.declared.marks.Why.{Why}
+use Rattle.log_node.specs.declared.marks.Why.TheVariants.{StampEnd}
+use Rattle.log_node.specs.declared.marks.Outcome.TheVariants.{Gone, Final}
 use Rattle.std.specs.List.{fold}
 use Rattle.col_core.specs.History.{entry_key}
 use Rattle.report_text.specs.declared.report.Answer.TheVariants as answers

@@ -1,5 +1,5 @@
 use Rattle.std.proofs.Common.{sym, refl, arith}
-use Rattle.skeen_core.specs.Outcomes.{is_stamp_end_fence}
+use Rattle.log_node.specs.Outcomes.{is_stamp_end_fence}
 use Rattle.world_laws.specs.Worlds.{row_of}
 use Rattle.world_code.specs.WorldView.{world_of}
 use Rattle.script_in_order.proofs.Sets.{least_passes, none_passes, none_at_all}

@@ -1,6 +1,6 @@
 use Rattle.std.proofs.Common.{◌≡◌, []}
 use Rattle.std.specs.List.{filter}
-use Rattle.skeen_core.specs.Outcomes.{is_stamp_end_fence}
+use Rattle.log_node.specs.Outcomes.{is_stamp_end_fence}
 use Rattle.world_laws.specs.Worlds.{row_of}
 use Rattle.world_code.specs.WorldView.{world_of}
 use Rattle.script_in_order.proofs.Sets.{first_members}

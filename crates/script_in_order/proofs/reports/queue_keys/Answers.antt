@@ -1,7 +1,7 @@
 use Rattle.std.proofs.Common.{◌≡◌, ◌∙◌, ◌+◌, ◌++◌, ◌∷◌, [], refl, ap, sym, ℕ, List, length, map, take, length-append}
 use Rattle.std.specs.Prelude.{slice_get}
 use Rattle.std.specs.Option.{option_map}
-use Rattle.skeen_core.specs.Standings.{Standing, queue_of}
+use Rattle.log_node.specs.Standings.{Standing, queue_of}
 use Rattle.col_core.specs.History.{entries}
 use Rattle.report_text.specs.declared.report.QueueKey.{QueueKey}
 use Rattle.script_in_order.specs.Reports.{waiting_shown}

@@ -1,5 +1,5 @@
 use Rattle.std.proofs.Common.{◌≡◌, ◌-◌, length, map, take}
-use Rattle.skeen_core.specs.Standings.{queue_of}
+use Rattle.log_node.specs.Standings.{queue_of}
 use Rattle.col_core.specs.History.{entries}
 use Rattle.script_in_order.specs.Reports.{waiting_shown}
 use Rattle.script_in_order.proofs.reports.queue_keys.Given as goal

@@ -1,8 +1,8 @@
 use Rattle.std.proofs.Common.{◌∙◌, ap, sym, ℕ, map, arith}
 use Rattle.log_node.specs.declared.ids.Colours.{Colours}
 use Rattle.log_node.specs.Sets.{members}
-use Rattle.skeen_core.specs.declared.marks.Mark.{Mark}
-use Rattle.skeen_core.specs.declared.marks.ColourMark.{ColourMark}
+use Rattle.log_node.specs.declared.marks.Mark.{Mark}
+use Rattle.log_node.specs.declared.marks.ColourMark.{ColourMark}
 use Rattle.world_laws.specs.Worlds.{row_of}
 use Rattle.world_code.specs.WorldView.{world_of}
 use Rattle.world_code.proofs.CallerLemmas.{member_is}

@@ -1,5 +1,5 @@
 use Rattle.std.proofs.Common.{◌≡◌, map}
-use Rattle.skeen_core.specs.declared.marks.ColourMark.{ColourMark}
+use Rattle.log_node.specs.declared.marks.ColourMark.{ColourMark}
 use Rattle.world_laws.specs.Worlds.{row_of}
 use Rattle.world_code.specs.WorldView.{world_of}
 use Rattle.script_in_order.proofs.Sets.{first_members}

@@ -2,7 +2,7 @@ use Rattle.std.proofs.Common.{◌≡◌, ◌∙◌, List, ap, sym, subst}
 use Rattle.log_node.specs.declared.ids.Counts.{Counts}
 use Rattle.log_node.specs.Seen.{PlacedNode}
 use Rattle.log_node.specs.Vectors.{is_within, IsWithin}
-use Rattle.col_core.specs.Cuts.{Chains, Reachable}
+use Rattle.log_node.specs.Reach.{Chains, Reachable}
 use Rattle.playback.specs.declared.player.Player.{Player}
 use Rattle.playback.specs.declared.player.Snapshot.{Snapshot}
 use Rattle.playback.specs.Playing.{ShowsChains, ArePlayed, HasPlayCause}

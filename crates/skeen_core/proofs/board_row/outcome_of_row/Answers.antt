@@ -1,5 +1,5 @@
 use Rattle.std.proofs.Common.{◌≡◌, ap, ◌∙◌, arith, refl}
-use Rattle.skeen_core.specs.Outcomes.{outcome_of}
+use Rattle.log_node.specs.Outcomes.{outcome_of}
 use Rattle.skeen_core.specs.Boards.{marks_above}
 use Rattle.skeen_core.proofs.RowMarks.{marks-are, outcome-from}
 use Rattle.skeen_core.proofs.board_row.outcome_of_row.Goals as goal

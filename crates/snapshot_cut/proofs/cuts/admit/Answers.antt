@@ -1,10 +1,10 @@
 use Rattle.std.proofs.Common.{◌<◌, sym, subst}
 use Rattle.log_node.specs.declared.ids.Counts.{Counts}
 use Rattle.log_node.specs.Vectors.{IsWithin, one_more}
-use Rattle.col_core.specs.Cuts.{Reachable}
+use Rattle.log_node.specs.Reach.{Reachable}
 use Rattle.snapshot_cut.specs.Stuck.{left}
-use Rattle.log_node.proofs.CallerLemmas.{within-trans, within-one_more}
-use Rattle.snapshot_cut.proofs.Adding.{more_reached, stuck_is_greatest, less_left, free_inside}
+use Rattle.log_node.proofs.CallerLemmas.{within-trans, within-one_more, stuck_is_greatest}
+use Rattle.snapshot_cut.proofs.Adding.{more_reached, less_left, free_inside}
 use Rattle.snapshot_cut.proofs.cuts.admit.Goals as goal
 
 pub loop-region-preserved : goal.loop-region-preserved

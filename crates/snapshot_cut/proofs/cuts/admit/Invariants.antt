@@ -1,5 +1,5 @@
 use Rattle.log_node.specs.Vectors.{IsWithin}
-use Rattle.col_core.specs.Cuts.{Reachable}
+use Rattle.log_node.specs.Reach.{Reachable}
 use Rattle.snapshot_cut.specs.Stuck.{left}
 use Rattle.snapshot_cut.proofs.cuts.admit.Given as goal
 

@@ -1,7 +1,7 @@
 use Rattle.std.proofs.Common.{◌≡◌, ℕ, ◌<◌, false}
 use Rattle.std.specs.Prelude.{slice_get}
 use Rattle.log_node.specs.Vectors.{at}
-use Rattle.col_core.specs.Computed.{is_covered}
+use Rattle.log_node.specs.Reach.{is_covered}
 use Rattle.snapshot_cut.proofs.cuts.free_region.Given as goal
 
 -- none of the regions so far is free

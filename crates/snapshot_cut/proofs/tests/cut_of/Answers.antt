@@ -1,4 +1,4 @@
-use Rattle.col_core.specs.Cuts.Reachable.{nothing}
+use Rattle.log_node.specs.Reach.Reachable.{nothing}
 use Rattle.snapshot_cut.proofs.tests.cut_of.Goals as goal
 
 -- nothing is reached at zero

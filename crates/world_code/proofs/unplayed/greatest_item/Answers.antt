@@ -2,7 +2,7 @@ use Rattle.std.proofs.Common.{◌≡◌, ℕ, List, take, drop, map, get_or, ap,
 use Rattle.std.specs.Prelude.{◌-◌, max}
 use Rattle.std.proofs.lemmas.List.{take_all}
 use Rattle.log_node.specs.Seen.{PlacedNode}
-use Rattle.skeen_core.specs.Outcomes.{greatest}
+use Rattle.log_node.specs.Outcomes.{greatest}
 use Rattle.world_code.proofs.Playing.{greatest_more, clipped}
 use Rattle.world_code.proofs.unplayed.greatest_item.Goals as goal
 

@@ -2,7 +2,7 @@ use Rattle.std.proofs.Common.{List, take, drop, map, ap, ◌∙◌}
 use Rattle.std.specs.Prelude.{◌-◌}
 use Rattle.std.proofs.lemmas.List.{take_all}
 use Rattle.log_node.specs.declared.ids.Key.{Key}
-use Rattle.skeen_core.specs.Outcomes.{greatest}
+use Rattle.log_node.specs.Outcomes.{greatest}
 use Rattle.world_code.proofs.Playing.{greatest_more, clipped}
 use Rattle.world_code.proofs.unplayed.greatest_key.Goals as goal
 

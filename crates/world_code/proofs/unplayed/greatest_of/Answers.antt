@@ -4,7 +4,7 @@ use Rattle.log_node.specs.declared.ids.Counts.{Counts}
 use Rattle.log_node.specs.declared.ids.Key.{Key}
 use Rattle.log_node.specs.Seen.{PlacedNode}
 use Rattle.log_node.specs.Vectors.{at}
-use Rattle.skeen_core.specs.Outcomes.{greatest}
+use Rattle.log_node.specs.Outcomes.{greatest}
 use Rattle.world_code.proofs.Playing.{own_stamps, other_stamps}
 use Rattle.world_code.proofs.unplayed.greatest_of.Goals as goal
 

@@ -2,7 +2,7 @@ use Rattle.std.proofs.Common.{◌≡◌, true, false, ◌∙◌, ◌-◌, ◌+�
 use Rattle.std.specs.Vec.{vec_capacity}
 use Rattle.log_node.specs.declared.node.Node.{Node}
 use Rattle.log_node.specs.Sets.{has}
-use Rattle.skeen_core.specs.Standings.{line_of}
+use Rattle.log_node.specs.Standings.{line_of}
 use Rattle.skeen_core.specs.Queues.{has_id}
 use Rattle.col_core.specs.History.{last_stamp, has_entered}
 use Rattle.col_core.specs.Rows.{node_wants}

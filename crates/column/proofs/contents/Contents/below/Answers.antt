@@ -1,7 +1,7 @@
 use Rattle.std.proofs.Common.{◌≡◌, ap, sym, subst, ◌∙◌, List, arith}
 use Rattle.std.specs.List.{AllByRecursion, find}
 use Rattle.skeen_core.specs.declared.waiting.Waiting.{Waiting}
-use Rattle.skeen_core.specs.Standings.{queue_of}
+use Rattle.log_node.specs.Standings.{queue_of}
 use Rattle.skeen_core.specs.Queues.{kept_count, waiting_entries}
 use Rattle.skeen_core.proofs.CallerLemmas.{each-drop, each-weaker}
 use Rattle.col_core.specs.History.{entries}

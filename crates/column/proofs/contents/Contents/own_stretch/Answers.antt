@@ -2,7 +2,7 @@ use Rattle.std.proofs.Common.{◌≡◌, ◌≤◌, ◌+◌, ℕ, List, take, dr
 use Rattle.log_node.specs.declared.ids.Key.{Key}
 use Rattle.log_node.specs.Seen.{PlacedNode}
 use Rattle.log_node.specs.Vectors.{at}
-use Rattle.skeen_core.specs.Standings.{line_of}
+use Rattle.log_node.specs.Standings.{line_of}
 use Rattle.column.specs.Entering.{EnteredNode}
 use Rattle.column.specs.Columns.{ColumnState, base_of, items_under, AreItems}
 use Rattle.column.proofs.Items.{own_items, kept_length}

@@ -1,5 +1,5 @@
 use Rattle.std.proofs.Common.{ap, sym, subst, ◌∙◌}
-use Rattle.skeen_core.specs.Standings.{line_of}
+use Rattle.log_node.specs.Standings.{line_of}
 use Rattle.col_core.specs.History.{line}
 use Rattle.col_core.proofs.CallerLemmas.{line_rises}
 use Rattle.column.specs.Columns.{ColumnState, AreRising, history_of}

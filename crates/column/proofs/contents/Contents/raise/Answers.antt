@@ -2,7 +2,7 @@ use Rattle.std.proofs.Common.{◌<◌, refl, sym, ◌∙◌, ◌++◌, ◌∷◌
 use Rattle.col_core.specs.declared.Event.TheVariants as events
 use Rattle.col_core.specs.declared.Entry.{Entry}
 use Rattle.col_core.specs.History.{clock as hclock}
-use Rattle.skeen_core.specs.Standings.{line_of}
+use Rattle.log_node.specs.Standings.{line_of}
 use Rattle.col_core.proofs.CallerLemmas.{entries-append}
 use Rattle.column.specs.Columns.{ColumnState, cut_of, after_raise}
 use Rattle.column.proofs.Steps.{raising, raise_is, raise_next, raise_quiet, quiet_numbers, still_cut}

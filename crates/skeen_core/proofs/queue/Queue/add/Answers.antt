@@ -1,6 +1,6 @@
 use Rattle.std.proofs.Common.{◌≡◌, ◌<◌, ◌≤◌, ◌++◌, ◌+◌, ◌∷◌, [], false, max, sym, ap, ◌∙◌, arith}
 use Rattle.skeen_core.specs.declared.waiting.Waiting.{Waiting}
-use Rattle.skeen_core.specs.Standings.{line_of}
+use Rattle.log_node.specs.Standings.{line_of}
 use Rattle.skeen_core.specs.Queues.{has_id, entered_queue}
 use Rattle.skeen_core.specs.Inside.{all_entries, ready_keys, ready_things, left}
 use Rattle.skeen_core.proofs.Delivering.{queued-delivered}

@@ -1,5 +1,5 @@
 use Rattle.std.proofs.Common.{◌≡◌, ◌-◌, ◌≤◌, max, length, drop, arith, sym, ap, ◌∙◌}
-use Rattle.skeen_core.specs.Standings.{line_of}
+use Rattle.log_node.specs.Standings.{line_of}
 use Rattle.skeen_core.specs.Queues.{dropped_queue}
 use Rattle.skeen_core.proofs.Stored.{line-queued, queued-dropped}
 use Rattle.skeen_core.proofs.queue.Queue.drop_to.Goals as goal

@@ -1,6 +1,6 @@
 use Rattle.std.proofs.Common.{◌-◌, drop, length, sym, ap, ◌∙◌}
 use Rattle.std.specs.Prelude.{map}
-use Rattle.skeen_core.specs.Standings.{line_of}
+use Rattle.log_node.specs.Standings.{line_of}
 use Rattle.skeen_core.specs.Queues.{kept_entries}
 use Rattle.skeen_core.proofs.Stored.{line-queued, kept-queued, left-of, things-with_things, keys-with_things}
 use Rattle.skeen_core.proofs.queue.Queue.kept.Goals as goal

@@ -1,5 +1,5 @@
 use Rattle.std.proofs.Common.{sym, ap, ◌∙◌}
-use Rattle.skeen_core.specs.Standings.{line_of}
+use Rattle.log_node.specs.Standings.{line_of}
 use Rattle.skeen_core.proofs.Stored.{line-queued}
 use Rattle.skeen_core.proofs.queue.Queue.line.Goals as goal
 

@@ -1,6 +1,6 @@
 use Rattle.std.proofs.Common.{sym, ap, ◌∙◌}
 use Rattle.std.specs.Prelude.{map}
-use Rattle.skeen_core.specs.Standings.{queue_of}
+use Rattle.log_node.specs.Standings.{queue_of}
 use Rattle.skeen_core.specs.Queues.{waiting_entries, standing_of}
 use Rattle.skeen_core.proofs.Stored.{waiting-queued}
 use Rattle.skeen_core.proofs.Delivery.{queue-is}

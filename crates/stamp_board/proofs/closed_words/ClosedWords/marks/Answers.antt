@@ -1,7 +1,7 @@
 use Rattle.std.proofs.Common.{◌≡◌, ℕ, ◌/◌, ◌%◌, ◌^◌, ◌≤◌, ◌∷◌, ◌++◌, [], true, false, sym, ap, ◌∙◌}
 use Rattle.std.proofs.Common.{arith, eq-eqb, ne_eqb}
 use Rattle.std.specs.Mem.Slots.{slots_items}
-use Rattle.skeen_core.specs.declared.marks.ColourMark.{ColourMark}
+use Rattle.log_node.specs.declared.marks.ColourMark.{ColourMark}
 use Rattle.stamp_board.specs.Words.{mark_from}
 use Rattle.stamp_board.specs.Rows.{colours_in}
 use Rattle.stamp_board.proofs.Colours.{has_bit, below, below_skip, below_one, below_members}

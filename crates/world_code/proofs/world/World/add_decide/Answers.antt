@@ -1,5 +1,5 @@
 use Rattle.std.proofs.Common.{◌≡◌, true, ap, sym, subst, ◌∙◌}
-use Rattle.skeen_core.specs.declared.marks.Outcome.TheVariants.{Open}
+use Rattle.log_node.specs.declared.marks.Outcome.TheVariants.{Open}
 use Rattle.skeen_core.specs.Boards.{Board}
 use Rattle.world_laws.specs.declared.steps.Step.TheVariants as steps
 use Rattle.world_laws.specs.Laws.{IsBounded}

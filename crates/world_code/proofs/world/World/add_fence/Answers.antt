@@ -1,6 +1,6 @@
 use Rattle.std.proofs.Common.{◌≡◌, true, ap, sym, subst, ◌∙◌}
-use Rattle.skeen_core.specs.declared.marks.Mark.{Mark}
-use Rattle.skeen_core.specs.declared.marks.Mark.TheVariants as marks
+use Rattle.log_node.specs.declared.marks.Mark.{Mark}
+use Rattle.log_node.specs.declared.marks.Mark.TheVariants as marks
 use Rattle.skeen_core.specs.Boards.{Board, first_mark}
 use Rattle.world_laws.specs.Worlds.{may_mark, may_fence, with_mark}
 use Rattle.world_laws.proofs.CallerLemmas.{may_mark_is, may_fence_marks}

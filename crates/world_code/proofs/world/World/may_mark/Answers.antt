@@ -1,7 +1,7 @@
 use Rattle.std.proofs.Common.{ap, sym, subst, ◌∙◌, arith}
 use Rattle.log_node.specs.declared.node.Node.{Node}
 use Rattle.log_node.specs.Sets.{has}
-use Rattle.skeen_core.specs.Outcomes.{is_missing}
+use Rattle.log_node.specs.Outcomes.{is_missing}
 use Rattle.world_code.specs.WorldView.{WorldView, IsWhole}
 use Rattle.world_code.proofs.MayMark.{no_colour, not_has, by_mark}
 use Rattle.world_code.proofs.world.World.may_mark.Goals as goal
