@@ -1,12 +1,13 @@
 -- How lines and numbers of names are found from the front.
-use Rattle.std.proofs.Common.{◌≡◌, ℕ, zero, suc, ◌+◌, ◌<◌, ◌≤◌, true, false, eqb, List, [], ◌∷◌, length, get_or, take, drop, Some, None, refl, arith, add-one, lit<, ◌*◌, ◌-◌, ◌^◌, leb}
+use Rattle.std.proofs.Common.{◌≡◌, ℕ, zero, suc, ◌+◌, ◌<◌, ◌≤◌, true, false, eqb, List, [], ◌∷◌, length, get_or, take, drop, Some, None, refl, arith, add-one, lit<, ◌*◌, ◌-◌, ◌^◌, leb, ltb, inl, inr}
 use Rattle.std.specs.List.{list_any, list_all}
 use Rattle.std.specs.Str.{bytes_eq}
 use Rattle.std.proofs.Math.Bool.{and-false}
-use Rattle.std.proofs.lemmas.Bool.{ne_eqb, eq-eqb, and_parts, leb-true, le-leb, both_ways, false_from_ne_true, eqb-false}
+use Rattle.std.proofs.lemmas.Bool.{ne_eqb, eq-eqb, and_parts, leb-true, le-leb, both_ways, false_from_ne_true, eqb-false, cases_Bool, ltb-true, ltb-false}
+use Rattle.std.proofs.lemmas.List.{take_all}
 use Rattle.std.proofs.lemmas.List.Sums.{fold_more}
 use Rattle.std.proofs.Math.Nat.{pow-le-pow_right, pow-suc}
-use Rattle.script_text.specs.Pieces.{lines_of, fields_of, is_between, is_ascii_line, number_of, is_digit, number_value}
+use Rattle.script_text.specs.Pieces.{lines_of, fields_of, names_in, is_between, is_ascii_line, number_of, is_digit, number_value}
 
 pub lines_first : (bs : List ℕ) (i : ℕ) → i < length bs → ((k : ℕ) → k < i → get_or bs k 0 ≡ 10 → ⊥) → get_or bs i 0 ≡ 10 → lines_of bs ≡ take i bs ∷ lines_of (drop (i + 1) bs)
 lines_first [] i lt none here = absurd (omega arith)
@@ -92,3 +93,28 @@ not_ascii b h apart = false_from_ne_true (is_between 32 126 b) (λ e.
     let low = leb-true 32 b p.0 in
     let unlike = eqb-false b 32 apart in
     both_ways (is_between 33 126 b) h (rw (le-leb 33 b (omega (arith, low, unlike)), p.1) refl))
+
+-- ---- names between commas
+
+-- so many bytes at the front are no comma
+abbrev pub HasNoComma : List ℕ → ℕ → Type 0
+HasNoComma bs i = (k : ℕ) → k < i → eqb (get_or bs k 0) 44 ≡ false
+
+pub comma_at : (bs : List ℕ) (i : ℕ) → i < length bs → HasNoComma bs i → eqb (get_or bs i 0) 44 ≡ true → names_in bs ≡ take i bs ∷ names_in (drop (i + 1) bs)
+comma_at [] i lt front here = absurd (omega arith)
+comma_at (b ∷ bs) zero lt front here = rw here refl
+comma_at (b ∷ bs) (suc i) lt front here =
+    let later = comma_at bs i (omega arith) (λ k h. front (suc k) (omega arith)) here in
+    rw (front 0 (omega arith), later, add-one (suc i), add-one i) refl
+
+pub comma_none : (bs : List ℕ) → HasNoComma bs (length bs) → names_in bs ≡ bs ∷ []
+comma_none [] front = refl
+comma_none (b ∷ bs) front = rw (front 0 (omega arith), comma_none bs (λ k h. front (suc k) (omega arith))) refl
+
+-- the first name, and those after it, if any
+pub first_name : (bs : List ℕ) (i : ℕ) → i ≤ length bs → HasNoComma bs i → (i < length bs → eqb (get_or bs i 0) 44 ≡ true)
+    → (later : List (List ℕ)) × (names_in bs ≡ take i bs ∷ later)
+first_name bs i le front stop = elim (cases_Bool (ltb i (length bs))) [
+  | inl lt ↦ let lt' = ltb-true i (length bs) lt in (names_in (drop (i + 1) bs), comma_at bs i lt' front (stop lt'))
+  | inr ge ↦ let whole : i ≡ length bs = omega (arith, le, ltb-false i (length bs) ge) in ([], rw (whole, take_all (length bs) bs (omega arith)) (comma_none bs (rw whole at front)))
+]

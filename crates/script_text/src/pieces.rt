@@ -1,6 +1,6 @@
 // The pieces of a script's bytes: lines, fields, and what a field may be.
 ghost use Rattle.std.specs.Prelude.{◌≡◌, ◌<◌, ◌≤◌, ◌==◌, ◌↔◌, [], ◌∷◌, ℕ, true, false, ◌+◌, length, drop, map, slice_index_or, Ok, IfOk, IsNone, IfSome, IsTrue};
-ghost use Rattle.std.specs.List.{slice_split, list_all};
+ghost use Rattle.std.specs.List.{list_all};
 ghost use Rattle.script_text.specs.declared.limits.TheConstants.{ROWS_DIGITS};
 ghost use Rattle.script_text.specs.Pieces.{lines_of, fields_of, is_between, is_ascii_line, is_letter_or_digit, is_name, is_key, is_text, is_among, is_digit, is_number, number_value, number_of};
 ghost use Rattle.script_text.specs.Grammar.{has_equals, key_in, value_in};
@@ -10,7 +10,7 @@ use crate::limits::{MAX_KEY, MAX_NAME};
 use log_node::{MAX_TEXT, Text};
 use memchr::memchr;
 use smallvec::SmallVec;
-use std::alloc::{AllocError, Global};
+use std::alloc::AllocError;
 
 /// The first line of the bytes, and the bytes after it.
 pub fn first_line(bytes: &[u8]) -> (&[u8], &[u8])
@@ -45,7 +45,7 @@ fn visible_front(bytes: &[u8]) -> usize
 }
 
 /// The bytes behind a place.
-fn behind(bytes: &[u8], at: usize) -> &[u8]
+pub fn behind(bytes: &[u8], at: usize) -> &[u8]
     requires { at < length bytes.now }
     ensures { result.now ≡ drop (at + 1) bytes.now }
 {
@@ -73,16 +73,18 @@ pub fn cut_line<'a>(fields: &mut Fields<'a>, line: &'a [u8]) -> Result<bool, All
     }
 }
 
-/// The parts of the bytes, with one separator between two.
-pub fn parts_of<'a>(
-    alloc: Global,
-    bytes: &'a [u8],
-    separator: u8,
-) -> Result<Vec<&'a [u8]>, AllocError>
-    ensures { IfOk result (λ parts. map (λ part. part.now) parts.items
-        ≡ slice_split (λ b. b == separator) bytes.now) }
+/// How many bytes at the front are no comma.
+pub fn comma_front(bytes: &[u8]) -> usize
+    ensures within { result ≤ length bytes.now }
+    ensures front { (k : ℕ) → k < result → (slice_index_or bytes.now k 0 == 44) ≡ false }
+    ensures stop { result < length bytes.now → (slice_index_or bytes.now result 0 == 44) ≡ true }
 {
-    bytes.split(|b| *b == separator).collect(alloc)
+    for (at, b) in bytes.iter().enumerate() {
+        if *b == b',' {
+            return at;
+        }
+    }
+    bytes.len()
 }
 
 /// Whether each byte is from 0x20 to 0x7E.

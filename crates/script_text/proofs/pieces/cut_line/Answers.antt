@@ -1,8 +1,7 @@
-use Rattle.std.proofs.Common.{◌≡◌, ◌<◌, ◌+◌, ◌++◌, [], ◌∷◌, length, take, drop, get_or, true, false, refl, sym, ap, ◌∙◌, append_assoc, arith, rules, tests}
+use Rattle.std.proofs.Common.{◌≡◌, ◌<◌, ◌+◌, ◌++◌, [], ◌∷◌, length, take, drop, get_or, refl, sym, ap, ◌∙◌, append_assoc, arith}
 use Rattle.std.proofs.lemmas.List.{map_push, length-drop}
 use Rattle.std.proofs.lemmas.Bool.{ne_eqb}
-use Rattle.std.specs.Borrow.{Bor}
-use Rattle.script_text.specs.Pieces.{fields_of, is_ascii_line}
+use Rattle.script_text.specs.Pieces.{fields_of}
 use Rattle.script_text.specs.Readings.{fields_in}
 use Rattle.script_text.proofs.PieceLemmas.{cut_at, cut_unlike, cut_whole, not_ascii}
 use Rattle.script_text.proofs.pieces.cut_line.Goals as goal
