@@ -121,10 +121,15 @@ pub fn is_key(field: &[u8]) -> bool
     1 <= field.len() && field.len() <= MAX_KEY && are_letters_or_digits(field)
 }
 
+// With no early exit, so that it is compiled to several bytes at a time.
 fn are_visible(bytes: &[u8]) -> bool
     ensures { result ≡ list_all (is_between 33 126) bytes.now }
 {
-    bytes.iter().all(|b| matches!(*b, b'!'..=b'~'))
+    let mut all = true;
+    for b in bytes {
+        all &= matches!(*b, b'!'..=b'~');
+    }
+    all
 }
 
 /// 1 to 200 bytes, none a blank.
