@@ -1,4 +1,4 @@
--- What is known stays known: for those who carry seats from call to call.
+-- What is known stays known, and lists of two seats: for those who carry seats from call to call.
 use Rattle.std.proofs.Common.{◌≡◌, ℕ, ◌+◌, sym, refl, ◌∙◌, subst}
 use Rattle.log_node.specs.declared.ids.Row.{Row}
 use Rattle.log_node.specs.declared.node.Node.{Node}
@@ -8,6 +8,7 @@ use Rattle.stamp_board.specs.declared.view.Size.{Size}
 use Rattle.stamp_board.specs.declared.view.View.{View}
 use Rattle.stamp_board.specs.Words.{row_at, word_at}
 use Rattle.stamp_board.specs.Views.{Has, Grows, Learns, KnowsBegun, KnowsMark, KnowsOutcome}
+pub use Rattle.stamp_board.proofs.Pairs.{last_two, two_colours}
 
 pub Learns-refl : (v : View) → Learns v v
 Learns-refl v = record { known = λ _ _ h. h; begun = λ _ _ h. h }
