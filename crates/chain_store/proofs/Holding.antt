@@ -1,6 +1,7 @@
 -- A hold after a turn at one column.
 use Rattle.std.proofs.Common.{◌≡◌, ◌≢◌, ℕ, zero, suc, ◌+◌, ◌<◌, ◌≤◌, List, [], ◌∷◌, ◌++◌, length, Option, Some, None, set, get_or, refl, ap, sym, subst, ◌∙◌, arith, inl, inr, ◌⊎◌, length-set}
 use Rattle.std.specs.Prelude.{slice_get}
+use Rattle.std.specs.Vec.{with_item}
 use Rattle.std.proofs.lemmas.Bool.{cases_eq}
 use Rattle.std.proofs.lemmas.Option.{slice_get_read}
 use mathlib.Core.List.{IsPrefix}
@@ -20,11 +21,12 @@ use Rattle.turn_cell.specs.Cells.{seen}
 use Rattle.chain_store.specs.declared.told.Told.{Told}
 use Rattle.chain_store.specs.declared.hold.Hold.{Hold}
 use Rattle.chain_store.specs.declared.region.Region.{Region}
+use Rattle.column.specs.Columns.{single_event}
 use Rattle.chain_store.specs.Histories.{maker}
 use Rattle.chain_store.specs.Passes.{ColumnCell, ColumnPass, IsHolder, SeesMore, MakesOne}
 use Rattle.chain_store.specs.Regions.{IsColumnAt}
 use Rattle.chain_store.specs.Owning.{Owns, HasRowOf, IsAccountedFor, row_of}
-use Rattle.chain_store.specs.Holds.{history_seen, passes_of, turned_in, made_in, view_of, HasPasses, IsHold, SameBut, SeesMoreIn, MakesOneIn}
+use Rattle.chain_store.specs.Holds.{history_seen, passes_of, turned_in, made_in, view_of, HasPasses, IsHold, SameBut}
 use Rattle.chain_store.proofs.Entering.{get_cases}
 use Rattle.chain_store.proofs.Passing.{made_with}
 
@@ -132,23 +134,17 @@ module _ (r : Region) (h g : Hold) (k : ℕ) (c : ColumnCell) (p q : ColumnPass)
   made_else : (j : ℕ) → j ≢ k → made_in g j ≡ made_in h j
   made_else j ne = ap (λ (m : ℕ). made_by maker m (turned_in g j)) number ∙ ap (made_by maker n) (elsewhere j ne)
 
-  pub sees_more : SeesMore n p q → SeesMoreIn k h g
-  sees_more s = record {
-    more = subst (λ (l : List Told). IsPrefix l (turned_in g k)) (sym was)
-        (subst (λ (l : List Told). IsPrefix (seen p) l) (sym now) s.more);
-    none = made_now ∙ s.none ∙ sym made_was;
-  }
+  -- what holds of what the pass had seen and has seen holds of the hold
+  pub of_pass : (P : List Told → List Told → Type 0) → P (seen p) (seen q) → P (turned_in h k) (turned_in g k)
+  of_pass P is = subst (λ (l : List Told). P l (turned_in g k)) (sym was) (subst (P (seen p)) (sym now) is)
 
-  pub makes_one : (t : Told) (at : At) → maker t ≡ n → MakesOne n t p q at → MakesOneIn k t h g at
-  makes_one t at by m = record {
-    before = m.before;
-    more = subst (λ (l : List Told). IsPrefix l m.before) (sym was) m.more;
-    adds = now ∙ m.adds;
-    turned = refl;
-    made = made_now ∙ ap (made_by maker n) m.adds ∙ made_with n m.before t by
-        ∙ ap (λ (l : List Told). l ++ t ∷ []) (m.none ∙ sym made_was);
-    place = m.place;
-  }
+  made_none : SeesMore n (seen p) (seen q) → made_in g k ≡ made_in h k
+  made_none s = made_now ∙ s.none ∙ sym made_was
+
+  made_more : (t : Told) (at : At) → maker t ≡ n → MakesOne n t (seen p) (seen q) at
+      → made_in g k ≡ made_in h k ++ t ∷ []
+  made_more t at by m = made_now ∙ ap (made_by maker n) m.adds ∙ made_with n m.before t by
+      ∙ ap (λ (l : List Told). l ++ t ∷ []) (m.none ∙ sym made_was)
 
   module _ (good : IsHolder c n q) (later : IsLater h.seat g.seat) (le : h.next ≤ g.next) where
     held : Owns r.board.size r.number (view_of g) n h.seat.used g.next (made_in g) → IsHold r g
@@ -163,25 +159,24 @@ module _ (r : Region) (h g : Hold) (k : ℕ) (c : ColumnCell) (p q : ColumnPass)
           (λ i. (sym number i, sym later.used i)) o;
     }
 
-    pub hold_looked : SeesMore n p q → IsHold r g
+    pub hold_looked : SeesMore n (seen p) (seen q) → IsHold r g
     hold_looked s = held (owns_step r.board.size r.number (view_of h) (view_of g) n h.seat.used h.next g.next (made_in h)
         (made_in g) later.grows le is.owns
         (λ j i t at. inl (elim (cases_eq j k) [
           | inl e ↦ subst (λ (z : ℕ). slice_get (made_in h z) i ≡ Some t) (sym e)
-              (ap (λ (l : List Told). slice_get l i) (sym (made_now ∙ s.none ∙ sym made_was))
+              (ap (λ (l : List Told). slice_get l i) (sym (made_none s))
               ∙ subst (λ (z : ℕ). slice_get (made_in g z) i ≡ Some t) e at)
           | inr ne ↦ ap (λ (l : List Told). slice_get l i) (sym (made_else j ne)) ∙ at
         ])))
 
-    pub hold_made : (t : Told) (at : At) → maker t ≡ n → MakesOne n t p q at
+    pub hold_made : (t : Told) (at : At) → maker t ≡ n → MakesOne n t (seen p) (seen q) at
         → IsAccountedFor n h.seat.used g.next is.owns.nodes t.entry.event → IsHold r g
     hold_made t place by m fits =
-        let one = makes_one t place by m in
         held (owns_step r.board.size r.number (view_of h) (view_of g) n h.seat.used h.next g.next (made_in h)
         (made_in g) later.grows le is.owns
         (λ j i u at. elim (cases_eq j k) [
           | inl e ↦ elim (get_cases (made_in h k) t i u
-              (ap (λ (l : List Told). slice_get l i) (sym one.made)
+              (ap (λ (l : List Told). slice_get l i) (sym (made_more t place by m))
               ∙ subst (λ (z : ℕ). slice_get (made_in g z) i ≡ Some u) e at)) [
             | inl old ↦ inl (subst (λ (z : ℕ). slice_get (made_in h z) i ≡ Some u) (sym e) old)
             | inr same ↦ inr (subst (λ (x : Told). IsAccountedFor n h.seat.used g.next is.owns.nodes x.entry.event)
@@ -215,3 +210,20 @@ client_few r h is =
 -- a hold whose passes alone have changed, or that has given out more counts
 pub same_seat : (s : Seat) → IsLater s s
 same_seat s = record { board = refl; client = refl; used = refl; grows = Grows-refl (seat_seen s) }
+
+-- a single with a count that was not given out yet is accounted for by the next
+pub single_of : (r : Region) (h : Hold) (x : Node) (is : IsHold r h) → h.next ≤ x.id.count
+    → (next : ℕ) → next ≡ x.id.count + 1 → (colour : ℕ)
+    → IsAccountedFor h.passes.number h.seat.used next is.owns.nodes (single_event colour x)
+single_of r h x is le next e colour = (
+  omega (arith, e),
+  (λ j lt same. let b = is.owns.below j lt in omega (arith, b, le, same)),
+)
+
+-- the hold with another pass of a colour's column
+abbrev pub turned : Hold → ℕ → ColumnPass → ℕ → Hold
+turned h k q next = record {
+  passes = record { number = h.passes.number; items = with_item h.passes.items k q };
+  seat = h.seat;
+  next = next;
+}

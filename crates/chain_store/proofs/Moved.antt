@@ -31,7 +31,7 @@ use Rattle.chain_store.specs.Moves.{held_in, base_in, LooksAt, RaisesAt, ShowsGi
 use Rattle.chain_store.proofs.Entering.{map_with}
 use Rattle.chain_store.proofs.Turning.{stood, tagged, adds, saw, makes_at}
 
-pub looks_at : (n : ℕ) (p q r : ColumnPass) (at : At) → SeesMore n p q → IsLook q r at → LooksAt n p r at
+pub looks_at : (n : ℕ) (p q r : ColumnPass) (at : At) → SeesMore n (seen p) (seen q) → IsLook q r at → LooksAt n (seen p) (seen r) at
 looks_at n p q r at s w = (
   saw n p q r s w.1.0,
   w.0 ∙ ap (λ (l : List Told). Look (length l)) (sym w.1.0),
@@ -61,16 +61,16 @@ pub may_move : (cell : ColumnCell) (n : ℕ) (q : ColumnPass) → HasTurnOf cell
 may_move cell n q turn x y t stands by true gains stays = inr (t, adds cell n q turn x y t stands (gains refl) by)
 may_move cell n q turn x y t stands by false gains stays = inl (stays refl (seen q) stands)
 
-module _ (cell : ColumnCell) (n : ℕ) (p q r : ColumnPass) (at : At) (turn : HasTurnOf cell n q) (s : SeesMore n p q)
+module _ (cell : ColumnCell) (n : ℕ) (p q r : ColumnPass) (at : At) (turn : HasTurnOf cell n q) (s : SeesMore n (seen p) (seen q))
     (x y : Seated) (t : Told) (stands : Stands x (seen q)) (by : maker t ≡ n) where
   module _ (look : Stands y (seen q) → IsLook q r at)
       (event : (u : Told) → Adds Stands maker newest_of y q u → IsEvent u q r at) where
-    pub made_at : Gains x y t → (m : MakesOne n t p r at) × (m.before ≡ seen q)
+    pub made_at : Gains x y t → (m : MakesOne n t (seen p) (seen r) at) × (m.before ≡ seen q)
     made_at gains = makes_at n t p q r at s (event t (adds cell n q turn x y t stands gains by))
 
     pub moved_at : (b : Bool) → (b ≡ true → Gains x y t) → (b ≡ false → Stays x y)
-        → ((b ≡ false) × LooksAt n p r at × (seen r ≡ seen q))
-        ⊎ ((b ≡ true) × (m : MakesOne n t p r at) × (m.before ≡ seen q))
+        → ((b ≡ false) × LooksAt n (seen p) (seen r) at × (seen r ≡ seen q))
+        ⊎ ((b ≡ true) × (m : MakesOne n t (seen p) (seen r) at) × (m.before ≡ seen q))
     moved_at true gains stays = let m = made_at (gains refl) in inr (refl, m.0, m.1)
     moved_at false gains stays =
         let w = look (stays refl (seen q) stands) in inl (refl, looks_at n p q r at s w, w.1.0)
@@ -78,9 +78,9 @@ module _ (cell : ColumnCell) (n : ℕ) (p q r : ColumnPass) (at : At) (turn : Ha
 -- a raise reaches its number
 pub raises_at : (n to : ℕ) (p r : ColumnPass) (at : At) (log : List Told) (b : Bool)
     → b ≡ nat_lt (clock (entries_in log)) to
-    → ((b ≡ false) × LooksAt n p r at × (seen r ≡ log))
-    ⊎ ((b ≡ true) × (m : MakesOne n (told_event n (Raise to)) p r at) × (m.before ≡ log))
-    → RaisesAt n to p r at
+    → ((b ≡ false) × LooksAt n (seen p) (seen r) at × (seen r ≡ log))
+    ⊎ ((b ≡ true) × (m : MakesOne n (told_event n (Raise to)) (seen p) (seen r) at) × (m.before ≡ log))
+    → RaisesAt n to (seen p) (seen r) at
 raises_at n to p r at log b test (inl l) = record {
   reached =
       let le = ltb-false (clock (entries_in log)) to (sym test ∙ l.0) in
@@ -117,8 +117,8 @@ shows_given x t log from given stands is g =
 
 pub gives_at : (t : Tag) (x : Seated) (n region from : ℕ) (p q r : ColumnPass) (at : At) (given : Given)
     → Stands x (seen q) → tag_of x ≡ t → IsGiven x.column from given
-    → (m : MakesOne n (told_event n (Give region (min from (length (line x.column.journal))))) p r at)
-    → m.before ≡ seen q → GivesAt t n region from p r at given
+    → (m : MakesOne n (told_event n (Give region (min from (length (line x.column.journal))))) (seen p) (seen r) at)
+    → m.before ≡ seen q → GivesAt t n region from (seen p) (seen r) at given
 gives_at t x n region from p q r at given stands is g m before = record {
   told = told_event n (Give region (min from (length (line x.column.journal))));
   made = m;
@@ -193,11 +193,11 @@ covers_none t log region given none le =
 pub carries_at : (t : Tag) (x : Seated) (n region : ℕ) (given : Given) (p q r : ColumnPass) (at : At) (b : Bool)
     → Stands x (seen q) → tag_of x ≡ t → region ≢ t.region
     → b ≡ nat_lt 0 (length (new_items x.column region given))
-    → ((b ≡ false) × LooksAt n p r at × (seen r ≡ seen q))
+    → ((b ≡ false) × LooksAt n (seen p) (seen r) at × (seen r ≡ seen q))
     ⊎ ((b ≡ true)
-    × (m : MakesOne n (told_carry n region (held_of x.column region) (new_items x.column region given)) p r at)
+    × (m : MakesOne n (told_carry n region (held_of x.column region) (new_items x.column region given)) (seen p) (seen r) at)
     × (m.before ≡ seen q))
-    → CarriesAt t n region given p r at
+    → CarriesAt t n region given (seen p) (seen r) at
 carries_at t x n region given p q r at b stands is other test (inl l) =
     let le = ltb-false 0 (length (new_items x.column region given)) (sym test ∙ l.0) in
     let new = new_is x t (seen q) region given stands is in

@@ -45,7 +45,7 @@ module _ (cell : ColumnCell) (n : ℕ) (p q : ColumnPass) (holds : IsHolder cell
     mine = mine ∙ ap (λ (l : List Told). Some (maker_with n l)) (sym whole);
   }
 
-  pub sees : SeesMore n p q
+  pub sees : SeesMore n (seen p) (seen q)
   sees = record { more = grows; none = whole; }
 
 map_long : (l : List Told) → length (entries_in l) ≡ length l
@@ -98,15 +98,15 @@ maker_is n q y t l mine adds =
     m.2 ∙ ap (λ (k : Maker Told). k.number) same
 
 -- a look at the end of a turn
-pub saw : (n : ℕ) (p q r : ColumnPass) → SeesMore n p q → seen r ≡ seen q → SeesMore n p r
+pub saw : (n : ℕ) (p q r : ColumnPass) → SeesMore n (seen p) (seen q) → seen r ≡ seen q → SeesMore n (seen p) (seen r)
 saw n p q r s kept = record {
   more = subst (λ (l : List Told). IsPrefix (seen p) l) (sym kept) s.more;
   none = ap (made_by maker n) kept ∙ s.none;
 }
 
 -- an entry at the end of a turn
-pub makes : (n : ℕ) (t : Told) (p q r : ColumnPass) (at : At) → SeesMore n p q → IsEvent t q r at
-    → MakesOne n t p r at
+pub makes : (n : ℕ) (t : Told) (p q r : ColumnPass) (at : At) → SeesMore n (seen p) (seen q) → IsEvent t q r at
+    → MakesOne n t (seen p) (seen r) at
 makes n t p q r at s e = record {
   before = seen q;
   more = s.more;
@@ -116,8 +116,8 @@ makes n t p q r at s e = record {
 }
 
 -- the same, with what was seen before
-pub makes_at : (n : ℕ) (t : Told) (p q r : ColumnPass) (at : At) → SeesMore n p q → IsEvent t q r at
-    → (m : MakesOne n t p r at) × (m.before ≡ seen q)
+pub makes_at : (n : ℕ) (t : Told) (p q r : ColumnPass) (at : At) → SeesMore n (seen p) (seen q) → IsEvent t q r at
+    → (m : MakesOne n t (seen p) (seen r) at) × (m.before ≡ seen q)
 makes_at n t p q r at s e = (
   record {
     before = seen q;

@@ -1,18 +1,20 @@
 -- What a client has seen, made and begun in a region.
-use Rattle.std.specs.Prelude.{◌≡◌, ◌≢◌, ℕ, ◌≤◌, List, [], ◌∷◌, ◌++◌, length, Option, Some, None, slice_get}
-use mathlib.Core.List.{IsPrefix}
+use Rattle.std.specs.Prelude.{◌≡◌, ◌≢◌, ℕ, List, [], length, Option, Some, None, slice_get}
+use Rattle.log_node.specs.declared.ids.Counts.{Counts}
 use Rattle.log_node.specs.declared.node.At.{At}
-use Rattle.log_node.specs.declared.node.At.TheVariants.{Event, Look}
 use Rattle.col_core.specs.declared.Entry.{Entry}
 use Rattle.stamp_board.specs.declared.view.View.{View}
 use Rattle.stamp_board.specs.Seats.{IsSeatOf, IsClients, seen as seat_seen}
 use Rattle.turn_cell.specs.Histories.{made_by}
 use Rattle.turn_cell.specs.Cells.{seen}
+use Rattle.column.specs.declared.given.Given.{Given}
+use Rattle.chain_store.specs.declared.told.Tag.{Tag}
 use Rattle.chain_store.specs.declared.told.Told.{Told}
 use Rattle.chain_store.specs.declared.hold.Hold.{Hold}
 use Rattle.chain_store.specs.declared.region.Region.{Region}
 use Rattle.chain_store.specs.Histories.{entries_in, maker}
-use Rattle.chain_store.specs.Passes.{ColumnCell, ColumnPass, IsHolder}
+use Rattle.chain_store.specs.Passes.{ColumnCell, ColumnPass, IsHolder, SeesMore, MakesOne}
+use Rattle.chain_store.specs.Moves.{LooksAt, RaisesAt, GivesAt, CarriesAt, TrimsAt}
 use Rattle.chain_store.specs.Owning.{Owns}
 
 -- the history that a pass has seen; nothing without a pass
@@ -64,21 +66,34 @@ pub record SameBut (colour : ℕ) (g h : Hold) : Type 0 where
   pub number : h.passes.number ≡ g.passes.number
   pub others : (c : ℕ) → c ≢ colour → turned_in h c ≡ turned_in g c
 
--- the hold has seen more of the colour's column, and made nothing of it
-pub record SeesMoreIn (colour : ℕ) (g h : Hold) : Type 0 where
-  pub more : IsPrefix (seen_in g colour) (seen_in h colour)
-  pub none : made_in h colour ≡ made_in g colour
+-- a call of the hold on the colour's column: what it had seen there before the call, and has seen after it
+module _ (colour : ℕ) (g h : Hold) where
+  -- it has seen more, and made nothing of it
+  abbrev pub SeesMoreIn : Type 0
+  SeesMoreIn = SeesMore g.passes.number (seen_in g colour) (seen_in h colour)
 
--- a look at the colour's column, after so many events as the answer says
-pub record LooksIn (colour : ℕ) (g h : Hold) (at : At) : Type 0 where
-  pub sees : SeesMoreIn colour g h
-  pub events : at ≡ Look (length (seen_in h colour))
+  -- it has seen more, and last made this entry, which stands where the answer says
+  abbrev pub MakesOneIn : Told → At → Type 0
+  MakesOneIn t at = MakesOne g.passes.number t (seen_in g colour) (seen_in h colour) at
 
--- the hold has seen more of the colour's column, and last made this entry, which stands where the answer says
-pub record MakesOneIn (colour : ℕ) (t : Told) (g h : Hold) (at : At) : Type 0 where
-  pub before : List Told
-  pub more : IsPrefix (seen_in g colour) before
-  pub adds : seen_in h colour ≡ before ++ t ∷ []
-  pub turned : turned_in h colour ≡ seen_in h colour
-  pub made : made_in h colour ≡ made_in g colour ++ t ∷ []
-  pub place : at ≡ Event (length before)
+  -- it has seen more, and made nothing of it, after so many events as the answer says
+  abbrev pub LooksIn : At → Type 0
+  LooksIn at = LooksAt g.passes.number (seen_in g colour) (seen_in h colour) at
+
+  -- it has raised the clock, by an event exactly where it was smaller
+  abbrev pub RaisesIn : ℕ → At → Type 0
+  RaisesIn to at = RaisesAt g.passes.number to (seen_in g colour) (seen_in h colour) at
+
+  -- it has given the own line to a region, which has then asked past the number
+  abbrev pub GivesIn : Tag → ℕ → ℕ → At → Given → Type 0
+  GivesIn t region from at given =
+      GivesAt t g.passes.number region from (seen_in g colour) (seen_in h colour) at given
+
+  -- it has carried what is new, by an event exactly where there is something
+  abbrev pub CarriesIn : Tag → ℕ → Given → At → Type 0
+  CarriesIn t region given at =
+      CarriesAt t g.passes.number region given (seen_in g colour) (seen_in h colour) at
+
+  -- it has trimmed nodes, and the answer is the base afterwards
+  abbrev pub TrimsIn : Tag → Counts → At → Counts → Type 0
+  TrimsIn t counts at answer = TrimsAt t g.passes.number counts (seen_in g colour) (seen_in h colour) at answer

@@ -9,12 +9,12 @@ use Rattle.col_core.specs.declared.Event.TheVariants.{Raise, Give, Trim}
 use Rattle.col_core.specs.History.{clock, line}
 use Rattle.col_core.specs.Cuts.{chain, base}
 use Rattle.column.specs.declared.given.Given.{Given}
-use Rattle.turn_cell.specs.Cells.{seen}
+
 use Rattle.chain_store.specs.declared.told.Tag.{Tag}
 use Rattle.chain_store.specs.declared.told.Told.{Told}
 use Rattle.chain_store.specs.Histories.{entries_in, EntersAs}
 use Rattle.chain_store.specs.Columns.{told_event, told_carry}
-use Rattle.chain_store.specs.Passes.{ColumnPass, SeesMore, MakesOne, dated_in}
+use Rattle.chain_store.specs.Passes.{SeesMore, MakesOne, dated_in}
 
 -- how many nodes of a region's chain are held after a history
 abbrev pub held_in : Tag → List Told → ℕ → ℕ
@@ -25,14 +25,14 @@ abbrev pub base_in : Tag → List Told → Counts
 base_in t log = base t.region t.regions (dated_in t log)
 
 -- a look of the client n, after so many events as the answer says
-abbrev pub LooksAt : ℕ → ColumnPass → ColumnPass → At → Type 0
-LooksAt n p q at = SeesMore n p q × (at ≡ Look (length (seen q)))
+abbrev pub LooksAt : ℕ → List Told → List Told → At → Type 0
+LooksAt n old new at = SeesMore n old new × (at ≡ Look (length new))
 
 -- the clock is raised, by an event exactly where it was smaller
-pub record RaisesAt (n to : ℕ) (p q : ColumnPass) (at : At) : Type 0 where
-  pub reached : to ≤ clock (entries_in (seen q))
-  pub either : LooksAt n p q at
-      ⊎ ((m : MakesOne n (told_event n (Raise to)) p q at) × (clock (entries_in m.before) < to))
+pub record RaisesAt (n to : ℕ) (old new : List Told) (at : At) : Type 0 where
+  pub reached : to ≤ clock (entries_in new)
+  pub either : LooksAt n old new at
+      ⊎ ((m : MakesOne n (told_event n (Raise to)) old new at) × (clock (entries_in m.before) < to))
 
 -- What is given of the own line after a history from a number on, which counts as the line's length where it is above:
 -- the nodes from there on, or from the base on where that is greater, each as it entered.
@@ -44,9 +44,9 @@ pub record ShowsGiven (t : Tag) (log : List Told) (from : ℕ) (given : Given) :
   pub nodes : (n : ℕ) (i : PlacedNode) → slice_get given.items n ≡ Some i → EntersAs log i.head.key.id i.node
 
 -- the own line is given to a region, which has then asked past the number
-pub record GivesAt (t : Tag) (n region from : ℕ) (p q : ColumnPass) (at : At) (given : Given) : Type 0 where
+pub record GivesAt (t : Tag) (n region from : ℕ) (old new : List Told) (at : At) (given : Given) : Type 0 where
   pub told : Told
-  pub made : MakesOne n told p q at
+  pub made : MakesOne n told old new at
   pub note : told ≡ told_event n (Give region (min from (length (line (entries_in made.before)))))
   pub shows : ShowsGiven t made.before from given
 
@@ -58,15 +58,15 @@ new_after t log region given =
     else drop (held_in t log region - given.start) given.items
 
 -- what is new is carried, by an event exactly where there is something
-pub record CarriesAt (t : Tag) (n region : ℕ) (given : Given) (p q : ColumnPass) (at : At) : Type 0 where
-  pub either : (LooksAt n p q at × (new_after t (seen q) region given ≡ []))
-      ⊎ ((told : Told) × (m : MakesOne n told p q at)
+pub record CarriesAt (t : Tag) (n region : ℕ) (given : Given) (old new : List Told) (at : At) : Type 0 where
+  pub either : (LooksAt n old new at × (new_after t new region given ≡ []))
+      ⊎ ((told : Told) × (m : MakesOne n told old new at)
       × (told ≡ told_carry n region (held_in t m.before region) (new_after t m.before region given))
       × (0 < length (new_after t m.before region given)))
-  pub covers : given.start ≤ held_in t (seen q) region
-      → given.start + length given.items ≤ held_in t (seen q) region
+  pub covers : given.start ≤ held_in t new region
+      → given.start + length given.items ≤ held_in t new region
 
 -- nodes are trimmed, and the answer is the base afterwards
-abbrev pub TrimsAt : Tag → ℕ → Counts → ColumnPass → ColumnPass → At → Counts → Type 0
-TrimsAt t n counts p q at answer =
-    MakesOne n (told_event n (Trim counts)) p q at × (answer ≡ base_in t (seen q))
+abbrev pub TrimsAt : Tag → ℕ → Counts → List Told → List Told → At → Counts → Type 0
+TrimsAt t n counts old new at answer =
+    MakesOne n (told_event n (Trim counts)) old new at × (answer ≡ base_in t new)

@@ -1,8 +1,8 @@
 // The calls of a region on one column, each under one turn of it.
-ghost use Rattle.std.specs.Prelude.{◌≡◌, ◌<◌, ◌≤◌, ◌+◌, ◌^◌, None, true, IfOk, OnOk, OnErr, length};
-ghost use Rattle.log_node.specs.Sets.{has};
+ghost use Rattle.std.specs.Prelude.{◌≡◌, ◌<◌, ◌≤◌, ◌+◌, None, IfOk, OnOk, OnErr};
+ghost use Rattle.chain_store.specs.Histories.{FitsColumn};
 ghost use Rattle.chain_store.specs.Columns.{told_single};
-ghost use Rattle.chain_store.specs.Passes.{ShowsHistory, tag_in};
+ghost use Rattle.chain_store.specs.Passes.{ShowsHistory};
 ghost use Rattle.chain_store.specs.Regions.{tag_at, IsColumnAt};
 ghost use Rattle.chain_store.specs.Holds.{IsHold, SameBut, SeesMoreIn, MakesOneIn, seen_in};
 
@@ -13,7 +13,7 @@ use crate::region::Region;
 use crate::seated::Seated;
 use col_core::View;
 use column::ColumnFault;
-use log_node::{At, Counts, MAX_STAMP, Node};
+use log_node::{At, Counts, Node};
 use std::alloc::{AllocError, Global};
 use std::sync::{Arc, Wait};
 use turn_cell::Cell;
@@ -37,16 +37,15 @@ impl Region {
     ) -> Result<(At, u64), ColumnFault>
         requires hold { IsHold self.now hold.old }
         requires colour { colour < self.now.board.size.colours }
-        requires id { (node.now.value.id.client ≡ hold.old.passes.number)
-            × (hold.old.next ≤ node.now.value.id.count) × (node.now.value.id.count < 2 ^ 63) }
-        requires node { (node.now.value.row ≡ None) × (node.now.value.region ≡ self.now.number)
-            × (has node.now.value.colours colour ≡ true) × (node.now.value.floor ≤ MAX_STAMP) }
+        requires id { (node.now.value.id.client ≡ hold.old.passes.number) × (hold.old.next ≤ node.now.value.id.count) }
+        requires row { node.now.value.row ≡ None }
+        requires node { FitsColumn self.now.number colour node.now.value }
         ensures hold { IsHold self.now hold.new }
         ensures others { SameBut colour hold.old hold.new }
         ensures seat { hold.new.seat ≡ hold.old.seat }
         ensures next { OnOk result (hold.new.next ≡ node.now.value.id.count + 1) }
         ensures ok { IfOk result (λ r.
-            MakesOneIn colour (told_single colour hold.old.passes.number node.now.value r.1) hold.old hold.new r.0) }
+            MakesOneIn colour hold.old hold.new (told_single colour hold.old.passes.number node.now.value r.1) r.0) }
         ensures err { OnErr result (SeesMoreIn colour hold.old hold.new × (hold.new.next ≡ hold.old.next)) }
     {
         let by = hold.passes.number;

@@ -33,8 +33,8 @@ pub fn single_in<R: Wait>(
     requires node { FitsColumn (tag_in cell.now).region (tag_in cell.now).colour node.now.value }
     ensures pass { IsHolder cell.now by pass.new }
     ensures ok { IfOk result (λ r.
-        MakesOne by (told_single (tag_in cell.now).colour by node.now.value r.1) pass.old pass.new r.0) }
-    ensures err { OnErr result (SeesMore by pass.old pass.new) }
+        MakesOne by (told_single (tag_in cell.now).colour by node.now.value r.1) (seen pass.old) (seen pass.new) r.0) }
+    ensures err { OnErr result (SeesMore by (seen pass.old) (seen pass.new)) }
 {
     let mut turn = begin(rt, cell, pass, by);
     match turn.value.single(by, node) {

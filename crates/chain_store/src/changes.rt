@@ -1,5 +1,6 @@
 // Calls on one column that raise, give, carry and trim, each under one turn.
 ghost use Rattle.std.specs.Prelude.{◌≡◌, ◌≢◌, ◌<◌, ◌≤◌, IfOk, OnErr};
+ghost use Rattle.turn_cell.specs.Cells.{seen};
 ghost use Rattle.chain_store.specs.Givens.{OfTheirHeads};
 ghost use Rattle.chain_store.specs.Moves.{RaisesAt, GivesAt, CarriesAt, TrimsAt};
 ghost use Rattle.chain_store.specs.Passes.{IsHolder, SeesMore, tag_in};
@@ -24,8 +25,8 @@ pub fn raise_in<R: Wait>(
     requires maker { by < (tag_in cell.now).size.clients }
     requires to { to ≤ MAX_STAMP }
     ensures pass { IsHolder cell.now by pass.new }
-    ensures ok { IfOk result (RaisesAt by to pass.old pass.new) }
-    ensures err { OnErr result (SeesMore by pass.old pass.new) }
+    ensures ok { IfOk result (RaisesAt by to (seen pass.old) (seen pass.new)) }
+    ensures err { OnErr result (SeesMore by (seen pass.old) (seen pass.new)) }
 {
     let mut turn = begin(rt, cell, pass, by);
     match turn.value.raise(by, to) {
@@ -52,8 +53,8 @@ pub fn give_in<R: Wait>(
     requires other { region ≢ (tag_in cell.now).region }
     requires region { region < (tag_in cell.now).regions }
     ensures pass { IsHolder cell.now by pass.new }
-    ensures ok { IfOk result (λ r. GivesAt (tag_in cell.now) by region from pass.old pass.new r.0 r.1) }
-    ensures err { OnErr result (SeesMore by pass.old pass.new) }
+    ensures ok { IfOk result (λ r. GivesAt (tag_in cell.now) by region from (seen pass.old) (seen pass.new) r.0 r.1) }
+    ensures err { OnErr result (SeesMore by (seen pass.old) (seen pass.new)) }
 {
     let mut turn = begin(rt, cell, pass, by);
     match turn.value.give(alloc, by, region, from) {
@@ -81,8 +82,8 @@ pub fn carry_in<R: Wait>(
     requires region { region < (tag_in cell.now).regions }
     requires heads { OfTheirHeads given.now.items }
     ensures pass { IsHolder cell.now by pass.new }
-    ensures ok { IfOk result (CarriesAt (tag_in cell.now) by region given.now pass.old pass.new) }
-    ensures err { OnErr result (SeesMore by pass.old pass.new) }
+    ensures ok { IfOk result (CarriesAt (tag_in cell.now) by region given.now (seen pass.old) (seen pass.new)) }
+    ensures err { OnErr result (SeesMore by (seen pass.old) (seen pass.new)) }
 {
     let mut turn = begin(rt, cell, pass, by);
     match turn.value.carry(alloc, by, region, given) {
@@ -105,8 +106,8 @@ pub fn trim_in<R: Wait>(
     requires pass { IsHolder cell.now by pass.old }
     requires maker { by < (tag_in cell.now).size.clients }
     ensures pass { IsHolder cell.now by pass.new }
-    ensures ok { IfOk result (λ r. TrimsAt (tag_in cell.now) by counts pass.old pass.new r.0 r.1) }
-    ensures err { OnErr result (SeesMore by pass.old pass.new) }
+    ensures ok { IfOk result (λ r. TrimsAt (tag_in cell.now) by counts (seen pass.old) (seen pass.new) r.0 r.1) }
+    ensures err { OnErr result (SeesMore by (seen pass.old) (seen pass.new)) }
 {
     let mut turn = begin(rt, cell, pass, by);
     match turn.value.trim(by, counts) {

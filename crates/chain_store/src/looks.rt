@@ -27,7 +27,7 @@ pub fn look_in<R: Wait>(
     from: Counts,
 ) -> Result<View, AllocError>
     requires pass { IsHolder cell.now by pass.old }
-    ensures pass { IsHolder cell.now by pass.new × SeesMore by pass.old pass.new }
+    ensures pass { IsHolder cell.now by pass.new × SeesMore by (seen pass.old) (seen pass.new) }
     ensures view { IfOk result (λ view. ShowsHistory (tag_in cell.now) (seen pass.new) from view) }
 {
     let turn = begin(rt, cell, pass, by);
@@ -46,7 +46,7 @@ pub fn place_in<R: Wait>(
 ) -> (At, Option<u64>)
     requires pass { IsHolder cell.now by pass.old }
     ensures pass { IsHolder cell.now by pass.new }
-    ensures look { LooksAt by pass.old pass.new result.0 }
+    ensures look { LooksAt by (seen pass.old) (seen pass.new) result.0 }
     ensures place { result.1 ≡ position (λ k. same_key k key) (line (entries_in (seen pass.new))) }
 {
     let turn = begin(rt, cell, pass, by);
@@ -63,7 +63,7 @@ pub fn clock_in<R: Wait>(
 ) -> (At, u64)
     requires pass { IsHolder cell.now by pass.old }
     ensures pass { IsHolder cell.now by pass.new }
-    ensures look { LooksAt by pass.old pass.new result.0 }
+    ensures look { LooksAt by (seen pass.old) (seen pass.new) result.0 }
     ensures clock { result.1 ≡ clock (entries_in (seen pass.new)) }
 {
     let turn = begin(rt, cell, pass, by);
@@ -80,7 +80,7 @@ pub fn held_in<R: Wait>(
 ) -> (At, Counts)
     requires pass { IsHolder cell.now by pass.old }
     ensures pass { IsHolder cell.now by pass.new }
-    ensures look { LooksAt by pass.old pass.new result.0 }
+    ensures look { LooksAt by (seen pass.old) (seen pass.new) result.0 }
     ensures held { result.1 ≡ held (tag_in cell.now).region (dated_in (tag_in cell.now) (seen pass.new)) }
 {
     let turn = begin(rt, cell, pass, by);

@@ -20,7 +20,7 @@ pub(crate) fn begin<'a, R: Wait>(
 ) -> Turn<'a, Seated>
     requires { IsHolder cell.now by pass.old }
     ensures turn { HasTurnOf cell.now by pass.new × (result.cell.now ≡ cell.now) }
-    ensures more { SeesMore by pass.old pass.new }
+    ensures more { SeesMore by (seen pass.old) (seen pass.new) }
     ensures value { Stands result.value.value (seen pass.new) }
     ensures tag { tag_of result.value.value ≡ tag_in cell.now }
     ensures lawful { IsLawfulTold (tag_in cell.now) (seen pass.new) }
