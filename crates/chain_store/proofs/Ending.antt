@@ -1,5 +1,6 @@
 -- What a region ends with, from what its columns and its board end with.
-use Rattle.std.proofs.Common.{◌≡◌, ◌≢◌, ℕ, ◌<◌, ◌≤◌, true, List, [], ◌∷◌, length, map, Some, slice_get, refl, ap, sym, subst, ◌∙◌, arith}
+use Rattle.std.proofs.Common.{◌≡◌, ◌≢◌, ℕ, ◌<◌, ◌≤◌, true, List, [], ◌∷◌, length, map, Some, slice_get, refl, ap, sym}
+use Rattle.std.proofs.Common.{subst, ◌∙◌, arith}
 use Rattle.std.specs.Prelude.{◌↔◌}
 use mathlib.Core.List.{IsPrefix}
 use Rattle.std.proofs.lemmas.List.{length-map}
@@ -48,11 +49,9 @@ use Rattle.chain_store.specs.Closing.{closed_of, ClosesColumn, ClosesFor, Agrees
 use Rattle.chain_store.proofs.Backing.{backs_learnt}
 use Rattle.chain_store.proofs.Passing.{made_place}
 use Rattle.chain_store.proofs.Places.{image_at, at_image, contained, got, member_at}
-use Rattle.chain_store.proofs.LawfulRows.{Lists, Owned, Agrees, begun_row, begun_rows, lawful_rows, node_is, begun_of, begun_place, row_at_place}
+use Rattle.chain_store.proofs.LawfulRows.{Lists, Owned, Agrees, begun_row, begun_rows, lawful_rows, node_is}
+use Rattle.chain_store.proofs.LawfulRows.{begun_of, begun_place, colour_mark, row_at_place}
 use Rattle.chain_store.proofs.ListedRows.{lists_begun}
-
-abbrev colour_mark : ℕ → Mark → ColourMark
-colour_mark c m = record { colour = c; mark = m }
 
 same_rows : (rows : List Row) → map (λ (row : Row). row) rows ≡ rows
 same_rows [] = refl
@@ -108,8 +107,10 @@ module _ (r : Region) (hs : List Hold) (closed : List Seated) (ws : List ℕ) (v
   learns : (n : ℕ) (lt : n < r.board.size.clients) → Learns (view_of (holder n).hold) v
   learns n lt = z.seats n (holder n).hold.seat (seat_at n lt)
 
-  used : (row : Row) → IsRow r.board.size row → IsBegun r.board.size ws row → row.number < (holder row.client).hold.seat.used
-  used row inside begun = (z.begun row.client (holder row.client).hold.seat (seat_at row.client inside.0) row.number inside.1).0 begun
+  used : (row : Row) → IsRow r.board.size row → IsBegun r.board.size ws row
+      → row.number < (holder row.client).hold.seat.used
+  used row inside begun = (z.begun row.client (holder row.client).hold.seat
+      (seat_at row.client inside.0) row.number inside.1).0 begun
 
   row_is : (row : Row) → IsRow r.board.size row → row_of (holder row.client).hold.passes.number row.number ≡ row
   row_is row inside = ap (λ c. row_of c row.number) (holders row.client inside.0).1
@@ -210,7 +211,8 @@ module _ (r : Region) (hs : List Hold) (closed : List Seated) (ws : List ℕ) (v
         let m = made_at i t at in
         let of : id.client ≡ t.entry.by =
         subst (IsOfMaker t.entry.by) is ((end c).ends.stands.0.makers i t at).1 in
-        let mine : (node row).id.client ≡ row.client = z.board.clients row (node row) inside (owned.knows row inside begun) in
+        let mine : (node row).id.client ≡ row.client =
+        z.board.clients row (node row) inside (owned.knows row inside begun) in
         let by : t.entry.by ≡ row.client = sym of ∙ sym (ap (λ (x : Id). x.client) same) ∙ mine in
         let there : slice_get (made_in (holder row.client).hold c) m.1.0 ≡ Some t =
         subst (λ n. slice_get (made_in (holder n).hold c) m.1.0 ≡ Some t) by m.1.1 in
@@ -249,7 +251,8 @@ module _ (r : Region) (hs : List Hold) (closed : List Seated) (ws : List ℕ) (v
           region = region_is;
           colour_is = colour_is;
           regions = regions_are;
-          stands = subst (λ (k : Size). IsOfHistory (end c).seated.column k.clients (logs c)) size_is (end c).ends.stands.0;
+          stands = subst (λ (k : Size). IsOfHistory (end c).seated.column k.clients (logs c)) size_is
+              (end c).ends.stands.0;
           lawful = subst (λ (t : Tag). IsColumnHistory t.region t.regions (dated_in t (logs c)))
               (tied c (end c).cell (ends c lt).0) (end c).ends.lawful;
         })
@@ -335,7 +338,8 @@ module _ (r : Region) (hs : List Hold) (closed : List Seated) (ws : List ℕ) (v
     columns = λ c column at.
         let t = image_at (λ (s : Seated). s.column) closed c column (ap (λ l. slice_get l c) (sym columns) ∙ at) in
         let near = slice_get_within closed c t.0 t.1 in
-        subst (λ (x : ColumnState). ClosesColumn r c x (logs c)) t.2 (closes_column c (omega (arith, near, count)) t.0 t.1);
+        let lt : c < r.board.size.colours = omega (arith, near, count) in
+        subst (λ (x : ColumnState). ClosesColumn r c x (logs c)) t.2 (closes_column c lt t.0 t.1);
     rows = lawful_rows r.number r.board.size ws v z.size few z.board node owned own_rows lists logs agrees;
     closing = rows ∙ sym (map-map closed_of own_row own_rows);
     in_order = map-map (λ (b : BegunRow). b.row) own_row own_rows ∙ same_rows own_rows;

@@ -1,5 +1,6 @@
 -- The clients' passes while the columns are closed, the last one first.
-use Rattle.std.proofs.Common.{◌≡◌, ℕ, zero, suc, ◌+◌, ◌<◌, List, [], ◌∷◌, ◌++◌, length, set, Some, slice_get, refl, ap, sym, subst, ◌∙◌, arith, inl, inr, length-append, length-set}
+use Rattle.std.proofs.Common.{◌≡◌, ℕ, zero, suc, ◌+◌, ◌<◌, List, [], ◌∷◌, ◌++◌, length, set, Some, slice_get, refl, ap}
+use Rattle.std.proofs.Common.{sym, subst, ◌∙◌, arith, inl, inr, length-append, length-set}
 use Rattle.std.proofs.lemmas.Bool.{cases_eq}
 use Rattle.std.proofs.lemmas.Option.{slice_get_within}
 use Rattle.chain_store.specs.declared.hold.ColumnPasses.{ColumnPasses}
@@ -18,7 +19,8 @@ pub gathered_one : (old now : List ColumnPasses) (ps qs : List ColumnPass) (i : 
 gathered_one old now ps qs i c d p g near here gave e =
     let count = g.count in record {
       same = length-set now i d ∙ g.same;
-      count = ap length e ∙ length-append ps (p ∷ []) ∙ (let z : length ps + length (p ∷ []) ≡ i + 1 = omega (arith, count) in z);
+      count = ap length e ∙ length-append ps (p ∷ [])
+          ∙ (let z : length ps + length (p ∷ []) ≡ i + 1 = omega (arith, count) in z);
       gave = λ j b lt at. elim (cases_eq j i) [
         | inl is ↦
             let was : Some c ≡ Some b = sym here ∙ g.later i (omega arith) ∙ ap (slice_get old) (sym is) ∙ at in
@@ -118,10 +120,13 @@ are_holders cells old m cell ps all at of = λ i p pat.
     (all i b.0 b.1).1 m cell p at (of.each i b.0 p b.1 pat)
 
 -- the columns from the colour n on are closed, and then those from m on
-pub closed_more : (cells : List ColumnCell) (old : List ColumnPasses) (m n : ℕ) (cell : ColumnCell) (s : Seated) (closed next : List Seated)
+pub closed_more : (cells : List ColumnCell) (old : List ColumnPasses) (m n : ℕ) (cell : ColumnCell) (s : Seated)
+    (closed next : List Seated)
     → n ≡ m + 1 → next ≡ s ∷ closed → slice_get cells m ≡ Some cell → IsClosed cell old m s
-    → ((k : ℕ) (d : ColumnCell) (t : Seated) → slice_get cells (n + k) ≡ Some d → slice_get closed k ≡ Some t → IsClosed d old (n + k) t)
-    → (k : ℕ) (d : ColumnCell) (t : Seated) → slice_get cells (m + k) ≡ Some d → slice_get next k ≡ Some t → IsClosed d old (m + k) t
+    → ((k : ℕ) (d : ColumnCell) (t : Seated) → slice_get cells (n + k) ≡ Some d → slice_get closed k ≡ Some t
+    → IsClosed d old (n + k) t)
+    → (k : ℕ) (d : ColumnCell) (t : Seated) → slice_get cells (m + k) ≡ Some d → slice_get next k ≡ Some t
+    → IsClosed d old (m + k) t
 closed_more cells old m n cell s closed next more is here good rest k d t at nat =
     by k at (sym (ap (λ l. slice_get l k) is) ∙ nat) where
       by : (k : ℕ) → slice_get cells (m + k) ≡ Some d → slice_get (s ∷ closed) k ≡ Some t → IsClosed d old (m + k) t

@@ -1,5 +1,6 @@
 -- The rows with which a region closes are lawful beside its columns' histories.
-use Rattle.std.proofs.Common.{◌≡◌, ◌≢◌, ℕ, zero, suc, ◌<◌, ◌≤◌, Bool, true, false, cond, List, [], ◌∷◌, ◌++◌, length, map, get_or, Some, slice_get, slice_index, refl, ap, sym, subst, ◌∙◌, arith, ne_eqb}
+use Rattle.std.proofs.Common.{◌≡◌, ◌≢◌, ℕ, zero, suc, ◌<◌, ◌≤◌, Bool, true, false, cond, List, [], ◌∷◌, ◌++◌, length}
+use Rattle.std.proofs.Common.{map, get_or, Some, slice_get, slice_index, refl, ap, sym, subst, ◌∙◌, arith, ne_eqb}
 use Rattle.std.specs.Prelude.{◌==◌, if◌then◌else◌}
 use Rattle.std.specs.List.{All, AllPairs, filter, range_with_len}
 use Rattle.std.proofs.lemmas.List.{length-map}
@@ -24,7 +25,8 @@ use Rattle.col_core.specs.declared.Event.{Event}
 use Rattle.col_core.specs.declared.Event.TheVariants.{Single, Propose, Settle, Raise, Give, Carry, Trim}
 use Rattle.col_core.specs.declared.Entry.{Entry}
 use Rattle.col_core.specs.History.{IsAtEnd}
-use Rattle.col_core.specs.Rows.{BegunRow, FitsRow, FitsRows, IsKept, IsMarkOf, Proposes, AreLawfulRows, is_of, node_wants}
+use Rattle.col_core.specs.Rows.{BegunRow, FitsRow, FitsRows, IsKept, IsMarkOf, Proposes, AreLawfulRows, is_of}
+use Rattle.col_core.specs.Rows.{node_wants}
 use Rattle.col_core.proofs.CallerLemmas.{by_test, if_true, if_false}
 use Rattle.column.specs.Columns.{propose_event}
 use Rattle.stamp_board.specs.declared.view.Size.{Size}
@@ -34,9 +36,13 @@ use Rattle.stamp_board.specs.Rows.{IsBegun, IsRow, colours_in, kept_in, mark_in,
 use Rattle.stamp_board.specs.Views.{KnowsBegun, MayBe}
 use Rattle.chain_store.specs.declared.told.Told.{Told}
 use Rattle.chain_store.specs.Histories.{entries_in, Brings}
-use Rattle.chain_store.specs.Marks.{same_row, is_row, is_first_of, proposes, stamps_of, numbers, Backs, IsRowOf, IsEnded}
+use Rattle.chain_store.specs.Marks.{same_row, is_row, is_first_of, proposes, stamps_of, numbers, Backs, IsRowOf}
+use Rattle.chain_store.specs.Marks.{IsEnded}
 use Rattle.chain_store.proofs.Backing.{same_row-is, same_row-refl}
 use Rattle.chain_store.proofs.Places.{all_by, image_at, at_image, member_has, member_at}
+
+abbrev pub colour_mark : ℕ → Mark → ColourMark
+colour_mark c m = record { colour = c; mark = m }
 
 -- the begun rows, each once, and each client's in the order 0, 1, 2
 pub record Lists (k : Size) (ws : List ℕ) (rows : List Row) : Type 0 where
@@ -53,7 +59,8 @@ pub record Owned (region : ℕ) (k : Size) (ws : List ℕ) (v : View) (node : Ro
   pub in_region : (row : Row) → IsRow k row → IsBegun k ws row → (node row).region ≡ region
 
 -- the column's history agrees with the board and the nodes
-pub record Agrees (region : ℕ) (k : Size) (ws : List ℕ) (v : View) (node : Row → Node) (c : ℕ) (log : List Told) : Type 0 where
+pub record Agrees (region : ℕ) (k : Size) (ws : List ℕ) (v : View) (node : Row → Node) (c : ℕ)
+    (log : List Told) : Type 0 where
   pub numbered : (row : Row) → IsRow k row → stamps_of row log ≡ numbers (mark_in k ws row c)
   pub ended : (row : Row) → IsRow k row → mark_in k ws row c ≡ marks.Fenced StampEnd
       → IsEnded v row log
@@ -94,16 +101,20 @@ proposal v region c t id floor wants brings backs =
 
 -- a row that is proposed is proposed by the entry at some place
 stamps_place : (row : Row) (log : List Told) (s : ℕ) (rest : List ℕ) → stamps_of row log ≡ s ∷ rest
-    → (n : ℕ) × (t : Told) × (slice_get log n ≡ Some t) × (proposes row t.entry.event t.nodes ≡ true) × (t.entry.stamp ≡ s)
+    → (n : ℕ) × (t : Told) × (slice_get log n ≡ Some t) × (proposes row t.entry.event t.nodes ≡ true) ×
+    (t.entry.stamp ≡ s)
 stamps_place row [] s rest e = absurd cc
 stamps_place row (t ∷ log) s rest e =
-    by_test ((n : ℕ) × (u : Told) × (slice_get (t ∷ log) n ≡ Some u) × (proposes row u.entry.event u.nodes ≡ true) × (u.entry.stamp ≡ s))
+    by_test ((n : ℕ) × (u : Told) × (slice_get (t ∷ log) n ≡ Some u) × (proposes row u.entry.event u.nodes ≡ true) ×
+    (u.entry.stamp ≡ s))
     (proposes row t.entry.event t.nodes)
     (λ yes. let now : t.entry.stamp ∷ stamps_of row log ≡ s ∷ rest =
-    sym (ap (λ l. l ++ stamps_of row log) (if_true (proposes row t.entry.event t.nodes) (t.entry.stamp ∷ []) [] yes)) ∙ e in
+    sym (ap (λ l. l ++ stamps_of row log) (if_true (proposes row t.entry.event t.nodes)
+    (t.entry.stamp ∷ []) [] yes)) ∙ e in
     (0, t, refl, yes, cc now))
     (λ no. let r = stamps_place row log s rest
-    (sym (ap (λ l. l ++ stamps_of row log) (if_false (proposes row t.entry.event t.nodes) (t.entry.stamp ∷ []) [] no)) ∙ e) in
+    (sym (ap (λ l. l ++ stamps_of row log) (if_false (proposes row t.entry.event t.nodes)
+    (t.entry.stamp ∷ []) [] no)) ∙ e) in
     (suc r.0, r.1, r.2, r.3, r.4))
 
 -- where an entry proposes the row, its stamp is among them
@@ -114,15 +125,18 @@ stamps_some row (u ∷ log) zero t at said none =
     let same : u ≡ t = cc at in
     let now : t.entry.stamp ∷ stamps_of row log ≡ [] =
     sym (ap (λ l. l ++ stamps_of row log) (if_true (proposes row t.entry.event t.nodes) (t.entry.stamp ∷ []) [] said))
-    ∙ ap (λ (z : Told). (if proposes row z.entry.event z.nodes then z.entry.stamp ∷ [] else []) ++ stamps_of row log) (sym same) ∙ none in
+    ∙ ap (λ (z : Told). (if proposes row z.entry.event z.nodes then z.entry.stamp ∷ [] else []) ++ stamps_of row log)
+    (sym same) ∙ none in
     let f : ⊥ = cc now in f
 stamps_some row (u ∷ log) (suc n) t at said none =
     by_test ⊥ (proposes row u.entry.event u.nodes)
     (λ here. let now : u.entry.stamp ∷ stamps_of row log ≡ [] =
-    sym (ap (λ l. l ++ stamps_of row log) (if_true (proposes row u.entry.event u.nodes) (u.entry.stamp ∷ []) [] here)) ∙ none in
+    sym (ap (λ l. l ++ stamps_of row log) (if_true (proposes row u.entry.event u.nodes)
+    (u.entry.stamp ∷ []) [] here)) ∙ none in
     let f : ⊥ = cc now in f)
     (λ no. stamps_some row log n t at said
-    (sym (ap (λ l. l ++ stamps_of row log) (if_false (proposes row u.entry.event u.nodes) (u.entry.stamp ∷ []) [] no)) ∙ none))
+    (sym (ap (λ l. l ++ stamps_of row log) (if_false (proposes row u.entry.event u.nodes)
+    (u.entry.stamp ∷ []) [] no)) ∙ none))
 
 -- an entry of the histories' entries is a told one's
 entry_at : (log : List Told) (n : ℕ) (e : Entry) → slice_get (entries_in log) n ≡ Some e
@@ -143,7 +157,8 @@ proposing row (Give region from) nodes e = absurd (false≢true e)
 proposing row (Carry region start heads) nodes e = absurd (false≢true e)
 proposing row (Trim counts) nodes e = absurd (false≢true e)
 
-module _ (region : ℕ) (k : Size) (ws : List ℕ) (v : View) (size : v.size ≡ k) (few : k.colours ≤ 64) (board : MayBe k ws v)
+module _ (region : ℕ) (k : Size) (ws : List ℕ) (v : View) (size : v.size ≡ k) (few : k.colours ≤ 64)
+    (board : MayBe k ws v)
     (node : Row → Node) (owned : Owned region k ws v node) where
   -- the row of a node that is known as begun
   pub begun_of : (row : Row) (x : Node) → KnowsBegun v row x → IsBegun k ws row
@@ -170,7 +185,8 @@ module _ (region : ℕ) (k : Size) (ws : List ℕ) (v : View) (size : v.size ≡
         let p = stamps_place row log s [] (a.numbered row inside ∙ ap numbers is) in
         let e = proposing row p.1.entry.event p.1.nodes p.3 in
         let q = proposed p.0 p.1 e.0 e.1 e.2 p.2 e.3 in
-        let here : is_row row q.x.row ≡ true = sym (ap (λ ev. proposes row ev p.1.nodes) e.3 ∙ ap (is_first_of row) q.brought) ∙ p.3 in
+        let here : is_row row q.x.row ≡ true =
+        sym (ap (λ ev. proposes row ev p.1.nodes) e.3 ∙ ap (is_first_of row) q.brought) ∙ p.3 in
         let same : q.row ≡ row = same_row-is q.row row (sym (ap (is_row row) q.of.of_row) ∙ here) in
         let known : KnowsBegun v row q.x = subst (λ (r : Row). KnowsBegun v r q.x) same q.of.knows in
         let own : q.x ≡ node row = node_is row q.x inside known in
@@ -195,7 +211,8 @@ module _ (region : ℕ) (k : Size) (ws : List ℕ) (v : View) (size : v.size ≡
         board.ids q.row row q.x (node row) other inside q.of.knows (owned.knows row inside begun) q.id_is in
         let here : proposes row t.0.entry.event t.0.nodes ≡ true =
         ap (λ (e : Event). proposes row e t.0.nodes) (ap (λ (e : Entry). e.event) t.2 ∙ p.5)
-        ∙ ap (is_first_of row) q.brought ∙ ap (is_row row) q.of.of_row ∙ ap (λ (r : Row). same_row r row) same ∙ same_row-refl row in
+        ∙ ap (is_first_of row) q.brought ∙ ap (is_row row) q.of.of_row ∙ ap (λ (r : Row). same_row r row) same
+        ∙ same_row-refl row in
         stamps_some row log p.0 t.0 t.1 here (a.numbered row inside ∙ none)
 
     is_mark : (row : Row) → IsRow k row → IsBegun k ws row → (m : Mark) → mark_in k ws row c ≡ m
@@ -230,7 +247,8 @@ module _ (region : ℕ) (k : Size) (ws : List ℕ) (v : View) (size : v.size ≡
     client = board.clients row (node row) inside (owned.knows row inside begun);
     row = owned.of_row row inside begun;
     in_region = owned.in_region row inside begun;
-    several = subst (λ (s : Colours). 2 ≤ length (members s)) (colours_are row inside begun) (board.colours row begun).many;
+    several = subst (λ (s : Colours). 2 ≤ length (members s)) (colours_are row inside begun)
+        (board.colours row begun).many;
     a_mark_each = map-map (λ (m : ColourMark). m.colour)
         (λ (c : ℕ). record { colour = c; mark = mark_in k ws row c }) (members (colours_in k ws row))
         ∙ same_list (members (colours_in k ws row)) ∙ ap members (colours_are row inside begun);
@@ -257,12 +275,15 @@ module _ (region : ℕ) (k : Size) (ws : List ℕ) (v : View) (size : v.size ≡
     -- a begun row among them
     pub row_at_place : (i : ℕ) (r : BegunRow) → slice_get begun_rows i ≡ Some r
         → (row : Row) × (slice_get rows i ≡ Some row) × (begun_row row ≡ r) × IsRow k row × IsBegun k ws row
-    row_at_place i r at = let t = image_at begun_row rows i r at in let h = lists.inside i t.0 t.1 in (t.0, t.1, t.2, h.0, h.1)
+    row_at_place i r at = let t = image_at begun_row rows i r at in let h = lists.inside i t.0 t.1 in
+        (t.0, t.1, t.2, h.0, h.1)
 
-    each_row : (P : BegunRow → Type 0) → ((row : Row) → IsRow k row → IsBegun k ws row → P (begun_row row)) → All P begun_rows
+    each_row : (P : BegunRow → Type 0) → ((row : Row) → IsRow k row → IsBegun k ws row → P (begun_row row))
+        → All P begun_rows
     each_row P h = all_by P begun_rows (λ i r at. let t = row_at_place i r at in subst P t.2 (h t.0 t.3 t.4))
 
-    pub begun_place : (row : Row) → IsRow k row → IsBegun k ws row → (n : ℕ) × (slice_get begun_rows n ≡ Some (begun_row row))
+    pub begun_place : (row : Row) → IsRow k row → IsBegun k ws row
+        → (n : ℕ) × (slice_get begun_rows n ≡ Some (begun_row row))
     begun_place row inside begun = let t = lists.listed row inside begun in (t.0, at_image begun_row rows t.0 row t.1)
 
     ids_apart : AllPairs (λ (r s : BegunRow). r.node.id ≢ s.node.id) begun_rows
@@ -282,8 +303,10 @@ module _ (region : ℕ) (k : Size) (ws : List ℕ) (v : View) (size : v.size ≡
       by_case : (b : Bool)
           → map (λ (r : BegunRow). r.row.number) (filter (is_of client) (map begun_row rs))
           ≡ map (λ (r : Row). r.number) (filter (λ (r : Row). r.client == client) rs)
-          → map (λ (r : BegunRow). r.row.number) (cond b (begun_row r ∷ filter (is_of client) (map begun_row rs)) (filter (is_of client) (map begun_row rs)))
-          ≡ map (λ (r : Row). r.number) (cond b (r ∷ filter (λ (r : Row). r.client == client) rs) (filter (λ (r : Row). r.client == client) rs))
+          → map (λ (r : BegunRow). r.row.number) (cond b (begun_row r ∷ filter (is_of client) (map begun_row rs))
+          (filter (is_of client) (map begun_row rs)))
+          ≡ map (λ (r : Row). r.number)
+          (cond b (r ∷ filter (λ (r : Row). r.client == client) rs) (filter (λ (r : Row). r.client == client) rs))
       by_case true e = ap (λ l. r.number ∷ l) e
       by_case false e = e
 
@@ -328,7 +351,8 @@ module _ (region : ℕ) (k : Size) (ws : List ℕ) (v : View) (size : v.size ≡
           let p = begun_place row inside (begun_of row x q.3.knows) in
           (p.0, begun_row row, p.1, sym (ap (λ (y : Node). y.id) own) ∙ q.2, board.outcomes row outcome q.4)
 
-      fits_rows : (n : ℕ) (t : Told) → slice_get log n ≡ Some t → (e : Event) → t.entry.event ≡ e → FitsRows begun_rows c e
+      fits_rows : (n : ℕ) (t : Told) → slice_get log n ≡ Some t → (e : Event) → t.entry.event ≡ e
+          → FitsRows begun_rows c e
       fits_rows n t at (Single id floor wants) is = each_row (λ (r : BegunRow). r.node.id ≢ id)
           (λ row inside begun. a.singles n t id floor wants at is row inside begun)
       fits_rows n t at (Propose id floor wants) is = fits_proposal n t id floor wants at is
@@ -349,11 +373,14 @@ module _ (region : ℕ) (k : Size) (ws : List ℕ) (v : View) (size : v.size ≡
       in_order = ordered;
       fit = each_row (FitsRow region) fits_row;
       ids_differ = ids_apart;
-      marks = each_row (λ (r : BegunRow). All (λ (m : ColourMark). IsMarkOf (entries_in (logs m.colour)) r.node m.mark) r.marks)
-          (λ row inside begun. all_by (λ (m : ColourMark). IsMarkOf (entries_in (logs m.colour)) (node row) m.mark) (marks_in k ws row)
-          (λ i m at. let t = image_at (λ (c : ℕ). let r : ColourMark = record { colour = c; mark = mark_in k ws row c } in r)
+      marks = each_row
+          (λ (r : BegunRow). All (λ (m : ColourMark). IsMarkOf (entries_in (logs m.colour)) r.node m.mark) r.marks)
+          (λ row inside begun. all_by (λ (m : ColourMark). IsMarkOf (entries_in (logs m.colour)) (node row) m.mark)
+          (marks_in k ws row)
+          (λ i m at. let t = image_at (λ (c : ℕ). colour_mark c (mark_in k ws row c))
           (members (colours_in k ws row)) i m at in
-          let in_c : t.0 < k.colours = (board.colours row begun).within t.0 (member_has (colours_in k ws row) i t.0 t.1) in
+          let in_c : t.0 < k.colours =
+          (board.colours row begun).within t.0 (member_has (colours_in k ws row) i t.0 t.1) in
           subst (λ (m : ColourMark). IsMarkOf (entries_in (logs m.colour)) (node row) m.mark) t.2
           (is_mark t.0 (logs t.0) (agree t.0 in_c) row inside begun (mark_in k ws row t.0) refl)));
       kept = each_row (λ (r : BegunRow). IsKept (map (λ (m : ColourMark). m.mark) r.marks) r.last)

@@ -1,5 +1,6 @@
 -- The rows that clients' seats have begun, as a list.
-use Rattle.std.proofs.Common.{◌≡◌, ◌≢◌, ℕ, zero, suc, ◌+◌, ◌<◌, ◌≤◌, List, [], ◌∷◌, ◌++◌, length, map, Some, slice_get, refl, ap, sym, subst, ◌∙◌, arith, inl, inr, ⊎_elim, eq-eqb, ne_eqb, append-nil}
+use Rattle.std.proofs.Common.{◌≡◌, ◌≢◌, ℕ, zero, suc, ◌+◌, ◌<◌, ◌≤◌, List, [], ◌∷◌, ◌++◌, length, map, Some, slice_get}
+use Rattle.std.proofs.Common.{refl, ap, sym, subst, ◌∙◌, arith, inl, inr, ⊎_elim, eq-eqb, ne_eqb, append-nil}
 use Rattle.std.specs.Prelude.{◌==◌, ◌↔◌}
 use Rattle.std.specs.List.{filter, range_with_len}
 use Rattle.std.proofs.lemmas.Bool.{cases_eq}
@@ -112,22 +113,26 @@ none_of : (client : ℕ) (rows : List Row) → ((i : ℕ) (row : Row) → slice_
     → filter (λ (r : Row). r.client == client) rows ≡ []
 none_of client [] h = refl
 none_of client (r ∷ rs) h =
-    if_false (r.client == client) (r ∷ filter (λ (r : Row). r.client == client) rs) (filter (λ (r : Row). r.client == client) rs)
+    if_false (r.client == client) (r ∷ filter (λ (r : Row). r.client == client) rs)
+    (filter (λ (r : Row). r.client == client) rs)
     (ne_eqb r.client client (h 0 r refl)) ∙ none_of client rs (λ i row at. h (suc i) row at)
 
 all_of : (client : ℕ) (rows : List Row) → ((i : ℕ) (row : Row) → slice_get rows i ≡ Some row → row.client ≡ client)
     → filter (λ (r : Row). r.client == client) rows ≡ rows
 all_of client [] h = refl
 all_of client (r ∷ rs) h =
-    if_true (r.client == client) (r ∷ filter (λ (r : Row). r.client == client) rs) (filter (λ (r : Row). r.client == client) rs)
+    if_true (r.client == client) (r ∷ filter (λ (r : Row). r.client == client) rs)
+    (filter (λ (r : Row). r.client == client) rs)
     (eq-eqb r.client client (h 0 r refl)) ∙ ap (λ l. r ∷ l) (all_of client rs (λ i row at. h (suc i) row at))
 
-numbers_of : (client a n : ℕ) → map (λ (r : Row). r.number) (map (row_of client) (range_with_len a n)) ≡ range_with_len a n
+numbers_of : (client a n : ℕ)
+    → map (λ (r : Row). r.number) (map (row_of client) (range_with_len a n)) ≡ range_with_len a n
 numbers_of client a zero = refl
 numbers_of client a (suc n) = ap (λ l. a ∷ l) (numbers_of client (a + 1) n)
 
 ordered : (first : ℕ) (ss : List Seat) → AreFrom first ss → (client : ℕ)
-    → (n : ℕ) × (map (λ (r : Row). r.number) (filter (λ (r : Row). r.client == client) (all_begun ss)) ≡ range_with_len 0 n)
+    → (n : ℕ)
+    × (map (λ (r : Row). r.number) (filter (λ (r : Row). r.client == client) (all_begun ss)) ≡ range_with_len 0 n)
 ordered first [] from client = (0, refl)
 ordered first (s ∷ ss) from client = elim (cases_eq s.client client) [
   | inl same ↦ (

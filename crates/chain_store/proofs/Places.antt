@@ -1,5 +1,6 @@
 -- Places in lists, and in the list of a set's members.
-use Rattle.std.proofs.Common.{◌≡◌, ℕ, zero, suc, ◌+◌, ◌<◌, ◌≤◌, Bool, true, false, cond, List, [], ◌∷◌, ◌++◌, length, map, get_or, Some, slice_get, refl, ap, sym, subst, ◌∙◌, arith, inl, inr, ◌⊎◌, ⊎_elim}
+use Rattle.std.proofs.Common.{◌≡◌, ℕ, zero, suc, ◌+◌, ◌<◌, ◌≤◌, Bool, true, false, cond, List, [], ◌∷◌, ◌++◌, length}
+use Rattle.std.proofs.Common.{map, get_or, Some, slice_get, refl, ap, sym, subst, ◌∙◌, arith, inl, inr, ◌⊎◌, ⊎_elim}
 use Rattle.std.specs.List.{All, Contains, filter, range_with_len}
 use Rattle.std.specs.Option.{option_map}
 use Rattle.std.proofs.lemmas.Bool.{cases_eq, cases_order}
@@ -31,9 +32,11 @@ pub got_split : {A : Type 0} (xs ys : List A) (i : ℕ) (x : A) → slice_get (x
     → (slice_get xs i ≡ Some x) ⊎ ((j : ℕ) × (i ≡ length xs + j) × (slice_get ys j ≡ Some x))
 got_split [] ys i x e = inr (i, omega arith, e)
 got_split (y ∷ xs) ys zero x e = inl e
-got_split (y ∷ xs) ys (suc i) x e = ⊎_elim (λ l. inl l) (λ r. let q = r.1 in inr (r.0, omega (arith, q), r.2)) (got_split xs ys i x e)
+got_split (y ∷ xs) ys (suc i) x e = ⊎_elim (λ l. inl l)
+    (λ r. let q = r.1 in inr (r.0, omega (arith, q), r.2)) (got_split xs ys i x e)
 
-pub got_second : {A : Type 0} (xs ys : List A) (i : ℕ) (x : A) → slice_get ys i ≡ Some x → slice_get (xs ++ ys) (length xs + i) ≡ Some x
+pub got_second : {A : Type 0} (xs ys : List A) (i : ℕ) (x : A) → slice_get ys i ≡ Some x
+    → slice_get (xs ++ ys) (length xs + i) ≡ Some x
 got_second {A} [] ys i x e = let z : i ≡ 0 + i = omega arith in subst (λ (k : ℕ). slice_get ys k ≡ Some x) z e
 got_second {A} (y ∷ xs) ys i x e =
     let z : suc (length xs + i) ≡ suc (length xs) + i = omega arith in
@@ -55,7 +58,8 @@ range_place f a (suc n) (suc i) y e =
     let s : a + suc i ≡ a + 1 + i = omega arith in
     (omega (arith, l), ap f s ∙ r.1)
 
-pub range_at : {A : Type 0} (f : ℕ → A) (a n i : ℕ) → i < n → slice_get (map f (range_with_len a n)) i ≡ Some (f (a + i))
+pub range_at : {A : Type 0} (f : ℕ → A) (a n i : ℕ) → i < n
+    → slice_get (map f (range_with_len a n)) i ≡ Some (f (a + i))
 range_at f a zero i lt = absurd (omega (arith, lt))
 range_at f a (suc n) zero lt = let s : a ≡ a + 0 = omega arith in ap (λ j. Some (f j)) s
 range_at f a (suc n) (suc i) lt =
@@ -108,7 +112,9 @@ passed test c a (suc n) le lt holds = elim (cases_eq c a) [
   | inr other ↦ next (test a) (passed test c (a + 1) n (omega (arith, le, other)) (omega (arith, lt)) holds)
 ] where
   next : (b : Bool) → (i : ℕ) × (slice_get (filter test (range_with_len (a + 1) n)) i ≡ Some c)
-      → (i : ℕ) × (slice_get (cond b (a ∷ filter test (range_with_len (a + 1) n)) (filter test (range_with_len (a + 1) n))) i ≡ Some c)
+      → (i : ℕ)
+      × (slice_get (cond b (a ∷ filter test (range_with_len (a + 1) n)) (filter test (range_with_len (a + 1) n))) i
+      ≡ Some c)
   next true r = (suc r.0, r.1)
   next false r = r
 

@@ -55,7 +55,8 @@ pub ends_region : (r : Region) (hs : List Hold) (clients : List ColumnPasses) (s
     → CloseOf r.board.size seats column_seats rows
     → closes.columns ≡ columns → closes.rows ≡ rows
     → Closed r hs closes
-ends_region r hs clients seats closed columns column_seats rows closes tied cells size holds cs ss ds ts many shut z ec er =
+ends_region r hs clients seats closed columns column_seats rows closes tied cells size holds cs ss ds ts many shut z
+    ec er =
     let some_clients = size.0 in
     let some_colours = size.2 in
     let few = size.3 in

@@ -41,5 +41,6 @@ pub record IsClosed (cell : ColumnCell) (clients : List ColumnPasses) (colour : 
 
 abbrev pub AreClosed : List ColumnCell → List ColumnPasses → List Seated → Type 0
 AreClosed cells clients closed =
-    (colour : ℕ) (cell : ColumnCell) (s : Seated) → slice_get cells colour ≡ Some cell → slice_get closed colour ≡ Some s
+    (colour : ℕ) (cell : ColumnCell) (s : Seated) → slice_get cells colour ≡ Some cell
+    → slice_get closed colour ≡ Some s
     → IsClosed cell clients colour s
