@@ -1,10 +1,10 @@
 // Each call once with ample memory, and what two threads hear.
-ghost use Rattle.std.specs.Prelude.{◌≡◌, ◌≢◌, ◌<◌, true, length, IfOk, IfSome};
+ghost use Rattle.std.specs.Prelude.{◌≡◌, ◌≢◌, ◌+◌, ◌<◌, true, length, IfOk, IfSome};
 ghost use Rattle.log_node.specs.Sets.{has};
 ghost use Rattle.stamp_board.specs.Rows.{AreColours, IsRow};
 ghost use Rattle.stamp_board.specs.Views.{KnowsBegun, KnowsColour, KnowsOutcome};
 ghost use Rattle.stamp_board.specs.Seats.{IsSeatOf, IsClients, IsColumnOf, IsLater, IsLaterColumn, column_seen, seen};
-ghost use Rattle.stamp_board.specs.Seats.{IsFreshClient, IsFreshColumn, AreFreshClients, AreFreshColumns};
+ghost use Rattle.stamp_board.specs.Seats.{IsFreshClient, IsFreshColumn, AreFreshClients, AreFreshColumns, AreRowsBelow};
 ghost use Rattle.stamp_board.specs.declared.view.Size.{Size};
 
 use log_node::{
@@ -28,24 +28,20 @@ struct Start {
     row: Row,
 }
 
-fn node(alloc: Global) -> Result<Arc<Node, Global>, AllocError>
+// A client's node of this count, with both colours.
+fn node(alloc: Global, client: u8, count: u64) -> Result<Arc<Node, Global>, AllocError>
+    ensures id { IfOk result (λ node. node.value.id ≡ record { client = client; count = count }) }
     ensures each { IfOk result (λ node. (has node.value.colours 0 ≡ true) × (has node.value.colours 1 ≡ true)) }
     ensures both { IfOk result (λ node. (size : Size) → size.colours ≡ 2 → AreColours size node.value.colours) }
 {
     let node = Node {
-        id: Id {
-            client: 0,
-            count: 0,
-        },
+        id: Id { client, count },
         region: 0,
         colours: Colours(3),
         text: Text::copied(alloc, b"p")?,
         floor: 0,
         wants: Wants::new(alloc),
-        row: Some(Row {
-            client: 0,
-            number: 0,
-        }),
+        row: Some(Row { client, number: 0 }),
     };
     Ok(Arc::new(alloc, node)?)
 }
@@ -87,7 +83,8 @@ fn teach(board: &Board, seat: &mut Seat, column: &mut ColumnSeat, row: Row, node
 fn begun_board(alloc: Global) -> Result<Start, AllocError>
     ensures size { IfOk result (λ s. s.board.size ≡ record { clients = 2; colours = 2; rows = 1 }) }
     ensures one { IfOk result (λ s. IsSeatOf s.board s.one × IsClients s.board s.one × (s.one.client ≡ 0)) }
-    ensures two { IfOk result (λ s. IsSeatOf s.board s.two × IsClients s.board s.two × (s.two.client ≡ 1)) }
+    ensures used { IfOk result (λ s. s.one.used ≡ 1) }
+    ensures two { IfOk result (λ s. IsFreshClient s.board s.two 1) }
     ensures x { IfOk result (λ s. IsColumnOf s.board s.x × (s.x.colour ≡ 0) × KnowsColour (column_seen s.x) s.row 0) }
     ensures y { IfOk result (λ s. IsColumnOf s.board s.y × (s.y.colour ≡ 1) × KnowsColour (column_seen s.y) s.row 1) }
     ensures row { IfOk result (λ s. IsRow s.board.size s.row) }
@@ -95,7 +92,7 @@ fn begun_board(alloc: Global) -> Result<Start, AllocError>
     let (board, seats, columns) = Board::open(alloc, 2, 2, 1)?;
     let (mut one, two) = two_clients(&board, seats);
     let (mut x, mut y) = two_columns(&board, columns);
-    let node = node(alloc)?;
+    let node = node(alloc, 0, 0)?;
     let Ok(row) = board.begin(&mut one, &node) else {
         unreachable!()
     };
@@ -221,7 +218,7 @@ fn a_client_has_its_rows_alone(rt: HostRuntime) -> Result<(), Fail> {
         y: _,
         row,
     } = begun_board(alloc)?;
-    let node = node(alloc)?;
+    let node = node(alloc, 1, 0)?;
     let other = Row {
         client: 1,
         number: 0,
@@ -247,30 +244,36 @@ fn mark_with(board: &Board, column: &mut ColumnSeat, row: Row, number: u8)
     }
 }
 
-// Begins the client's next row, sets the marks whose numbers are not 0, and decides the row where that is asked.
+// Begins the next row of the client 0 for a node of this count, sets the marks whose numbers are not 0, and decides the
+// row where that is asked. Where memory is refused, no row is begun.
 fn add_row(
+    alloc: Global,
     board: &Board,
     one: &mut Seat,
     x: &mut ColumnSeat,
     y: &mut ColumnSeat,
-    node: &Arc<Node, Global>,
+    count: u64,
     marks: (u8, u8),
     decides: bool,
 )
-    requires one { IsSeatOf board.now one.old × IsClients board.now one.old }
+    requires size { board.now.size.colours ≡ 2 }
+    requires one { IsSeatOf board.now one.old × IsClients board.now one.old × (one.old.client ≡ 0) }
+    requires below { AreRowsBelow one.old count }
     requires x { IsColumnOf board.now x.old × (x.old.colour ≡ 0) }
     requires y { IsColumnOf board.now y.old × (y.old.colour ≡ 1) }
-    requires each { (has node.now.value.colours 0 ≡ true) × (has node.now.value.colours 1 ≡ true) }
-    requires both { AreColours board.now.size node.now.value.colours }
-    ensures one { IsSeatOf board.now one.new × IsClients board.now one.new × (one.new.client ≡ one.old.client) }
+    ensures one { IsSeatOf board.now one.new × IsClients board.now one.new × (one.new.client ≡ 0) }
+    ensures below { AreRowsBelow one.new (count + 1) }
     ensures x { IsColumnOf board.now x.new × (x.new.colour ≡ 0) }
     ensures y { IsColumnOf board.now y.new × (y.new.colour ≡ 1) }
 {
-    let Ok(row) = board.begin(one, node) else {
+    let Ok(node) = node(alloc, 0, count) else {
         return;
     };
-    teach(board, one, x, row, node);
-    teach(board, one, y, row, node);
+    let Ok(row) = board.begin(one, &node) else {
+        return;
+    };
+    teach(board, one, x, row, &node);
+    teach(board, one, y, row, &node);
     mark_with(board, x, row, marks.0);
     mark_with(board, y, row, marks.1);
     if decides {
@@ -327,14 +330,13 @@ fn shows(rows: &[ClosedRow], number: u32, first: Mark, second: Mark, last: Outco
 #[test]
 fn a_board_closes_with_its_open_rows_and_its_decided_ones(rt: HostRuntime) -> Result<(), Fail> {
     let alloc = rt.alloc();
-    let node = node(alloc)?;
     let (board, seats, columns) = Board::open(alloc, 2, 2, 8)?;
     let (mut one, two) = two_clients(&board, seats);
     let (mut x, mut y) = two_columns(&board, columns);
-    add_row(&board, &mut one, &mut x, &mut y, &node, (0, 0), false);
-    add_row(&board, &mut one, &mut x, &mut y, &node, (0, 5), true);
-    add_row(&board, &mut one, &mut x, &mut y, &node, (3, 4), false);
-    add_row(&board, &mut one, &mut x, &mut y, &node, (3, 7), true);
+    add_row(alloc, &board, &mut one, &mut x, &mut y, 0, (0, 0), false);
+    add_row(alloc, &board, &mut one, &mut x, &mut y, 1, (0, 5), true);
+    add_row(alloc, &board, &mut one, &mut x, &mut y, 2, (3, 4), false);
+    add_row(alloc, &board, &mut one, &mut x, &mut y, 3, (3, 7), true);
     let rows = closed(alloc, board, one, two, x, y)?;
     let rows = rows.as_slice();
     assert!(rt; rows.len() == 4);
