@@ -2,7 +2,7 @@ use Rattle.std.proofs.Common.{◌≡◌, ◌+◌, ◌<◌, ◌∷◌, [], rules,
 use Rattle.std.proofs.lemmas.Option.{slice_get_read}
 use Rattle.chain_store.specs.declared.hold.ColumnPasses.{ColumnPasses}
 use Rattle.chain_store.proofs.Entering.{get_last, get_old}
-use Rattle.chain_store.proofs.Dealing.{dealt_none, dealt_one}
+use Rattle.chain_store.proofs.Dealing.{dealt_one}
 use Rattle.chain_store.proofs.opening.deal.Goals as goal
 
 pub loop-pass-preserved : goal.loop-pass-preserved

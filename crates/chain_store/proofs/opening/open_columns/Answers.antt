@@ -1,5 +1,4 @@
-use Rattle.std.proofs.Common.{◌≡◌, ◌+◌, ◌∷◌, [], ℕ, List, rules, length, slice_get, ap, sym, subst, ◌∙◌, arith, length-append}
-use Rattle.stamp_board.specs.Seats.{IsFreshColumn}
+use Rattle.std.proofs.Common.{◌≡◌, ◌+◌, ◌∷◌, [], ℕ, List, rules, length, slice_get, ap, subst, ◌∙◌, arith, length-append}
 use Rattle.chain_store.specs.Passes.{IsCellOf, ColumnPass}
 use Rattle.chain_store.specs.Openings.{Dealt}
 use Rattle.chain_store.proofs.Entering.{get_last, get_old}

@@ -1,4 +1,4 @@
-use Rattle.std.proofs.Common.{◌≡◌, ◌<◌, ◌+◌, ◌∷◌, ◌++◌, [], rules, refl, length, slice_get, ap, sym, ◌∙◌, arith, length-append}
+use Rattle.std.proofs.Common.{◌≡◌, ◌<◌, ◌+◌, ◌∷◌, ◌++◌, [], rules, length, slice_get, ap, sym, ◌∙◌, arith, length-append}
 use Rattle.chain_store.proofs.Entering.{get_last, get_old}
 use Rattle.chain_store.proofs.Holding.{passes_set, set_other}
 use Rattle.chain_store.proofs.Hearing.{reached_at, met_holder, met_heard, heard_more}
