@@ -15,7 +15,7 @@ use Rattle.stamp_board.specs.declared.view.Size.{Size}
 use Rattle.stamp_board.specs.declared.view.View.{View}
 use Rattle.stamp_board.specs.declared.seats.ColumnSeat.{ColumnSeat}
 use Rattle.stamp_board.specs.Rows.{IsRow, AreColours}
-use Rattle.stamp_board.specs.Views.{Grows, KnowsBegun, KnowsOutcome}
+use Rattle.stamp_board.specs.Views.{Grows, Learns, KnowsBegun, KnowsOutcome}
 use Rattle.stamp_board.specs.Seats.{column_seen, set_mark, IsLaterColumn, SetsNone, SetsMark}
 use Rattle.stamp_board.proofs.CallerLemmas.{Learns-from, begun_learnt, outcome_learnt}
 use Rattle.chain_store.specs.declared.told.Told.{Told}
@@ -45,31 +45,38 @@ stamps_with row (u ∷ log) t =
     ∙ sym (append_assoc (if proposes row u.entry.event u.nodes then u.entry.stamp ∷ [] else []) (stamps_of row log)
     (if proposes row t.entry.event t.nodes then t.entry.stamp ∷ [] else []))
 
--- what is known of a row is known where more is
-pub row_later : (v w : View) → Grows v w → (row : Row) (x : Node) → IsRowOf v row x → IsRowOf w row x
-row_later v w g row x h = record {
+-- what is known of a row is known to whom it was told
+pub row_learnt : (v w : View) → Learns v w → w.size ≡ v.size → (row : Row) (x : Node) → IsRowOf v row x → IsRowOf w row x
+row_learnt v w learns size row x h = record {
   of_row = h.of_row;
   mine = h.mine;
-  inside = subst (λ (k : Size). IsRow k row) (sym g.size) h.inside;
-  knows = begun_learnt v w row g.size (Learns-from v w g) x h.knows;
-  several = subst (λ (k : Size). AreColours k x.colours) (sym g.size) h.several;
+  inside = subst (λ (k : Size). IsRow k row) (sym size) h.inside;
+  knows = begun_learnt v w row size learns x h.knows;
+  several = subst (λ (k : Size). AreColours k x.colours) (sym size) h.several;
 }
 
--- what backs an entry still backs it where more is known
-pub backs_later : (v w : View) → Grows v w → (e : Event) (nodes : List Node) → Backs v e nodes → Backs w e nodes
-backs_later v w g (Single id floor wants) nodes b = tt
-backs_later v w g (Propose id floor wants) nodes b = (b.0, b.1, b.2, row_later v w g b.1 b.0 b.3)
-backs_later v w g (Settle id outcome) nodes b = (
+-- what backs an entry backs it with whom it was told to
+pub backs_learnt : (v w : View) → Learns v w → w.size ≡ v.size → (e : Event) (nodes : List Node) → Backs v e nodes → Backs w e nodes
+backs_learnt v w learns size (Single id floor wants) nodes b = tt
+backs_learnt v w learns size (Propose id floor wants) nodes b = (b.0, b.1, b.2, row_learnt v w learns size b.1 b.0 b.3)
+backs_learnt v w learns size (Settle id outcome) nodes b = (
   b.0,
   b.1,
   b.2,
-  row_later v w g b.1 b.0 b.3,
-  outcome_learnt v w b.1 g.size (Learns-from v w g) outcome b.4,
+  row_learnt v w learns size b.1 b.0 b.3,
+  outcome_learnt v w b.1 size learns outcome b.4,
 )
-backs_later v w g (Raise to) nodes b = tt
-backs_later v w g (Give region from) nodes b = tt
-backs_later v w g (Carry region start heads) nodes b = tt
-backs_later v w g (Trim counts) nodes b = tt
+backs_learnt v w learns size (Raise to) nodes b = tt
+backs_learnt v w learns size (Give region from) nodes b = tt
+backs_learnt v w learns size (Carry region start heads) nodes b = tt
+backs_learnt v w learns size (Trim counts) nodes b = tt
+
+-- the same where more is known
+pub row_later : (v w : View) → Grows v w → (row : Row) (x : Node) → IsRowOf v row x → IsRowOf w row x
+row_later v w g row x h = row_learnt v w (Learns-from v w g) g.size row x h
+
+pub backs_later : (v w : View) → Grows v w → (e : Event) (nodes : List Node) → Backs v e nodes → Backs w e nodes
+backs_later v w g e nodes b = backs_learnt v w (Learns-from v w g) g.size e nodes b
 
 -- a row that was fenced for the stamps' end is so where more is known
 pub ended_later : (v w : View) → Grows v w → (row : Row) (log : List Told) → IsEnded v row log → IsEnded w row log

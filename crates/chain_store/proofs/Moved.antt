@@ -177,8 +177,15 @@ held_more t log n region start items other =
     let four : flat_map f (d ∷ []) ≡ heads ++ [] =
     ap (λ (l : List Head). l ++ []) (if_true (region == region) heads [] (eq-eqb region region refl)) in
     omega (
-      arith, long, ap length one, ap length two, ap length three, ap length four,
-      length-append (flat_map f ds) (flat_map f (d ∷ [])), length-append heads [], length_map items
+      arith,
+      long,
+      ap length one,
+      ap length two,
+      ap length three,
+      ap length four,
+      length-append (flat_map f ds) (flat_map f (d ∷ [])),
+      length-append heads [],
+      length_map items,
     ) where
       length_map : (l : List PlacedNode) → length (map (λ (i : PlacedNode). i.head) l) ≡ length l
       length_map [] = refl

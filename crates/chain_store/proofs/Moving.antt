@@ -115,12 +115,12 @@ module _ (column new : ColumnState) (t : Told) (h : HasMoved column new t) where
     carried = λ region item has. elim (h.carried region item has) [
       | inl old ↦ names_more log (t ∷ []) item.head.key.id item.node (g.carried region item old)
       | inr new ↦ record {
-          place = length log;
-          told = t;
-          there = get_last log t;
-          brought = new.0;
-          of_id = new.1;
-        }
+        place = length log;
+        told = t;
+        there = get_last log t;
+        brought = new.0;
+        of_id = new.1;
+      }
     ];
   } where
     brought_there : (e : Event) (nodes : List Node) → Brings column.region column.colour e nodes
@@ -221,7 +221,7 @@ carries column new by region (first ∷ rest) is some within heads = record {
             inl (
               g.0,
               ap (λ (l : List PlacedNode). slice_get l g.0)
-              (sym (get_or-set_other column.copies region other (copy_of column region ++ items) [] differ)) ∙ g.1,
+                  (sym (get_or-set_other column.copies region other (copy_of column region ++ items) [] differ)) ∙ g.1,
             )
       ];
 } where

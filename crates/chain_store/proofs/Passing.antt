@@ -1,5 +1,5 @@
 -- What a pass has seen and made, from the turns of its cell.
-use Rattle.std.proofs.Common.{◌≡◌, ◌≢◌, ℕ, suc, ◌+◌, ◌-◌, take, drop, ◌<◌, Bool, true, false, List, [], ◌∷◌, ◌++◌, length, map, Option, Some, refl, ap, sym, subst, ◌∙◌, Result, Ok, Err, arith, inl, inr, ◌⊎◌, append_assoc, length-append, eq-eqb}
+use Rattle.std.proofs.Common.{◌≡◌, ◌≢◌, ℕ, zero, suc, ◌+◌, ◌-◌, take, drop, ◌<◌, Bool, true, false, List, [], ◌∷◌, ◌++◌, length, map, Option, Some, refl, ap, sym, subst, ◌∙◌, Result, Ok, Err, arith, inl, inr, ◌⊎◌, append_assoc, length-append, eq-eqb}
 use Rattle.std.specs.Prelude.{IfOk, ◌==◌, slice_get, slice_index_or}
 use Rattle.std.specs.List.{filter}
 use Rattle.std.proofs.lemmas.Bool.{cases_eq}
@@ -47,6 +47,22 @@ made_with n (u ∷ log) t by =
     ∙ made_with n log t by
     ∙ ap (λ l. l ++ t ∷ [])
     (sym (if_false (maker u == n) (u ∷ made_by maker n log) (made_by maker n log) no)))
+
+-- an entry that its maker made is among those
+pub made_place : (n : ℕ) (log : List Told) (i : ℕ) (t : Told) → slice_get log i ≡ Some t → maker t ≡ n
+    → (j : ℕ) × (slice_get (made_by maker n log) j ≡ Some t)
+made_place n [] i t at by = absurd cc
+made_place n (u ∷ log) zero t at by =
+    let same : u ≡ t = cc at in
+    (0, ap (λ l. slice_get l 0) (if_true (maker u == n) (u ∷ made_by maker n log) (made_by maker n log)
+    (eq-eqb (maker u) n (ap maker same ∙ by))) ∙ at)
+made_place n (u ∷ log) (suc i) t at by =
+    let r = made_place n log i t at by in
+    by_test ((j : ℕ) × (slice_get (made_by maker n (u ∷ log)) j ≡ Some t)) (maker u == n)
+    (λ here. (suc r.0, ap (λ l. slice_get l (suc r.0))
+    (if_true (maker u == n) (u ∷ made_by maker n log) (made_by maker n log) here) ∙ r.1))
+    (λ other. (r.0, ap (λ l. slice_get l r.0)
+    (if_false (maker u == n) (u ∷ made_by maker n log) (made_by maker n log) other) ∙ r.1))
 
 -- what a column stands for is lawful
 pub lawful_of : (s : Seated) (t : Tag) (log : List Told) → Stands s log → tag_of s ≡ t

@@ -46,7 +46,7 @@ module _ (cell : ColumnCell) (n : ℕ) (p q : ColumnPass) (holds : IsHolder cell
   }
 
   pub sees : SeesMore n (seen p) (seen q)
-  sees = record { more = grows; none = whole; }
+  sees = record { more = grows; none = whole }
 
 map_long : (l : List Told) → length (entries_in l) ≡ length l
 map_long [] = refl

@@ -55,12 +55,7 @@ pub fn place_in<R: Wait>(
 }
 
 /// The clock. Waits for the turn.
-pub fn clock_in<R: Wait>(
-    rt: &R,
-    cell: &Cell<Seated>,
-    pass: &mut Pass<Seated>,
-    by: u8,
-) -> (At, u64)
+pub fn clock_in<R: Wait>(rt: &R, cell: &Cell<Seated>, pass: &mut Pass<Seated>, by: u8) -> (At, u64)
     requires pass { IsHolder cell.now by pass.old }
     ensures pass { IsHolder cell.now by pass.new }
     ensures look { LooksAt by (seen pass.old) (seen pass.new) result.0 }

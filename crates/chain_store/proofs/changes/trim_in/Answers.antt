@@ -16,7 +16,7 @@ pub trim-requires : goal.trim-requires
 trim-requires g c =
     let is = tagged c.begin-turn.result.value.value c.deref_mut.result.now (tag_in c.args.cell.now)
     c.deref_mut.ensures.value c.begin-turn.ensures.tag in
-    record { maker = subst (λ (t : Tag). c.args.by < t.size.clients) (sym is) c.requires.maker; }
+    record { maker = subst (λ (t : Tag). c.args.by < t.size.clients) (sym is) c.requires.maker }
 
 pub end-requires-clause-value : goal.end-requires-clause-value
 end-requires-clause-value g c =
