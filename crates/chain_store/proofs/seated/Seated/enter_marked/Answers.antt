@@ -22,3 +22,6 @@ returns-in-Set-clause-step c =
           c.in-Set.ensures.value)
           c.requires.row.0 small e log h,
     )
+
+pub returns-in-Set-clause-mark : goal.returns-in-Set-clause-mark
+returns-in-Set-clause-mark c = c.in-Set.ensures.value.set
