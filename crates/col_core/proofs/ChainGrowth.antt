@@ -1,5 +1,5 @@
 -- The chains of a lawful history grow at their ends alone, so its cut and its base only grow.
-use Rattle.std.proofs.Common.{◌≡◌, ℕ, zero, suc, ◌+◌, ◌<◌, ◌≤◌, max, List, [], ◌∷◌, ◌++◌, length, take, Some, Bool, true, false, refl, subst, ap, sym, ◌∙◌, inl, inr, ◌⊎◌, arith, append_assoc, append-nil}
+use Rattle.std.proofs.Common.{◌≡◌, ℕ, zero, suc, ◌<◌, ◌≤◌, List, [], ◌∷◌, ◌++◌, length, Some, Bool, true, refl, subst, ap, sym, ◌∙◌, inl, inr, arith}
 use Rattle.std.specs.Prelude.{◌==◌, ◌||◌, slice_get, map, reverse}
 use mathlib.Core.List.{IsPrefix}
 use Rattle.std.specs.List.{filter, flat_map}
@@ -10,7 +10,7 @@ use Rattle.log_node.specs.declared.ids.Id.{Id}
 use Rattle.log_node.specs.declared.ids.Key.{Key}
 use Rattle.log_node.specs.declared.ids.Counts.{Counts}
 use Rattle.log_node.specs.declared.node.Head.{Head}
-use Rattle.log_node.specs.Vectors.{at, vector, IsWithin, one_more}
+use Rattle.log_node.specs.Vectors.{at, vector, IsWithin}
 use Rattle.log_node.specs.Order.{key_below}
 use Rattle.log_node.specs.Standings.{Standing, is_delivered, line_of}
 use Rattle.log_node.proofs.CallerLemmas.{each_region}
@@ -18,7 +18,7 @@ use Rattle.col_core.specs.declared.Entry.{Entry}
 use Rattle.col_core.specs.History as History
 use Rattle.col_core.specs.History.{line, enters, has_entered}
 use Rattle.log_node.specs.Reach.{Chains, Reachable, nothing, next}
-use Rattle.col_core.specs.Cuts.{Dated, entries_of, needs_of, carried, chain, held, base, base_from, trimmed_to}
+use Rattle.col_core.specs.Cuts.{Dated, entries_of, needs_of, carried, chain, held, base, base_from}
 use Rattle.col_core.specs.Computed.{cut}
 use Rattle.col_core.specs.Legal.{IsColumnHistory}
 use Rattle.col_core.proofs.CutLaws.{cut-is_greatest, within}

@@ -1,5 +1,5 @@
 -- What was seen of a log stays true of a later log.
-use Rattle.std.proofs.Common.{◌≡◌, ℕ, zero, suc, ◌<◌, ◌≤◌, List, [], ◌∷◌, ◌++◌, length, take, Some, refl, subst, ap, sym, ◌∙◌, arith}
+use Rattle.std.proofs.Common.{◌≡◌, ℕ, zero, suc, ◌<◌, ◌≤◌, List, [], ◌∷◌, ◌++◌, length, take, Some, subst, ap, sym, ◌∙◌, arith}
 use Rattle.std.specs.Prelude.{◌≢◌, slice_get, slice_index_or}
 use Rattle.std.specs.List.{AllZip, Contains}
 use mathlib.Core.List.{IsPrefix}
@@ -10,7 +10,6 @@ use Rattle.log_node.specs.declared.ids.Key.{Key}
 use Rattle.log_node.specs.declared.node.Node.{Node}
 use Rattle.col_core.specs.declared.Entry.{Entry}
 use Rattle.col_core.specs.History.{line}
-use Rattle.col_core.specs.Cuts.{Dated}
 use Rattle.col_core.specs.Computed.{dated}
 use Rattle.log_node.specs.declared.marks.Mark.{Mark}
 use Rattle.log_node.specs.declared.marks.Mark.TheVariants as marks
@@ -67,7 +66,7 @@ outcome_stays old new l node outcome kept h =
 pub dates_longer : (own : ℕ) (history more : List Entry) → dated own (history ++ more) ≡ dated own history ++ later own (dated own history) more
 dates_longer own history more = fold-append (with_date own) [] history more ∙ fold-later own (dated own history) more
 
-entries_dated : (own : ℕ) (history : List Entry) → entries_of (dated own history) ≡ history
+pub entries_dated : (own : ℕ) (history : List Entry) → entries_of (dated own history) ≡ history
 entries_dated own history = (dated-is_dated own history).same
 
 line_longer : (own regions : ℕ) (history more : List Entry) → IsColumnHistory own regions (dated own (history ++ more)) → IsPrefix (line history) (line (history ++ more))

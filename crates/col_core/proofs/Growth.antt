@@ -48,7 +48,7 @@ all_in test [] h e i = absurd i
 all_in test (f ∷ fs) h e (inl is) = subst (λ (x : Standing). test x ≡ true) is (both (test f) (list_all test fs) h).0
 all_in test (f ∷ fs) h e (inr i) = all_in test fs (both (test f) (list_all test fs) h).1 e i
 
-in_all : (test : Standing → Bool) (es : List Standing) → ((e : Standing) → In e es → test e ≡ true) → list_all test es ≡ true
+pub in_all : (test : Standing → Bool) (es : List Standing) → ((e : Standing) → In e es → test e ≡ true) → list_all test es ≡ true
 in_all test [] h = refl
 in_all test (f ∷ fs) h = and_from (test f) (list_all test fs) (h f (inl refl)) (in_all test fs (λ e i. h e (inr i)))
 

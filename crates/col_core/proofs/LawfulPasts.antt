@@ -1,10 +1,10 @@
 -- A lawful history, read from its newest entry on, is a lawful past.
-use Rattle.std.proofs.Common.{◌≡◌, ℕ, zero, suc, ◌+◌, ◌<◌, ◌≤◌, max, List, [], ◌∷◌, ◌++◌, take, Option, Some, None, Bool, true, false, cond, refl, subst, ap, sym, ◌∙◌, inl, inr, ◌⊎◌, append_assoc, append-nil}
-use Rattle.std.specs.Prelude.{◌||◌, ◌&&◌, not, reverse, slice_get, IsSomeAnd, map}
-use Rattle.std.specs.List.{list_any, find}
+use Rattle.std.proofs.Common.{◌≡◌, ℕ, suc, ◌+◌, ◌<◌, max, List, [], ◌∷◌, ◌++◌, take, Option, Some, None, Bool, true, false, refl, subst, ap, sym, ◌∙◌, inl, inr, append_assoc, append-nil}
+use Rattle.std.specs.Prelude.{not, reverse, slice_get, IsSomeAnd}
+use Rattle.std.specs.List.{find}
 use Rattle.std.proofs.lemmas.List.{reverse-append, reverse-reverse, map-append}
 use Rattle.std.proofs.lemmas.List.Folds.{list_any-append}
-use Rattle.std.proofs.lemmas.Bool.{or_parts, or_from, true≢false, and_parts}
+use Rattle.std.proofs.lemmas.Bool.{or_parts, true≢false, and_parts}
 use Rattle.std.proofs.lemmas.Grind.{fold-append}
 use Rattle.log_node.specs.declared.ids.Id.{Id}
 use Rattle.log_node.specs.Order.{same_id}
@@ -20,7 +20,7 @@ use Rattle.col_core.specs.Cuts.{Dated, entries_of}
 use Rattle.col_core.specs.Legal as Legal
 use Rattle.col_core.specs.Legal.{IsLawfulEvent, IsColumnHistory}
 use Rattle.col_core.proofs.Appending.{clock-append}
-use Rattle.col_core.proofs.Basics.{by_test, if_true, if_false, apart, not_true, same_id-true}
+use Rattle.col_core.proofs.Basics.{by_test, if_true, if_false, not_true, same_id-true}
 use Rattle.col_core.proofs.Pasts.{Status, Absent, Alone, Waits, Settled, status, after_event, standing_of, clock, entries, MayEnter, MaySettle, IsLawfulNext, IsLawfulPast}
 use Rattle.col_core.proofs.Members.{In, shown, no_standing}
 
@@ -82,7 +82,7 @@ open_waits id (Settled Open) f h o = absurd (let x : ⊥ = cc in x)
 open_waits id (Settled (Gone why)) f h o = absurd (let x : ⊥ = cc in x)
 open_waits id (Settled (Final n)) f h o = let x : record { key = entry_key n id; settled = true } ≡ f = cc in absurd (true≢false (ap (λ (g : Standing). g.settled) x ∙ o))
 
-found : (test : Standing → Bool) (es : List Standing) (e : Standing) → find test es ≡ Some e → In e es × (test e ≡ true)
+pub found : (test : Standing → Bool) (es : List Standing) (e : Standing) → find test es ≡ Some e → In e es × (test e ≡ true)
 found test [] e h = absurd (let x : ⊥ = cc in x)
 found test (f ∷ fs) e h =
     by_test _ (test f)

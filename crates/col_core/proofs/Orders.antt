@@ -1,6 +1,6 @@
 -- There is one play order from one vector to another.
 use Rattle.std.proofs.Common.{◌≡◌, ℕ, zero, suc, ◌+◌, ◌-◌, ◌<◌, ◌≤◌, List, [], ◌∷◌, length, Option, Some, None, Bool, true, false, cond, refl, subst, ap, sym, ◌∙◌, inl, inr, ◌⊎◌, arith}
-use Rattle.std.specs.Prelude.{◌==◌, ◌&&◌, ◌||◌, ◌≢◌, nat_lt, nat_le, slice_get}
+use Rattle.std.specs.Prelude.{◌==◌, ◌&&◌, ◌≢◌, nat_lt, nat_le, slice_get}
 use Rattle.std.specs.List.{count_by}
 use Rattle.std.proofs.lemmas.List.Sums.{sum_by-cons}
 use Rattle.std.proofs.lemmas.Bool.{eqb-true, eq-eqb, and_parts, and_from, or_left, or_right, lt-ltb, ltb-true, le-leb, leb-true, cases_order, cases_eq, true≢false}
@@ -11,9 +11,9 @@ use Rattle.log_node.specs.declared.node.Head.{Head}
 use Rattle.log_node.specs.Order.{same_id, same_key, key_below}
 use Rattle.log_node.specs.Vectors.{at}
 use Rattle.log_node.specs.Reach.{Chains, Reachable}
-use Rattle.col_core.specs.PlayOrder.{Place, same_place, Stands, is_between, WaitsFor, goes_first, IsPlayOrder}
+use Rattle.col_core.specs.PlayOrder.{Place, same_place, Stands, is_between, goes_first, IsPlayOrder}
 use Rattle.col_core.proofs.CutLaws.{reached_within}
-use Rattle.col_core.proofs.Basics.{by_test, if_true, if_false}
+use Rattle.col_core.proofs.Basics.{by_test, if_true}
 use Rattle.col_core.proofs.KeyOrder.{below_is}
 
 -- counting elements that pass a test

@@ -1,6 +1,5 @@
 -- The greatest vector that can be reached is one, and so are the cuts of a history.
-use Rattle.std.proofs.Common.{◌≡◌, ℕ, suc, ◌≤◌, ◌<◌, List, [], ◌∷◌, ◌++◌, take, Some, refl, subst, ap, sym, ◌∙◌, arith, lit<, append_assoc, append-nil}
-use Rattle.std.specs.Prelude.{slice_get}
+use Rattle.std.proofs.Common.{◌≡◌, ℕ, suc, ◌<◌, List, [], ◌∷◌, ◌++◌, take, refl, subst, ap, sym, ◌∙◌, arith, lit<, append_assoc, append-nil}
 use Rattle.log_node.specs.declared.ids.Counts.{Counts}
 use Rattle.log_node.specs.Vectors.{at, vector, IsWithin}
 use Rattle.col_core.specs.declared.Entry.{Entry}
@@ -8,7 +7,7 @@ use Rattle.log_node.specs.Reach.{Chains, Reachable, nothing, next, IsGreatestRea
 use Rattle.col_core.specs.Cuts.{Dated, entries_of, chain, IsDated}
 use Rattle.col_core.specs.Computed.{cut, dated}
 use Rattle.col_core.proofs.CutLaws.{cut-is_greatest, within-at}
-use Rattle.col_core.proofs.DatedLaws.{AreCuts, later, with_date, fold-later}
+use Rattle.col_core.proofs.DatedLaws.{AreCuts, later, fold-later}
 
 -- a vector that can be reached is the vector of its four numbers
 four_numbers : {chains : Chains} {v : Counts} → Reachable chains v → v ≡ vector (at v)

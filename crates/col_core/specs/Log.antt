@@ -1,5 +1,5 @@
 -- The whole log: the histories of all columns, the nodes that each client appended, and the begun rows.
-use Rattle.std.specs.Prelude.{◌≡◌, ◌≢◌, Bool, true, false, ℕ, ◌+◌, ◌==◌, ◌&&◌, List, [], ◌∷◌, take, Some, slice_get, if◌then◌else◌}
+use Rattle.std.specs.Prelude.{◌≡◌, ◌≢◌, Bool, true, ℕ, ◌+◌, ◌==◌, ◌&&◌, List, [], ◌∷◌, take, Some, slice_get, if◌then◌else◌}
 use Rattle.std.specs.List.{AllZip, Contains}
 use mathlib.Core.List.{IsPrefix}
 use Rattle.log_node.specs.declared.ids.Id.{Id}

@@ -1,5 +1,7 @@
 //! Laws of the definitions. Each function does nothing, and its contract is the law.
 ghost use Rattle.col_core.specs.Laws.{CutIsUnique, CutIsGreatest, DatesAreGreatest, DatesAreUnique, LinesGrow, ChainsGrow, ReachedStays, CutsGrow, GrowthIsLater, LinesRise, PlayOrderIsUnique, RegionOrderIsUnique, SeenStaysTrue};
+ghost use Rattle.col_core.specs.IdLaws.{OwnLineWithin, OpensAbove, OpenOnlyLeave, ClearStands, EnteredIsOver};
+ghost use Rattle.col_core.specs.IdLaws.{SettledStays, SinglesStay, OpenIsProposed, ProposedIsOpen, ProposedOnce, ClocksRise};
 
 /// Two greatest vectors that can be reached are equal.
 pub fn cut_is_unique()
@@ -64,4 +66,36 @@ pub fn growth_is_later()
 /// There is one order of a region up to a stamp.
 pub fn region_order_is_unique()
     ensures { RegionOrderIsUnique }
+{}
+
+/// The own line of a lawful history lies wholly within its cut.
+pub fn own_line_within()
+    ensures { OwnLineWithin }
+{}
+
+/// What opens later has a stamp above the clock, so of the open entries below a key at or under the clock some only
+/// leave; and a final entry stands in the line where none is left below it.
+pub fn open_only_leave()
+    ensures above { OpensAbove }
+    ensures leave { OpenOnlyLeave }
+    ensures clear { ClearStands }
+{}
+
+/// An id that has entered and is not open came by a single or was settled with one outcome, for good.
+pub fn settled_stays()
+    ensures over { EnteredIsOver }
+    ensures settled { SettledStays }
+    ensures alone { SinglesStay }
+{}
+
+/// An open id was proposed under the stamp of its entry, and a proposed one is open until it is settled.
+pub fn open_is_proposed()
+    ensures proposed { OpenIsProposed }
+    ensures stays { ProposedIsOpen }
+    ensures once { ProposedOnce }
+{}
+
+/// A clock does not fall, and is at most the last stamp.
+pub fn clocks_rise()
+    ensures { ClocksRise }
 {}

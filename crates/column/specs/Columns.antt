@@ -21,6 +21,7 @@ use Rattle.col_core.specs.History.{last_stamp, next_stamp, line, IsAtEnd}
 use Rattle.log_node.specs.Reach.{Chains}
 use Rattle.col_core.specs.Cuts.{Dated, chain, base}
 use Rattle.col_core.specs.Computed.{cut, dated}
+pub use Rattle.col_core.specs.Ids.{is_open_below}
 use Rattle.col_core.specs.Rows.{node_wants}
 use Rattle.column.specs.declared.faults.ColumnFault.{ColumnFault}
 use Rattle.column.specs.declared.faults.ColumnFault.TheVariants.{StampEnd, NoMemory}
@@ -166,11 +167,7 @@ abbrev pub HasEnterCause : ColumnState → ℕ → ColumnFault → Type 0
 HasEnterCause column floor (StampEnd clock) = (clock ≡ last_stamp) × IsAtEnd column.journal floor
 HasEnterCause column floor NoMemory = (column.queue.spare ≡ 0) × (IsAtEnd column.journal floor → ⊥)
 
--- an open entry with a key below this one
-abbrev pub is_open_below : Key → Standing → Bool
-is_open_below key e = not e.settled && key_below e.key key
-
--- the same of a stored entry
+-- a stored entry is open, and its key is below this one
 abbrev pub is_waiting_below : Key → Waiting EnteredNode → Bool
 is_waiting_below key w = not w.settled && key_below w.key key
 

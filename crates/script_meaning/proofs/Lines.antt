@@ -1,26 +1,26 @@
 -- Where a node stands in a line, and that a final entry stays.
 use Rattle.std.proofs.Common.{◌≡◌, ℕ, suc, ◌+◌, ◌≤◌, List, [], ◌∷◌, ◌++◌, length, map, Some, Bool, true, false, refl, subst, ap, sym, ◌∙◌, inl, inr, ◌⊎◌, arith}
-use Rattle.std.specs.Prelude.{◌||◌, slice_get, reverse}
-use Rattle.std.specs.List.{list_all, filter}
-use Rattle.std.proofs.lemmas.Bool.{true≢false, and_from, or_left, or_right}
+use Rattle.std.specs.Prelude.{slice_get, reverse}
+use Rattle.std.proofs.lemmas.Bool.{true≢false}
 use Rattle.std.proofs.lemmas.List.{reverse-append}
 use Rattle.log_node.specs.declared.ids.Id.{Id}
 use Rattle.log_node.specs.declared.ids.Key.{Key}
-use Rattle.log_node.specs.Order.{same_id, key_below}
-use Rattle.log_node.specs.Standings.{Standing, is_delivered}
+use Rattle.log_node.specs.Order.{same_id}
+use Rattle.log_node.specs.Standings.{Standing}
 use Rattle.col_core.specs.declared.Event.{Event}
 use Rattle.col_core.specs.declared.Event.TheVariants as events
 use Rattle.col_core.specs.declared.Entry.{Entry}
 use Rattle.col_core.specs.History.{entries, entry_key, line}
-use Rattle.col_core.proofs.CallerLemmas.{choice, by_test, apart, if_false, same_id-true, same_id-is, key-total, In}
-use Rattle.col_core.proofs.CallerLemmas.{in_line, in_filter-back, no_standing, Status, Absent, Alone, Waits, Settled}
+use Rattle.col_core.proofs.CallerLemmas.{choice, by_test, apart, if_false, same_id-true, same_id-is, In}
+use Rattle.col_core.proofs.CallerLemmas.{in_line, no_standing, clear_stands, contains_in, in_contains, Status, Absent}
+use Rattle.col_core.proofs.CallerLemmas.{Alone, Waits, Settled}
 use Rattle.col_core.proofs.CallerLemmas.{status, after_event, standing_of, IsLawfulPast, IsLawfulNext}
 use Rattle.world_laws.specs.Worlds.{World}
 use Rattle.world_laws.proofs.CallerLemmas.{status_in, Held, lawful_past_in, entry_shown}
 use Rattle.script_meaning.specs.States.{position_of}
 use Rattle.script_meaning.proofs.Rows.{in_past, standing_as}
 use Rattle.script_meaning.proofs.Additions.{Adds}
-use Rattle.script_meaning.proofs.Clearing.{of_open, IsClear}
+use Rattle.script_meaning.proofs.Clearing.{IsClear}
 
 -- Positions
 
@@ -77,41 +77,14 @@ absent_line w h r c id absent k i =
     (ap (λ (x : Id). status_in (w.histories r c) x) same ∙ absent) (entry_shown w h r c a.0 a.1)))
     (λ f. f)
 
-all_true : {A : Type 0} (test : A → Bool) (xs : List A) → ((x : A) → In x xs → test x ≡ true) → list_all test xs ≡ true
-all_true test [] h = refl
-all_true test (x ∷ xs) h = and_from (test x) _ (h x (inl refl)) (all_true test xs (λ y i. h y (inr i)))
-
-key_in : (es : List Standing) (e : Standing) → In e es → In e.key (map (λ (x : Standing). x.key) es)
-key_in [] e i = absurd i
-key_in (y ∷ es) e (inl is) = inl (ap (λ (x : Standing). x.key) is)
-key_in (y ∷ es) e (inr i) = inr (key_in es e i)
-
 -- a final entry stands in the line where the column is clear below its key
 pub in_clear_line : (w : World) → Held w → (r c : ℕ) (stamp : ℕ) (id : Id)
     → In (standing_as stamp id true) (entries (w.histories r c)) → IsClear (entry_key stamp id) w r c
     → In (entry_key stamp id) (line (w.histories r c))
 in_clear_line w h r c stamp id i clear =
-    key_in (filter (is_delivered es) es) (standing_as stamp id true)
-    (in_filter-back (is_delivered es) (standing_as stamp id true) es i
-    (all_true (λ (f : Standing). f.settled || key_below key f.key) es each)) where
-      es : List Standing
-      es = entries (w.histories r c)
-
-      key : Key
-      key = entry_key stamp id
-
-      each : (f : Standing) → In f (entries (w.histories r c)) → (f.settled || key_below (entry_key stamp id) f.key)
-          ≡ true
-      each f j =
-          by_test _ f.settled (λ t. or_left f.settled _ t)
-          (λ o. or_right f.settled _ (key-total f.key (entry_key stamp id)
-          (λ same. let e : Some f ≡ Some (standing_as stamp id true) = sym (entry_shown w h r c f j)
-          ∙ (ap (λ (x : Id). standing_of x (status_in (w.histories r c) x)) (same_id-true f.key.id id same)
-          ∙ entry_shown w h r c (standing_as stamp id true) i) in
-          let g : f ≡ standing_as stamp id true = cc in
-          true≢false (sym (ap (λ (x : Standing). x.settled) g) ∙ o))
-          (λ below. subst (λ (l : List Standing). In f l) clear
-          (of_open (entry_key stamp id) (w.histories r c) f j o below))))
+    in_contains (line (w.histories r c)) (entry_key stamp id)
+    (clear_stands r w.shape.regions (w.histories r c) id stamp (h.lawful r c)
+    (contains_in (entries (w.histories r c)) (standing_as stamp id true) i) clear)
 
 -- where it stands
 pub stands_there : (w : World) → Held w → (r c : ℕ) (stamp : ℕ) (id : Id)

@@ -8,6 +8,7 @@ use Rattle.log_node.specs.declared.node.Node.{Node}
 use Rattle.log_node.specs.Order.{key_below}
 use Rattle.log_node.specs.Standings.{Standing}
 use Rattle.col_core.specs.declared.Entry.{Entry}
+pub use Rattle.col_core.specs.Ids.{open_below}
 use Rattle.col_core.specs.History.{entries}
 use Rattle.world_laws.specs.Worlds.{World, home_history, run_steps}
 use Rattle.world_laws.specs.Completing.{complete_steps}
@@ -17,10 +18,6 @@ use Rattle.script_meaning.specs.States.{Grants}
 pub record Helping : Type 0 where
   pub world : World
   pub helps : ℕ
-
--- the open entries of a column below a key, in rising key
-abbrev pub open_below : Key → List Entry → List Standing
-open_below key history = filter (λ e. not e.settled && key_below e.key key) (entries history)
 
 -- the node with an id, where there is one
 abbrev pub node_with : World → Id → Option Node

@@ -10,6 +10,7 @@ use Rattle.log_node.specs.Seen.{PlacedNode}
 use Rattle.log_node.specs.Vectors.{at}
 use Rattle.log_node.specs.Standings.{Standing}
 use Rattle.col_core.specs.declared.Entry.{Entry}
+pub use Rattle.col_core.specs.Ids.{open_below}
 use Rattle.col_core.specs.History.{entries}
 use Rattle.col_core.specs.declared.view.View.{View}
 use Rattle.column.specs.Columns.{greater}
@@ -34,10 +35,6 @@ pub record IsLook (w : World) (client colour : ℕ) (view : View) : Type 0 where
   pub chains : length view.items ≡ 4
   pub items : (other : ℕ) → other < 4
       → AreShown w client colour other (at view.from other) (at view.cut other) (slice_index_or view.items other [])
-
--- the open entries of a column below a key, in rising key
-abbrev pub open_below : Key → List Entry → List Standing
-open_below key history = filter (λ e. not e.settled && key_below e.key key) (entries history)
 
 -- The row is that of the least open entry of a column below a key: it is begun, and its node is the one that was
 -- appended under the entry's id.

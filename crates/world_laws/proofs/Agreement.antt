@@ -23,7 +23,7 @@ use Rattle.col_core.specs.Computed.{dated}
 use Rattle.col_core.specs.History.{entries, line, entry_key}
 use Rattle.col_core.proofs.CallerLemmas.{choice, by_test, if_true, apart, same_id-refl, same_id-true, line_rises}
 use Rattle.col_core.proofs.CallerLemmas.{key-trans, key-irrefl, entries-of, In, shown, in_line, Status, Absent, Alone}
-use Rattle.col_core.proofs.CallerLemmas.{Waits, Settled, status, after_event, standing_of, IsLawfulPast, IsLawfulNext}
+use Rattle.col_core.proofs.CallerLemmas.{Waits, Settled, status, settled_status, standing_of}
 use Rattle.world_laws.specs.Worlds.{World, RowState, home_of, is_begun, row_of, marks_of, is_member}
 use Rattle.world_laws.specs.Laws.{IsFinal, SettlesOnce, OneFinalStamp, EachLineRises, OrderedAlike, FencedIsNowhere}
 use Rattle.world_laws.proofs.Basics.{in_contains, contains_in, in_reverse, slice_in}
@@ -31,36 +31,6 @@ use Rattle.world_laws.proofs.Held.{status_in, Kind, Unborn, OfSingle, OfRow, Agr
 use Rattle.world_laws.proofs.Marks.{final_is, any_mark}
 use Rattle.world_laws.proofs.Histories.{entries_dated, lawful_past_in}
 use Rattle.world_laws.proofs.Keeps.{row_agrees}
-
--- a settled id stays settled
-stays_next : (past : List Entry) (ev : Event) (stamp : ℕ) (id : Id) (o : Outcome) → IsLawfulNext past ev stamp
-    → status id past ≡ Settled o → after_event id ev stamp (status id past) ≡ Settled o
-stays_next past (events.Single other floor wants) stamp id o l e =
-    choice (λ (st : Status). st ≡ Settled o) (same_id id other) (Alone stamp) (status id past)
-    (λ t. let f = l.fresh in let g : status other past ≡ Settled o = subst (λ (i : Id). status i past ≡ Settled o)
-    (same_id-true id other t) e in absurd (let x : ⊥ = cc in x)) (λ _. e)
-stays_next past (events.Propose other floor wants) stamp id o l e =
-    choice (λ (st : Status). st ≡ Settled o) (same_id id other) (Waits stamp) (status id past)
-    (λ t. let f = l.fresh in let g : status other past ≡ Settled o = subst (λ (i : Id). status i past ≡ Settled o)
-    (same_id-true id other t) e in absurd (let x : ⊥ = cc in x)) (λ _. e)
-stays_next past (events.Settle other p) stamp id o l e =
-    choice (λ (st : Status). st ≡ Settled o) (same_id id other) (Settled p) (status id past)
-    (λ t. let f = l.waits in let g : status other past ≡ Settled o = subst (λ (i : Id). status i past ≡ Settled o)
-    (same_id-true id other t) e in absurd (let x : ⊥ = cc in x)) (λ _. e)
-stays_next past (events.Raise _) stamp id o l e = e
-stays_next past (events.Give _ _) stamp id o l e = e
-stays_next past (events.Carry _ _ _) stamp id o l e = e
-stays_next past (events.Trim _) stamp id o l e = e
-
-settled_status : (past : List Entry) → IsLawfulPast past → (id : Id) (o : Outcome) (e : Entry) → In e past
-    → e.event ≡ events.Settle id o → status id past ≡ Settled o
-settled_status [] l id o e i is = absurd i
-settled_status (d ∷ past) l id o e (inl same) is =
-    subst (λ (ev : Event). after_event id ev d.stamp (status id past) ≡ Settled o)
-    (sym (ap (λ (x : Entry). x.event) same ∙ is))
-    (if_true (same_id id id) (Settled o) (status id past) (same_id-refl id))
-settled_status (d ∷ past) l id o e (inr i) is =
-    stays_next past d.event d.stamp id o l.0 (settled_status past l.1 id o e i is)
 
 -- what a row's id is settled as
 settled_last : (m : Mark) (last : Outcome) (st : Status) (o : Outcome) → Agrees m last st → st ≡ Settled o → last ≡ o

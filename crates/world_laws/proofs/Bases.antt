@@ -15,7 +15,7 @@ use Rattle.col_core.proofs.CallerLemmas.{choice, by_test, apart, within, within-
 use Rattle.world_laws.specs.Worlds.{World, cut_after, base_after}
 use Rattle.world_laws.specs.Laws.{TrimmedIsHeld}
 use Rattle.world_laws.proofs.Held.{Held}
-use Rattle.world_laws.proofs.OwnLines.{cut_before_within}
+use Rattle.col_core.proofs.CallerLemmas.{cut_before_within}
 
 -- One trim
 

@@ -6,7 +6,9 @@ use Rattle.std.proofs.lemmas.Bool.{eqb-true, eq-eqb, false_from_ne_true}
 use Rattle.log_node.specs.declared.ids.Id.{Id}
 use Rattle.log_node.specs.Order.{same_id}
 use Rattle.col_core.specs.Keeping.{updated, updated_at}
-use Rattle.col_core.proofs.CallerLemmas.{choice, if_true, apart, same_id-true, same_id-is, In, reverse-cons}
+use Rattle.col_core.proofs.CallerLemmas.{choice, if_true, apart, same_id-true, same_id-is, In}
+pub use Rattle.col_core.proofs.CallerLemmas.{contains_in, in_append, in_contains, in_left, in_reverse, in_right, in_slice}
+pub use Rattle.col_core.proofs.CallerLemmas.{slice_in}
 
 -- a fact of a changed function at any place
 pub at_updated : {A : Type 0} (P : A → Type 0) (f : ℕ → A) (n : ℕ) (x : A) (m : ℕ) → (m ≡ n → P x)
@@ -49,59 +51,12 @@ differ a b f e = apart (same_id a b) (same_id-is a b e) f
 
 -- What stands in a list
 
-pub in_contains : {A : Type 0} (xs : List A) (x : A) → Contains xs x → In x xs
-in_contains {A} xs x h = at xs h.0 h.1 h.2 where
-  at : (ys : List A) (k : ℕ) → k < length ys → get_or ys k x ≡ x → In x ys
-  at [] k lt e = absurd (let f : ⊥ = omega (arith, lt) in f)
-  at (y ∷ ys) zero lt e = inl e
-  at (y ∷ ys) (suc k) lt e = inr (at ys k (omega (arith, lt)) e)
-
-pub contains_in : {A : Type 0} (xs : List A) (x : A) → In x xs → Contains xs x
-contains_in [] x h = absurd h
-contains_in {A} (y ∷ ys) x (inl e) = (0, omega arith, e)
-contains_in {A} (y ∷ ys) x (inr h) = let r = contains_in ys x h in let lt = r.1 in (suc r.0, omega (arith, lt), r.2)
-
-pub in_slice : {A : Type 0} (xs : List A) (x : A) → In x xs → (n : ℕ) × (slice_get xs n ≡ Some x)
-in_slice [] x i = absurd i
-in_slice {A} (y ∷ ys) x (inl e) = (0, ap (λ (z : A). Some z) e)
-in_slice (y ∷ ys) x (inr i) = let r = in_slice ys x i in (suc r.0, r.1)
-
-pub slice_in : {A : Type 0} (xs : List A) (n : ℕ) (x : A) → slice_get xs n ≡ Some x → In x xs
-slice_in [] n x h = absurd (let y : ⊥ = cc in y)
-slice_in (y ∷ ys) zero x h = inl (let z : y ≡ x = cc in z)
-slice_in (y ∷ ys) (suc n) x h = inr (slice_in ys n x h)
-
-pub in_append : {A : Type 0} (x : A) (xs ys : List A) → In x (xs ++ ys) → In x xs ⊎ In x ys
-in_append x [] ys i = inr i
-in_append x (y ∷ xs) ys (inl e) = inl (inl e)
-in_append {A} x (y ∷ xs) ys (inr i) = turn (in_append x xs ys i) where
-  turn : In x xs ⊎ In x ys → ((y ≡ x) ⊎ In x xs) ⊎ In x ys
-  turn (inl j) = inl (inr j)
-  turn (inr j) = inr j
-
-pub in_left : {A : Type 0} (x : A) (xs ys : List A) → In x xs → In x (xs ++ ys)
-in_left x [] ys i = absurd i
-in_left x (y ∷ xs) ys (inl e) = inl e
-in_left x (y ∷ xs) ys (inr i) = inr (in_left x xs ys i)
-
-pub in_right : {A : Type 0} (x : A) (xs ys : List A) → In x ys → In x (xs ++ ys)
-in_right x [] ys i = i
-in_right x (y ∷ xs) ys i = inr (in_right x xs ys i)
-
 pub in_last : {A : Type 0} (x : A) (xs : List A) (y : A) → In x (xs ++ y ∷ []) → In x xs ⊎ (y ≡ x)
 in_last {A} x xs y i = turn (in_append x xs (y ∷ []) i) where
   turn : In x xs ⊎ ((y ≡ x) ⊎ ⊥) → In x xs ⊎ (y ≡ x)
   turn (inl j) = inl j
   turn (inr (inl e)) = inr e
   turn (inr (inr f)) = absurd f
-
-pub in_reverse : {A : Type 0} (x : A) (xs : List A) → In x xs → In x (reverse xs)
-in_reverse x [] i = absurd i
-in_reverse {A} x (y ∷ xs) i =
-    subst (λ (l : List A). In x l) (sym (reverse-cons y xs)) (turn i (λ j. in_reverse x xs j)) where
-      turn : (y ≡ x) ⊎ In x xs → (In x xs → In x (reverse xs)) → In x (reverse xs ++ y ∷ [])
-      turn (inl e) rest = in_right x (reverse xs) (y ∷ []) (inl e)
-      turn (inr j) rest = in_left x (reverse xs) (y ∷ []) (rest j)
 
 pub slice_last : {A : Type 0} (xs : List A) (x : A) → slice_get (xs ++ x ∷ []) (length xs) ≡ Some x
 slice_last [] e = refl

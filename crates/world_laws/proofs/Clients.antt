@@ -29,6 +29,7 @@ use Rattle.world_laws.specs.Worlds.{World, RowState, ClientState, home_of, home_
 use Rattle.world_laws.proofs.Basics.{at_updated, at_updated_at, updated_at-here, updated_at-not, not_place, in_append}
 use Rattle.world_laws.proofs.Held.{status_in, Kind, OfSingle, OfRow, Agrees, column_mark, Fits, IsSound, heads_of, Held, put_kind, single_status}
 use Rattle.world_laws.proofs.Copies.{plain_copies_last}
+pub use Rattle.col_core.proofs.CallerLemmas.{head_with, in_heads}
 use Rattle.world_laws.proofs.Histories.{entries_dated, lawful_past_in, status-last, clock_within, stamp_within}
 use Rattle.world_laws.proofs.Keeps.{at_last, lawful_last, may_enter, heads_last, status_stays, fits_one, fits_all, kind-other, kind-own, next_unborn, next_absent, sound_kind, fresh_after}
 
@@ -295,15 +296,6 @@ in_flat_map {A} {B} f (x ∷ xs) y i = turn (in_append y (f x) (flat_map f xs) i
       → (z : A) × In z (x ∷ xs) × In y (f z)
   turn (inl j) rest = (x, inl refl, j)
   turn (inr j) rest = let r = rest j in (r.0, inr r.1, r.2)
-
-abbrev pub head_with : List Dated → Key → Head
-head_with ds key = record { key = key; needs = needs_of ds key.id }
-
-pub in_heads : (ds : List Dated) (ks : List Key) (head : Head) → In head (map (head_with ds) ks)
-    → (k : Key) × In k ks × (head_with ds k ≡ head)
-in_heads ds [] head i = absurd i
-in_heads ds (k ∷ ks) head (inl e) = (k, inl refl, e)
-in_heads ds (k ∷ ks) head (inr i) = let r = in_heads ds ks head i in (r.0, inr r.1, r.2)
 
 -- the heads that a dated history brings are those that its entries bring
 dated_heads : (region : ℕ) (ds : List Dated)

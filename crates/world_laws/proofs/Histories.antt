@@ -20,21 +20,14 @@ use Rattle.col_core.proofs.CallerLemmas.{dated-append, choice, both, apart, not_
 use Rattle.col_core.proofs.CallerLemmas.{dated-is_dated, In, shown, stands, Status, Absent, Alone, Waits, Settled}
 use Rattle.col_core.proofs.CallerLemmas.{status, after_event, standing_of, IsLawfulPast, IsLawfulNext, reverse-push}
 use Rattle.col_core.proofs.CallerLemmas.{entries-of, clock-of, open_waits, lawful_past}
+pub use Rattle.col_core.proofs.CallerLemmas.{entries_dated, past_is_lawful}
+use Rattle.col_core.proofs.CallerLemmas.{past_clock_within}
 use Rattle.col_core.proofs.CallerLemmas as pasts
 use Rattle.world_laws.specs.Worlds.{World, is_at_end}
 use Rattle.world_laws.proofs.Basics.{in_reverse}
 use Rattle.world_laws.proofs.Held.{status_in, Held}
 
 -- Histories
-
-pub entries_dated : (region : ℕ) (history : List Entry) → entries_of (dated region history) ≡ history
-entries_dated region history = (dated-is_dated region history).same
-
-pub past_is_lawful : (region regions : ℕ) (history : List Entry) → IsColumnHistory region regions (dated region history)
-    → IsLawfulPast (reverse history)
-past_is_lawful region regions history h =
-    subst (λ (x : List Entry). IsLawfulPast (reverse x)) (entries_dated region history)
-    (lawful_past region regions (dated region history) h)
 
 pub lawful_past_in : (w : World) → Held w → (r c : ℕ) → IsLawfulPast (reverse (w.histories r c))
 lawful_past_in w h r c = past_is_lawful r w.shape.regions (w.histories r c) (h.lawful r c)
@@ -181,26 +174,6 @@ may_settle_open history id o s l waits settling =
     settles Open y e h = absurd h
     settles (Gone why) y e h = tt
     settles (Final f) y e h = (subst (λ (n : ℕ). n ≤ f) e h.0, h.1)
-
--- the clock of a lawful history
-past_event_within : (past : List Entry) (e : Event) (stamp : ℕ) → IsLawfulNext past e stamp
-    → event_number e stamp ≤ last_stamp
-past_event_within past (events.Single id floor wants) stamp h = h.in_range
-past_event_within past (events.Propose id floor wants) stamp h = h.in_range
-past_event_within past (events.Settle id Open) stamp h = absurd h.settling
-past_event_within past (events.Settle id (Gone why)) stamp h = omega arith
-past_event_within past (events.Settle id (Final f)) stamp h = h.settling.1
-past_event_within past (events.Raise to) stamp h = h.in_range
-past_event_within past (events.Give _ _) stamp h = omega arith
-past_event_within past (events.Carry _ _ _) stamp h = omega arith
-past_event_within past (events.Trim _) stamp h = omega arith
-
-past_clock_within : (past : List Entry) → IsLawfulPast past → pasts.clock past ≤ last_stamp
-past_clock_within [] h = omega arith
-past_clock_within (e ∷ past) h =
-    let a = past_event_within past e.event e.stamp h.0 in
-    let b = past_clock_within past h.1 in
-    omega (arith, a, b)
 
 pub clock_within : (history : List Entry) → IsLawfulPast (reverse history) → clock history ≤ last_stamp
 clock_within history l =

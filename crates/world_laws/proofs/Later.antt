@@ -10,7 +10,7 @@ use Rattle.col_core.specs.declared.Event.TheVariants as events
 use Rattle.col_core.specs.declared.Event.{Event}
 use Rattle.col_core.specs.declared.Entry.{Entry}
 use Rattle.col_core.specs.History.{entries, entry_key, event_number}
-use Rattle.col_core.proofs.CallerLemmas.{choice, key-stamps, reverse-cons, entries-of, open_waits, lawful_front, In}
+use Rattle.col_core.proofs.CallerLemmas.{choice, key-stamps, reverse-cons, entries-of, open_waits, lawful_front, In, waits_next}
 use Rattle.col_core.proofs.CallerLemmas.{shown, stands, Status, Alone, Waits, Settled, status, after_event}
 use Rattle.col_core.proofs.CallerLemmas.{standing_of, clock, IsLawfulPast, IsLawfulNext}
 use Rattle.world_laws.specs.Worlds.{World}
@@ -18,26 +18,6 @@ use Rattle.world_laws.specs.Laws.{NoneGetsBefore}
 use Rattle.world_laws.proofs.Basics.{in_contains, contains_in}
 use Rattle.world_laws.proofs.Held.{Held}
 use Rattle.world_laws.proofs.Histories.{lawful_past_in}
-
--- an id that waits did before the event, or the event gave its stamp
-waits_next : (past : List Entry) (ev : Event) (stamp : ℕ) (i : Id) (s : ℕ) → IsLawfulNext past ev stamp
-    → after_event i ev stamp (status i past) ≡ Waits s → (status i past ≡ Waits s) ⊎ (clock past < s)
-waits_next past (events.Single id floor wants) stamp i s l =
-    choice (λ (st : Status). st ≡ Waits s → (status i past ≡ Waits s) ⊎ (clock past < s)) (same_id i id) (Alone stamp)
-    (status i past) (λ _ h. absurd (let x : ⊥ = cc in x)) (λ _ h. inl h)
-waits_next past (events.Propose id floor wants) stamp i s l =
-    choice (λ (st : Status). st ≡ Waits s → (status i past ≡ Waits s) ⊎ (clock past < s)) (same_id i id) (Waits stamp)
-    (status i past) (λ _ h. let e : stamp ≡ s = cc in let t = l.stamped in inr (above (clock past) floor stamp s t e))
-    (λ _ h. inl h) where
-      above : (c floor stamp s : ℕ) → stamp ≡ max c floor + 1 → stamp ≡ s → c < s
-      above c floor stamp s t e = omega (arith, t, e)
-waits_next past (events.Settle id o) stamp i s l =
-    choice (λ (st : Status). st ≡ Waits s → (status i past ≡ Waits s) ⊎ (clock past < s)) (same_id i id) (Settled o)
-    (status i past) (λ _ h. absurd (let x : ⊥ = cc in x)) (λ _ h. inl h)
-waits_next past (events.Raise _) stamp i s l = λ h. inl h
-waits_next past (events.Give _ _) stamp i s l = λ h. inl h
-waits_next past (events.Carry _ _ _) stamp i s l = λ h. inl h
-waits_next past (events.Trim _) stamp i s l = λ h. inl h
 
 clock_later : (later before : List Entry) (e : Entry) → event_number e.event e.stamp ≤ clock (later ++ e ∷ before)
 clock_later [] before e = omega arith

@@ -17,7 +17,6 @@ mod Told
 mod Telling
 mod RegionRows
 mod LawfulRows
-mod OwnLines
 mod Bases
 mod Wanted
 mod Listed

@@ -30,7 +30,8 @@ use Rattle.world_laws.proofs.Keeps.{at_last}
 use Rattle.world_laws.proofs.Clients.{begun_client, used_before, single_client, same_used, raise_entry}
 use Rattle.world_laws.proofs.OfColumns.{give_entry, trim_entry}
 use Rattle.world_laws.proofs.OfRows.{may_mark_is, may_fence_marks}
-use Rattle.world_laws.proofs.OwnLines.{within-trans, within-zeros, own_line_within}
+use Rattle.log_node.proofs.CallerLemmas.{within-trans, within-zeros}
+use Rattle.col_core.proofs.CallerLemmas.{own_line_within}
 use Rattle.world_laws.proofs.Bases.{base_within_cut}
 use Rattle.world_laws.proofs.Growing.{Grows, played_client, grows_begin, grows_mark, grows_propose, grows_decide, grows_last, grows_client, grows_single}
 use Rattle.world_laws.proofs.Runs.{after_held, opened_held}

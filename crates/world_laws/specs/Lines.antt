@@ -13,23 +13,8 @@ use Rattle.log_node.specs.Standings.{Standing}
 use Rattle.col_core.specs.declared.Event.TheVariants as events
 use Rattle.col_core.specs.declared.Entry.{Entry}
 use Rattle.col_core.specs.History.{entries, line, entry_key}
+pub use Rattle.col_core.specs.Ids.{Settles, IsFinal, HasEntry, StandsAt}
 use Rattle.world_laws.specs.Worlds.{World, is_begun, row_of}
-
--- a settling of the id with this outcome stands in the history
-abbrev pub Settles : List Entry → Id → Outcome → Type 0
-Settles history id outcome = (e : Entry) × Contains history e × (e.event ≡ events.Settle id outcome)
-
--- the id is final under the stamp
-abbrev pub IsFinal : List Entry → Id → ℕ → Type 0
-IsFinal history id stamp = Contains (entries history) (record { key = entry_key stamp id; settled = true })
-
--- the id has an entry, open or final
-abbrev pub HasEntry : List Entry → Id → Type 0
-HasEntry history id = (e : Standing) × Contains (entries history) e × (e.key.id ≡ id)
-
--- the id stands at the position of the line
-abbrev pub StandsAt : List Entry → ℕ → Id → Type 0
-StandsAt history position id = (key : Key) × (slice_get (line history) position ≡ Some key) × (key.id ≡ id)
 
 -- all settlings of an id, in all columns, have one outcome
 abbrev pub SettlesOnce : World → Type 0

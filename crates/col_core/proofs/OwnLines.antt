@@ -1,5 +1,6 @@
 -- Each own line is within the cut.
-use Rattle.std.proofs.Common.{◌≡◌, ℕ, zero, suc, ◌+◌, ◌<◌, ◌≤◌, List, [], ◌∷◌, length, take, drop, map, Some, refl, subst, ap, sym, ◌∙◌, inl, inr, ◌⊎◌, arith}
+use Rattle.std.proofs.Common.{◌≡◌, ℕ, zero, suc, ◌+◌, ◌<◌, ◌≤◌, List, [], ◌∷◌, length, take, drop, map, Some, refl}
+use Rattle.std.proofs.Common.{subst, ap, sym, ◌∙◌, inl, inr, ◌⊎◌, arith}
 use Rattle.std.specs.Prelude.{◌==◌, slice_get}
 use Rattle.std.proofs.lemmas.Bool.{eq-eqb, cases_lt}
 use Rattle.std.proofs.lemmas.List.{take-append-drop, length-map}
@@ -8,46 +9,38 @@ use Rattle.log_node.specs.declared.ids.Id.{Id}
 use Rattle.log_node.specs.declared.ids.Key.{Key}
 use Rattle.log_node.specs.declared.ids.Counts.{Counts}
 use Rattle.log_node.specs.declared.node.Head.{Head}
-use Rattle.log_node.specs.Vectors.{at, zeros, IsWithin, least, one_more}
+use Rattle.log_node.specs.Vectors.{at, IsWithin, least, one_more}
+use Rattle.log_node.specs.Reach.{Reachable, next}
+use Rattle.log_node.proofs.CallerLemmas.{within-at, within-trans, within-zeros, least-within-second, reached_within}
+use Rattle.log_node.proofs.CallerLemmas.{at-one_more, if_own}
 use Rattle.col_core.specs.declared.Event.TheVariants as events
 use Rattle.col_core.specs.declared.Event.{Event}
 use Rattle.col_core.specs.declared.Entry.{Entry}
 use Rattle.col_core.specs.History.{line, enters}
-use Rattle.log_node.specs.Reach.{Reachable, next}
 use Rattle.col_core.specs.Cuts.{Dated, chain, entries_of, needs_in, needs_of}
 use Rattle.col_core.specs.Computed.{cut, dated}
 use Rattle.col_core.specs.Legal.{IsColumnHistory}
-use Rattle.col_core.proofs.CallerLemmas.{choice, if_true, chains_grow, reachable_grows, within, within-at}
-use Rattle.col_core.proofs.CallerLemmas.{reached_within, cut-is_greatest, dated-is_dated, In}
-use Rattle.world_laws.specs.Worlds.{cut_after}
-use Rattle.world_laws.proofs.Histories.{entries_dated}
-use Rattle.world_laws.proofs.Clients.{head_with, in_heads}
+use Rattle.col_core.proofs.Basics.{choice, if_true}
+use Rattle.col_core.proofs.ChainGrowth.{chains_grow, reachable_grows}
+use Rattle.col_core.proofs.CutLaws.{cut-is_greatest}
+use Rattle.col_core.proofs.DatedLaws.{dated-is_dated}
+use Rattle.col_core.proofs.Facts.{entries_dated}
+use Rattle.col_core.proofs.Members.{In}
 
-pub within-trans : (u v w : Counts) → IsWithin u v → IsWithin v w → IsWithin u w
-within-trans u v w a b =
-    within u w (λ r lt. let x = within-at u v a r lt in let y = within-at v w b r lt in omega (arith, x, y))
+-- a key of the own line with its node's needs
+abbrev pub head_with : List Dated → Key → Head
+head_with ds key = record { key = key; needs = needs_of ds key.id }
 
-pub within-zeros : (v : Counts) → IsWithin zeros v
-within-zeros v = within zeros v (λ r lt. zero_at r lt) where
-  zero_at : (r : ℕ) → r < 4 → at zeros r ≤ at v r
-  zero_at zero lt = omega arith
-  zero_at (suc zero) lt = omega arith
-  zero_at (suc (suc zero)) lt = omega arith
-  zero_at (suc (suc (suc zero))) lt = omega arith
-  zero_at (suc (suc (suc (suc r)))) lt = absurd (let f : ⊥ = omega (arith, lt) in f)
-
-least-within : (u v : Counts) → IsWithin (least u v) v
-least-within u v = within (least u v) v (λ r lt. least_at r lt) where
-  least_at : (r : ℕ) → r < 4 → at (least u v) r ≤ at v r
-  least_at zero lt = omega arith
-  least_at (suc zero) lt = omega arith
-  least_at (suc (suc zero)) lt = omega arith
-  least_at (suc (suc (suc zero))) lt = omega arith
-  least_at (suc (suc (suc (suc r)))) lt = absurd (let f : ⊥ = omega (arith, lt) in f)
+pub in_heads : (ds : List Dated) (ks : List Key) (head : Head) → In head (map (head_with ds) ks)
+    → (k : Key) × In k ks × (head_with ds k ≡ head)
+in_heads ds [] head i = absurd i
+in_heads ds (k ∷ ks) head (inl e) = (k, inl refl, e)
+in_heads ds (k ∷ ks) head (inr i) = let r = in_heads ds ks head i in (r.0, inr r.1, r.2)
 
 -- the cut before an event is within the cut after all
 pub cut_before_within : (own regions : ℕ) (history : List Entry) → IsColumnHistory own regions (dated own history)
-    → (n : ℕ) (d : Dated) → slice_get (dated own history) n ≡ Some d → IsWithin d.cut_before (cut_after own history)
+    → (n : ℕ) (d : Dated) → slice_get (dated own history) n ≡ Some d
+    → IsWithin d.cut_before (cut own (dated own history))
 cut_before_within own regions history lawful n d e =
     let ds = dated own history in
     let split = take-append-drop n ds in
@@ -59,8 +52,8 @@ cut_before_within own regions history lawful n d e =
     ((dated-is_dated own history).each n d e).reached)
 
 needs_in_within : (ev : Event) (cut_before v : Counts) → IsWithin cut_before v → IsWithin (needs_in ev cut_before) v
-needs_in_within (events.Single id floor wants) c v h = within-trans (least wants c) c v (least-within wants c) h
-needs_in_within (events.Propose id floor wants) c v h = within-trans (least wants c) c v (least-within wants c) h
+needs_in_within (events.Single id floor wants) c v h = within-trans (least wants c) c v (least-within-second wants c) h
+needs_in_within (events.Propose id floor wants) c v h = within-trans (least wants c) c v (least-within-second wants c) h
 needs_in_within (events.Settle _ _) c v h = within-zeros v
 needs_in_within (events.Raise _) c v h = within-zeros v
 needs_in_within (events.Give _ _) c v h = within-zeros v
@@ -82,11 +75,7 @@ slice_at (x ∷ xs) zero lt = (x, refl, inl refl)
 slice_at (x ∷ xs) (suc i) lt = let r = slice_at xs i (omega (arith, lt)) in (r.0, r.1, inr r.2)
 
 more_at : (v : Counts) (r : ℕ) → r < 4 → at (one_more v r) r ≡ at v r + 1
-more_at v zero lt = refl
-more_at v (suc zero) lt = refl
-more_at v (suc (suc zero)) lt = refl
-more_at v (suc (suc (suc zero))) lt = refl
-more_at v (suc (suc (suc (suc r)))) lt = absurd (let f : ⊥ = omega (arith, lt) in f)
+more_at v r lt = at-one_more v r r lt ∙ if_own r r (at v r + 1) (at v r) refl
 
 -- where the needs of each own node are within the cut, the whole own chain is
 own_chain_within : (own : ℕ) (ds : List Dated) → own < 4
@@ -110,7 +99,7 @@ own_chain_within own ds lt needs =
 
 pub own_line_within : (own regions : ℕ) (history : List Entry) → own < 4
     → IsColumnHistory own regions (dated own history)
-    → at (cut_after own history) own ≡ length (line history)
+    → at (cut own (dated own history)) own ≡ length (line history)
 own_line_within own regions history lt lawful =
     let ds = dated own history in
     let is : chain own ds own ≡ map (head_with ds) (line (entries_of ds)) = if_true (own == own) _ _
@@ -123,8 +112,8 @@ own_line_within own regions history lt lawful =
     (entries_dated own history))) where
       needs_of_head : (head : Head)
           → (k : Key) × In k (line (entries_of (dated own history))) × (head_with (dated own history) k ≡ head)
-          → IsWithin head.needs (cut_after own history)
+          → IsWithin head.needs (cut own (dated own history))
       needs_of_head head x =
-          subst (λ (y : Head). IsWithin y.needs (cut_after own history)) x.2
-          (needs_within (dated own history) x.0.id (cut_after own history)
+          subst (λ (y : Head). IsWithin y.needs (cut own (dated own history))) x.2
+          (needs_within (dated own history) x.0.id (cut own (dated own history))
           (cut_before_within own regions history lawful))
