@@ -42,7 +42,7 @@ use Rattle.chain_store.specs.Rows.{KnowsRow}
 use Rattle.chain_store.specs.declared.told.Told.{Told}
 use Rattle.chain_store.specs.Entered.{AreBelow}
 use Rattle.chain_store.specs.Histories.{entries_in, Names, EntersAs, Brings, IsOfMaker}
-use Rattle.chain_store.specs.Ids.{Proposes, Singles, Settles, IsFinal, HasCome, IsOver, alone, settled}
+use Rattle.col_core.specs.Ids.{Proposes, Singles, Settles, IsFinal, HasCome, IsOver, alone, settled}
 use Rattle.chain_store.specs.Marks.{is_first_of, is_row, same_row, proposes, stamps_of, numbers, Backs, IsBacked, IsRowOf}
 use Rattle.chain_store.specs.Columns.{IsOfHistory, Stands, newest_in, told_by, told_settle}
 use Rattle.chain_store.proofs.Entering.{get_last, get_old, get_cases, map_with, names_more, enters_more}
@@ -50,7 +50,8 @@ use Rattle.chain_store.proofs.Backing.{same_row-is}
 use Rattle.chain_store.proofs.Begun.{begun_later, begun_row}
 use Rattle.chain_store.proofs.Proposed.{stays_later}
 use Rattle.chain_store.proofs.Outcomes.{IsUnder, under_final}
-use Rattle.chain_store.proofs.IdLaws.{IsSettled, entered_is_over, settled_stays, singles_stay, open_is_proposed, proposed_is_open, proposed_once}
+use Rattle.col_core.specs.IdLaws.{IsSettled}
+use Rattle.col_core.proofs.CallerLemmas.{entered_is_over, settled_stays, singles_stay, open_is_proposed, proposed_is_open, proposed_once}
 
 -- places and members
 

@@ -11,7 +11,7 @@ ghost use Rattle.log_node.specs.Standings.{Standing, open_entry};
 ghost use Rattle.skeen_core.specs.Queues.{has_open};
 ghost use Rattle.col_core.specs.History.{entries, IsAtEnd};
 ghost use Rattle.column.specs.Columns.{is_open_below};
-ghost use Rattle.chain_store.specs.Ids.{IsFinal};
+ghost use Rattle.col_core.specs.Ids.{IsFinal};
 ghost use Rattle.stamp_board.specs.Views.{Agree, KnowsBegun, KnowsMark, KnowsOutcome, Learns};
 ghost use Rattle.stamp_board.specs.Seats.{IsSeatOf, IsClients, IsColumnOf, IsLater, IsLaterColumn, seen, column_seen};
 ghost use Rattle.chain_store.specs.declared.told.Told.{Told};

@@ -13,7 +13,7 @@ ghost use Rattle.column.specs.Columns.{is_open_below};
 ghost use Rattle.stamp_board.specs.Views.{KnowsMark, KnowsOutcome};
 ghost use Rattle.stamp_board.specs.Seats.{IsSeatOf, IsClients, IsLater, seen as seat_seen};
 ghost use Rattle.turn_cell.specs.Cells.{seen};
-ghost use Rattle.chain_store.specs.Ids.{IsFinal};
+ghost use Rattle.col_core.specs.Ids.{IsFinal};
 ghost use Rattle.chain_store.specs.Histories.{entries_in};
 ghost use Rattle.chain_store.specs.Marks.{stamps_of, numbers};
 ghost use Rattle.chain_store.specs.Columns.{told_propose, told_settle};

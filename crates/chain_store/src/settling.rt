@@ -4,7 +4,7 @@ ghost use Rattle.log_node.specs.Sets.{has};
 ghost use Rattle.log_node.specs.Standings.{open_entry};
 ghost use Rattle.skeen_core.specs.Queues.{has_open};
 ghost use Rattle.col_core.specs.History.{entries};
-ghost use Rattle.chain_store.specs.Ids.{IsFinal};
+ghost use Rattle.col_core.specs.Ids.{IsFinal};
 ghost use Rattle.stamp_board.specs.Views.{KnowsOutcome};
 ghost use Rattle.stamp_board.specs.Seats.{IsColumnOf, IsLaterColumn, column_seen};
 ghost use Rattle.chain_store.specs.declared.told.Told.{Told};

@@ -14,7 +14,7 @@ use Rattle.col_core.specs.declared.Entry.{Entry}
 use Rattle.col_core.specs.History.{entries}
 use Rattle.column.specs.Columns.{ColumnState, after_settle}
 use Rattle.stamp_board.specs.Seats.{column_seen}
-use Rattle.chain_store.specs.Ids.{IsFinal, HasCome}
+use Rattle.col_core.specs.Ids.{IsFinal, HasCome}
 use Rattle.chain_store.specs.Marks.{IsBacked}
 use Rattle.chain_store.specs.Entered.{AreBelow}
 use Rattle.chain_store.specs.Columns.{IsOfHistory, told_settle, tag_of}

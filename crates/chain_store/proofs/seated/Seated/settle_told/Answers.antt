@@ -18,7 +18,7 @@ use Rattle.stamp_board.proofs.CallerLemmas.{Learns-from, Learns-trans, Grows-tra
 use Rattle.chain_store.specs.Histories.{entries_in}
 use Rattle.chain_store.specs.Columns.{Gains, told_propose, told_settle}
 use Rattle.chain_store.specs.Rows.{IsBegunRow}
-use Rattle.chain_store.specs.Ids.{IsFinal}
+use Rattle.col_core.specs.Ids.{IsFinal}
 use Rattle.chain_store.proofs.Begun.{begun_later}
 use Rattle.chain_store.proofs.Heard.{gains_between}
 use Rattle.chain_store.proofs.seated.Seated.settle_told.Goals as goal
