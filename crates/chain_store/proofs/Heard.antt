@@ -30,7 +30,7 @@ use Rattle.chain_store.specs.Histories.{entries_in, EntersAs, Brings, FitsColumn
 use Rattle.chain_store.specs.Marks.{Backs, IsBacked, IsRowOf}
 use Rattle.chain_store.specs.Columns.{IsOfHistory, Stands, Stays, Gains, newest_in}
 use Rattle.chain_store.specs.Rows.{IsBegunRow, KnowsRow, IsKnownBelow}
-use Rattle.chain_store.proofs.Settled.{found_in, in_get}
+use Rattle.chain_store.proofs.Settlings.{found_in, in_get}
 
 -- what a note says
 pub learns_told : (v w u : View) → u ≡ told v → Learns u w → Learns v w

@@ -1,7 +1,7 @@
 use Rattle.std.proofs.Common.{◌≡◌, refl, ap, sym, subst, ◌∙◌}
 use Rattle.stamp_board.specs.Seats.{seen, column_seen}
 use Rattle.chain_store.proofs.Heard.{learns_told}
-use Rattle.chain_store.proofs.Proposed.{stays_later, same_tag}
+use Rattle.chain_store.proofs.Proposals.{stays_later, same_tag}
 use Rattle.chain_store.proofs.seated.Seated.learn.Goals as goal
 
 pub returns-clause-tag : goal.returns-clause-tag

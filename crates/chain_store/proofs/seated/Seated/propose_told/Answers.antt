@@ -20,7 +20,7 @@ use Rattle.chain_store.specs.Columns.{Gains, told_propose, told_settle}
 use Rattle.chain_store.specs.Rows.{IsBegunRow}
 use Rattle.chain_store.proofs.Begun.{begun_later}
 use Rattle.chain_store.proofs.Heard.{gains_between, same_marks}
-use Rattle.chain_store.proofs.Proposed.{step_after}
+use Rattle.chain_store.proofs.Proposals.{step_after}
 use Rattle.chain_store.proofs.seated.Seated.propose_told.Goals as goal
 
 pub propose-step-requires-clause-board : goal.propose-step-requires-clause-board

@@ -20,8 +20,8 @@ use Rattle.chain_store.specs.Entered.{AreBelow}
 use Rattle.chain_store.specs.Columns.{IsOfHistory, told_settle, tag_of}
 use Rattle.chain_store.specs.Tags.{tag}
 use Rattle.chain_store.proofs.Backing.{backed_more}
-use Rattle.chain_store.proofs.Proposed.{stays_later, same_tag}
-use Rattle.chain_store.proofs.Settled.{may_settle_begun, settle_backed, settles_open, settles_none, settles_keep, settles_below, settled_newest, settled_gains, settled_last, none_found, outcome_small}
+use Rattle.chain_store.proofs.Proposals.{stays_later, same_tag}
+use Rattle.chain_store.proofs.Settlings.{may_settle_begun, settle_backed, settles_open, settles_none, settles_keep, settles_below, settled_newest, settled_gains, settled_last, none_found, outcome_small}
 use Rattle.chain_store.proofs.seated.Seated.settle.Goals as goal
 
 pub settle-at-requires : goal.settle-at-requires

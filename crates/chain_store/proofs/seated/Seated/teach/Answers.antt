@@ -5,7 +5,7 @@ use Rattle.stamp_board.specs.declared.view.View.{View}
 use Rattle.stamp_board.specs.Views.{KnowsBegun, told}
 use Rattle.stamp_board.specs.Seats.{seen, column_seen}
 use Rattle.chain_store.proofs.Heard.{learns_told, agree_told, same_marks}
-use Rattle.chain_store.proofs.Proposed.{stays_later, same_tag}
+use Rattle.chain_store.proofs.Proposals.{stays_later, same_tag}
 use Rattle.chain_store.proofs.seated.Seated.teach.Goals as goal
 
 pub returns-clause-tag : goal.returns-clause-tag

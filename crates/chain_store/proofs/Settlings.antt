@@ -48,7 +48,7 @@ use Rattle.chain_store.specs.Columns.{IsOfHistory, Stands, newest_in, told_by, t
 use Rattle.chain_store.proofs.Entering.{get_last, get_old, get_cases, map_with, names_more, enters_more}
 use Rattle.chain_store.proofs.Backing.{same_row-is}
 use Rattle.chain_store.proofs.Begun.{begun_later, begun_row}
-use Rattle.chain_store.proofs.Proposed.{stays_later}
+use Rattle.chain_store.proofs.Proposals.{stays_later}
 use Rattle.chain_store.proofs.Outcomes.{IsUnder, under_final}
 use Rattle.col_core.specs.IdLaws.{IsSettled}
 use Rattle.col_core.proofs.CallerLemmas.{entered_is_over, settled_stays, singles_stay, open_is_proposed, proposed_is_open, proposed_once}
