@@ -29,6 +29,9 @@ use Rattle.chain_store.specs.declared.seated.Seated.{Seated}
 use Rattle.chain_store.specs.Histories.{entries_in, EntersAs, Brings, FitsColumn}
 use Rattle.chain_store.specs.Marks.{Backs, IsBacked, IsRowOf}
 use Rattle.chain_store.specs.Columns.{IsOfHistory, Stands, Stays, Gains, newest_in}
+use Rattle.log_node.specs.declared.node.At.{At}
+use Rattle.log_node.specs.declared.node.At.TheVariants as ats
+use Rattle.chain_store.specs.Steps.{MatchAt}
 use Rattle.chain_store.specs.Rows.{IsBegunRow, KnowsRow, IsKnownBelow}
 use Rattle.chain_store.proofs.Settlings.{found_in, in_get}
 
@@ -124,3 +127,10 @@ first_known s size key (Some begun) sized at log stands =
           known w
           (drop_get (kept_count s.column.queue) s.column.queue.stored w
           (found_in (is_waiting_below key) (waiting_entries s.column.queue) w e)) h
+
+-- an answer that is an event, and one that is a look
+pub at_event : (at : At) (place : ℕ) (P Q : ℕ → Type 0) → at ≡ ats.Event place → P place → MatchAt at P Q
+at_event at place P Q is h = subst (λ (a : At). MatchAt a P Q) (sym is) h
+
+pub at_look : (at : At) (events : ℕ) (P Q : ℕ → Type 0) → at ≡ ats.Look events → Q events → MatchAt at P Q
+at_look at events P Q is h = subst (λ (a : At). MatchAt a P Q) (sym is) h

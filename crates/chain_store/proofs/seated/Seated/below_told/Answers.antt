@@ -20,6 +20,9 @@ use Rattle.chain_store.specs.Columns.{Gains, told_propose, told_settle}
 use Rattle.chain_store.specs.Rows.{IsBegunRow}
 use Rattle.std.proofs.Common.{Option, Some, None}
 use Rattle.std.specs.Prelude.{IfSome}
+use Rattle.std.specs.List.{find}
+use Rattle.skeen_core.specs.Queues.{waiting_entries}
+use Rattle.column.specs.Columns.{IsBegunAt, is_waiting_below}
 use Rattle.chain_store.specs.Rows.{IsKnownBelow}
 use Rattle.chain_store.proofs.Begun.{begun_later}
 use Rattle.chain_store.proofs.Heard.{first_known}
@@ -46,5 +49,24 @@ returns-clause-known c =
     (subst (λ (d : ColumnState). IsBegunAt first (find (is_waiting_below c.args.key) (waiting_entries d.queue))) e.column
     c.below.ensures.first) st.0 st.1)
 
+-- the row of an append that is known, named by the client and its number
+own_row : (b : BegunAppend) (client : ℕ) (v : View) (x : Node) → b.row.client ≡ client → KnowsBegun v b.row x
+    → KnowsBegun v (record { client = client; number = b.row.number }) x
+own_row b client v x is h = subst (λ (n : ℕ). KnowsBegun v (record { client = n; number = b.row.number }) x) is h
+
 pub returns-clause-own : goal.returns-clause-own
-returns-clause-own c = ?
+returns-clause-own c =
+    let s = c.args.self.now in
+    let k = c.args.board.now.size in
+    let q = c.requires.seats in
+    let e = c.teach.ensures in
+    let v = column_seen s.seat in
+    let st = c.requires.stands in
+    let seat = c.args.seat.now in
+    let first = c.below.result.first in
+    some_as first (IsKnownBelow k s.column.region s.column.colour v) _
+    (λ b h mine client.
+    e.own mine b.row.number h.0.0 h.0.1.row.1 (own_row b seat.client v h.0.0 client h.0.1.knows))
+    (first_known s k c.args.key first q.0.1
+    (subst (λ (d : ColumnState). IsBegunAt first (find (is_waiting_below c.args.key) (waiting_entries d.queue))) e.column
+    c.below.ensures.first) st.0 st.1)
