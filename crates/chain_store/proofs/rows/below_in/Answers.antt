@@ -8,7 +8,8 @@ use Rattle.stamp_board.specs.Seats.{seen as seat_seen}
 use Rattle.turn_cell.specs.Cells.{seen}
 use Rattle.chain_store.specs.declared.told.Tag.{Tag}
 use Rattle.chain_store.specs.declared.told.Told.{Told}
-use Rattle.chain_store.specs.Rows.{IsBegunRow, KnowsRow}
+use Rattle.std.specs.Prelude.{IfSome}
+use Rattle.chain_store.specs.Rows.{KnowsRow, IsKnownBelow}
 use Rattle.log_node.specs.declared.node.Node.{Node}
 use Rattle.chain_store.specs.declared.seated.Seated.{Seated}
 use Rattle.col_core.specs.declared.Entry.{Entry}
@@ -43,3 +44,11 @@ end-requires-clause-value g c =
     inl (c.below_told-below.ensures.stays (seen q)
     (stood c.begin-turn.result.value.value c.deref_mut.result.now (seen q) c.deref_mut.ensures.value
     c.begin-turn.ensures.value))
+
+pub returns-clause-known : goal.returns-clause-known
+returns-clause-known g c =
+    let is = tagged c.begin-turn.result.value.value c.deref_mut.result.now (tag_in c.args.cell.now)
+    c.deref_mut.ensures.value c.begin-turn.ensures.tag in
+    subst (λ (t : Tag). IfSome c.below_told-below.result.first
+    (IsKnownBelow c.args.board.now.size t.region t.colour (seat_seen c.below_told-below.new.seat))) is
+    c.below_told-below.ensures.known

@@ -55,8 +55,8 @@ settle_told-position-requires-clause-stands g c =
           c.begin-turn.ensures.value,
     )
 
-pub end-at-requires-clause-value : goal.end-at-requires-clause-value
-end-at-requires-clause-value g c =
+pub end-requires-clause-value : goal.end-requires-clause-value
+end-requires-clause-value g c =
     let cell = c.args.cell.now in
     let t = c.begin-turn.ensures in
     let x = c.deref_mut.result.now in
@@ -71,8 +71,8 @@ end-at-requires-clause-value g c =
 
 pub returns-clause-pass : goal.returns-clause-pass
 returns-clause-pass g c =
-    at_rest c.begin-turn.result.cell.now c.args.cell.now c.args.by c.begin-turn.new.pass c.end-at.new.pass
-    c.begin-turn.ensures.turn.1 c.begin-turn.ensures.turn.0 c.end-at.ensures.holder
+    at_rest c.begin-turn.result.cell.now c.args.cell.now c.args.by c.begin-turn.new.pass c.end.new.pass
+    c.begin-turn.ensures.turn.1 c.begin-turn.ensures.turn.0 c.end.ensures.holder
 
 pub returns-clause-at : goal.returns-clause-at
 returns-clause-at g c =
@@ -81,29 +81,29 @@ returns-clause-at g c =
     let x = c.deref_mut.result.now in
     let y = c.settle_told-position.new.self in
     let q = c.begin-turn.new.pass in
-    let r = c.end-at.new.pass in
+    let r = c.end.new.pass in
     let b = c.args.begun.now in
     let e = told_settle c.args.by b.id c.args.outcome in
     let stands = stood c.begin-turn.result.value.value x (seen q) c.deref_mut.ensures.value t.value in
     by_test _ (has_open b.id (entries x.column.journal))
     (λ shown.
-    let w = c.end-at.ensures.event e (adds cell c.args.by q t.turn.0 x y e stands (c.settle_told-position.ensures.event shown) refl) in
-    at_event c.end-at.result (length (seen q)) _ _ w.0 (makes c.args.by e c.args.pass.now q r c.end-at.result t.more w))
+    let w = c.end.ensures.event e (adds cell c.args.by q t.turn.0 x y e stands (c.settle_told-position.ensures.event shown) refl) in
+    at_event c.end.result (length (seen q)) _ _ w.0 (makes c.args.by e c.args.pass.now q r c.end.result t.more w))
     (λ off.
-    let w = c.end-at.ensures.look (c.settle_told-position.ensures.look off (seen q) stands) in
-    at_look c.end-at.result (length (seen q)) _ _ w.0
+    let w = c.end.ensures.look (c.settle_told-position.ensures.look off (seen q) stands) in
+    at_look c.end.result (length (seen q)) _ _ w.0
     (saw c.args.by c.args.pass.now q r t.more w.1.0, ap (λ (l : List Told). length l) (sym w.1.0)))
 
 pub returns-clause-closed : goal.returns-clause-closed
 returns-clause-closed g c =
-    ap (λ (l : List Entry). open_entry c.args.begun.now.id (entries l)) (sym c.end-at.ensures.value.0.same)
+    ap (λ (l : List Entry). open_entry c.args.begun.now.id (entries l)) (sym c.end.ensures.value.0.same)
     ∙ c.settle_told-position.ensures.closed
 
 pub returns-clause-stands : goal.returns-clause-stands
 returns-clause-stands g c = λ f final.
-    subst (λ (l : List Entry). IsFinal l c.args.begun.now.id f) c.end-at.ensures.value.0.same (c.settle_told-position.ensures.stands f final)
+    subst (λ (l : List Entry). IsFinal l c.args.begun.now.id f) c.end.ensures.value.0.same (c.settle_told-position.ensures.stands f final)
 
 pub returns-clause-position : goal.returns-clause-position
 returns-clause-position g c =
     c.settle_told-position.ensures.position
-    ∙ ap (λ (l : List Entry). place_after l c.args.begun.now.id c.args.outcome) c.end-at.ensures.value.0.same
+    ∙ ap (λ (l : List Entry). place_after l c.args.begun.now.id c.args.outcome) c.end.ensures.value.0.same
