@@ -1,5 +1,5 @@
 // The calls of a region on one column, each under one turn of it.
-ghost use Rattle.std.specs.Prelude.{◌≡◌, ◌≢◌, ◌<◌, ◌≤◌, ◌+◌, ℕ, true, None, length, IfOk, IfSome, OnOk, OnErr};
+ghost use Rattle.std.specs.Prelude.{◌≡◌, ◌≢◌, ◌<◌, ◌≤◌, ◌+◌, ℕ, true, None, length, IfErr, IfOk, IfSome, OnOk, OnErr};
 ghost use Rattle.std.specs.List.{position, filter, find};
 ghost use Rattle.std.specs.Option.{option_map};
 ghost use Rattle.log_node.specs.declared.marks.Mark.TheVariants.{Number, Fenced};
@@ -10,7 +10,7 @@ ghost use Rattle.log_node.specs.Order.{same_key};
 ghost use Rattle.log_node.specs.Seen.{BegunAppend};
 ghost use Rattle.log_node.specs.Sets.{has};
 ghost use Rattle.log_node.specs.Standings.{Standing, open_entry};
-ghost use Rattle.col_core.specs.History.{clock, entries, line, IsAtEnd};
+ghost use Rattle.col_core.specs.History.{clock, entries, entry_key, line, IsAtEnd};
 ghost use Rattle.col_core.specs.Ids.{IsFinal};
 ghost use Rattle.column.specs.Columns.{is_open_below};
 ghost use Rattle.stamp_board.specs.Views.{KnowsMark, KnowsOutcome};
@@ -20,13 +20,13 @@ ghost use Rattle.chain_store.specs.Histories.{FitsColumn};
 ghost use Rattle.chain_store.specs.Columns.{told_single, told_propose, told_settle};
 ghost use Rattle.chain_store.specs.Marks.{stamps_of, numbers};
 ghost use Rattle.chain_store.specs.Rows.{IsBegunRow, place_after};
-ghost use Rattle.chain_store.specs.Steps.{MatchAt};
+ghost use Rattle.chain_store.specs.Steps.{HasSingleCause, MatchAt};
 ghost use Rattle.chain_store.specs.Passes.{ShowsHistory, dated_in};
 ghost use Rattle.chain_store.specs.Regions.{tag_at, IsColumnAt};
 ghost use Rattle.chain_store.specs.Holds.{IsHold, SameBut, SeesMoreIn, MakesOneIn, LooksIn, RaisesIn, GivesIn, CarriesIn, TrimsIn, KnowsAppend, seen_in, entries_seen, view_of};
 ghost use Rattle.chain_store.specs.Givens.{OfTheirHeads};
 
-use crate::calls::single_in;
+use crate::calls::{Single, single_in};
 use crate::changes::{carry_in, give_in, raise_in, trim_in};
 use crate::hold::Hold;
 use crate::looks::{clock_in, held_in, look_in, place_in};
@@ -49,14 +49,15 @@ impl Region {
         &self.columns[colour as usize]
     }
 
-    /// The node enters the colour's column as final under the next stamp.
+    /// The node enters the colour's column as final under the next stamp. Answers its position in the line too, which is
+    /// `None` where an open entry stands before it.
     pub fn single<R: Wait>(
         &self,
         rt: &R,
         hold: &mut Hold,
         colour: u8,
         node: &Arc<Node>,
-    ) -> Result<(At, u64), ColumnFault>
+    ) -> Result<Single, ColumnFault>
         requires hold { IsHold self.now hold.old }
         requires colour { colour < self.now.board.size.colours }
         requires id { (node.now.value.id.client ≡ hold.old.passes.number) × (hold.old.next ≤ node.now.value.id.count) }
@@ -66,8 +67,11 @@ impl Region {
         ensures others { SameBut colour hold.old hold.new }
         ensures seat { hold.new.seat ≡ hold.old.seat }
         ensures next { OnOk result (hold.new.next ≡ node.now.value.id.count + 1) }
-        ensures ok { IfOk result (λ r.
-            MakesOneIn colour hold.old hold.new (told_single colour hold.old.passes.number node.now.value r.1) r.0) }
+        ensures ok { IfOk result (λ s.
+            MakesOneIn colour hold.old hold.new (told_single colour hold.old.passes.number node.now.value s.stamp) s.at) }
+        ensures position { IfOk result (λ s. s.position
+            ≡ position (λ k. same_key k (entry_key s.stamp node.now.value.id)) (line (entries_seen hold.new colour))) }
+        ensures cause { IfErr result (HasSingleCause (entries_seen hold.new colour) node.now.value.floor) }
         ensures err { OnErr result (SeesMoreIn colour hold.old hold.new × (hold.new.next ≡ hold.old.next)) }
     {
         let by = hold.passes.number;
