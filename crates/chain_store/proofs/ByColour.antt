@@ -53,7 +53,8 @@ module _ (n : ℕ) (old new : List Told) where
     | inr m ↦ inr (_, at, m.0, refl, λ used next nodes. tt)
   ]
 
-  pub gave : (t : Tag) (region from : ℕ) (at : At) (given : Given) → GivesAt t n region from old new at given → Moves n old new
+  pub gave : (t : Tag) (region from : ℕ) (at : At) (given : Given) → GivesAt t n region from old new at given → Moves
+      n old new
   gave t region from at given m =
       inr (
         m.told,
@@ -63,7 +64,8 @@ module _ (n : ℕ) (old new : List Told) where
         λ used next nodes. subst (λ (u : Told). IsAccountedFor n used next nodes u.entry.event) (sym m.note) tt,
       )
 
-  pub carried : (t : Tag) (region : ℕ) (given : Given) (at : At) → CarriesAt t n region given old new at → Moves n old new
+  pub carried : (t : Tag) (region : ℕ) (given : Given) (at : At) → CarriesAt t n region given old new at → Moves n
+      old new
   carried t region given at r = elim r.either [
     | inl look ↦ inl look.0.0
     | inr m ↦ inr (
@@ -75,7 +77,8 @@ module _ (n : ℕ) (old new : List Told) where
     )
   ]
 
-  pub trimmed : (t : Tag) (counts : Counts) (at : At) (answer : Counts) → TrimsAt t n counts old new at answer → Moves n old new
+  pub trimmed : (t : Tag) (counts : Counts) (at : At) (answer : Counts) → TrimsAt t n counts old new at answer →
+      Moves n old new
   trimmed t counts at answer m = inr (_, at, m.0, refl, λ used next nodes. tt)
 
   -- a call that may refuse, in which case it has looked
@@ -152,7 +155,7 @@ own_row r h b is known single mine =
     let below = known.own client in
     let theirs : KnowsBegun (view_of h) b.row (is.owns.nodes b.row.number) =
     subst (λ (n : ℕ). KnowsBegun (view_of h) (row_of n b.row.number) (is.owns.nodes b.row.number)) (sym client)
-        (is.owns.known b.row.number below) in
+    (is.owns.known b.row.number below) in
     (b.row.number, below, ap (λ (y : Node). y.id) (single (is.owns.nodes b.row.number) x theirs w.knows) ∙ sym w.of.id)
 
 module _ (n used next : ℕ) (nodes : ℕ → Node) (b : BegunAppend) (old new : List Told)
@@ -179,7 +182,8 @@ module _ (n used next : ℕ) (nodes : ℕ → Node) (b : BegunAppend) (old new :
   settled outcome (Look events) s = inl s.0
 
 -- a look after so many events, as the answer says it
-pub look_answers : (n : ℕ) (old new : List Told) (P : ℕ → Type 0) (at : At) → MatchAt at P (λ events. Looks n old new events)
+pub look_answers : (n : ℕ) (old new : List Told) (P : ℕ → Type 0) (at : At) → MatchAt at P (λ events. Looks n old new
+    events)
     → MatchAt at P (λ events. LooksAt n old new at)
 look_answers n old new P (Event place) m = m
 look_answers n old new P (Look events) s = (s.0, ap Look s.1)
@@ -204,7 +208,8 @@ pub beside : (r : Region) (k : ℕ) (c : ColumnCell) → IsColumnAt r k c → Is
 beside r k c col = (ap (λ (t : Tag). t.size) col.tagged, ap (λ (t : Tag). t.board) col.tagged)
 
 -- the hold knows of the append that a look at a column found
-pub knows_first : (r : Region) (h : Hold) (k : ℕ) (c : ColumnCell) (q : ColumnPass) (s : Seat) → IsHold r h → IsColumnAt r k c
+pub knows_first : (r : Region) (h : Hold) (k : ℕ) (c : ColumnCell) (q : ColumnPass) (s : Seat) → IsHold r h →
+    IsColumnAt r k c
     → IsLater h.seat s → (first : Option BegunAppend)
     → IfSome first (IsKnownBelow r.board.size (tag_in c).region (tag_in c).colour (seat_seen s))
     → IfSome first (λ (b : BegunAppend). IsClients r.board h.seat → b.row.client ≡ h.seat.client

@@ -23,7 +23,8 @@ ghost use Rattle.chain_store.specs.Rows.{IsBegunRow, place_after};
 ghost use Rattle.chain_store.specs.Steps.{HasSingleCause, MatchAt};
 ghost use Rattle.chain_store.specs.Passes.{ShowsHistory, dated_in};
 ghost use Rattle.chain_store.specs.Regions.{tag_at, IsColumnAt};
-ghost use Rattle.chain_store.specs.Holds.{IsHold, SameBut, SeesMoreIn, MakesOneIn, LooksIn, RaisesIn, GivesIn, CarriesIn, TrimsIn, KnowsAppend, seen_in, entries_seen, view_of};
+ghost use Rattle.chain_store.specs.Holds.{IsHold, KnowsAppend, SameBut, seen_in, entries_seen, view_of};
+ghost use Rattle.chain_store.specs.Holds.{SeesMoreIn, MakesOneIn, LooksIn, RaisesIn, GivesIn, CarriesIn, TrimsIn};
 ghost use Rattle.chain_store.specs.Givens.{OfTheirHeads};
 
 use crate::calls::{Single, single_in};
@@ -108,7 +109,8 @@ impl Region {
         look_in(rt, alloc, self.column(colour), pass, by, from)
     }
 
-    /// The position of a key in the line of the colour's column, counted from 0; `None` exactly where it is not in the line.
+    /// The position of a key in the line of the colour's column, counted from 0; `None` exactly where it is not in the
+    /// line.
     pub fn place<R: Wait>(&self, rt: &R, hold: &mut Hold, colour: u8, key: Key) -> (At, Option<u64>)
         requires hold { IsHold self.now hold.old }
         requires colour { colour < self.now.board.size.colours }
@@ -259,8 +261,8 @@ impl Region {
         ensures agrees { stamps_of begun.now.row (seen_in hold.new colour) ≡ numbers result.mark }
         ensures at { MatchAt result.at
             (λ _. (x : Node) × (n : ℕ) × IsBegunRow self.now.board.size self.now.number (view_of hold.new) begun.now x
-                × (result.mark ≡ Number n)
-                × MakesOneIn colour hold.old hold.new (told_propose colour hold.old.passes.number x n) result.at)
+            × (result.mark ≡ Number n)
+            × MakesOneIn colour hold.old hold.new (told_propose colour hold.old.passes.number x n) result.at)
             (λ _. LooksIn colour hold.old hold.new result.at) }
         ensures ended { result.mark ≡ Fenced StampEnd
             → (x : Node) × IsBegunRow self.now.board.size self.now.number (view_of hold.new) begun.now x
@@ -268,12 +270,27 @@ impl Region {
     {
         let by = hold.passes.number;
         let pass = &mut hold.passes.items[colour as usize];
-        propose_in(rt, &self.board, self.column(colour), pass, &mut hold.seat, by, begun)
+        propose_in(
+            rt,
+            &self.board,
+            self.column(colour),
+            pass,
+            &mut hold.seat,
+            by,
+            begun,
+        )
     }
 
     /// Settles a begun append in the colour's column with the outcome that its row keeps: where its id is open, it becomes
     /// final under the number, or goes. It is then not open.
-    pub fn settle<R: Wait>(&self, rt: &R, hold: &mut Hold, colour: u8, begun: &Begun, outcome: Outcome) -> Settled
+    pub fn settle<R: Wait>(
+        &self,
+        rt: &R,
+        hold: &mut Hold,
+        colour: u8,
+        begun: &Begun,
+        outcome: Outcome,
+    ) -> Settled
         requires hold { IsHold self.now hold.old }
         requires colour { colour < self.now.board.size.colours }
         requires begun { KnowsAppend self.now hold.old begun.now }
@@ -284,7 +301,7 @@ impl Region {
         ensures same { IsLater hold.old.seat hold.new.seat × (hold.new.next ≡ hold.old.next) }
         ensures at { MatchAt result.at
             (λ _. MakesOneIn colour hold.old hold.new
-                (told_settle hold.old.passes.number begun.now.id outcome) result.at)
+            (told_settle hold.old.passes.number begun.now.id outcome) result.at)
             (λ _. LooksIn colour hold.old hold.new result.at) }
         ensures closed { open_entry begun.now.id (entries (entries_seen hold.new colour)) ≡ None }
         ensures stands { (f : ℕ) → outcome ≡ Outcome.Final f → IsFinal (entries_seen hold.new colour) begun.now.id f }
@@ -292,7 +309,16 @@ impl Region {
     {
         let by = hold.passes.number;
         let pass = &mut hold.passes.items[colour as usize];
-        settle_in(rt, &self.board, self.column(colour), pass, &mut hold.seat, by, begun, outcome)
+        settle_in(
+            rt,
+            &self.board,
+            self.column(colour),
+            pass,
+            &mut hold.seat,
+            by,
+            begun,
+            outcome,
+        )
     }
 
     /// How many open entries the colour's column has with a key below, and the append of the least of them, of which the
@@ -308,12 +334,20 @@ impl Region {
             ≡ length (filter (is_open_below key) (entries (entries_seen hold.new colour))) }
         ensures first_id { option_map (λ (b : BegunAppend). b.id) result.first
             ≡ option_map (λ (e : Standing). e.key.id)
-                (find (is_open_below key) (entries (entries_seen hold.new colour))) }
+            (find (is_open_below key) (entries (entries_seen hold.new colour))) }
         ensures known { IfSome result.first
             (λ b. KnowsAppend self.now hold.new b × (has b.colours colour ≡ true)) }
     {
         let by = hold.passes.number;
         let pass = &mut hold.passes.items[colour as usize];
-        below_in(rt, &self.board, self.column(colour), pass, &mut hold.seat, by, key)
+        below_in(
+            rt,
+            &self.board,
+            self.column(colour),
+            pass,
+            &mut hold.seat,
+            by,
+            key,
+        )
     }
 }

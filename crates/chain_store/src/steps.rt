@@ -12,7 +12,6 @@ ghost use Rattle.chain_store.specs.Steps.{HasSingleCause};
 use crate::seated::Seated;
 use column::ColumnFault;
 use log_node::{At, Node};
-
 use std::sync::Arc;
 
 impl Seated {

@@ -33,9 +33,12 @@ pub returns-clause-hold : goal.returns-clause-hold
 returns-clause-hold g c =
     turned_hold c.args.self.now c.args.hold.now c.args.colour c.column.result.now c.index_mut-pass.result.now
     c.give_in.new.pass c.requires.hold c.requires.colour c.column.ensures c.index_mut-pass.ensures.value
-    c.give_in.ensures.pass (or_looked c.args.hold.now.passes.number (seen c.index_mut-pass.result.now) (seen c.give_in.new.pass)
-    (λ (x : At × Given). GivesAt (tag_in c.column.result.now) c.args.hold.now.passes.number c.args.region c.args.from (seen c.index_mut-pass.result.now) (seen c.give_in.new.pass) x.0 x.1)
-    c.give_in.result (λ (x : At × Given). gave c.args.hold.now.passes.number (seen c.index_mut-pass.result.now) (seen c.give_in.new.pass) (tag_in c.column.result.now) c.args.region c.args.from x.0 x.1)
+    c.give_in.ensures.pass (or_looked c.args.hold.now.passes.number (seen c.index_mut-pass.result.now) (seen
+    c.give_in.new.pass)
+    (λ (x : At × Given). GivesAt (tag_in c.column.result.now) c.args.hold.now.passes.number c.args.region c.args.from
+    (seen c.index_mut-pass.result.now) (seen c.give_in.new.pass) x.0 x.1)
+    c.give_in.result (λ (x : At × Given). gave c.args.hold.now.passes.number (seen c.index_mut-pass.result.now) (seen
+    c.give_in.new.pass) (tag_in c.column.result.now) c.args.region c.args.from x.0 x.1)
     c.give_in.ensures.ok c.give_in.ensures.err)
 
 pub returns-clause-others : goal.returns-clause-others
@@ -46,9 +49,11 @@ returns-clause-others g c =
 pub returns-clause-ok : goal.returns-clause-ok
 returns-clause-ok g c =
     ok_as c.give_in.result _ _
-    (λ (x : At × Given) y. of_turned c.args.self.now c.args.hold.now c.args.colour c.column.result.now c.index_mut-pass.result.now
+    (λ (x : At × Given) y. of_turned c.args.self.now c.args.hold.now c.args.colour c.column.result.now
+    c.index_mut-pass.result.now
     c.give_in.new.pass c.requires.hold c.requires.colour c.column.ensures c.index_mut-pass.ensures.value
-    (λ (t : Tag) (old new : List Told). GivesAt t c.args.hold.now.passes.number c.args.region c.args.from old new x.0 x.1)
+    (λ (t : Tag) (old new : List Told). GivesAt t c.args.hold.now.passes.number c.args.region c.args.from old new x.0
+    x.1)
     y) c.give_in.ensures.ok
 
 pub returns-clause-err : goal.returns-clause-err

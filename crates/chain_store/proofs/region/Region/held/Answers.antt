@@ -11,7 +11,8 @@ use Rattle.chain_store.proofs.region.Region.held.Goals as goal
 pub held_in-requires : goal.held_in-requires
 held_in-requires g c =
     record {
-      pass = holder c.args.self.now c.args.hold.now c.args.colour c.column.result.now c.index_mut-pass.result.now c.requires.hold
+      pass = holder c.args.self.now c.args.hold.now c.args.colour c.column.result.now c.index_mut-pass.result.now
+      c.requires.hold
           c.requires.colour c.column.ensures c.index_mut-pass.ensures.value;
     }
 
@@ -30,7 +31,8 @@ pub returns-clause-look : goal.returns-clause-look
 returns-clause-look g c =
     of_turned c.args.self.now c.args.hold.now c.args.colour c.column.result.now c.index_mut-pass.result.now
     c.held_in.new.pass c.requires.hold c.requires.colour c.column.ensures c.index_mut-pass.ensures.value
-    (λ (t : Tag) (old new : List Told). LooksAt c.args.hold.now.passes.number old new c.held_in.result.0) c.held_in.ensures.look
+    (λ (t : Tag) (old new : List Told). LooksAt c.args.hold.now.passes.number old new c.held_in.result.0)
+    c.held_in.ensures.look
 
 pub returns-clause-held : goal.returns-clause-held
 returns-clause-held g c =

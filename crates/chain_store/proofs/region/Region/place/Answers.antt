@@ -14,7 +14,8 @@ use Rattle.chain_store.proofs.region.Region.place.Goals as goal
 pub place_in-requires : goal.place_in-requires
 place_in-requires g c =
     record {
-      pass = holder c.args.self.now c.args.hold.now c.args.colour c.column.result.now c.index_mut-pass.result.now c.requires.hold
+      pass = holder c.args.self.now c.args.hold.now c.args.colour c.column.result.now c.index_mut-pass.result.now
+      c.requires.hold
           c.requires.colour c.column.ensures c.index_mut-pass.ensures.value;
     }
 
@@ -33,11 +34,13 @@ pub returns-clause-look : goal.returns-clause-look
 returns-clause-look g c =
     of_turned c.args.self.now c.args.hold.now c.args.colour c.column.result.now c.index_mut-pass.result.now
     c.place_in.new.pass c.requires.hold c.requires.colour c.column.ensures c.index_mut-pass.ensures.value
-    (λ (t : Tag) (old new : List Told). LooksAt c.args.hold.now.passes.number old new c.place_in.result.0) c.place_in.ensures.look
+    (λ (t : Tag) (old new : List Told). LooksAt c.args.hold.now.passes.number old new c.place_in.result.0)
+    c.place_in.ensures.look
 
 pub returns-clause-place : goal.returns-clause-place
 returns-clause-place g c =
     of_turned c.args.self.now c.args.hold.now c.args.colour c.column.result.now c.index_mut-pass.result.now
     c.place_in.new.pass c.requires.hold c.requires.colour c.column.ensures c.index_mut-pass.ensures.value
-    (λ (t : Tag) (old new : List Told). c.place_in.result.1 ≡ position (λ (k : Key). same_key k c.args.key) (line (entries_in new)))
+    (λ (t : Tag) (old new : List Told). c.place_in.result.1 ≡ position (λ (k : Key). same_key k c.args.key) (line
+    (entries_in new)))
     c.place_in.ensures.place

@@ -49,46 +49,60 @@ propose_in-requires-clause-colour g c =
 pub returns-clause-hold : goal.returns-clause-hold
 returns-clause-hold g c =
     told_hold c.args.self.now c.args.hold.now c.args.colour c.column.result.now c.index_mut-pass.result.now
-    c.propose_in.new.pass c.propose_in.new.seat c.requires.hold c.requires.colour c.column.ensures c.index_mut-pass.ensures.value
+    c.propose_in.new.pass c.propose_in.new.seat c.requires.hold c.requires.colour c.column.ensures
+    c.index_mut-pass.ensures.value
     c.propose_in.ensures.pass c.propose_in.ensures.seat
-    (proposed c.args.hold.now.passes.number c.args.hold.now.seat.used c.args.hold.now.next c.requires.hold.owns.nodes c.args.begun.now (seen c.index_mut-pass.result.now) (seen c.propose_in.new.pass)
-    (own_row c.args.self.now c.args.hold.now c.args.begun.now c.requires.hold c.requires.begun c.propose_in.ensures.one_node)
-    c.args.self.now.board.size (tag_in c.column.result.now).region (tag_in c.column.result.now).colour (seat_seen c.propose_in.new.seat)
+    (proposed c.args.hold.now.passes.number c.args.hold.now.seat.used c.args.hold.now.next c.requires.hold.owns.nodes
+    c.args.begun.now (seen c.index_mut-pass.result.now) (seen c.propose_in.new.pass)
+    (own_row c.args.self.now c.args.hold.now c.args.begun.now c.requires.hold c.requires.begun
+    c.propose_in.ensures.one_node)
+    c.args.self.now.board.size (tag_in c.column.result.now).region (tag_in c.column.result.now).colour (seat_seen
+    c.propose_in.new.seat)
     c.propose_in.result.mark c.propose_in.result.at c.propose_in.ensures.at)
 
 pub returns-clause-others : goal.returns-clause-others
 returns-clause-others g c =
     told_but c.args.self.now c.args.hold.now c.args.colour c.column.result.now c.index_mut-pass.result.now
-    c.propose_in.new.pass c.propose_in.new.seat c.requires.hold c.requires.colour c.column.ensures c.index_mut-pass.ensures.value
+    c.propose_in.new.pass c.propose_in.new.seat c.requires.hold c.requires.colour c.column.ensures
+    c.index_mut-pass.ensures.value
 
 pub returns-clause-known : goal.returns-clause-known
 returns-clause-known g c =
     of_told c.args.self.now c.args.hold.now c.args.colour c.column.result.now c.index_mut-pass.result.now
-    c.propose_in.new.pass c.propose_in.new.seat c.requires.hold c.requires.colour c.column.ensures c.index_mut-pass.ensures.value
-    (λ (t : Tag) (old new : List Told). KnowsMark (seat_seen c.propose_in.new.seat) c.args.begun.now.row t.colour c.propose_in.result.mark)
+    c.propose_in.new.pass c.propose_in.new.seat c.requires.hold c.requires.colour c.column.ensures
+    c.index_mut-pass.ensures.value
+    (λ (t : Tag) (old new : List Told). KnowsMark (seat_seen c.propose_in.new.seat) c.args.begun.now.row t.colour
+    c.propose_in.result.mark)
     c.propose_in.ensures.known
 
 pub returns-clause-agrees : goal.returns-clause-agrees
 returns-clause-agrees g c =
     of_told c.args.self.now c.args.hold.now c.args.colour c.column.result.now c.index_mut-pass.result.now
-    c.propose_in.new.pass c.propose_in.new.seat c.requires.hold c.requires.colour c.column.ensures c.index_mut-pass.ensures.value
+    c.propose_in.new.pass c.propose_in.new.seat c.requires.hold c.requires.colour c.column.ensures
+    c.index_mut-pass.ensures.value
     (λ (t : Tag) (old new : List Told). stamps_of c.args.begun.now.row new ≡ numbers c.propose_in.result.mark)
     c.propose_in.ensures.agrees
 
 pub returns-clause-at : goal.returns-clause-at
 returns-clause-at g c =
     of_told c.args.self.now c.args.hold.now c.args.colour c.column.result.now c.index_mut-pass.result.now
-    c.propose_in.new.pass c.propose_in.new.seat c.requires.hold c.requires.colour c.column.ensures c.index_mut-pass.ensures.value
+    c.propose_in.new.pass c.propose_in.new.seat c.requires.hold c.requires.colour c.column.ensures
+    c.index_mut-pass.ensures.value
     (λ (t : Tag) (old new : List Told). MatchAt c.propose_in.result.at
-    (λ place. (x : Node) × (s : ℕ) × IsBegunRow c.args.self.now.board.size t.region (seat_seen c.propose_in.new.seat) c.args.begun.now x × (c.propose_in.result.mark ≡ Number s)
-    × MakesOne c.args.hold.now.passes.number (told_propose t.colour c.args.hold.now.passes.number x s) old new c.propose_in.result.at)
+    (λ place. (x : Node) × (s : ℕ) × IsBegunRow c.args.self.now.board.size t.region (seat_seen c.propose_in.new.seat)
+    c.args.begun.now x × (c.propose_in.result.mark ≡ Number s)
+    × MakesOne c.args.hold.now.passes.number (told_propose t.colour c.args.hold.now.passes.number x s) old new
+    c.propose_in.result.at)
     (λ events. LooksAt c.args.hold.now.passes.number old new c.propose_in.result.at))
-    (look_answers c.args.hold.now.passes.number (seen c.index_mut-pass.result.now) (seen c.propose_in.new.pass) _ c.propose_in.result.at c.propose_in.ensures.at)
+    (look_answers c.args.hold.now.passes.number (seen c.index_mut-pass.result.now) (seen c.propose_in.new.pass) _
+    c.propose_in.result.at c.propose_in.ensures.at)
 
 pub returns-clause-ended : goal.returns-clause-ended
 returns-clause-ended g c =
     of_told c.args.self.now c.args.hold.now c.args.colour c.column.result.now c.index_mut-pass.result.now
-    c.propose_in.new.pass c.propose_in.new.seat c.requires.hold c.requires.colour c.column.ensures c.index_mut-pass.ensures.value
-    (λ (t : Tag) (old new : List Told). c.propose_in.result.mark ≡ Fenced StampEnd → (x : Node) × IsBegunRow c.args.self.now.board.size t.region (seat_seen c.propose_in.new.seat) c.args.begun.now x
+    c.propose_in.new.pass c.propose_in.new.seat c.requires.hold c.requires.colour c.column.ensures
+    c.index_mut-pass.ensures.value
+    (λ (t : Tag) (old new : List Told). c.propose_in.result.mark ≡ Fenced StampEnd → (x : Node) × IsBegunRow
+    c.args.self.now.board.size t.region (seat_seen c.propose_in.new.seat) c.args.begun.now x
     × IsAtEnd (entries_in new) x.floor)
     c.propose_in.ensures.ended

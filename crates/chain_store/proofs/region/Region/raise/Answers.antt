@@ -24,9 +24,12 @@ pub returns-clause-hold : goal.returns-clause-hold
 returns-clause-hold g c =
     turned_hold c.args.self.now c.args.hold.now c.args.colour c.column.result.now c.index_mut-pass.result.now
     c.raise_in.new.pass c.requires.hold c.requires.colour c.column.ensures c.index_mut-pass.ensures.value
-    c.raise_in.ensures.pass (or_looked c.args.hold.now.passes.number (seen c.index_mut-pass.result.now) (seen c.raise_in.new.pass)
-    (λ (x : At). RaisesAt c.args.hold.now.passes.number c.args.to (seen c.index_mut-pass.result.now) (seen c.raise_in.new.pass) x)
-    c.raise_in.result (raised c.args.hold.now.passes.number (seen c.index_mut-pass.result.now) (seen c.raise_in.new.pass) c.args.to)
+    c.raise_in.ensures.pass (or_looked c.args.hold.now.passes.number (seen c.index_mut-pass.result.now) (seen
+    c.raise_in.new.pass)
+    (λ (x : At). RaisesAt c.args.hold.now.passes.number c.args.to (seen c.index_mut-pass.result.now) (seen
+    c.raise_in.new.pass) x)
+    c.raise_in.result (raised c.args.hold.now.passes.number (seen c.index_mut-pass.result.now) (seen
+    c.raise_in.new.pass) c.args.to)
     c.raise_in.ensures.ok c.raise_in.ensures.err)
 
 pub returns-clause-others : goal.returns-clause-others
@@ -37,7 +40,8 @@ returns-clause-others g c =
 pub returns-clause-ok : goal.returns-clause-ok
 returns-clause-ok g c =
     ok_as c.raise_in.result _ _
-    (λ (x : At) y. of_turned c.args.self.now c.args.hold.now c.args.colour c.column.result.now c.index_mut-pass.result.now
+    (λ (x : At) y. of_turned c.args.self.now c.args.hold.now c.args.colour c.column.result.now
+    c.index_mut-pass.result.now
     c.raise_in.new.pass c.requires.hold c.requires.colour c.column.ensures c.index_mut-pass.ensures.value
     (λ (t : Tag) (old new : List Told). RaisesAt c.args.hold.now.passes.number c.args.to old new x)
     y) c.raise_in.ensures.ok

@@ -52,43 +52,55 @@ settle_in-requires-clause-outcome g c =
 pub returns-clause-hold : goal.returns-clause-hold
 returns-clause-hold g c =
     told_hold c.args.self.now c.args.hold.now c.args.colour c.column.result.now c.index_mut-pass.result.now
-    c.settle_in.new.pass c.settle_in.new.seat c.requires.hold c.requires.colour c.column.ensures c.index_mut-pass.ensures.value
+    c.settle_in.new.pass c.settle_in.new.seat c.requires.hold c.requires.colour c.column.ensures
+    c.index_mut-pass.ensures.value
     c.settle_in.ensures.pass c.settle_in.ensures.seat
-    (settled c.args.hold.now.passes.number c.args.hold.now.seat.used c.args.hold.now.next c.requires.hold.owns.nodes c.args.begun.now (seen c.index_mut-pass.result.now) (seen c.settle_in.new.pass)
-    (own_row c.args.self.now c.args.hold.now c.args.begun.now c.requires.hold c.requires.begun c.settle_in.ensures.one_node)
+    (settled c.args.hold.now.passes.number c.args.hold.now.seat.used c.args.hold.now.next c.requires.hold.owns.nodes
+    c.args.begun.now (seen c.index_mut-pass.result.now) (seen c.settle_in.new.pass)
+    (own_row c.args.self.now c.args.hold.now c.args.begun.now c.requires.hold c.requires.begun
+    c.settle_in.ensures.one_node)
     c.args.outcome c.settle_in.result.at c.settle_in.ensures.at)
 
 pub returns-clause-others : goal.returns-clause-others
 returns-clause-others g c =
     told_but c.args.self.now c.args.hold.now c.args.colour c.column.result.now c.index_mut-pass.result.now
-    c.settle_in.new.pass c.settle_in.new.seat c.requires.hold c.requires.colour c.column.ensures c.index_mut-pass.ensures.value
+    c.settle_in.new.pass c.settle_in.new.seat c.requires.hold c.requires.colour c.column.ensures
+    c.index_mut-pass.ensures.value
 
 pub returns-clause-at : goal.returns-clause-at
 returns-clause-at g c =
     of_told c.args.self.now c.args.hold.now c.args.colour c.column.result.now c.index_mut-pass.result.now
-    c.settle_in.new.pass c.settle_in.new.seat c.requires.hold c.requires.colour c.column.ensures c.index_mut-pass.ensures.value
+    c.settle_in.new.pass c.settle_in.new.seat c.requires.hold c.requires.colour c.column.ensures
+    c.index_mut-pass.ensures.value
     (λ (t : Tag) (old new : List Told). MatchAt c.settle_in.result.at
-    (λ place. MakesOne c.args.hold.now.passes.number (told_settle c.args.hold.now.passes.number c.args.begun.now.id c.args.outcome) old new c.settle_in.result.at)
+    (λ place. MakesOne c.args.hold.now.passes.number (told_settle c.args.hold.now.passes.number c.args.begun.now.id
+    c.args.outcome) old new c.settle_in.result.at)
     (λ events. LooksAt c.args.hold.now.passes.number old new c.settle_in.result.at))
-    (look_answers c.args.hold.now.passes.number (seen c.index_mut-pass.result.now) (seen c.settle_in.new.pass) _ c.settle_in.result.at c.settle_in.ensures.at)
+    (look_answers c.args.hold.now.passes.number (seen c.index_mut-pass.result.now) (seen c.settle_in.new.pass) _
+    c.settle_in.result.at c.settle_in.ensures.at)
 
 pub returns-clause-closed : goal.returns-clause-closed
 returns-clause-closed g c =
     of_told c.args.self.now c.args.hold.now c.args.colour c.column.result.now c.index_mut-pass.result.now
-    c.settle_in.new.pass c.settle_in.new.seat c.requires.hold c.requires.colour c.column.ensures c.index_mut-pass.ensures.value
+    c.settle_in.new.pass c.settle_in.new.seat c.requires.hold c.requires.colour c.column.ensures
+    c.index_mut-pass.ensures.value
     (λ (t : Tag) (old new : List Told). open_entry c.args.begun.now.id (entries (entries_in new)) ≡ None)
     c.settle_in.ensures.closed
 
 pub returns-clause-stands : goal.returns-clause-stands
 returns-clause-stands g c =
     of_told c.args.self.now c.args.hold.now c.args.colour c.column.result.now c.index_mut-pass.result.now
-    c.settle_in.new.pass c.settle_in.new.seat c.requires.hold c.requires.colour c.column.ensures c.index_mut-pass.ensures.value
-    (λ (t : Tag) (old new : List Told). (f : ℕ) → c.args.outcome ≡ Final f → IsFinal (entries_in new) c.args.begun.now.id f)
+    c.settle_in.new.pass c.settle_in.new.seat c.requires.hold c.requires.colour c.column.ensures
+    c.index_mut-pass.ensures.value
+    (λ (t : Tag) (old new : List Told). (f : ℕ) → c.args.outcome ≡ Final f → IsFinal (entries_in new)
+    c.args.begun.now.id f)
     c.settle_in.ensures.stands
 
 pub returns-clause-position : goal.returns-clause-position
 returns-clause-position g c =
     of_told c.args.self.now c.args.hold.now c.args.colour c.column.result.now c.index_mut-pass.result.now
-    c.settle_in.new.pass c.settle_in.new.seat c.requires.hold c.requires.colour c.column.ensures c.index_mut-pass.ensures.value
-    (λ (t : Tag) (old new : List Told). c.settle_in.result.position ≡ place_after (entries_in new) c.args.begun.now.id c.args.outcome)
+    c.settle_in.new.pass c.settle_in.new.seat c.requires.hold c.requires.colour c.column.ensures
+    c.index_mut-pass.ensures.value
+    (λ (t : Tag) (old new : List Told). c.settle_in.result.position ≡ place_after (entries_in new)
+    c.args.begun.now.id c.args.outcome)
     c.settle_in.ensures.position

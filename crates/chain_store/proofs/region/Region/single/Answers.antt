@@ -40,8 +40,13 @@ returns-in-Ok-clause-hold g c =
     hold_moved c.args.self.now c.args.hold.now _ c.args.colour c.column.result.now c.index_mut-pass.result.now
     c.single_in.new.pass c.requires.hold c.requires.colour c.column.ensures c.index_mut-pass.ensures.value refl refl
     c.single_in.ensures.pass (same_seat h.seat) (let n = c.requires.id.1 in omega (arith, n, more))
-    (inr (told_single colour h.passes.number x c.in-Ok.answer.stamp, c.in-Ok.answer.at, c.in-Ok.ensures.ok, refl,
-    single_of c.args.self.now h x c.requires.hold c.requires.id.1 (c.deref.result.now.id.count + 1) more colour))
+    (inr (
+      told_single colour h.passes.number x c.in-Ok.answer.stamp,
+      c.in-Ok.answer.at,
+      c.in-Ok.ensures.ok,
+      refl,
+      single_of c.args.self.now h x c.requires.hold c.requires.id.1 (c.deref.result.now.id.count + 1) more colour,
+    ))
 
 pub returns-in-Ok-clause-others : goal.returns-in-Ok-clause-others
 returns-in-Ok-clause-others g c =
@@ -52,7 +57,8 @@ pub returns-in-Ok-clause-ok : goal.returns-in-Ok-clause-ok
 returns-in-Ok-clause-ok g c =
     let n = c.args.hold.now.passes.number in
     let a = c.in-Ok.answer in
-    of_turn c.args.self.now c.args.hold.now (turned c.args.hold.now c.args.colour c.single_in.new.pass (c.deref.result.now.id.count + 1)) c.args.colour c.column.result.now c.index_mut-pass.result.now
+    of_turn c.args.self.now c.args.hold.now (turned c.args.hold.now c.args.colour c.single_in.new.pass
+    (c.deref.result.now.id.count + 1)) c.args.colour c.column.result.now c.index_mut-pass.result.now
     c.single_in.new.pass c.requires.hold c.requires.colour c.column.ensures c.index_mut-pass.ensures.value refl refl
     (λ (t : Tag) (old new : List Told). MakesOne n (told_single t.colour n c.args.node.now.value a.stamp) old new a.at)
     c.in-Ok.ensures.ok
@@ -60,7 +66,8 @@ returns-in-Ok-clause-ok g c =
 pub returns-in-Ok-clause-position : goal.returns-in-Ok-clause-position
 returns-in-Ok-clause-position g c =
     let a = c.in-Ok.answer in
-    of_turn c.args.self.now c.args.hold.now (turned c.args.hold.now c.args.colour c.single_in.new.pass (c.deref.result.now.id.count + 1)) c.args.colour c.column.result.now c.index_mut-pass.result.now
+    of_turn c.args.self.now c.args.hold.now (turned c.args.hold.now c.args.colour c.single_in.new.pass
+    (c.deref.result.now.id.count + 1)) c.args.colour c.column.result.now c.index_mut-pass.result.now
     c.single_in.new.pass c.requires.hold c.requires.colour c.column.ensures c.index_mut-pass.ensures.value refl refl
     (λ (t : Tag) (old new : List Told). a.position
     ≡ position (λ (k : Key). same_key k (entry_key a.stamp c.args.node.now.value.id)) (line (entries_in new)))
@@ -79,15 +86,17 @@ returns-in-Err-clause-others g c =
 
 pub returns-in-Err-clause-cause : goal.returns-in-Err-clause-cause
 returns-in-Err-clause-cause g c =
-    of_turn c.args.self.now c.args.hold.now (turned c.args.hold.now c.args.colour c.single_in.new.pass c.args.hold.now.next) c.args.colour c.column.result.now c.index_mut-pass.result.now
+    of_turn c.args.self.now c.args.hold.now (turned c.args.hold.now c.args.colour c.single_in.new.pass
+    c.args.hold.now.next) c.args.colour c.column.result.now c.index_mut-pass.result.now
     c.single_in.new.pass c.requires.hold c.requires.colour c.column.ensures c.index_mut-pass.ensures.value refl refl
     (λ (t : Tag) (old new : List Told). HasSingleCause (entries_in new) c.args.node.now.value.floor c.in-Err.fault)
     c.in-Err.ensures.cause
 
 pub returns-in-Err-clause-err : goal.returns-in-Err-clause-err
 returns-in-Err-clause-err g c = (
-  of_turn c.args.self.now c.args.hold.now (turned c.args.hold.now c.args.colour c.single_in.new.pass c.args.hold.now.next) c.args.colour c.column.result.now c.index_mut-pass.result.now
-    c.single_in.new.pass c.requires.hold c.requires.colour c.column.ensures c.index_mut-pass.ensures.value refl refl
-  (λ (t : Tag) (old new : List Told). SeesMore c.args.hold.now.passes.number old new) c.in-Err.ensures.err,
+  of_turn c.args.self.now c.args.hold.now (turned c.args.hold.now c.args.colour c.single_in.new.pass
+  c.args.hold.now.next) c.args.colour c.column.result.now c.index_mut-pass.result.now
+      c.single_in.new.pass c.requires.hold c.requires.colour c.column.ensures c.index_mut-pass.ensures.value refl refl
+      (λ (t : Tag) (old new : List Told). SeesMore c.args.hold.now.passes.number old new) c.in-Err.ensures.err,
   refl,
 )

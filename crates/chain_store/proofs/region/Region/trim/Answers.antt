@@ -25,9 +25,12 @@ pub returns-clause-hold : goal.returns-clause-hold
 returns-clause-hold g c =
     turned_hold c.args.self.now c.args.hold.now c.args.colour c.column.result.now c.index_mut-pass.result.now
     c.trim_in.new.pass c.requires.hold c.requires.colour c.column.ensures c.index_mut-pass.ensures.value
-    c.trim_in.ensures.pass (or_looked c.args.hold.now.passes.number (seen c.index_mut-pass.result.now) (seen c.trim_in.new.pass)
-    (λ (x : At × Counts). TrimsAt (tag_in c.column.result.now) c.args.hold.now.passes.number c.args.counts (seen c.index_mut-pass.result.now) (seen c.trim_in.new.pass) x.0 x.1)
-    c.trim_in.result (λ (x : At × Counts). trimmed c.args.hold.now.passes.number (seen c.index_mut-pass.result.now) (seen c.trim_in.new.pass) (tag_in c.column.result.now) c.args.counts x.0 x.1)
+    c.trim_in.ensures.pass (or_looked c.args.hold.now.passes.number (seen c.index_mut-pass.result.now) (seen
+    c.trim_in.new.pass)
+    (λ (x : At × Counts). TrimsAt (tag_in c.column.result.now) c.args.hold.now.passes.number c.args.counts (seen
+    c.index_mut-pass.result.now) (seen c.trim_in.new.pass) x.0 x.1)
+    c.trim_in.result (λ (x : At × Counts). trimmed c.args.hold.now.passes.number (seen c.index_mut-pass.result.now)
+    (seen c.trim_in.new.pass) (tag_in c.column.result.now) c.args.counts x.0 x.1)
     c.trim_in.ensures.ok c.trim_in.ensures.err)
 
 pub returns-clause-others : goal.returns-clause-others
@@ -38,7 +41,8 @@ returns-clause-others g c =
 pub returns-clause-ok : goal.returns-clause-ok
 returns-clause-ok g c =
     ok_as c.trim_in.result _ _
-    (λ (x : At × Counts) y. of_turned c.args.self.now c.args.hold.now c.args.colour c.column.result.now c.index_mut-pass.result.now
+    (λ (x : At × Counts) y. of_turned c.args.self.now c.args.hold.now c.args.colour c.column.result.now
+    c.index_mut-pass.result.now
     c.trim_in.new.pass c.requires.hold c.requires.colour c.column.ensures c.index_mut-pass.ensures.value
     (λ (t : Tag) (old new : List Told). TrimsAt t c.args.hold.now.passes.number c.args.counts old new x.0 x.1)
     y) c.trim_in.ensures.ok
