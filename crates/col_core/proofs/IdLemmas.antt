@@ -170,7 +170,7 @@ module _ (own regions : ℕ) (history more : List Entry) (key : Key)
     fewer = fewer (open_below key (history ++ more)) (open_below key history) rises_later was_below;
     left = λ f c b none. fewer_less (open_below key (history ++ more)) (open_below key history) f rises_later
         (in_filter-back (is_open_below key) f (History.entries history)
-            (in_contains (History.entries history) f c) b)
+        (in_contains (History.entries history) f c) b)
         (λ z i. (was_below z i, λ e. missing f none (subst (λ (x : Standing). In x (open_below key (history ++ more))) e i)));
   }
 
