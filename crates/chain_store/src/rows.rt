@@ -66,8 +66,8 @@ pub fn propose_in<R: Wait>(
     ensures at { MatchAt result.at
         (λ _. (x : Node) × (n : ℕ) × IsBegunRow board.now.size (tag_in cell.now).region (seat_seen seat.new) begun.now x
             × (result.mark ≡ Number n)
-            × MakesOne by (told_propose (tag_in cell.now).colour by x n) pass.old pass.new result.at)
-        (λ events. Looks by pass.old pass.new events) }
+            × MakesOne by (told_propose (tag_in cell.now).colour by x n) (seen pass.old) (seen pass.new) result.at)
+        (λ events. Looks by (seen pass.old) (seen pass.new) events) }
     ensures ended { result.mark ≡ Fenced StampEnd
         → (x : Node) × IsBegunRow board.now.size (tag_in cell.now).region (seat_seen seat.new) begun.now x
         × IsAtEnd (entries_in (seen pass.new)) x.floor }
@@ -108,8 +108,8 @@ pub fn settle_in<R: Wait>(
     ensures pass { IsHolder cell.now by pass.new }
     ensures seat { IsLater seat.old seat.new }
     ensures at { MatchAt result.at
-        (λ _. MakesOne by (told_settle by begun.now.id outcome) pass.old pass.new result.at)
-        (λ events. Looks by pass.old pass.new events) }
+        (λ _. MakesOne by (told_settle by begun.now.id outcome) (seen pass.old) (seen pass.new) result.at)
+        (λ events. Looks by (seen pass.old) (seen pass.new) events) }
     ensures closed { open_entry begun.now.id (entries (entries_in (seen pass.new))) ≡ None }
     ensures stands { (f : ℕ) → outcome ≡ Outcome.Final f → IsFinal (entries_in (seen pass.new)) begun.now.id f }
     ensures position { result.position ≡ place_after (entries_in (seen pass.new)) begun.now.id outcome }
@@ -138,7 +138,7 @@ pub fn below_in<R: Wait>(
     requires seat { IsSeatOf board.now seat.old }
     ensures pass { IsHolder cell.now by pass.new }
     ensures seat { IsLater seat.old seat.new }
-    ensures look { Looks by pass.old pass.new result.events }
+    ensures look { Looks by (seen pass.old) (seen pass.new) result.events }
     ensures count { result.count ≡ length (filter (is_open_below key) (entries (entries_in (seen pass.new)))) }
     ensures first_id { option_map (λ (b : BegunAppend). b.id) result.first
         ≡ option_map (λ (e : Standing). e.key.id) (find (is_open_below key) (entries (entries_in (seen pass.new)))) }
