@@ -18,9 +18,11 @@ single_in-requires-clause-pass g c =
 
 pub single_in-requires-clause-client : goal.single_in-requires-clause-client
 single_in-requires-clause-client g c =
-    let few = client_few c.args.self.now c.args.hold.now c.requires.hold in
-    (few.0, subst (λ (t : Tag). c.args.hold.now.passes.number < t.size.clients) (sym c.column.ensures.tagged) few.1,
-    c.requires.id.0)
+    let few = client_few c.args.self.now c.args.hold.now c.requires.hold in (
+      few.0,
+      subst (λ (t : Tag). c.args.hold.now.passes.number < t.size.clients) (sym c.column.ensures.tagged) few.1,
+      c.requires.id.0,
+    )
 
 pub single_in-requires-clause-node : goal.single_in-requires-clause-node
 single_in-requires-clause-node g c =
@@ -92,6 +94,8 @@ returns-in-Err-clause-err g c =
     let h = c.args.hold.now in
     let k = c.args.colour in
     let p = c.index_mut-pass.result.now in
-    let at = reached r h k p c.requires.hold c.requires.colour c.index_mut-pass.ensures.value in
-    (of_pass r h (turned h k c.single_in.new.pass h.next) k c.column.result.now p c.single_in.new.pass c.requires.hold
-    c.column.ensures.there at refl refl (SeesMore h.passes.number) c.in-Err.ensures.err, refl)
+    let at = reached r h k p c.requires.hold c.requires.colour c.index_mut-pass.ensures.value in (
+      of_pass r h (turned h k c.single_in.new.pass h.next) k c.column.result.now p c.single_in.new.pass c.requires.hold
+          c.column.ensures.there at refl refl (SeesMore h.passes.number) c.in-Err.ensures.err,
+      refl,
+    )
