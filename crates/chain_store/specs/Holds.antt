@@ -1,7 +1,8 @@
 -- What a client has seen, made and begun in a region.
-use Rattle.std.specs.Prelude.{◌≡◌, ◌≢◌, ℕ, List, [], length, Option, Some, None, slice_get}
+use Rattle.std.specs.Prelude.{◌≡◌, ◌≢◌, ℕ, ◌<◌, List, [], length, Option, Some, None, slice_get}
 use Rattle.log_node.specs.declared.ids.Counts.{Counts}
 use Rattle.log_node.specs.declared.node.At.{At}
+use Rattle.log_node.specs.Seen.{BegunAppend}
 use Rattle.col_core.specs.declared.Entry.{Entry}
 use Rattle.stamp_board.specs.declared.view.View.{View}
 use Rattle.stamp_board.specs.Seats.{IsSeatOf, IsClients, seen as seat_seen}
@@ -16,6 +17,7 @@ use Rattle.chain_store.specs.Histories.{entries_in, maker}
 use Rattle.chain_store.specs.Passes.{ColumnCell, ColumnPass, IsHolder, SeesMore, MakesOne}
 use Rattle.chain_store.specs.Moves.{LooksAt, RaisesAt, GivesAt, CarriesAt, TrimsAt}
 use Rattle.chain_store.specs.Owning.{Owns}
+use Rattle.chain_store.specs.Rows.{KnowsRow}
 
 -- the history that a pass has seen; nothing without a pass
 abbrev pub history_seen : Option ColumnPass → List Told
@@ -65,6 +67,11 @@ pub record IsHold (r : Region) (h : Hold) : Type 0 where
 pub record SameBut (colour : ℕ) (g h : Hold) : Type 0 where
   pub number : h.passes.number ≡ g.passes.number
   pub others : (c : ℕ) → c ≢ colour → turned_in h c ≡ turned_in g c
+
+-- what the hold has of an append that it helps: it knows the row's node, and has begun the row where it is its own
+pub record KnowsAppend (r : Region) (h : Hold) (b : BegunAppend) : Type 0 where
+  pub knows : KnowsRow r.board.size r.number (view_of h) b
+  pub own : b.row.client ≡ h.passes.number → b.row.number < h.seat.used
 
 -- a call of the hold on the colour's column: what it had seen there before the call, and has seen after it
 module _ (colour : ℕ) (g h : Hold) where

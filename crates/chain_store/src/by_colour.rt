@@ -1,19 +1,42 @@
 // The calls of a region on one column, each under one turn of it.
-ghost use Rattle.std.specs.Prelude.{◌≡◌, ◌<◌, ◌≤◌, ◌+◌, None, IfOk, OnOk, OnErr};
+ghost use Rattle.std.specs.Prelude.{◌≡◌, ◌≢◌, ◌<◌, ◌≤◌, ◌+◌, ℕ, true, None, length, IfErr, IfOk, IfSome, OnOk, OnErr};
+ghost use Rattle.std.specs.List.{position, filter, find};
+ghost use Rattle.std.specs.Option.{option_map};
+ghost use Rattle.log_node.specs.declared.marks.Mark.TheVariants.{Number, Fenced};
+ghost use Rattle.log_node.specs.declared.marks.Why.TheVariants.{StampEnd};
+ghost use Rattle.log_node.specs.declared.node.At.TheVariants.{Look};
+ghost use Rattle.log_node.specs.declared.node.Node.{Node};
+ghost use Rattle.log_node.specs.Order.{same_key};
+ghost use Rattle.log_node.specs.Seen.{BegunAppend};
+ghost use Rattle.log_node.specs.Sets.{has};
+ghost use Rattle.log_node.specs.Standings.{Standing, open_entry};
+ghost use Rattle.col_core.specs.History.{clock, entries, entry_key, line, IsAtEnd};
+ghost use Rattle.col_core.specs.Ids.{IsFinal};
+ghost use Rattle.column.specs.Columns.{is_open_below};
+ghost use Rattle.stamp_board.specs.Views.{KnowsMark, KnowsOutcome};
+ghost use Rattle.stamp_board.specs.Seats.{IsLater};
+ghost use Rattle.col_core.specs.Cuts.{held};
 ghost use Rattle.chain_store.specs.Histories.{FitsColumn};
-ghost use Rattle.chain_store.specs.Columns.{told_single};
-ghost use Rattle.chain_store.specs.Passes.{ShowsHistory};
+ghost use Rattle.chain_store.specs.Columns.{told_single, told_propose, told_settle};
+ghost use Rattle.chain_store.specs.Marks.{stamps_of, numbers};
+ghost use Rattle.chain_store.specs.Rows.{IsBegunRow, place_after};
+ghost use Rattle.chain_store.specs.Steps.{HasSingleCause, MatchAt};
+ghost use Rattle.chain_store.specs.Passes.{ShowsHistory, dated_in};
 ghost use Rattle.chain_store.specs.Regions.{tag_at, IsColumnAt};
-ghost use Rattle.chain_store.specs.Holds.{IsHold, SameBut, SeesMoreIn, MakesOneIn, seen_in};
+ghost use Rattle.chain_store.specs.Holds.{IsHold, KnowsAppend, SameBut, seen_in, entries_seen, view_of};
+ghost use Rattle.chain_store.specs.Holds.{SeesMoreIn, MakesOneIn, LooksIn, RaisesIn, GivesIn, CarriesIn, TrimsIn};
+ghost use Rattle.chain_store.specs.Givens.{OfTheirHeads};
 
-use crate::calls::single_in;
-use crate::looks::look_in;
+use crate::calls::{Single, single_in};
+use crate::changes::{carry_in, give_in, raise_in, trim_in};
 use crate::hold::Hold;
+use crate::looks::{clock_in, held_in, look_in, place_in};
 use crate::region::Region;
+use crate::rows::{Proposed, Settled, below_in, propose_in, settle_in};
 use crate::seated::Seated;
 use col_core::View;
-use column::ColumnFault;
-use log_node::{At, Counts, Node};
+use column::{Below, ColumnFault, Given};
+use log_node::{At, Begun, Counts, Key, MAX_STAMP, Node, Outcome};
 use std::alloc::{AllocError, Global};
 use std::sync::{Arc, Wait};
 use turn_cell::Cell;
@@ -27,14 +50,15 @@ impl Region {
         &self.columns[colour as usize]
     }
 
-    /// The node enters the colour's column as final under the next stamp.
+    /// The node enters the colour's column as final under the next stamp. Answers its position in the line too, which is
+    /// `None` where an open entry stands before it.
     pub fn single<R: Wait>(
         &self,
         rt: &R,
         hold: &mut Hold,
         colour: u8,
         node: &Arc<Node>,
-    ) -> Result<(At, u64), ColumnFault>
+    ) -> Result<Single, ColumnFault>
         requires hold { IsHold self.now hold.old }
         requires colour { colour < self.now.board.size.colours }
         requires id { (node.now.value.id.client ≡ hold.old.passes.number) × (hold.old.next ≤ node.now.value.id.count) }
@@ -44,8 +68,11 @@ impl Region {
         ensures others { SameBut colour hold.old hold.new }
         ensures seat { hold.new.seat ≡ hold.old.seat }
         ensures next { OnOk result (hold.new.next ≡ node.now.value.id.count + 1) }
-        ensures ok { IfOk result (λ r.
-            MakesOneIn colour hold.old hold.new (told_single colour hold.old.passes.number node.now.value r.1) r.0) }
+        ensures ok { IfOk result (λ s.
+            MakesOneIn colour hold.old hold.new (told_single colour hold.old.passes.number node.now.value s.stamp) s.at) }
+        ensures position { IfOk result (λ s. s.position
+            ≡ position (λ k. same_key k (entry_key s.stamp node.now.value.id)) (line (entries_seen hold.new colour))) }
+        ensures cause { IfErr result (HasSingleCause (entries_seen hold.new colour) node.now.value.floor) }
         ensures err { OnErr result (SeesMoreIn colour hold.old hold.new × (hold.new.next ≡ hold.old.next)) }
     {
         let by = hold.passes.number;
@@ -78,13 +105,249 @@ impl Region {
             ShowsHistory (tag_at self.now colour) (seen_in hold.new colour) from view) }
     {
         let by = hold.passes.number;
-        look_in(
+        let pass = &mut hold.passes.items[colour as usize];
+        look_in(rt, alloc, self.column(colour), pass, by, from)
+    }
+
+    /// The position of a key in the line of the colour's column, counted from 0; `None` exactly where it is not in the
+    /// line.
+    pub fn place<R: Wait>(&self, rt: &R, hold: &mut Hold, colour: u8, key: Key) -> (At, Option<u64>)
+        requires hold { IsHold self.now hold.old }
+        requires colour { colour < self.now.board.size.colours }
+        ensures hold { IsHold self.now hold.new }
+        ensures others { SameBut colour hold.old hold.new }
+        ensures same { (hold.new.seat ≡ hold.old.seat) × (hold.new.next ≡ hold.old.next) }
+        ensures look { LooksIn colour hold.old hold.new result.0 }
+        ensures place { result.1 ≡ position (λ k. same_key k key) (line (entries_seen hold.new colour)) }
+    {
+        let by = hold.passes.number;
+        let pass = &mut hold.passes.items[colour as usize];
+        place_in(rt, self.column(colour), pass, by, key)
+    }
+
+    /// The clock of the colour's column.
+    pub fn clock<R: Wait>(&self, rt: &R, hold: &mut Hold, colour: u8) -> (At, u64)
+        requires hold { IsHold self.now hold.old }
+        requires colour { colour < self.now.board.size.colours }
+        ensures hold { IsHold self.now hold.new }
+        ensures others { SameBut colour hold.old hold.new }
+        ensures same { (hold.new.seat ≡ hold.old.seat) × (hold.new.next ≡ hold.old.next) }
+        ensures look { LooksIn colour hold.old hold.new result.0 }
+        ensures clock { result.1 ≡ clock (entries_seen hold.new colour) }
+    {
+        let by = hold.passes.number;
+        let pass = &mut hold.passes.items[colour as usize];
+        clock_in(rt, self.column(colour), pass, by)
+    }
+
+    /// How many nodes of each region's chain the colour's column has.
+    pub fn held<R: Wait>(&self, rt: &R, hold: &mut Hold, colour: u8) -> (At, Counts)
+        requires hold { IsHold self.now hold.old }
+        requires colour { colour < self.now.board.size.colours }
+        ensures hold { IsHold self.now hold.new }
+        ensures others { SameBut colour hold.old hold.new }
+        ensures same { (hold.new.seat ≡ hold.old.seat) × (hold.new.next ≡ hold.old.next) }
+        ensures look { LooksIn colour hold.old hold.new result.0 }
+        ensures held { result.1 ≡ held self.now.number (dated_in (tag_at self.now colour) (seen_in hold.new colour)) }
+    {
+        let by = hold.passes.number;
+        let pass = &mut hold.passes.items[colour as usize];
+        held_in(rt, self.column(colour), pass, by)
+    }
+
+    /// Raises the clock of the colour's column.
+    pub fn raise<R: Wait>(
+        &self,
+        rt: &R,
+        hold: &mut Hold,
+        colour: u8,
+        to: u64,
+    ) -> Result<At, AllocError>
+        requires hold { IsHold self.now hold.old }
+        requires colour { colour < self.now.board.size.colours }
+        requires to { to ≤ MAX_STAMP }
+        ensures hold { IsHold self.now hold.new }
+        ensures others { SameBut colour hold.old hold.new }
+        ensures same { (hold.new.seat ≡ hold.old.seat) × (hold.new.next ≡ hold.old.next) }
+        ensures ok { IfOk result (RaisesIn colour hold.old hold.new to) }
+        ensures err { OnErr result (SeesMoreIn colour hold.old hold.new) }
+    {
+        let by = hold.passes.number;
+        let pass = &mut hold.passes.items[colour as usize];
+        raise_in(rt, self.column(colour), pass, by, to)
+    }
+
+    /// Gives another region the own nodes of the colour from a number on.
+    pub fn give<R: Wait>(
+        &self,
+        rt: &R,
+        alloc: Global,
+        hold: &mut Hold,
+        colour: u8,
+        region: u8,
+        from: u64,
+    ) -> Result<(At, Given), AllocError>
+        requires hold { IsHold self.now hold.old }
+        requires colour { colour < self.now.board.size.colours }
+        requires other { (region ≢ self.now.number) × (region < self.now.regions) }
+        ensures hold { IsHold self.now hold.new }
+        ensures others { SameBut colour hold.old hold.new }
+        ensures same { (hold.new.seat ≡ hold.old.seat) × (hold.new.next ≡ hold.old.next) }
+        ensures ok { IfOk result (λ r. GivesIn colour hold.old hold.new (tag_at self.now colour) region from r.0 r.1) }
+        ensures err { OnErr result (SeesMoreIn colour hold.old hold.new) }
+    {
+        let by = hold.passes.number;
+        let pass = &mut hold.passes.items[colour as usize];
+        give_in(rt, alloc, self.column(colour), pass, by, region, from)
+    }
+
+    /// Takes over what is new of a part of another region's line of the colour.
+    pub fn carry<R: Wait>(
+        &self,
+        rt: &R,
+        alloc: Global,
+        hold: &mut Hold,
+        colour: u8,
+        region: u8,
+        given: &Given,
+    ) -> Result<At, AllocError>
+        requires hold { IsHold self.now hold.old }
+        requires colour { colour < self.now.board.size.colours }
+        requires other { (region ≢ self.now.number) × (region < self.now.regions) }
+        requires heads { OfTheirHeads given.now.items }
+        ensures hold { IsHold self.now hold.new }
+        ensures others { SameBut colour hold.old hold.new }
+        ensures same { (hold.new.seat ≡ hold.old.seat) × (hold.new.next ≡ hold.old.next) }
+        ensures ok { IfOk result (CarriesIn colour hold.old hold.new (tag_at self.now colour) region given.now) }
+        ensures err { OnErr result (SeesMoreIn colour hold.old hold.new) }
+    {
+        let by = hold.passes.number;
+        let pass = &mut hold.passes.items[colour as usize];
+        carry_in(rt, alloc, self.column(colour), pass, by, region, given)
+    }
+
+    /// Drops nodes of the colour below these counts that every other region has asked past, and answers the base.
+    pub fn trim<R: Wait>(
+        &self,
+        rt: &R,
+        hold: &mut Hold,
+        colour: u8,
+        counts: Counts,
+    ) -> Result<(At, Counts), AllocError>
+        requires hold { IsHold self.now hold.old }
+        requires colour { colour < self.now.board.size.colours }
+        ensures hold { IsHold self.now hold.new }
+        ensures others { SameBut colour hold.old hold.new }
+        ensures same { (hold.new.seat ≡ hold.old.seat) × (hold.new.next ≡ hold.old.next) }
+        ensures ok { IfOk result (λ r. TrimsIn colour hold.old hold.new (tag_at self.now colour) counts r.0 r.1) }
+        ensures err { OnErr result (SeesMoreIn colour hold.old hold.new) }
+    {
+        let by = hold.passes.number;
+        let pass = &mut hold.passes.items[colour as usize];
+        trim_in(rt, self.column(colour), pass, by, counts)
+    }
+
+    /// Proposes a begun append in the colour's column: where its row has no mark there, its node enters as open and the
+    /// mark is its number, or, where the node cannot enter, the mark is a fence. The hold then knows the mark.
+    pub fn propose<R: Wait>(&self, rt: &R, hold: &mut Hold, colour: u8, begun: &Begun) -> Proposed
+        requires hold { IsHold self.now hold.old }
+        requires colour { colour < self.now.board.size.colours }
+        requires begun { KnowsAppend self.now hold.old begun.now }
+        requires coloured { has begun.now.colours colour ≡ true }
+        ensures hold { IsHold self.now hold.new }
+        ensures others { SameBut colour hold.old hold.new }
+        ensures same { IsLater hold.old.seat hold.new.seat × (hold.new.next ≡ hold.old.next) }
+        ensures known { KnowsMark (view_of hold.new) begun.now.row colour result.mark }
+        ensures agrees { stamps_of begun.now.row (seen_in hold.new colour) ≡ numbers result.mark }
+        ensures at { MatchAt result.at
+            (λ _. (x : Node) × (n : ℕ) × IsBegunRow self.now.board.size self.now.number (view_of hold.new) begun.now x
+            × (result.mark ≡ Number n)
+            × MakesOneIn colour hold.old hold.new (told_propose colour hold.old.passes.number x n) result.at)
+            (λ _. LooksIn colour hold.old hold.new result.at) }
+        ensures ended { result.mark ≡ Fenced StampEnd
+            → (x : Node) × IsBegunRow self.now.board.size self.now.number (view_of hold.new) begun.now x
+            × IsAtEnd (entries_seen hold.new colour) x.floor }
+    {
+        let by = hold.passes.number;
+        let pass = &mut hold.passes.items[colour as usize];
+        propose_in(
             rt,
-            alloc,
+            &self.board,
             self.column(colour),
-            &mut hold.passes.items[colour as usize],
+            pass,
+            &mut hold.seat,
             by,
-            from,
+            begun,
+        )
+    }
+
+    /// Settles a begun append in the colour's column with the outcome that its row keeps: where its id is open, it becomes
+    /// final under the number, or goes. It is then not open.
+    pub fn settle<R: Wait>(
+        &self,
+        rt: &R,
+        hold: &mut Hold,
+        colour: u8,
+        begun: &Begun,
+        outcome: Outcome,
+    ) -> Settled
+        requires hold { IsHold self.now hold.old }
+        requires colour { colour < self.now.board.size.colours }
+        requires begun { KnowsAppend self.now hold.old begun.now }
+        requires coloured { has begun.now.colours colour ≡ true }
+        requires outcome { (outcome ≢ Outcome.Open) × KnowsOutcome (view_of hold.old) begun.now.row outcome }
+        ensures hold { IsHold self.now hold.new }
+        ensures others { SameBut colour hold.old hold.new }
+        ensures same { IsLater hold.old.seat hold.new.seat × (hold.new.next ≡ hold.old.next) }
+        ensures at { MatchAt result.at
+            (λ _. MakesOneIn colour hold.old hold.new
+            (told_settle hold.old.passes.number begun.now.id outcome) result.at)
+            (λ _. LooksIn colour hold.old hold.new result.at) }
+        ensures closed { open_entry begun.now.id (entries (entries_seen hold.new colour)) ≡ None }
+        ensures stands { (f : ℕ) → outcome ≡ Outcome.Final f → IsFinal (entries_seen hold.new colour) begun.now.id f }
+        ensures position { result.position ≡ place_after (entries_seen hold.new colour) begun.now.id outcome }
+    {
+        let by = hold.passes.number;
+        let pass = &mut hold.passes.items[colour as usize];
+        settle_in(
+            rt,
+            &self.board,
+            self.column(colour),
+            pass,
+            &mut hold.seat,
+            by,
+            begun,
+            outcome,
+        )
+    }
+
+    /// How many open entries the colour's column has with a key below, and the append of the least of them, of which the
+    /// hold then knows.
+    pub fn below<R: Wait>(&self, rt: &R, hold: &mut Hold, colour: u8, key: Key) -> Below
+        requires hold { IsHold self.now hold.old }
+        requires colour { colour < self.now.board.size.colours }
+        ensures hold { IsHold self.now hold.new }
+        ensures others { SameBut colour hold.old hold.new }
+        ensures same { IsLater hold.old.seat hold.new.seat × (hold.new.next ≡ hold.old.next) }
+        ensures look { LooksIn colour hold.old hold.new (Look result.events) }
+        ensures count { result.count
+            ≡ length (filter (is_open_below key) (entries (entries_seen hold.new colour))) }
+        ensures first_id { option_map (λ (b : BegunAppend). b.id) result.first
+            ≡ option_map (λ (e : Standing). e.key.id)
+            (find (is_open_below key) (entries (entries_seen hold.new colour))) }
+        ensures known { IfSome result.first
+            (λ b. KnowsAppend self.now hold.new b × (has b.colours colour ≡ true)) }
+    {
+        let by = hold.passes.number;
+        let pass = &mut hold.passes.items[colour as usize];
+        below_in(
+            rt,
+            &self.board,
+            self.column(colour),
+            pass,
+            &mut hold.seat,
+            by,
+            key,
         )
     }
 }

@@ -79,6 +79,7 @@ impl Seated {
         ensures seat { IsLaterColumn self.old.seat self.new.seat }
         ensures stays { Stays self.old self.new }
         ensures known { KnowsMark (column_seen self.new.seat) row self.old.column.colour result }
+        ensures mark { set_mark self.new.seat row ≡ result }
     {
         board.fence(&mut self.seat, row, why)
     }
@@ -97,6 +98,7 @@ impl Seated {
             (λ n. Gains self.old self.new (told_propose self.old.column.colour by node.now.value n))
             (λ _. Stays self.old self.new) }
         ensures known { KnowsMark (column_seen self.new.seat) row self.old.column.colour (mark_after result) }
+        ensures mark { set_mark self.new.seat row ≡ mark_after result }
     {
         match self.enter_open(by, node) {
             Ok(stamp) => match board.mark(&mut self.seat, row, stamp) {
@@ -122,6 +124,7 @@ impl Seated {
             (λ _. Stays self.old self.new) }
         ensures known { KnowsMark (column_seen self.new.seat) begun.now.row self.old.column.colour
             (mark_after result) }
+        ensures mark { set_mark self.new.seat begun.now.row ≡ mark_after result }
     {
         let row = begun.row;
         match board.look(&mut self.seat, row) {

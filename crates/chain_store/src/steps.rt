@@ -7,11 +7,11 @@ ghost use Rattle.column.specs.Columns.{stamp_for, HasEnterCause};
 ghost use Rattle.stamp_board.specs.Seats.{column_seen};
 ghost use Rattle.chain_store.specs.Histories.{FitsColumn};
 ghost use Rattle.chain_store.specs.Columns.{Gains, Stays, single_told, tag_of};
+ghost use Rattle.chain_store.specs.Steps.{HasSingleCause};
 
 use crate::seated::Seated;
 use column::ColumnFault;
 use log_node::{At, Node};
-
 use std::sync::Arc;
 
 impl Seated {
@@ -31,6 +31,7 @@ impl Seated {
         ensures tag { tag_of self.new ≡ tag_of self.old }
         ensures ok { OnOk result (Gains self.old self.new (single_told self.old.column by node.now.value)) }
         ensures stamp { IfOk result (λ r. r.1 ≡ stamp_for self.old.column node.now.value) }
+        ensures cause { IfErr result (HasSingleCause self.old.column.journal node.now.value.floor) }
         ensures err { OnErr result (Stays self.old self.new) }
     {
         let count = node.id.count;

@@ -63,7 +63,11 @@ fn write_all<P, R: Wait>(
     writer
 }
 
-fn hire<P>(alloc: Global, cell: &Cell<Tally<P>>, passes: Passes<Tally<P>>) -> Result<Vec<Writer<P>>, AllocError>
+fn hire<P>(
+    alloc: Global,
+    cell: &Cell<Tally<P>>,
+    passes: Passes<Tally<P>>,
+) -> Result<Vec<Writer<P>>, AllocError>
     requires { AreNewPasses no_tag cell.now (length passes) passes × (length passes ≤ 255) }
     ensures writers { IfOk result (λ ws. AreWriters cell.now ws.items) }
     ensures count { IfOk result (λ ws. length ws.items ≡ length passes) }

@@ -3,7 +3,7 @@ use Rattle.log_node.specs.declared.marks.Mark.TheVariants as marks
 use Rattle.col_core.specs.History.{last_stamp}
 use Rattle.stamp_board.specs.declared.seats.ColumnSeat.{ColumnSeat}
 use Rattle.stamp_board.specs.Seats.{IsLaterColumn, SetsMark}
-use Rattle.chain_store.proofs.Proposed.{proposed}
+use Rattle.chain_store.proofs.Proposals.{proposed}
 use Rattle.chain_store.proofs.seated.Seated.enter_marked.Goals as goal
 
 pub returns-in-Set-clause-step : goal.returns-in-Set-clause-step
@@ -22,3 +22,6 @@ returns-in-Set-clause-step c =
           c.in-Set.ensures.value)
           c.requires.row.0 small e log h,
     )
+
+pub returns-in-Set-clause-mark : goal.returns-in-Set-clause-mark
+returns-in-Set-clause-mark c = c.in-Set.ensures.value.set

@@ -1,0 +1,109 @@
+use Rattle.std.proofs.Common.{◌≡◌, ◌<◌, ◌≤◌, ℕ, true, false, List, refl, ap, sym, subst, ◌∙◌, arith}
+use Rattle.log_node.specs.declared.ids.Id.{Id}
+use Rattle.log_node.specs.declared.ids.Row.{Row}
+use Rattle.log_node.specs.declared.node.Node.{Node}
+use Rattle.log_node.specs.Seen.{BegunAppend}
+use Rattle.log_node.specs.Sets.{has}
+use Rattle.log_node.specs.Standings.{open_entry}
+use Rattle.skeen_core.specs.Queues.{has_open}
+use Rattle.col_core.specs.declared.Entry.{Entry}
+use Rattle.col_core.specs.History.{IsAtEnd, entries}
+use Rattle.column.specs.Columns.{ColumnState}
+use Rattle.stamp_board.specs.declared.view.Size.{Size}
+use Rattle.stamp_board.specs.declared.view.View.{View}
+use Rattle.stamp_board.specs.Rows.{IsRow}
+use Rattle.stamp_board.specs.Views.{KnowsBegun, Learns}
+use Rattle.stamp_board.specs.Seats.{seen, column_seen, set_mark}
+use Rattle.stamp_board.proofs.CallerLemmas.{Learns-from, Learns-trans, Grows-trans, begun_learnt, outcome_learnt}
+use Rattle.chain_store.specs.Histories.{entries_in}
+use Rattle.chain_store.specs.Columns.{Gains, told_propose, told_settle}
+use Rattle.chain_store.specs.Rows.{IsBegunRow}
+use Rattle.chain_store.proofs.Begun.{begun_later}
+use Rattle.chain_store.proofs.Heard.{gains_between, same_marks}
+use Rattle.chain_store.proofs.Proposals.{step_after}
+use Rattle.chain_store.proofs.seated.Seated.propose_told.Goals as goal
+
+pub propose-step-requires-clause-board : goal.propose-step-requires-clause-board
+propose-step-requires-clause-board c =
+    let q = c.requires.seats.0 in
+    let l = c.learn.ensures.later in
+    (l.board ∙ q.0, l.grows.size ∙ q.1)
+
+pub propose-step-requires-clause-begun : goal.propose-step-requires-clause-begun
+propose-step-requires-clause-begun c =
+    let q = c.requires.seats in
+    let l = c.learn.ensures in
+    let k = c.args.board.now.size in
+    let b = c.args.begun.now in
+    let v = column_seen c.learn.new.self.seat in
+    let x = c.requires.begun.0 in (
+      x,
+      subst (λ (d : ColumnState). IsBegunRow k d.region v b x) (sym l.column)
+          (begun_later k c.args.self.now.column.region b (seen c.args.seat.now) v
+          (l.later.grows.size ∙ q.0.1 ∙ sym q.1.1) l.learns x c.requires.begun.1),
+    )
+
+pub propose-step-requires-clause-colour : goal.propose-step-requires-clause-colour
+propose-step-requires-clause-colour c =
+    subst (λ (d : ColumnState). has c.args.begun.now.colours d.colour ≡ true) (sym c.learn.ensures.column)
+    c.requires.colour
+
+pub propose-step-requires-clause-maker : goal.propose-step-requires-clause-maker
+propose-step-requires-clause-maker c =
+    let row = c.requires.begun.1.row.0 in
+    let few = c.args.board.now.is_size.1 in
+    (c.requires.maker, omega (arith, row, few))
+
+pub returns-clause-step : goal.returns-clause-step
+returns-clause-step c =
+    let s = c.args.self.now in
+    let s1 = c.learn.new.self in
+    let s2 = c.propose-step.new.self in
+    let s3 = c.teach.new.self in
+    let k = c.args.board.now.size in
+    let b = c.args.begun.now in
+    let v1 = column_seen s1.seat in
+    let v2 = column_seen s2.seat in
+    let u3 = seen c.teach.new.seat in
+    let q = c.requires.seats in
+    let l = c.learn.ensures in
+    let e = c.teach.ensures in
+    let sized = e.seat.grows.size ∙ l.seat.0.grows.size ∙ q.1.1 ∙ sym (l.later.grows.size ∙ q.0.1) in
+    let learns = Learns-trans v1 v2 u3 (Learns-from v1 v2 c.propose-step.ensures.seat.grows) e.learns in
+    step_after c.propose-step.result _ _ _ _
+    (λ n h. (
+      h.0,
+      begun_later k s.column.region b v1 u3 sized learns h.0
+          (subst (λ (d : ColumnState). IsBegunRow k d.region v1 b h.0) l.column h.1),
+      gains_between s s1 s2 s3 (told_propose s.column.colour c.args.by h.0 n) l.stays
+          (subst (λ (d : ColumnState). Gains s1 s2 (told_propose d.colour c.args.by h.0 n)) l.column h.2) e.column e.stays,
+    ))
+    (λ m h. λ log st. e.stays log (h log (l.stays log st))) c.propose-step.ensures.step
+
+pub returns-clause-ended : goal.returns-clause-ended
+returns-clause-ended c = λ log st end.
+    let s = c.args.self.now in
+    let s2 = c.propose-step.new.self in
+    let s3 = c.teach.new.self in
+    let k = c.args.board.now.size in
+    let b = c.args.begun.now in
+    let u0 = seen c.args.seat.now in
+    let u1 = seen c.learn.new.seat in
+    let u3 = seen c.teach.new.seat in
+    let v3 = column_seen s3.seat in
+    let q = c.requires.seats in
+    let l = c.learn.ensures in
+    let e = c.teach.ensures in
+    let x = c.requires.begun.0 in
+    let h = c.requires.begun.1 in
+    let g = Grows-trans u0 u1 u3 l.seat.0.grows e.seat.grows in
+    let sized : v3.size ≡ k = e.later.0.grows.size ∙ c.propose-step.ensures.seat.grows.size ∙ l.later.grows.size ∙ q.0.1 in
+    let fenced = same_marks s2.seat s3.seat e.later.1 e.later.0.colour b.row ∙ c.propose-step.ensures.mark ∙ end in
+    let z = st.1.ended b.row (subst (λ (n : Size). IsRow n b.row) (sym sized) h.row) fenced in
+    let same = e.agree.node b.row x z.node
+    (begun_learnt u0 u1 b.row l.seat.0.grows.size (Learns-from u0 u1 l.seat.0.grows) x h.knows)
+    (subst (λ (v : View). KnowsBegun v b.row z.node) e.later.1 z.knows) in (
+      x,
+      begun_later k s.column.region b u0 u3 g.size (Learns-from u0 u3 g) x h,
+      subst (λ (y : Node). IsAtEnd (entries_in log) y.floor) (sym same) z.ends,
+    )
