@@ -27,11 +27,11 @@ pub(crate) fn items_of(alloc: Global, keys: &[Key], nodes: &[Entered]) -> Result
     requires { length keys.now ≡ length nodes.now }
     ensures { IfOk result (λ items. items ≡ items_under keys.now nodes.now) }
 {
-    let mut items = ListOf::with_capacity(alloc, keys.len())?;
+    let mut items = Vec::with_capacity(alloc, keys.len())?;
     for at in 0..keys.len() {
-        items.push(nodes[at].item(keys[at])?)?;
+        items.push_reserved(nodes[at].item(keys[at])?);
     }
-    Ok(items)
+    Ok(ListOf::from(items))
 }
 
 impl Entered {
@@ -50,6 +50,7 @@ impl Entered {
     }
 
     /// The node as one reads it that stands in the line under this key.
+    #[inline]
     pub fn item(&self, key: Key) -> Result<Item, AllocError>
         ensures { IfOk result (λ item. item ≡ placed key self.now) }
     {

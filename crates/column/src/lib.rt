@@ -21,6 +21,3 @@ pub use entered::Entered;
 pub use faults::ColumnFault;
 pub use given::Given;
 pub use views::Below;
-
-#[cfg(test)]
-mod tests;

@@ -28,11 +28,11 @@ use std::alloc::{AllocError, Global};
 fn shared(alloc: Global, items: &[Item]) -> Result<Items, AllocError>
     ensures { IfOk result (λ copies. copies ≡ items.now) }
 {
-    let mut copies = ListOf::with_capacity(alloc, items.len())?;
+    let mut copies = Vec::with_capacity(alloc, items.len())?;
     for item in items {
-        copies.push(item.share()?)?;
+        copies.push_reserved(item.share()?);
     }
-    Ok(copies)
+    Ok(ListOf::from(copies))
 }
 
 // The nodes from one place on up to another.

@@ -9,6 +9,7 @@ use std::test::Fail;
 use std::thread::Threads;
 
 mod edges;
+mod large;
 mod refusals;
 mod regions;
 mod several;

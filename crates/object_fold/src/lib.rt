@@ -19,6 +19,3 @@ pub use shards::shard_of;
 pub use table::Table;
 pub use tx_state::{TxState, Written};
 pub use verdict::Verdict;
-
-#[cfg(test)]
-mod tests;

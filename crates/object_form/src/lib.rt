@@ -9,6 +9,3 @@ mod writing;
 pub use laws::{forms_fit, reads_as_one, reads_back, texts_differ};
 pub use reading::read_form;
 pub use writing::write_form;
-
-#[cfg(test)]
-mod tests;

@@ -10,6 +10,3 @@ mod player;
 pub use faults::PlayFault;
 pub use laws::play_order_is_lawful;
 pub use player::{Played, Player, Snapshot, play};
-
-#[cfg(test)]
-mod tests;

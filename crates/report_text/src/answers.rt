@@ -3,7 +3,7 @@ ghost use Rattle.report_text.specs.Output.{Adds};
 ghost use Rattle.report_text.specs.Replies.{row_text, value_text, values_text, key_answer_text, verdict_text, read_text, answer_text};
 
 use crate::names::NameIndex;
-use crate::output::{Output, put_number};
+use crate::output::Output;
 use crate::printed::{Printed, print_listed, print_spaced};
 use crate::report::{Answer, KeyAnswer, PointPiece, RaisePiece, SyncPiece};
 use log_node::{ListOf, Names, Text};
@@ -27,7 +27,7 @@ fn print_row<O: Output>(row: Option<u32>, out: &mut O)
 {
     if let Some(number) = row {
         out.put(b" row ");
-        put_number(out, number as u64);
+        out.put_number(number as u64);
     }
 }
 
@@ -68,7 +68,7 @@ fn print_verdict<O: Output>(conflict: &Option<Text>, stamp: u64, names: &NameInd
             out.put(b" ");
         }
     }
-    put_number(out, stamp);
+    out.put_number(stamp);
 }
 
 /// The raises and the syncs of a stamped read.
@@ -91,7 +91,7 @@ impl Printed for Answer {
         match self {
             Answer::Stood { stamp, row, points } => {
                 out.put(b"ok ");
-                put_number(out, *stamp);
+                out.put_number(*stamp);
                 print_row(*row, out);
                 print_spaced(points, names, out);
             }
@@ -101,17 +101,17 @@ impl Printed for Answer {
             }
             Answer::Full { used } => {
                 out.put(b"full ");
-                put_number(out, *used as u64);
+                out.put_number(*used as u64);
             }
             Answer::Stopped { steps } => {
                 out.put(b"stopped ");
-                put_number(out, *steps as u64);
+                out.put_number(*steps as u64);
             }
             Answer::Synced { sync, plays } => {
                 out.put(b"ok ");
                 sync.print(names, out);
                 out.put(b" plays ");
-                put_number(out, *plays);
+                out.put_number(*plays);
             }
             Answer::Scanned {
                 stamp,
@@ -120,14 +120,14 @@ impl Printed for Answer {
                 syncs,
             } => {
                 out.put(b"ok ");
-                put_number(out, *stamp);
+                out.put_number(*stamp);
                 out.put(b" nodes ");
-                put_number(out, *nodes);
+                out.put_number(*nodes);
                 print_read(raises, syncs, names, out);
             }
             Answer::Pulled { nodes, give, carry } => {
                 out.put(b"ok ");
-                put_number(out, *nodes);
+                out.put_number(*nodes);
                 out.put(b" give ");
                 give.print(names, out);
                 out.put(b" carry ");
@@ -157,7 +157,7 @@ impl Printed for Answer {
                 syncs,
             } => {
                 out.put(b"ok ");
-                put_number(out, *stamp);
+                out.put_number(*stamp);
                 print_spaced(keys, names, out);
                 print_read(raises, syncs, names, out);
             }
@@ -174,7 +174,7 @@ impl Printed for Answer {
                 print_row(*row, out);
                 print_spaced(points, names, out);
                 out.put(b" at ");
-                put_number(out, *read_stamp);
+                out.put_number(*read_stamp);
                 print_read(raises, syncs, names, out);
             }
             Answer::NoTx => out.put(b"notx"),
@@ -191,7 +191,7 @@ impl Printed for Answer {
                 base,
             } => {
                 out.put(b"unread ");
-                put_number(out, *stamp);
+                out.put_number(*stamp);
                 out.put(b" trimmed ");
                 names.put_colour(*colour, out);
                 out.put(b" ");
@@ -199,7 +199,7 @@ impl Printed for Answer {
             }
             Answer::UnreadNoMemory { stamp } => {
                 out.put(b"unread ");
-                put_number(out, *stamp);
+                out.put_number(*stamp);
                 out.put(b" nomemory");
             }
             Answer::Trimmed { colour, base } => {

@@ -5,7 +5,7 @@ ghost use Rattle.report_text.specs.Output.{Adds};
 ghost use Rattle.report_text.specs.Columns.{entering_text, head_text, event_text, journal_line, queue_key_text, closing_line, column_lines};
 
 use crate::names::NameIndex;
-use crate::output::{Output, put_number};
+use crate::output::Output;
 use crate::printed::{Printed, print_listed, print_spaced};
 use crate::report::{ColumnReport, QueueKey};
 use col_core::{Entry, Event};
@@ -44,7 +44,7 @@ fn print_entering<O: Output>(
 {
     id.print(names, out);
     out.put(b" floor ");
-    put_number(out, floor);
+    out.put_number(floor);
     out.put(b" wants ");
     wants.print(names, out);
 }
@@ -59,13 +59,13 @@ impl Printed for Entry {
                 out.put(b"single ");
                 print_entering(id, *floor, wants, names, out);
                 out.put(b" stamp ");
-                put_number(out, self.stamp);
+                out.put_number(self.stamp);
             }
             Event::Propose { id, floor, wants } => {
                 out.put(b"propose ");
                 print_entering(id, *floor, wants, names, out);
                 out.put(b" stamp ");
-                put_number(out, self.stamp);
+                out.put_number(self.stamp);
             }
             Event::Settle { id, outcome } => {
                 out.put(b"settle ");
@@ -75,13 +75,13 @@ impl Printed for Entry {
             }
             Event::Raise { to } => {
                 out.put(b"raise ");
-                put_number(out, *to);
+                out.put_number(*to);
             }
             Event::Give { region, from } => {
                 out.put(b"give ");
                 names.put_region(*region, out);
                 out.put(b" ");
-                put_number(out, *from);
+                out.put_number(*from);
             }
             Event::Carry {
                 region,
@@ -91,7 +91,7 @@ impl Printed for Entry {
                 out.put(b"carry ");
                 names.put_region(*region, out);
                 out.put(b" ");
-                put_number(out, *start);
+                out.put_number(*start);
                 print_spaced(heads, names, out);
             }
             Event::Trim { counts } => {
@@ -106,7 +106,7 @@ impl Printed for Entry {
 fn print_entry<O: Output>(place: u64, entry: &Entry, names: &NameIndex<'_>, out: &mut O)
     ensures { Adds (O.state out.old) (O.state out.new) (journal_line names.now (place, entry.now)) }
 {
-    put_number(out, place);
+    out.put_number(place);
     out.put(b" ");
     names.put_client(entry.by, out);
     out.put(b" ");
@@ -128,7 +128,7 @@ fn print_closing<O: Output>(column: &ColumnReport, names: &NameIndex<'_>, out: &
     ensures { Adds (O.state out.old) (O.state out.new) (closing_line names.now column.now) }
 {
     out.put(b"= clock ");
-    put_number(out, column.clock);
+    out.put_number(column.clock);
     out.put(b" line ");
     print_listed(&column.line, names, out);
     out.put(b" queue ");

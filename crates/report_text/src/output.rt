@@ -8,11 +8,8 @@ pub trait Output {
 
     fn put(&mut self, piece: &[u8])
         ensures { Adds (state self.old) (state self.new) piece.now };
-}
 
-/// A number in decimal.
-pub fn put_number<O: Output>(out: &mut O, number: u64)
-    ensures { Adds (O.state out.old) (O.state out.new) (decimal number) }
-{
-    out.put(itoa::Buffer::new().format(number).as_bytes());
+    /// Takes a number in decimal.
+    fn put_number(&mut self, number: u64)
+        ensures { Adds (state self.old) (state self.new) (decimal number) };
 }

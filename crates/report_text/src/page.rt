@@ -1,7 +1,8 @@
 // The way of a text to a sink.
-ghost use Rattle.std.specs.Prelude.{◌≡◌, [], ◌++◌, false};
+ghost use Rattle.std.specs.Prelude.{◌≡◌, [], ◌++◌, false, decimal};
 ghost use Rattle.report_text.specs.Output.{Adds, Ends};
 
+use crate::digits::digit_count;
 use crate::output::Output;
 use crate::pending::{PAGE, Pending};
 use fuzzy_io::{Failed, Sink, write_all};
@@ -23,12 +24,23 @@ impl<'a, K: Sink> Output for Page<'a, K> {
       failed = p.failed;
     } };
 
+    #[inline(always)]
     fn put(&mut self, piece: &[u8]) {
         if piece.len() <= PAGE - self.pending.len() {
             self.pending.push(piece);
         } else {
             self.flush();
             self.begin(piece);
+        }
+    }
+
+    #[inline]
+    fn put_number(&mut self, number: u64) {
+        let digits = digit_count(number);
+        if digits <= PAGE - self.pending.len() {
+            self.pending.push_number(number, digits);
+        } else {
+            self.put_number_over(number);
         }
     }
 }
@@ -48,7 +60,18 @@ impl<'a, K: Sink> Page<'a, K> {
         }
     }
 
+    // Puts a number for which the page may lack room.
+    #[cold]
+    #[inline(never)]
+    fn put_number_over(&mut self, number: u64)
+        ensures { Adds (⟦<Page<'a, K> as Output>⟧.state self.old) (⟦<Page<'a, K> as Output>⟧.state self.new) (decimal number) }
+    {
+        self.put(itoa::Buffer::new().format(number).as_bytes());
+    }
+
     // Writes what waits.
+    #[cold]
+    #[inline(never)]
     fn flush(&mut self)
         ensures all { Adds (⟦<Page<'a, K> as Output>⟧.state self.old) (⟦<Page<'a, K> as Output>⟧.state self.new) [] }
         ensures empty { self.new.pending ≡ [] }
@@ -62,6 +85,8 @@ impl<'a, K: Sink> Page<'a, K> {
     }
 
     // Takes the first piece of a page; one that is longer than a page is written at once.
+    #[cold]
+    #[inline(never)]
     fn begin(&mut self, piece: &[u8])
         requires { self.old.pending ≡ [] }
         ensures { Adds (⟦<Page<'a, K> as Output>⟧.state self.old) (⟦<Page<'a, K> as Output>⟧.state self.new) piece.now }

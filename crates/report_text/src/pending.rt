@@ -1,6 +1,7 @@
 // Bytes that wait to be written together.
-ghost use Rattle.std.specs.Prelude.{◌≡◌, ◌+◌, ◌≤◌, [], ◌++◌, length};
+ghost use Rattle.std.specs.Prelude.{◌≡◌, ◌+◌, ◌≤◌, [], ◌++◌, length, decimal};
 
+use itoa::write_digits;
 use std::marker::Model;
 
 /// How many bytes are joined before they are written.
@@ -35,6 +36,7 @@ impl Pending {
     }
 
     /// How many bytes wait.
+    #[inline]
     pub fn len(&self) -> usize
         ensures len { result ≡ length self.now }
         ensures limit { result ≤ PAGE }
@@ -50,12 +52,25 @@ impl Pending {
     }
 
     /// A piece more, for which there is room.
+    #[inline]
     pub fn push(&mut self, piece: &[u8])
         requires { length self.old + length piece.now ≤ PAGE }
         ensures { self.new ≡ self.old ++ piece.now }
     {
         let end = self.used + piece.len();
         self.bytes[self.used..end].copy_from_slice(piece);
+        self.used = end;
+    }
+
+    /// A number more, in so many digits, for which there is room.
+    #[inline]
+    pub fn push_number(&mut self, number: u64, digits: usize)
+        requires digits { digits ≡ length (decimal number) }
+        requires room { length self.old + digits ≤ PAGE }
+        ensures { self.new ≡ self.old ++ decimal number }
+    {
+        let end = self.used + digits;
+        write_digits(number, &mut self.bytes, end);
         self.used = end;
     }
 

@@ -4,7 +4,7 @@ ghost use Rattle.log_node.specs.Vectors.{at};
 ghost use Rattle.report_text.specs.Pieces.{id_text, key_text, counts_text, at_text, point_text, raise_text, sync_text};
 
 use crate::names::NameIndex;
-use crate::output::{Output, put_number};
+use crate::output::Output;
 use crate::printed::Printed;
 use crate::report::{PointPiece, RaisePiece, SyncPiece};
 use log_node::{At, Counts, Id, Key, Text};
@@ -23,7 +23,7 @@ impl Printed for Id {
     fn print<O: Output>(&self, names: &NameIndex<'_>, out: &mut O) {
         names.put_client(self.client, out);
         out.put(b".");
-        put_number(out, self.count);
+        out.put_number(self.count);
     }
 }
 
@@ -33,7 +33,7 @@ impl Printed for Key {
     fn print<O: Output>(&self, names: &NameIndex<'_>, out: &mut O) {
         self.id.print(names, out);
         out.put(b":");
-        put_number(out, self.stamp);
+        out.put_number(self.stamp);
     }
 }
 
@@ -56,10 +56,10 @@ impl Printed for Counts {
         if regions == 0 {
             return;
         }
-        put_number(out, count_of(self, 0));
+        out.put_number(count_of(self, 0));
         for region in 1..regions {
             out.put(b",");
-            put_number(out, count_of(self, region));
+            out.put_number(count_of(self, region));
         }
     }
 }
@@ -71,11 +71,11 @@ impl Printed for At {
         match self {
             At::Event(place) => {
                 out.put(b"!");
-                put_number(out, *place);
+                out.put_number(*place);
             }
             At::Look(events) => {
                 out.put(b"?");
-                put_number(out, *events);
+                out.put_number(*events);
             }
         }
     }
@@ -88,7 +88,7 @@ impl Printed for PointPiece {
         names.put_colour(self.colour, out);
         self.at.print(names, out);
         out.put(b"@");
-        put_number(out, self.position);
+        out.put_number(self.position);
     }
 }
 
@@ -107,7 +107,7 @@ impl Printed for SyncPiece {
     fn print<O: Output>(&self, names: &NameIndex<'_>, out: &mut O) {
         names.put_colour(self.colour, out);
         out.put(b"?");
-        put_number(out, self.events);
+        out.put_number(self.events);
         out.put(b"/");
         self.counts.print(names, out);
     }

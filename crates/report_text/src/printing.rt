@@ -6,7 +6,7 @@ ghost use Rattle.report_text.specs.Output.{Adds};
 ghost use Rattle.report_text.specs.ReportText.{report_bytes, refusal_bytes};
 
 use crate::names::NameIndex;
-use crate::output::{Output, put_number};
+use crate::output::Output;
 use crate::page::Page;
 use crate::printed::print_each;
 use crate::report::Report;
@@ -50,7 +50,7 @@ fn put_refusal<O: Output>(line: u32, why: &[u8], out: &mut O)
     ensures { Adds (O.state out.old) (O.state out.new) (refusal_bytes line why.now) }
 {
     out.put(b"refused: line ");
-    put_number(out, line as u64);
+    out.put_number(line as u64);
     out.put(b": ");
     out.put(why);
     out.put(b"\n");

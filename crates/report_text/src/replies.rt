@@ -5,7 +5,7 @@ ghost use Rattle.report_text.specs.Output.{Adds};
 ghost use Rattle.report_text.specs.Replies.{node_line, reply_lines, client_lines};
 
 use crate::names::NameIndex;
-use crate::output::{Output, put_number};
+use crate::output::Output;
 use crate::printed::{Printed, print_each};
 use crate::report::{ClientReport, ReplyLine};
 use log_node::{Item, Key};
@@ -31,7 +31,7 @@ impl Printed for Item {
         let key = key_of(self);
         key.id.print(names, out);
         out.put(b" ");
-        put_number(out, key.stamp);
+        out.put_number(key.stamp);
         out.put(b" ");
         self.node().text.print(names, out);
         out.put(b"\n");
@@ -42,7 +42,7 @@ impl Printed for ReplyLine {
     ghost text = { reply_lines };
 
     fn print<O: Output>(&self, names: &NameIndex<'_>, out: &mut O) {
-        put_number(out, self.line as u64);
+        out.put_number(self.line as u64);
         out.put(b" ");
         put_word(self.word, out);
         out.put(b" ");

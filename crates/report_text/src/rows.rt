@@ -3,7 +3,7 @@ ghost use Rattle.report_text.specs.Output.{Adds};
 ghost use Rattle.report_text.specs.Rows.{why_text, mark_text, colour_mark_text, outcome_text, row_line};
 
 use crate::names::NameIndex;
-use crate::output::{Output, put_number};
+use crate::output::Output;
 use crate::printed::{Printed, print_spaced};
 use crate::report::RowReport;
 use log_node::{ColourMark, Mark, Outcome, Why};
@@ -22,7 +22,7 @@ fn print_mark<O: Output>(mark: Mark, out: &mut O)
 {
     match mark {
         Mark::None => out.put(b"-"),
-        Mark::Number(stamp) => put_number(out, stamp),
+        Mark::Number(stamp) => out.put_number(stamp),
         Mark::Fenced(why) => print_why(why, out),
     }
 }
@@ -45,7 +45,7 @@ impl Printed for Outcome {
             Outcome::Open => out.put(b"open"),
             Outcome::Final(stamp) => {
                 out.put(b"final ");
-                put_number(out, *stamp);
+                out.put_number(*stamp);
             }
             Outcome::Gone(why) => {
                 out.put(b"gone ");
@@ -64,7 +64,7 @@ impl Printed for RowReport {
         out.put(b" ");
         names.put_client(self.row.client, out);
         out.put(b".");
-        put_number(out, self.row.number as u64);
+        out.put_number(self.row.number as u64);
         out.put(b" ");
         self.id.print(names, out);
         print_spaced(&self.marks, names, out);

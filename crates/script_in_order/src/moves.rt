@@ -134,8 +134,8 @@ pub fn trim(command: &Command, colour: u8, world: &mut World) -> Result<Answer, 
     })
 }
 
-// What the client has played of a colour.
-fn played(world: &World, client: u8, colour: u8) -> Counts
+/// What the client has played of a colour.
+pub(crate) fn played(world: &World, client: u8, colour: u8) -> Counts
     requires client { client < length world.now.shape.homes }
     requires colour { colour < world.now.shape.colours }
     ensures { result ≡ ((world_of world.now).clients client).played colour }
@@ -144,8 +144,8 @@ fn played(world: &World, client: u8, colour: u8) -> Counts
     world.client(client).played(colour)
 }
 
-// Below which counts a column is trimmed.
-fn base(world: &World, region: u8, colour: u8) -> Counts
+/// Below which counts a column is trimmed.
+pub(crate) fn base(world: &World, region: u8, colour: u8) -> Counts
     requires region { region < world.now.shape.regions }
     requires colour { colour < world.now.shape.colours }
     ensures { result ≡ base_after world.now.shape.regions region ((world_of world.now).histories region colour) }

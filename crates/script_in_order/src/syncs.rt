@@ -1,11 +1,14 @@
 // Syncs.
-ghost use Rattle.std.specs.Prelude.{◌≡◌, ◌<◌, [], IfOk, OnErr, length};
+ghost use Rattle.std.specs.Prelude.{◌≡◌, ◌<◌, [], IfOk, IfSome, OnErr, length, true, false, None};
+ghost use Rattle.world_laws.specs.Worlds.{may_play, base_after, home_of, home_history};
 ghost use Rattle.playback.specs.declared.player.Player.{Player};
 ghost use Rattle.world_code.specs.WorldView.{world_of};
 ghost use Rattle.script_meaning.specs.Moves.{synced};
 ghost use Rattle.script_in_order.specs.Doing.{DoneBy};
 
-use log_node::{Items, ListOf};
+use crate::clears::home;
+use crate::moves::{base, played};
+use log_node::{Counts, Items, ListOf};
 use playback::{PlayFault, Player, play};
 use report_text::{Answer, SyncPiece};
 use script_text::Command;
@@ -31,6 +34,23 @@ fn player_of(world: &World, client: u8, region: u8, colour: u8) -> Player
     }
 }
 
+// The base of a colour's column of the client's region, where a node that the client has not played is trimmed.
+fn trimmed_base(world: &World, client: u8, colour: u8) -> Option<Counts>
+    requires client { client < length world.now.shape.homes }
+    requires colour { colour < world.now.shape.colours }
+    ensures some { let w = world_of world.now in IfSome result (λ base. (may_play w client colour ≡ false)
+        × (base ≡ base_after w.shape.regions (home_of w client) (home_history w client colour))) }
+    ensures none { result ≡ None → may_play (world_of world.now) client colour ≡ true }
+{
+    world.is_whole();
+    let base = base(world, home(world, client), colour);
+    if base.is_within(played(world, client, colour)) {
+        None
+    } else {
+        Some(base)
+    }
+}
+
 /// Plays all nodes of a colour that the client has not played, up to the cut, in the order of play; refused where one
 /// of them is trimmed.
 pub fn sync(
@@ -47,6 +67,10 @@ pub fn sync(
 {
     stays_within_cuts();
     world.is_whole();
+    // Tested before the look, which would share nodes that are then not played.
+    if let Some(base) = trimmed_base(world, command.client, colour) {
+        return Ok((Answer::Trimmed { colour, base }, ListOf::new(alloc)));
+    }
     let view = world.look(alloc, command.client, colour)?;
     let mut player = player_of(world, command.client, view.region, colour);
     let events = view.events;

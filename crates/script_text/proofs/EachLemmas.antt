@@ -20,7 +20,7 @@ regroup : {X : Type 0} (front : List X) (x : X) (reading : Result (List X) Reaso
 regroup front x (Ok others) = ap (λ xs. Ok xs) (sym (append_assoc front (x ∷ []) others))
 regroup front x (Err why) = refl
 
-each_step : {X : Type 0} (one : Reader X) (earlier : List (List ℕ)) (front : List X) (field : List ℕ) (fields : List (List ℕ)) (x : X) → one earlier field ≡ Ok x
+pub each_step : {X : Type 0} (one : Reader X) (earlier : List (List ℕ)) (front : List X) (field : List ℕ) (fields : List (List ℕ)) (x : X) → one earlier field ≡ Ok x
     → with_front front (each_at one earlier (field ∷ fields)) ≡ with_front (front ++ x ∷ []) (each_at one (earlier ++ field ∷ []) fields)
 unfolding each_at
 each_step one earlier front field fields x e = rw e (regroup front x (each_at one (earlier ++ field ∷ []) fields))
@@ -32,7 +32,7 @@ each_more one earlier all front i field x total lt at e so_far =
     let split : drop i all ≡ field ∷ drop (i + 1) all = drop_more all i [] lt ∙ ap (λ f. f ∷ drop (i + 1) all) at in
     sym (each_step one earlier front field (drop (i + 1) all) x e) ∙ ap (λ fields. with_front front (each_at one earlier fields)) (sym split) ∙ so_far
 
-fails_on : {X : Type 0} (one : Reader X) (earlier : List (List ℕ)) (front : List X) (field : List ℕ) (fields : List (List ℕ)) (why : Reason) → one earlier field ≡ Err why
+pub fails_on : {X : Type 0} (one : Reader X) (earlier : List (List ℕ)) (front : List X) (field : List ℕ) (fields : List (List ℕ)) (why : Reason) → one earlier field ≡ Err why
     → with_front front (each_at one earlier (field ∷ fields)) ≡ Err why
 unfolding each_at
 fails_on one earlier front field fields why e = rw e refl
@@ -45,7 +45,7 @@ each_ends one earlier all front i field (faults.Refused why) total lt at e so_fa
     let split : drop i all ≡ field ∷ drop (i + 1) all = drop_more all i [] lt ∙ ap (λ f. f ∷ drop (i + 1) all) at in
     sym so_far ∙ ap (λ fields. with_front front (each_at one earlier fields)) split ∙ fails_on one earlier front field (drop (i + 1) all) why e
 
-done_on : {X : Type 0} (one : Reader X) (earlier : List (List ℕ)) (front : List X) → with_front front (each_at one earlier []) ≡ Ok front
+pub done_on : {X : Type 0} (one : Reader X) (earlier : List (List ℕ)) (front : List X) → with_front front (each_at one earlier []) ≡ Ok front
 unfolding each_at
 done_on one earlier front = ap (λ xs. Ok xs) (append-nil front)
 

@@ -4,6 +4,7 @@ use Rattle.std.specs.Str.{bytes_eq}
 use Rattle.std.specs.Borrow.{Bor}
 use Rattle.log_node.specs.declared.ids.Colours.{Colours}
 use Rattle.log_node.specs.declared.forms.Pair.{Pair}
+use Rattle.log_node.specs.Sets.{has}
 use Rattle.script_text.specs.declared.script.Object.{Object}
 use Rattle.script_text.specs.declared.script.Reason.{Reason}
 use Rattle.script_text.specs.declared.script.Reason.TheVariants as reasons
@@ -71,6 +72,12 @@ unfoldable pub colour_at : List (List ℕ) → List (List ℕ) → List ℕ → 
 colour_at names earlier field = do
   colour ← number_at reasons.UnknownColour names field
   refuse (is_among earlier field) reasons.ColourRepeated (Ok colour)
+
+-- the number of a colour that is not in the set
+unfoldable pub fresh_colour_at : List (List ℕ) → Colours → List ℕ → Result ℕ Reason
+fresh_colour_at names set field = do
+  colour ← number_at reasons.UnknownColour names field
+  refuse (has set colour) reasons.ColourRepeated (Ok colour)
 
 abbrev pub colours_at : List (List ℕ) → List (List ℕ) → Result (List ℕ) Reason
 colours_at names fields = each_at (colour_at names) [] fields

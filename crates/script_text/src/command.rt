@@ -3,7 +3,7 @@ ghost use Rattle.std.specs.Prelude.{◌≡◌, ◌≤◌, ◌==◌};
 ghost use Rattle.std.specs.List.{list_any};
 ghost use Rattle.script_text.specs.declared.limits.TheConstants.{VERSION_1};
 ghost use Rattle.script_text.specs.Kept.{IsSmall};
-ghost use Rattle.script_text.specs.Readings.{Gives, fields_in};
+ghost use Rattle.script_text.specs.Readings.{Gives, Takes, fields_in};
 ghost use Rattle.script_text.specs.CommandReadings.{ended_well, what_at, worded_at, asked_at, caller_at, command_at};
 
 use crate::fault::Fault;
@@ -18,9 +18,9 @@ use std::alloc::Global;
 
 /// The tests after the fields.
 #[tactic(auto, unfolding(crate::specs::CommandReadings::ended_well))]
-fn ended_well(known: &Known, client: u8, last: Last, given: Given) -> Result<Given, Fault>
-    requires { given.count ≤ VERSION_1.colours }
-    ensures { Gives result (ended_well known.now client last given) }
+fn ended_well(known: &Known, client: u8, last: Last, given: &Given) -> Result<(), Fault>
+    requires { given.now.count ≤ VERSION_1.colours }
+    ensures { Takes result given.now (ended_well known.now client last given.now) }
 {
     match last {
         Last::Nothing => {}
@@ -39,7 +39,7 @@ fn ended_well(known: &Known, client: u8, last: Last, given: Given) -> Result<Giv
             }
         }
     }
-    Ok(given)
+    Ok(())
 }
 
 /// What a command asks for, by its word.
@@ -59,8 +59,8 @@ fn what_of(
         return Err(Fault::Refused(Reason::BadForm));
     }
     let given = Given::of(alloc, known, fields, args)?;
-    let ended = ended_well(known, client, last, given)?;
-    Ok(ended.into_what(word))
+    ended_well(known, client, last, &given)?;
+    Ok(given.into_what(word))
 }
 
 #[tactic(auto, unfolding(crate::specs::CommandReadings::asked_at, crate::specs::CommandReadings::worded_at))]

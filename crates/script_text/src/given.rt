@@ -83,11 +83,7 @@ impl Given {
         match field {
             Field::Steps => self.number = steps_at(first(own))?,
             Field::Cols => {
-                let (colours, count) = colour_set(
-                    alloc,
-                    known.script.colours.as_slice(),
-                    first(own),
-                )?;
+                let (colours, count) = colour_set(known.script.colours.as_slice(), first(own))?;
                 self.colours = colours;
                 self.count = count;
             }

@@ -1,5 +1,5 @@
 // A line of a script, and what its fields say.
-ghost use Rattle.std.specs.Prelude.{◌≡◌, ◌==◌, length};
+ghost use Rattle.std.specs.Prelude.{◌≡◌, ◌==◌, false, length};
 ghost use Rattle.std.specs.List.{list_any};
 ghost use Rattle.script_text.specs.Grammar.{is_passed_over};
 ghost use Rattle.script_text.specs.Kept.{IsSmall};
@@ -11,8 +11,9 @@ use crate::fault::Fault;
 use crate::header::header_line;
 use crate::item::{Item, Stage};
 use crate::known::Known;
-use crate::pieces::{is_ascii_line, parts_of};
+use crate::pieces::{cut_line, is_ascii_line};
 use crate::script::Reason;
+use smallvec::SmallVec;
 use std::alloc::Global;
 
 /// An empty line, or one that begins with `#`; line 1 is never passed over.
@@ -61,21 +62,26 @@ fn full_item_of(alloc: Global, known: &Known, number: u32, fields: &[&[u8]]) -> 
     item_of(alloc, known, number, fields)
 }
 
-#[tactic(auto, unfolding(crate::specs::LineReadings::kept_at))]
+/// What a line says that is not passed over.
+#[tactic(auto, unfolding(crate::specs::LineReadings::line_at, crate::specs::LineReadings::kept_at))]
 fn kept_line(alloc: Global, known: &Known, number: u32, line: &[u8]) -> Result<Option<Item>, Fault>
-    requires { IsSmall known.now }
-    ensures { Gives result (kept_at known.now number line.now) }
+    requires small { IsSmall known.now }
+    requires kept { is_passed_over (number, line.now) ≡ false }
+    ensures { Gives result (line_at known.now number line.now) }
 {
-    if is_passed_over(number, line) {
-        return Ok(None);
+    let mut fields = SmallVec::new(alloc);
+    if !cut_line(&mut fields, line)? {
+        return Err(Fault::Refused(Reason::NotAscii));
     }
-    let fields = parts_of(alloc, line, b' ')?;
-    let item = full_item_of(alloc, known, number, &fields)?;
+    if number == 1 && line != b"fuzzylog 1".as_slice() {
+        return Err(Fault::Refused(Reason::BadVersion));
+    }
+    let item = full_item_of(alloc, known, number, fields.as_slice())?;
     Ok(Some(item))
 }
 
 /// What a line says, or nothing where it is passed over.
-#[tactic(auto, unfolding(crate::specs::LineReadings::line_at))]
+#[tactic(auto, unfolding(crate::specs::LineReadings::line_at, crate::specs::LineReadings::kept_at))]
 pub fn line_of(
     alloc: Global,
     known: &Known,
@@ -85,11 +91,11 @@ pub fn line_of(
     requires { IsSmall known.now }
     ensures { Gives result (line_at known.now number line.now) }
 {
+    if !is_passed_over(number, line) {
+        return kept_line(alloc, known, number, line);
+    }
     if !is_ascii_line(line) {
         return Err(Fault::Refused(Reason::NotAscii));
     }
-    if number == 1 && line != b"fuzzylog 1".as_slice() {
-        return Err(Fault::Refused(Reason::BadVersion));
-    }
-    kept_line(alloc, known, number, line)
+    Ok(None)
 }

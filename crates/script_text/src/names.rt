@@ -1,12 +1,11 @@
 // Names in a line: new ones, and those that the header has named.
-ghost use Rattle.std.specs.Prelude.{◌≡◌, ◌≤◌, ◌<◌, [], length, All, IfOk};
+ghost use Rattle.std.specs.Prelude.{◌≡◌, ◌≤◌, ◌<◌, [], length, IfOk};
 ghost use Rattle.script_text.specs.declared.limits.TheConstants.{VERSION_1};
 ghost use Rattle.script_text.specs.Pieces.{is_among, names_in};
-ghost use Rattle.script_text.specs.Items.{set_of};
-ghost use Rattle.script_text.specs.Readings.{Gives, fields_in, number_at, new_name_at, new_names_at, colour_at, colours_at, colours_set_at, text_at};
+ghost use Rattle.script_text.specs.Readings.{Gives, fields_in, number_at, new_name_at, new_names_at, colour_at, fresh_colour_at, colours_at, colours_set_at, text_at};
 
 use crate::fault::Fault;
-use crate::pieces::{is_among, is_name, is_text, number_of, parts_of};
+use crate::pieces::{behind, comma_front, is_among, is_name, is_text, number_of};
 use crate::script::Reason;
 use log_node::{ColourList, Colours, ListOf, Names, Text};
 use std::alloc::Global;
@@ -82,29 +81,40 @@ pub fn colour_numbers(alloc: Global, names: &[Text], fields: &[&[u8]]) -> Result
     Ok(colours)
 }
 
-/// The set of the colours that the fields name, and their number.
-#[tactic(auto, unfolding(crate::specs::Readings::colours_set_at))]
-fn colours_set(names: &[Text], fields: &[&[u8]]) -> Result<(Colours, usize), Fault>
+/// The number of a colour that is not in the set.
+#[tactic(auto, unfolding(crate::specs::Readings::fresh_colour_at))]
+fn new_colour(names: &[Text], set: Colours, field: &[u8]) -> Result<u8, Fault>
     requires { length names.now ≤ VERSION_1.colours }
-    ensures value { Gives result (colours_set_at names.now (fields_in fields.now)) }
-    ensures few { IfOk result (λ s. s.1 ≤ VERSION_1.colours) }
+    ensures value { Gives result (fresh_colour_at names.now set field.now) }
+    ensures below { IfOk result (λ c. c < length names.now) }
 {
-    let mut set = 0;
-    for (place, field) in fields.iter().enumerate() {
-        let colour = colour_at(names, &fields[..place], field)?;
-        set |= 1 << colour;
+    let colour = number_at(names, field, Reason::UnknownColour)?;
+    if set.has(colour) {
+        return Err(Fault::Refused(Reason::ColourRepeated));
     }
-    Ok((Colours(set), fields.len()))
+    Ok(colour)
 }
 
 /// The set of the colours whose names stand between commas, and their number.
-pub fn colour_set(alloc: Global, names: &[Text], cols: &[u8]) -> Result<(Colours, usize), Fault>
+#[tactic(auto, unfolding(crate::specs::Readings::colours_set_at))]
+pub fn colour_set(names: &[Text], cols: &[u8]) -> Result<(Colours, usize), Fault>
     requires { length names.now ≤ VERSION_1.colours }
     ensures value { Gives result (colours_set_at names.now (names_in cols.now)) }
     ensures few { IfOk result (λ s. s.1 ≤ VERSION_1.colours) }
 {
-    let fields = parts_of(alloc, cols, b',')?;
-    colours_set(names, &fields)
+    let mut set = Colours(0);
+    let mut count = 0;
+    let mut rest = cols;
+    loop {
+        let end = comma_front(rest);
+        let colour = new_colour(names, set, &rest[..end])?;
+        set = Colours(set.0 | 1 << colour);
+        count += 1;
+        if end >= rest.len() {
+            return Ok((set, count));
+        }
+        rest = behind(rest, end);
+    }
 }
 
 /// A node's text.

@@ -1,14 +1,16 @@
 // The pieces of a script's bytes: lines, fields, and what a field may be.
-ghost use Rattle.std.specs.Prelude.{◌≡◌, ◌<◌, ◌≤◌, ◌==◌, ◌↔◌, ◌∷◌, false, length, map, IfOk, IsNone, IfSome, IsTrue};
-ghost use Rattle.std.specs.List.{slice_split, list_all};
+ghost use Rattle.std.specs.Prelude.{◌≡◌, ◌<◌, ◌≤◌, ◌==◌, ◌↔◌, [], ◌∷◌, ℕ, true, false, ◌+◌, length, drop, map, slice_index_or, Ok, IfOk, IsNone, IfSome, IsTrue};
+ghost use Rattle.std.specs.List.{list_all};
 ghost use Rattle.script_text.specs.declared.limits.TheConstants.{ROWS_DIGITS};
-ghost use Rattle.script_text.specs.Pieces.{lines_of, is_between, is_ascii_line, is_letter_or_digit, is_name, is_key, is_text, is_among, is_digit, is_number, number_value, number_of};
+ghost use Rattle.script_text.specs.Pieces.{lines_of, fields_of, is_between, is_ascii_line, is_letter_or_digit, is_name, is_key, is_text, is_among, is_digit, is_number, number_value, number_of};
 ghost use Rattle.script_text.specs.Grammar.{has_equals, key_in, value_in};
+ghost use Rattle.script_text.specs.Readings.{fields_in};
 
 use crate::limits::{MAX_KEY, MAX_NAME};
 use log_node::{MAX_TEXT, Text};
 use memchr::memchr;
-use std::alloc::{AllocError, Global};
+use smallvec::SmallVec;
+use std::alloc::AllocError;
 
 /// The first line of the bytes, and the bytes after it.
 pub fn first_line(bytes: &[u8]) -> (&[u8], &[u8])
@@ -22,16 +24,67 @@ pub fn first_line(bytes: &[u8]) -> (&[u8], &[u8])
     }
 }
 
-/// The parts of the bytes, with one separator between two.
-pub fn parts_of<'a>(
-    alloc: Global,
-    bytes: &'a [u8],
-    separator: u8,
-) -> Result<Vec<&'a [u8]>, AllocError>
-    ensures { IfOk result (λ parts. map (λ part. part.now) parts.items
-        ≡ slice_split (λ b. b == separator) bytes.now) }
+/// The fields of a line: in place, so that only a line of more of them, which no lawful line has, takes memory.
+pub type Fields<'a> = SmallVec<&'a [u8], PLACES>;
+
+// As many fields as a map's line with all colours has, and one more.
+const PLACES: usize = 20;
+
+/// How many bytes at the front are visible: none is a blank, a control or beyond ASCII.
+fn visible_front(bytes: &[u8]) -> usize
+    ensures within { result ≤ length bytes.now }
+    ensures front { (k : ℕ) → k < result → is_between 33 126 (slice_index_or bytes.now k 0) ≡ true }
+    ensures stop { result < length bytes.now → is_between 33 126 (slice_index_or bytes.now result 0) ≡ false }
 {
-    bytes.split(|b| *b == separator).collect(alloc)
+    for (at, b) in bytes.iter().enumerate() {
+        if !matches!(*b, b'!'..=b'~') {
+            return at;
+        }
+    }
+    bytes.len()
+}
+
+/// The bytes behind a place.
+pub fn behind(bytes: &[u8], at: usize) -> &[u8]
+    requires { at < length bytes.now }
+    ensures { result.now ≡ drop (at + 1) bytes.now }
+{
+    &bytes[at + 1..]
+}
+
+/// Cuts a line at its spaces, and says whether each byte of it is from 0x20 to 0x7E.
+pub fn cut_line<'a>(fields: &mut Fields<'a>, line: &'a [u8]) -> Result<bool, AllocError>
+    requires { fields.old.items ≡ [] }
+    ensures ascii { IfOk result (λ ascii. ascii ≡ is_ascii_line line.now) }
+    ensures fields { result ≡ Ok true → fields_in fields.new.items ≡ fields_of line.now }
+{
+    let mut rest = line;
+    loop {
+        let end = visible_front(rest);
+        if end >= rest.len() {
+            fields.push(rest)?;
+            return Ok(true);
+        }
+        if rest[end] != b' ' {
+            return Ok(false);
+        }
+        fields.push(&rest[..end])?;
+        rest = behind(rest, end);
+    }
+}
+
+/// How many bytes at the front are no comma.
+pub fn comma_front(bytes: &[u8]) -> usize
+    ensures within { result ≤ length bytes.now }
+    ensures front { (k : ℕ) → k < result → (slice_index_or bytes.now k 0 == 44) ≡ false }
+    ensures stop { result < length bytes.now → (slice_index_or bytes.now result 0 == 44) ≡ true }
+{
+    for (at, b) in bytes.iter().enumerate() {
+        if *b == b',' {
+            return at;
+        }
+    }
+    bytes.len()
 }
 
 /// Whether each byte is from 0x20 to 0x7E.
@@ -68,10 +121,15 @@ pub fn is_key(field: &[u8]) -> bool
     1 <= field.len() && field.len() <= MAX_KEY && are_letters_or_digits(field)
 }
 
+// With no early exit, so that it is compiled to several bytes at a time.
 fn are_visible(bytes: &[u8]) -> bool
     ensures { result ≡ list_all (is_between 33 126) bytes.now }
 {
-    bytes.iter().all(|b| matches!(*b, b'!'..=b'~'))
+    let mut all = true;
+    for b in bytes {
+        all &= matches!(*b, b'!'..=b'~');
+    }
+    all
 }
 
 /// 1 to 200 bytes, none a blank.

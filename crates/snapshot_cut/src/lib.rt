@@ -6,6 +6,3 @@ mod needs_view;
 
 pub use cuts::admit;
 pub use needs_view::NeedsView;
-
-#[cfg(test)]
-mod tests;

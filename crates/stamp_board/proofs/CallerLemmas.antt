@@ -1,4 +1,4 @@
--- What is known stays known: for those who carry seats from call to call.
+-- What is known stays known, and lists of two seats: for those who carry seats from call to call.
 use Rattle.std.proofs.Common.{◌≡◌, ℕ, ◌+◌, ◌<◌, ◌≤◌, sym, refl, ◌∙◌, subst, arith, inl, inr}
 use Rattle.std.proofs.lemmas.Bool.{cases_eq}
 use Rattle.log_node.specs.declared.ids.Row.{Row}
@@ -11,6 +11,7 @@ use Rattle.stamp_board.specs.Words.{row_at, word_at}
 use Rattle.stamp_board.specs.declared.seats.Seat.{Seat}
 use Rattle.stamp_board.specs.Views.{Has, Grows, Learns, KnowsBegun, KnowsMark, KnowsOutcome}
 use Rattle.stamp_board.specs.Seats.{IsLater, Begins, AreRowsBelow, next_row_of, seen}
+pub use Rattle.stamp_board.proofs.Pairs.{last_two, two_colours}
 
 pub Learns-refl : (v : View) → Learns v v
 Learns-refl v = record { known = λ _ _ h. h; begun = λ _ _ h. h }

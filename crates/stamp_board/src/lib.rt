@@ -23,4 +23,3 @@ pub use board::Board;
 pub use rows::{ClosedRow, ClosedRows};
 pub use seats::{ColumnSeat, ColumnSeats, Seat, Seats};
 pub use view::{Size, View};
-

@@ -19,6 +19,3 @@ pub use completing::Completed;
 pub use region::RegionColumns;
 pub use replies::{NewRow, Placed};
 pub use world::World;
-
-#[cfg(test)]
-mod tests;

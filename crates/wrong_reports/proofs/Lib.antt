@@ -19,3 +19,8 @@ mod WrongScans
 mod WrongStops
 mod WrongNodes
 mod WrongUnread
+mod WrongPoints
+mod WrongProposals
+mod WrongRefusals
+mod WrongLooks
+mod FollowingLaws

@@ -90,10 +90,10 @@ hidden_raise run =
     found_none run _ s.explained.1 (made ∙ ap (λ (k : Kept). k.made 0 0) s.after_is)
 
 -- A SNAPSHOT OF NOTHING
-abbrev too_much : Entry
+abbrev pub too_much : Entry
 too_much = trims a (counts 1 0)
 
-reached : (events : ℕ) (v : Counts) → events ≤ 1
+pub reached : (events : ℕ) (v : Counts) → events ≤ 1
     → IsGreatestReachable (chain 0 (dated 0 (take events (too_much ∷ [])))) v → at v 0 ≡ 0
 reached zero v le g = ap (λ v. at v 0) (cut_unique _ _ _ g (cut-is_greatest 0 (dated 0 [])))
 reached (suc zero) v le g = ap (λ v. at v 0) (cut_unique _ _ _ g (cut-is_greatest 0 (dated 0 (too_much ∷ []))))

@@ -57,28 +57,28 @@ nothing_trimmed run =
     cc (t)
 
 -- PULLS
--- a pull of the region e by one of w
-record Pulled (log : Log) (caller : Caller) (kept after : Kept) (nodes place : ℕ) (carry : At) : Type 0 where
+-- a pull of another region in x
+pub record Pulled (log : Log) (caller : Caller) (kept after : Kept) (region nodes place : ℕ) (carry : At) : Type 0 where
   pub too_low : List ℕ
-  pub says : Pulls log caller kept 0 0 nodes place carry too_low
-  pub after_is : after ≡ kept_after_pull kept caller.own 0 0 place carry too_low
+  pub says : Pulls log caller kept region 0 nodes place carry too_low
+  pub after_is : after ≡ kept_after_pull kept caller.own region 0 place carry too_low
 
-pull_says : (log : Log) (caller : Caller) (kept after : Kept) (line client nodes place : ℕ) (carry : At)
-    → Answers log caller kept (asks line client (whats.Pull 0 0)) (pulled line nodes place carry) after
-    → Pulled log caller kept after nodes place carry
-pull_says log caller kept after line client nodes place carry a =
+pub pull_says : (log : Log) (caller : Caller) (kept after : Kept) (line client region nodes place : ℕ) (carry : At)
+    → Answers log caller kept (asks line client (whats.Pull region 0)) (pulled line nodes place carry) after
+    → Pulled log caller kept after region nodes place carry
+pull_says log caller kept after line client region nodes place carry a =
     let said = a.explained in
-    let r : said.1 ≡ 0 = (let w = said.3 in cc (w)) in
+    let r : said.1 ≡ region = (let w = said.3 in cc (w)) in
     let c : said.2 ≡ 0 = (let w = said.3 in cc (w)) in
     let p : said.4 ≡ place = (let g = said.5 in cc (g)) in
     record {
       too_low = said.6;
-      says = subst (λ p. Pulls log caller kept 0 0 nodes p carry said.6) p
-          (subst (λ c. Pulls log caller kept 0 c nodes said.4 carry said.6) c
+      says = subst (λ p. Pulls log caller kept region 0 nodes p carry said.6) p
+          (subst (λ c. Pulls log caller kept region c nodes said.4 carry said.6) c
           (subst (λ r. Pulls log caller kept r said.2 nodes said.4 carry said.6) r said.7));
       after_is = a.after_is ∙ said.8 ∙ ap (λ r. kept_after_pull kept caller.own r said.2 said.4 carry said.6) r
-          ∙ ap (λ c. kept_after_pull kept caller.own 0 c said.4 carry said.6) c
-          ∙ ap (λ p. kept_after_pull kept caller.own 0 0 p carry said.6) p;
+          ∙ ap (λ c. kept_after_pull kept caller.own region c said.4 carry said.6) c
+          ∙ ap (λ p. kept_after_pull kept caller.own region 0 p carry said.6) p;
     }
 
 pub its_own : IsUnlawful another_region_taken_for_its_own
@@ -88,7 +88,7 @@ its_own run =
 
 pub leaves_a_node : IsUnlawful a_pull_that_leaves_a_node
 leaves_a_node run =
-    let p = (pull_says run.log _ _ _ _ _ _ _ _ (only run.log _ _ _ _ (run.clients 1 _ refl).explained)).says.holds in
+    let p = (pull_says run.log _ _ _ _ _ _ _ _ _ (only run.log _ _ _ _ (run.clients 1 _ refl).explained)).says.holds in
     let h = (column_at a_pull_that_leaves_a_node run 0 _ refl).history in
     let n : 1 ≡ length (line (take 1 (run.log.histories 0 0))) =
     ap (λ (es : List Entry). length (line (take 1 es))) h in
@@ -96,7 +96,7 @@ leaves_a_node run =
 
 pub more_carried : IsUnlawful a_pull_of_more_nodes
 more_carried run =
-    let c = (pull_says run.log _ _ _ _ _ _ _ _ (only run.log _ _ _ _
+    let c = (pull_says run.log _ _ _ _ _ _ _ _ _ (only run.log _ _ _ _
     (run.clients 1 _ refl).explained)).says.carries in
     let h = (column_at a_pull_of_more_nodes run 1 _ refl).history in
     let same = some_same carried_one _ (ap (λ (es : List Entry). slice_get es 0) h ∙ c.3) in
@@ -113,8 +113,8 @@ given_number r s from other e = cc (e)
 pub asks_again : IsUnlawful a_pull_that_asks_again
 asks_again run =
     let t = two run.log _ _ _ _ _ _ (run.clients 1 _ refl).explained in
-    let k = ap (λ (k : Kept). k.seen 1 0) (pull_says run.log _ _ _ _ _ _ _ _ t.first).after_is in
-    let p = (pull_says run.log _ _ _ _ _ _ _ _ t.second).says in
+    let k = ap (λ (k : Kept). k.seen 1 0) (pull_says run.log _ _ _ _ _ _ _ _ _ t.first).after_is in
+    let p = (pull_says run.log _ _ _ _ _ _ _ _ _ t.second).says in
     let of_e = (column_at a_pull_that_asks_again run 0 _ refl).history in
     let of_w = (column_at a_pull_that_asks_again run 1 _ refl).history in
     let same = some_same (given_from 0) _ (ap (λ (es : List Entry). slice_get es 2) of_e ∙ p.gives) in
@@ -137,7 +137,7 @@ trimmed_away run =
 pub gives_twice : IsUnlawful a_pull_that_gives_twice
 gives_twice run =
     let client = run.clients 1 _ refl in
-    let p = pull_says run.log _ _ _ _ _ _ _ _ (only run.log _ _ _ _ client.explained) in
+    let p = pull_says run.log _ _ _ _ _ _ _ _ _ (only run.log _ _ _ _ client.explained) in
     let h = (column_at a_pull_that_gives_twice run 0 _ refl).history in
     let made = client.made 0 0 (lit< tt) (lit< tt) in
     let places : 1 ∷ 2 ∷ [] ≡ p.too_low ++ 2 ∷ [] = ap (places_of 1) h ∙ made

@@ -55,7 +55,7 @@ no_fence why of_y (suc zero, lt, same) = let f : 1 ≡ 0 = ap (λ (m : ColourMar
 no_fence why of_y (suc (suc k), lt, same) = let f : ⊥ = omega (arith, lt) in f
 
 -- what was proposed in x and has its mark is not settled there
-open_in_x : (log : Log) (caller : Caller) (node : Node) (of_y : Mark) (last : Outcome) → caller.own ≡ 0
+pub open_in_x : (log : Log) (caller : Caller) (node : Node) (of_y : Mark) (last : Outcome) → caller.own ≡ 0
     → node.region ≡ 0 → node.id ≡ id 0 0 → (proposed x).journal ≡ log.histories 0 0
     → OneRow (log.rows 0) (row e a 0 (id a 0) (marks.Number 1) of_y last)
     → IsSettledIn log caller node 0 → ⊥

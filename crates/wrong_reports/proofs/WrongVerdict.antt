@@ -28,7 +28,7 @@ use Rattle.wrong_reports.specs.Objects.{one_pair, read_at, conflicts, a_conflict
 use Rattle.wrong_reports.proofs.Tools.{column_at, some_same}
 use Rattle.wrong_reports.proofs.Told.{Two, two}
 
-abbrev the_key : Key
+abbrev pub the_key : Key
 the_key = key 1 (id a 0)
 
 -- nothing is read of an empty line
@@ -50,7 +50,7 @@ read_one k l (zero, lt, same) among = by (subst (λ (l : List Key). Contains l k
   by (suc n, lt, same) = absurd (let f : ⊥ = omega (arith, lt) in f)
 read_one k l (suc n, lt, same) among = absurd (let f : ⊥ = omega (arith, lt) in f)
 
-one_read : (keys : List Key) → IsRegionOrder ((the_key ∷ []) ∷ []) 1 keys → keys ≡ the_key ∷ []
+pub one_read : (keys : List Key) → IsRegionOrder ((the_key ∷ []) ∷ []) 1 keys → keys ≡ the_key ∷ []
 one_read [] order =
     absurd (let c = order.all (the_key
     ∷ []) the_key (0, lit< tt, refl) (0, lit< tt, refl) (lit≤ tt) in let l = c.1 in omega (arith, l))
@@ -71,7 +71,7 @@ the_text = codes "t:k@-|k=v"
 abbrev the_version : Version
 the_version = record { key = codes "k"; writer = None }
 
-node_is : (n : ObjectNode) (k : Key) (text : List ℕ) → n.key ≡ k → n.text ≡ text
+pub node_is : (n : ObjectNode) (k : Key) (text : List ℕ) → n.key ≡ k → n.text ≡ text
     → n ≡ record { key = k; colours = n.colours; text = text }
 node_is n k text e f =
     ap (λ k. record { key = k; colours = n.colours; text = n.text }) e
@@ -92,7 +92,7 @@ no_nodes log [] [] is z = refl
 no_nodes log [] (n ∷ ns) is z = absurd z
 no_nodes log (k ∷ ks) nodes is z = absurd (let f : ⊥ = cc (is) in f)
 
-one_object : (log : Log) (keys : List Key) (nodes : List ObjectNode) → keys ≡ the_key ∷ []
+pub one_object : (log : Log) (keys : List Key) (nodes : List ObjectNode) → keys ≡ the_key ∷ []
     → AreObjectNodes log keys nodes
     → (n : ObjectNode) × IsObjectNode log the_key n × (nodes ≡ n ∷ [])
 one_object log keys nodes is z = by nodes (subst (λ (ks : List Key). AreObjectNodes log ks nodes) is z) where

@@ -10,3 +10,8 @@ pub mod Events
 pub mod Moves
 pub mod Objects
 pub mod Helping
+pub mod Points
+pub mod Proposals
+pub mod Hidden
+pub mod Looks
+pub mod Following

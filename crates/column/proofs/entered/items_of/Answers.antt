@@ -1,4 +1,4 @@
-use Rattle.std.proofs.Common.{◌∙◌, ◌++◌, ◌∷◌, [], List, take, get_or, ap, sym, arith}
+use Rattle.std.proofs.Common.{◌≡◌, ◌+◌, rules, ◌∙◌, ◌++◌, ◌∷◌, [], List, take, get_or, ap, sym, arith}
 use Rattle.std.proofs.lemmas.List.{take_all}
 use Rattle.log_node.specs.declared.ids.Key.{Key}
 use Rattle.log_node.specs.Seen.{PlacedNode}
@@ -14,11 +14,13 @@ loop-at-preserved c =
     let at = c.loop-at.at in
     let node = c.index-nodes-at.result in
     let none : Key = record { stamp = 0; id = record { client = 0; count = 0 } } in
-    c.in_ok-push.ensures.ok
-    ∙ (ap (λ (is : List PlacedNode). is ++ c.in_ok-item.field-0 ∷ []) c.loop-at.invariant
+    let more : c.push_reserved.new.self.items ≡ items_under (take (at + 1) keys) (take (at + 1) nodes) =
+    c.push_reserved.ensures.items
+    ∙ (ap (λ (is : List PlacedNode). is ++ c.in_ok-item.field-0 ∷ []) c.loop-at.invariant.0
     ∙ (ap (λ (i : PlacedNode). items_under (take at keys) (take at nodes) ++ i ∷ [])
     (c.in_ok-item.ensures ∙ ap (λ (e : EnteredNode). placed (get_or keys at none) e) c.index-nodes-at.is)
-    ∙ sym (under_more keys nodes at none node c.requires c.loop-at-test.true)))
+    ∙ sym (under_more keys nodes at none node c.requires c.loop-at-test.true))) in
+    (more, search rules, search rules)
 
 pub returns : goal.returns
 returns c =
@@ -27,6 +29,6 @@ returns c =
     let at = c.loop-at.at in
     let done = c.loop-at-test.false in
     let same = c.requires in
-    c.loop-at.invariant
+    c.from.ensures ∙ (c.loop-at.invariant.0
     ∙ (ap (λ (ks : List Key). items_under ks (take at nodes)) (take_all at keys (omega (arith, done)))
-    ∙ ap (items_under keys) (take_all at nodes (omega (arith, done, same))))
+    ∙ ap (items_under keys) (take_all at nodes (omega (arith, done, same)))))

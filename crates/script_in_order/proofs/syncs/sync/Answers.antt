@@ -25,6 +25,14 @@ play-requires-clause-cut c =
     (subst (IsWithin ((w.clients client).played c.args.colour)) (sym c.in_ok-view.ensures.cut)
     (cuts.played client c.args.colour))
 
+pub returns-in-Some-clause-ok : goal.returns-in-Some-clause-ok
+returns-in-Some-clause-ok c =
+    let w = world_of c.args.world.now in
+    let command = c.args.command.now in
+    subst (λ (l : List PlacedNode). DoneBy (λ _ state. synced state command c.args.colour) command w w
+    (answers.Trimmed c.args.colour c.in-Some.base) l) (sym c.new.ensures)
+    (refuses command w c.args.colour c.in-Some.base c.in-Some.ensures.some.0 c.in-Some.ensures.some.1)
+
 pub returns-in-Err-Trimmed-clause-ok : goal.returns-in-Err-Trimmed-clause-ok
 returns-in-Err-Trimmed-clause-ok c =
     let w = world_of c.args.world.now in
@@ -33,7 +41,7 @@ returns-in-Err-Trimmed-clause-ok c =
     let cause = subst (HasPlayCause c.in_ok-view.view c.player_of-player.result.played) c.in-Err-Trimmed.field-0-is
     c.in-Err-Trimmed.ensures.cause in
     subst (λ (l : List PlacedNode). DoneBy (λ _ state. synced state command c.args.colour) command w w
-    (answers.Trimmed c.args.colour c.in-Err-Trimmed.base) l) (sym c.new.ensures)
+    (answers.Trimmed c.args.colour c.in-Err-Trimmed.base) l) (sym c.new-in-Err-Trimmed.ensures)
     (refuses command w c.args.colour c.in-Err-Trimmed.base
     (plays_just w command.client c.args.colour c.in_ok-view.view.base c.requires.caller
     (c.is_whole.ensures.homes command.client 0 c.requires.caller) c.requires.within look.base

@@ -5,4 +5,4 @@ use Rattle.script_text.proofs.command.what_of.Goals as goal
 
 pub into_what-requires : goal.into_what-requires
 into_what-requires c = λ e.
-    stop_small c.args.known.now c.args.client c.row-last.result.3 c.in_ok-given.given c.in_ok-ended.ended c.in_ok-given.ensures.few c.in_ok-ended.ensures (c.row-last.ensures.last ∙ ap last_of e)
+    stop_small c.args.known.now c.args.client c.row-last.result.3 c.in_ok-given.given c.in_ok-given.given c.in_ok-given.ensures.few c.in_ok-ended_well.ensures (c.row-last.ensures.last ∙ ap last_of e)

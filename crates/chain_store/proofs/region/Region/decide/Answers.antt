@@ -1,0 +1,9 @@
+use Rattle.std.proofs.Common.{refl}
+use Rattle.chain_store.proofs.Beginning.{hold_learnt}
+use Rattle.chain_store.proofs.region.Region.decide.Goals as goal
+
+pub returns-clause-hold : goal.returns-clause-hold
+returns-clause-hold c =
+    hold_learnt c.args.self.now c.args.hold.now
+    (record { passes = c.args.hold.now.passes; seat = c.decide.new.seat; next = c.args.hold.now.next }) c.requires.hold
+    refl refl c.decide.ensures.seat

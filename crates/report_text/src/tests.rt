@@ -1,5 +1,0 @@
-// Whole reports, printed, and sinks that fail.
-mod made;
-mod regions;
-mod small;
-mod whole;

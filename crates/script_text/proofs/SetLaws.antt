@@ -1,0 +1,167 @@
+-- The set of the colours that a line names, made name by name.
+use Rattle.std.proofs.Common.{◌≡◌, ℕ, ◌^◌, ◌≢◌, inl, inr, Bool, true, false, ◌||◌, eqb, ◌+◌, ◌≤◌, List, [], ◌∷◌, ◌++◌, length, length-append, Option, Some, None, Ok, bit_or, refl, sym, ap, ◌∙◌, arith}
+use Rattle.std.specs.List.{list_any, fold}
+use Rattle.std.specs.Int.{bit_at}
+use Rattle.std.specs.Str.{bytes_eq}
+use Rattle.std.proofs.lemmas.Bool.{cases_Bool, eqb-true, eqb-false, eq-eqb, ne_eqb, both_ways}
+use Rattle.std.proofs.lemmas.Nat.Bits.{bit_at_or, bit_at-zero, bit_at-lt, bit_at-pow_same, bit_at-pow_other}
+use Rattle.std.proofs.lemmas.List.Sums.{fold_push}
+use Rattle.std.proofs.lemmas.Slice.Eq.{bytes_eq-Decides}
+use Rattle.log_node.specs.declared.ids.Colours.{Colours}
+use Rattle.log_node.specs.Sets.{has}
+use Rattle.script_text.specs.declared.fault.Fault.{Fault}
+use Rattle.script_text.specs.declared.fault.Fault.TheVariants as faults
+use Rattle.script_text.specs.declared.script.Reason.TheVariants as reasons
+use Rattle.script_text.specs.Pieces.{names_in, is_among, number_of}
+use Rattle.script_text.specs.Items.{set_of}
+use Rattle.script_text.specs.Readings.{Fails, number_at, each_at, colour_at, fresh_colour_at, colours_at, colours_set_at}
+use Rattle.script_text.proofs.EachLemmas.{with_front, each_step, fails_on, done_on}
+use Rattle.script_text.proofs.NameLemmas.{number_found, found_ok, colour_ok, few_colours}
+
+abbrev pub put : ℕ → ℕ → ℕ
+put set c = bit_or set (2 ^ c)
+
+-- ---- members
+
+one_more : (a m c : ℕ) → eqb (bit_at (put a m) c) 1 ≡ (eqb (bit_at a c) 1 || eqb m c)
+one_more a m c = elim (cases_Bool (eqb m c)) [
+  | inl same ↦
+      let e = eqb-true m c same in
+      let one : bit_at (put a m) c ≡ 1 = let lt = bit_at-lt a c in let p : bit_at (2 ^ m) c ≡ 1 = rw e (bit_at-pow_same c) in omega (arith, bit_at_or a (2 ^ m) c, p, lt) in
+      rw (one, same) (or_true (eqb (bit_at a c) 1))
+  | inr apart ↦
+      let zero : bit_at (2 ^ m) c ≡ 0 = bit_at-pow_other m c (λ e. eqb-false m c apart (sym e)) in
+      let as_before : bit_at (put a m) c ≡ bit_at a c = omega (arith, bit_at_or a (2 ^ m) c, zero) in
+      rw (as_before, apart) (or_false (eqb (bit_at a c) 1))
+] where
+  or_true : (b : Bool) → true ≡ (b || true)
+  or_true true = refl
+  or_true false = refl
+
+  or_false : (b : Bool) → b ≡ (b || false)
+  or_false true = refl
+  or_false false = refl
+
+or_group : (x y z : Bool) → ((x || y) || z) ≡ (x || (y || z))
+or_group true y z = refl
+or_group false y z = refl
+
+all_more : (order : List ℕ) (a c : ℕ) → eqb (bit_at (fold put a order) c) 1 ≡ (eqb (bit_at a c) 1 || list_any (λ m. eqb m c) order)
+all_more [] a c = or_false (eqb (bit_at a c) 1) where
+  or_false : (b : Bool) → b ≡ (b || false)
+  or_false true = refl
+  or_false false = refl
+all_more (m ∷ order) a c =
+    all_more order (put a m) c ∙ ap (λ b. b || list_any (λ m. eqb m c) order) (one_more a m c) ∙ or_group (eqb (bit_at a c) 1) (eqb m c) (list_any (λ m. eqb m c) order)
+
+pub has_set : (order : List ℕ) (c : ℕ) → has (set_of order) c ≡ list_any (λ m. eqb m c) order
+has_set order c = all_more order 0 c ∙ rw (bit_at-zero c) refl
+
+-- ---- names and their numbers
+
+-- these are the numbers of those names
+abbrev pub AreNumbered : List (List ℕ) → List (List ℕ) → List ℕ → Type 0
+AreNumbered names [] [] = Unit {0}
+AreNumbered names [] (n ∷ order) = ⊥
+AreNumbered names (name ∷ earlier) [] = ⊥
+AreNumbered names (name ∷ earlier) (n ∷ order) = (number_of names name ≡ Some n) × AreNumbered names earlier order
+
+pub numbered_more : (names earlier : List (List ℕ)) (order : List ℕ) (name : List ℕ) (n : ℕ) → AreNumbered names earlier order → number_of names name ≡ Some n
+    → AreNumbered names (earlier ++ name ∷ []) (order ++ n ∷ [])
+numbered_more names [] [] name n h e = (e, tt)
+numbered_more names [] (m ∷ order) name n h e = absurd h
+numbered_more names (other ∷ earlier) [] name n h e = absurd h
+numbered_more names (other ∷ earlier) (m ∷ order) name n h e = (h.0, numbered_more names earlier order name n h.1 e)
+
+some_is : (m n : ℕ) (o : Option ℕ) → o ≡ Some m → o ≡ Some n → m ≡ n
+some_is m n o e f = cc
+
+alike : (names : List (List ℕ)) (field name : List ℕ) (c m : ℕ) → number_of names field ≡ Some c → number_of names name ≡ Some m → bytes_eq field name ≡ eqb m c
+alike names field name c m e f = elim (cases_Bool (bytes_eq field name)) [
+  | inl same ↦
+      let is = (bytes_eq-Decides field name).0 same in
+      same ∙ sym (eq-eqb m c (some_is m c (number_of names field) (ap (number_of names) is ∙ f) e))
+  | inr apart ↦
+      let unlike : m ≢ c = λ is. both_ways (bytes_eq field name) apart ((bytes_eq-Decides field name).1 (sym (number_found names field c e).1 ∙ rw (← is) (number_found names name m f).1)) in
+      apart ∙ sym (ne_eqb m c unlike)
+]
+
+among_numbers : (names earlier : List (List ℕ)) (order : List ℕ) (field : List ℕ) (c : ℕ) → AreNumbered names earlier order → number_of names field ≡ Some c
+    → list_any (λ m. eqb m c) order ≡ is_among earlier field
+among_numbers names [] [] field c h e = refl
+among_numbers names [] (m ∷ order) field c h e = absurd h
+among_numbers names (name ∷ earlier) [] field c h e = absurd h
+among_numbers names (name ∷ earlier) (m ∷ order) field c h e = rw (alike names field name c m e h.0, among_numbers names earlier order field c h.1 e) refl
+
+-- a colour that is not in the set of the earlier ones is one that no earlier field names
+pub new_colour_is : (names earlier : List (List ℕ)) (order : List ℕ) (field : List ℕ) → AreNumbered names earlier order
+    → fresh_colour_at names (set_of order) field ≡ colour_at names earlier field
+unfolding number_at colour_at fresh_colour_at
+new_colour_is names earlier order field h = by (number_of names field) refl where
+  by : (o : Option ℕ) → number_of names field ≡ o
+      → fresh_colour_at names (set_of order) field ≡ colour_at names earlier field
+  by None e = rw e refl
+  by (Some c) e = rw (e, has_set order c, among_numbers names earlier order field c h e) refl
+
+-- ---- one step of the loop
+
+-- what a loop over the names keeps: what was read, and what is still read
+pub record IsRead (names : List (List ℕ)) (cols rest : List ℕ) (set : Colours) (count : ℕ) : Type 0 where
+  pub earlier : List (List ℕ)
+  pub order : List ℕ
+  pub so_far : with_front order (each_at (colour_at names) earlier (names_in rest)) ≡ colours_at names (names_in cols)
+  pub numbered : AreNumbered names earlier order
+  pub set_is : set ≡ set_of order
+  pub count_is : count ≡ length order
+
+module _ (names : List (List ℕ)) (cols rest : List ℕ) (set : Colours) (count : ℕ) (h : IsRead names cols rest set count) where
+  reads : (field : List ℕ) → fresh_colour_at names set field ≡ colour_at names h.earlier field
+  reads field = rw h.set_is (new_colour_is names h.earlier h.order field h.numbered)
+
+  -- the next name is refused, and so are the colours
+  pub stops : (field : List ℕ) (later : List (List ℕ)) (fault : Fault) → names_in rest ≡ field ∷ later → Fails fault (fresh_colour_at names set field) → Fails fault (colours_set_at names (names_in cols))
+  unfolding colours_set_at
+  stops field later faults.NoMemory cut e = tt
+  stops field later (faults.Refused why) cut e =
+      rw (sym h.so_far ∙ ap (λ fields. with_front h.order (each_at (colour_at names) h.earlier fields)) cut ∙ fails_on (colour_at names) h.earlier h.order field later why (sym (reads field) ∙ e)) refl
+
+  -- the set with the colour of the next name
+  abbrev set_with : ℕ → Colours
+  set_with colour = record { 0 = put set.0 colour }
+
+  number_is : (field : List ℕ) (colour : ℕ) → fresh_colour_at names set field ≡ Ok colour → number_of names field ≡ Some colour
+  unfolding number_at
+  number_is field colour e = found_ok reasons.UnknownColour (number_of names field) colour (colour_ok names h.earlier field colour (sym (reads field) ∙ e)).0
+
+  -- the name is read, and the others are read on
+  pub goes_on : (field later : List ℕ) (colour : ℕ) → names_in rest ≡ field ∷ names_in later → fresh_colour_at names set field ≡ Ok colour → IsRead names cols later (set_with colour) (count + 1)
+  goes_on field later colour cut e = record {
+    earlier = h.earlier ++ field ∷ [];
+    order = h.order ++ colour ∷ [];
+    so_far = sym (each_step (colour_at names) h.earlier h.order field (names_in later) colour (sym (reads field) ∙ e))
+        ∙ ap (λ fields. with_front h.order (each_at (colour_at names) h.earlier fields)) (sym cut) ∙ h.so_far;
+    numbered = numbered_more names h.earlier h.order field colour h.numbered (number_is field colour e);
+    set_is = rw h.set_is (ap (λ (s : ℕ). as_set s) (sym (fold_push put 0 h.order colour)));
+    count_is = omega (arith, length-append h.order (colour ∷ []), h.count_is);
+  } where
+    as_set : ℕ → Colours
+    as_set s = record { 0 = s }
+
+  -- the last name is read
+  pub ends : (field : List ℕ) (colour : ℕ) → names_in rest ≡ field ∷ [] → fresh_colour_at names set field ≡ Ok colour
+      → colours_at names (names_in cols) ≡ Ok (h.order ++ colour ∷ [])
+  ends field colour cut e =
+      sym h.so_far ∙ ap (λ fields. with_front h.order (each_at (colour_at names) h.earlier fields)) cut
+      ∙ each_step (colour_at names) h.earlier h.order field [] colour (sym (reads field) ∙ e) ∙ done_on (colour_at names) (h.earlier ++ field ∷ []) (h.order ++ colour ∷ [])
+
+  pub gives : (field : List ℕ) (colour : ℕ) → names_in rest ≡ field ∷ [] → fresh_colour_at names set field ≡ Ok colour
+      → colours_set_at names (names_in cols) ≡ Ok (set_with colour, count + 1)
+  unfolding colours_set_at
+  gives field colour cut e =
+      let n : count + 1 ≡ length (h.order ++ colour ∷ []) = omega (arith, length-append h.order (colour ∷ []), h.count_is) in
+      let s : put set.0 colour ≡ fold put 0 (h.order ++ colour ∷ []) = rw h.set_is (sym (fold_push put 0 h.order colour)) in
+      rw (ends field colour cut e, n, s) refl
+
+  pub few : (field : List ℕ) (colour : ℕ) → length names ≤ 16 → names_in rest ≡ field ∷ [] → fresh_colour_at names set field ≡ Ok colour → count + 1 ≤ 16
+  few field colour small cut e =
+      omega (arith, few_colours names (names_in cols) (h.order ++ colour ∷ []) small (ends field colour cut e), length-append h.order (colour ∷ []), h.count_is)

@@ -1,0 +1,261 @@
+-- Syncs, reads, pulls and trims that look elsewhere or at another time than they may.
+use Rattle.std.proofs.Common.{◌≡◌, inl, inr, ℕ, zero, suc, ◌<◌, ◌≤◌, List, [], ◌∷◌, length, take, Some, None, refl, ap, sym, subst}
+use Rattle.std.proofs.Common.{◌∙◌, arith, lit<, slice_get, codes}
+use Rattle.std.proofs.Math.Nat.{le-max_right}
+use Rattle.std.specs.Prelude.{max, slice_index}
+use Rattle.std.specs.Option.{option_map}
+use Rattle.std.specs.List.{AllZip}
+use Rattle.log_node.specs.declared.ids.Id.{Id}
+use Rattle.log_node.specs.declared.ids.Key.{Key}
+use Rattle.log_node.specs.declared.ids.Counts.{Counts}
+use Rattle.log_node.specs.declared.ids.Colours.{Colours}
+use Rattle.object_fold.specs.Maps.{shard_value}
+use Rattle.log_node.specs.declared.node.Node.{Node}
+use Rattle.col_core.specs.declared.Event.TheVariants.{Single, Give, Trim, Raise}
+use Rattle.col_core.specs.declared.Entry.{Entry}
+use Rattle.col_core.specs.History.{line}
+use Rattle.col_core.specs.RegionOrder.{IsRegionOrder}
+use Rattle.col_core.specs.Log.{Log}
+use Rattle.col_core.specs.Keeping.{Kept, with_read}
+use Rattle.script_text.specs.declared.script.Kind.{Kind}
+use Rattle.script_text.specs.declared.script.Kind.TheVariants as kinds
+use Rattle.script_text.specs.declared.script.What.TheVariants as whats
+use Rattle.lawful_run.specs.Callers.{Caller, caller_of}
+use Rattle.lawful_run.specs.Asks.{kind_of}
+use Rattle.lawful_run.specs.Reads.{HidesRead, ShowsKey}
+use Rattle.lawful_run.specs.Refusals.{FindsNoMemory, nothing, gone, gave, hidden}
+use Rattle.lawful_run.specs.Lawful.{LawfulRun}
+use Rattle.wrong_reports.specs.Cases.{Case, IsUnlawful, a, b, e, x, id, by, counts, enters}
+use Rattle.wrong_reports.specs.Naming.{one_node, trim, trimmed}
+use Rattle.wrong_reports.specs.Shown.{shown}
+use Rattle.wrong_reports.specs.Looks.{a_sync_of_another_colour, a_scan_of_another_text, a_scan_under_another_stamp}
+use Rattle.wrong_reports.specs.Looks.{a_trim_told_as_a_raise, a_raise_behind_what_was_seen, a_raise_that_was_seen}
+use Rattle.wrong_reports.specs.Looks.{a_read_that_leaves_the_floor, a_trim_told_as_a_look, a_give_told_as_a_look}
+use Rattle.wrong_reports.specs.Looks.{a_trim_told_as_a_give, a_carry_beyond_the_events, a_pull_behind_what_was_seen}
+use Rattle.wrong_reports.specs.Looks.{a_carry_that_was_seen, a_get_of_another_colour, a_causal_get_of_another_colour}
+use Rattle.wrong_reports.specs.Looks.{a_dequeue_of_another_colour, a_refused_read_that_keeps_an_earlier_one}
+use Rattle.wrong_reports.specs.Looks.{a_raise_before_its_clients_node_is_settled, a_value_of_another_text}
+use Rattle.wrong_reports.proofs.Tools.{only, ends_with, column_at, some_same}
+use Rattle.wrong_reports.proofs.Told.{two, trim_says, stood_says, several_says}
+use Rattle.wrong_reports.proofs.WrongReads.{scan_says}
+use Rattle.wrong_reports.proofs.WrongMoves.{pull_says}
+use Rattle.wrong_reports.proofs.WrongVerdict.{the_key, one_read, one_object, node_is}
+use Rattle.wrong_reports.proofs.WrongRefusals.{syncs_leave}
+
+-- SYNCS AND SCANS
+pub sync_elsewhere : IsUnlawful a_sync_of_another_colour
+sync_elsewhere run =
+    let w = (only run.log _ _ _ _ (run.clients 0 _ refl).explained).explained.0 in
+    cc (w)
+
+s_is_no_t : codes "s" ≡ codes "t" → ⊥
+s_is_no_t e = let f : 115 ≡ 116 = ap (λ t. slice_index t 0) e in omega (arith, f)
+
+pub other_text : IsUnlawful a_scan_of_another_text
+other_text run =
+    let t = two run.log _ _ _ _ _ _ (run.clients 0 _ refl).explained in
+    let next = (stood_says run.log _ _ _ _ _ _ _ _ _ _ _ t.first).0.next in
+    let said = scan_says run.log _ _ _ _ _ _ _ _ _ _ _ t.second in
+    let h = (column_at a_scan_of_another_text run 0 one_node refl).history in
+    let order = subst (λ (es : List Entry). IsRegionOrder (line (take 1 es) ∷ []) 1 said.keys)
+    (sym h) said.are_read in
+    let lines = subst (λ (ks : List Key). AllZip (ShowsKey run.log) ks (shown 1 (codes "t") ∷ [])) (one_read said.keys order)
+    said.lines in
+    let has = lines.0.1 in
+    let node = some_same _ has.0 (sym next ∙ has.1) in
+    s_is_no_t (ap (λ (n : Node). n.text) node ∙ has.3)
+
+pub other_stamp : IsUnlawful a_scan_under_another_stamp
+other_stamp run =
+    let t = two run.log _ _ _ _ _ _ (run.clients 0 _ refl).explained in
+    let said = scan_says run.log _ _ _ _ _ _ _ _ _ _ _ t.second in
+    by _ said.keys said.are_read said.lines where
+      by : (lines : List (List Key)) (keys : List Key) → IsRegionOrder lines 1 keys
+          → AllZip (ShowsKey run.log) keys (shown 2 (codes "s") ∷ []) → ⊥
+      by lines [] order z = z
+      by lines (k ∷ keys) order z =
+          let l = (order.no_other k (0, (let l : 0 < length (k ∷ keys) = omega arith in l), refl)).0 in
+          let s : 2 ≡ k.stamp = ap (λ (k : Key). k.stamp) z.0.0 in
+          omega (arith, l, s)
+
+no_raise : (v : Counts) (to : ℕ) → Trim v ≡ Raise to → ⊥
+no_raise v to e = cc (e)
+
+pub trim_as_raise : IsUnlawful a_trim_told_as_a_raise
+trim_as_raise run =
+    let s = only run.log _ _ _ _ (run.clients 0 _ refl).explained in
+    let r = (scan_says run.log _ _ _ _ _ _ _ _ _ _ _ s).reads.raising.0.2 in
+    let h = (column_at a_trim_told_as_a_raise run 0 (trimmed (trim ∷ [])) refl).history in
+    let same = some_same trim _ (ap (λ (es : List Entry). slice_get es 0) h ∙ r) in
+    no_raise _ _ (ap (λ (en : Entry). en.event) same)
+
+pub raise_behind : IsUnlawful a_raise_behind_what_was_seen
+raise_behind run =
+    let t = two run.log _ _ _ _ _ _ (run.clients 0 _ refl).explained in
+    let k = ap (λ (k : Kept). k.seen 0 0) (trim_says run.log _ _ _ _ _ _ _ _ t.first).1 in
+    let u = (scan_says run.log _ _ _ _ _ _ _ _ _ _ _ t.second).reads.raising.0.0 in
+    omega (arith, k, u)
+
+pub raise_seen : IsUnlawful a_raise_that_was_seen
+raise_seen run =
+    let t = two run.log _ _ _ _ _ _ (run.clients 0 _ refl).explained in
+    let k = ap (λ (k : Kept). k.seen 0 0) (pull_says run.log _ _ _ _ _ _ _ _ _ t.first).after_is in
+    let u = (scan_says run.log _ _ _ _ _ _ _ _ _ _ _ t.second).reads.raising.0.0 in
+    omega (arith, k, u)
+
+pub raise_unsettled : IsUnlawful a_raise_before_its_clients_node_is_settled
+raise_unsettled run =
+    let t = two run.log _ _ _ _ _ _ (run.clients 0 _ refl).explained in
+    let k = ap (λ (k : Kept). k.known 0) (several_says run.log _ _ _ _ _ _ _ _ _ _ t.first).3 in
+    let r = (scan_says run.log _ _ _ _ _ _ _ _ _ _ _ t.second).reads.raising.0.1 in
+    let h = (column_at a_raise_before_its_clients_node_is_settled run 0 _ refl).history in
+    let l : 0 ≡ length (line (take 1 (run.log.histories 0 0))) =
+    ap (λ (es : List Entry). length (line (take 1 es))) h in
+    omega (arith, k, r, l)
+
+single_floor : (i j : Id) (floor other : ℕ) (wants more : Counts)
+    → Single i floor wants ≡ Single j other more → floor ≡ other
+single_floor i j floor other wants more e = cc (e)
+
+pub leaves_floor : IsUnlawful a_read_that_leaves_the_floor
+leaves_floor run =
+    let t = two run.log _ _ _ _ _ _ (run.clients 0 _ refl).explained in
+    let r = (scan_says run.log _ _ _ _ _ _ _ _ _ _ _ t.first).reads in
+    let floor : t.kept.floor ≡ max r.synced.floor 1 = ap (λ (k : Kept). k.floor) (t.first.after_is ∙ r.after_is) in
+    let s = (stood_says run.log _ _ _ _ _ _ _ _ _ _ _ t.second).0.entered in
+    let h = (column_at a_read_that_leaves_the_floor run 0 _ refl).history in
+    let same = some_same (enters a (id a 0) 0 2) _ (ap (λ (es : List Entry). slice_get es 2) h ∙ s) in
+    let f : 0 ≡ t.kept.floor = single_floor _ _ _ _ _ _ (ap (λ (en : Entry). en.event) same) in
+    let le = le-max_right r.synced.floor 1 in
+    omega (arith, floor, f, le)
+
+-- PULLS AND TRIMS
+pub trim_as_look : IsUnlawful a_trim_told_as_a_look
+trim_as_look run =
+    let p = (only run.log _ _ _ _ (run.clients 0 _ refl).explained).explained.4 in
+    cc (p)
+
+pub give_as_look : IsUnlawful a_give_told_as_a_look
+give_as_look run =
+    let p = (only run.log _ _ _ _ (run.clients 1 _ refl).explained).explained.5 in
+    cc (p)
+
+no_give : (v : Counts) (region from : ℕ) → Trim v ≡ Give region from → ⊥
+no_give v region from e = cc (e)
+
+pub trim_as_give : IsUnlawful a_trim_told_as_a_give
+trim_as_give run =
+    let p = (pull_says run.log _ _ _ _ _ _ _ _ _ (only run.log _ _ _ _ (run.clients 1 _ refl).explained)).says.gives in
+    let h = (column_at a_trim_told_as_a_give run 0 _ refl).history in
+    let same = some_same (by b (Trim (counts 0 0)) 0) _ (ap (λ (es : List Entry). slice_get es 0) h ∙ p) in
+    no_give _ _ _ (ap (λ (en : Entry). en.event) same)
+
+pub carry_beyond : IsUnlawful a_carry_beyond_the_events
+carry_beyond run =
+    let c = (pull_says run.log _ _ _ _ _ _ _ _ _ (only run.log _ _ _ _
+    (run.clients 1 _ refl).explained)).says.carries.1 in
+    let h = (column_at a_carry_beyond_the_events run 1 _ refl).history in
+    let l : 0 ≡ length (run.log.histories 1 0) = ap (λ (es : List Entry). length es) h in
+    omega (arith, c, l)
+
+pub pull_behind : IsUnlawful a_pull_behind_what_was_seen
+pull_behind run =
+    let t = two run.log _ _ _ _ _ _ (run.clients 1 _ refl).explained in
+    let k = ap (λ (k : Kept). k.seen 1 0) (trim_says run.log _ _ _ _ _ _ _ _ t.first).1 in
+    let u = (pull_says run.log _ _ _ _ _ _ _ _ _ t.second).says.carries.0 in
+    omega (arith, k, u)
+
+pub carry_seen : IsUnlawful a_carry_that_was_seen
+carry_seen run =
+    let t = two run.log _ _ _ _ _ _ (run.clients 1 _ refl).explained in
+    let k = ap (λ (k : Kept). k.seen 1 0) (t.first.after_is ∙ t.first.explained.4) in
+    let u = (pull_says run.log _ _ _ _ _ _ _ _ _ t.second).says.carries.0 in
+    omega (arith, k, u)
+
+-- OBJECTS
+pub get_elsewhere : IsUnlawful a_get_of_another_colour
+get_elsewhere run =
+    let c = (only run.log _ _ _ _ (run.clients 0 _ refl).explained).explained.7 in
+    cc (c)
+
+same_object : (object other : ℕ) (key more : List ℕ) → whats.Get object key ≡ whats.Get other more → object ≡ other
+same_object object other key more e = cc (e)
+
+pub causal_elsewhere : IsUnlawful a_causal_get_of_another_colour
+causal_elsewhere run =
+    let said = (only run.log _ _ _ _ (run.clients 0 _ refl).explained).explained in
+    let o = same_object _ _ _ _ said.3 in
+    let f : Some (kinds.Causal 0) ≡ Some (kinds.Causal 1) =
+    ap (λ o. kind_of (caller_of a_causal_get_of_another_colour.script 0) o) o ∙ said.4 in
+    cc (f)
+
+pub dequeue_elsewhere : IsUnlawful a_dequeue_of_another_colour
+dequeue_elsewhere run =
+    let c = (only run.log _ _ _ _ (run.clients 0 _ refl).explained).explained.2 in
+    omega (arith, c)
+
+asked_key : (object other : ℕ) (key more : List ℕ) → whats.Get object key ≡ whats.Get other more → key ≡ more
+asked_key object other key more e = cc (e)
+
+colours_are : (home other : ℕ) (colours more : List ℕ)
+    → Some (kinds.Map home colours) ≡ Some (kinds.Map other more) → colours ≡ more
+colours_are home other colours more e = cc (e)
+
+puts : (key : Key) (c : Colours)
+    → shard_value (0 ∷ []) 0 (record { key = key; colours = c; text = codes "p:k=v" } ∷ []) (codes "k") ≡ Some (codes "v")
+puts key c = refl
+
+w_is_no_v : Some (codes "w") ≡ Some (codes "v") → ⊥
+w_is_no_v e = let f : 119 ≡ 118 = ap (λ t. slice_index t 0) (some_same _ _ e) in omega (arith, f)
+
+pub another_text : IsUnlawful a_value_of_another_text
+another_text run =
+    let t = two run.log _ _ _ _ _ _ (run.clients 0 _ refl).explained in
+    let next = (stood_says run.log _ _ _ _ _ _ _ _ _ _ _ t.first).0.next in
+    let s = t.second.explained in
+    let h = (column_at a_value_of_another_text run 0 one_node refl).history in
+    let caller = caller_of a_value_of_another_text.script 0 in
+    let object : 0 ≡ s.1 = same_object _ _ _ _ s.3 in
+    let asked : codes "k" ≡ s.2 = asked_key _ _ _ _ s.3 in
+    let colours : 0 ∷ [] ≡ s.5 = colours_are _ _ _ _ (ap (λ o. kind_of caller o) object ∙ s.6) in
+    let g = s.9 in
+    let keys : take 1 (line (take 1 (run.log.histories 0 0))) ≡ the_key ∷ [] =
+    ap (λ (es : List Entry). take 1 (line (take 1 es))) (sym h) in
+    let one = one_object run.log _ g.nodes keys g.played in
+    let node = some_same _ _ (sym next ∙ one.1.there) in
+    let text : one.0.text ≡ codes "p:k=v" = one.1.text ∙ ap (λ (n : Node). n.text) (sym node) in
+    let is = node_is one.0 the_key (codes "p:k=v") one.1.key_is text in
+    w_is_no_v (g.value_is ∙ ap (λ ns. shard_value s.5 0 ns s.2) (one.2
+    ∙ ap (λ n. n ∷ []) is)
+    ∙ ap (λ cs. shard_value cs 0 (record { key = the_key; colours = one.0.colours; text = codes "p:k=v" } ∷ []) s.2)
+    (sym colours)
+    ∙ ap (λ k. shard_value (0 ∷ []) 0 (record { key = the_key; colours = one.0.colours; text = codes "p:k=v" } ∷ []) k)
+    (sym asked)
+    ∙ puts the_key one.0.colours)
+
+-- a read that found no memory finds nothing
+reads_none : (log : Log) (caller : Caller) (kept after : Kept) (keys : List (List ℕ)) → kept.reads 0 ≡ None
+    → FindsNoMemory log caller kept (whats.Read 0 keys) after → after.reads 0 ≡ None
+reads_none log caller kept after keys none nothing = none
+reads_none log caller kept after keys none (gone colours text places asks is) = absurd asks
+reads_none log caller kept after keys none (gave region colour too_low gives pull low few all) =
+    absurd (let f : ⊥ = cc (pull) in f)
+reads_none log caller kept after keys none (hidden other hides) = by other _ hides where
+  by : (other : Kept) (colours : List ℕ) → HidesRead log caller kept colours other → other.reads 0 ≡ None
+  by other colours h =
+      let is : other.reads 0 ≡ h.synced.reads 0 = elim h.after_is [
+        | inl f ↦ ap (λ (k : Kept). k.reads 0) f
+        | inr f ↦ ap (λ (k : Kept). k.reads 0) f
+      ] in
+      let l = (syncs_leave log caller kept h.synced colours h.syncing).reads in
+      is ∙ subst (λ (f : ℕ → _). f 0 ≡ kept.reads 0) (sym l) refl ∙ none
+
+pub keeps_earlier : IsUnlawful a_refused_read_that_keeps_an_earlier_one
+keeps_earlier run =
+    let last = ends_with run.log _ (_ ∷ _ ∷ []) (_ ∷ _ ∷ []) _ _ _ (run.clients 0 _ refl).explained in
+    let t = two run.log _ _ _ _ _ _ last.before in
+    let reads = last.last.explained.2.2.1 in
+    let none = ap (λ (k : Kept). k.reads 0) t.second.after_is
+    ∙ reads_none run.log _ (with_read t.kept 0 None) _ _ refl t.second.explained.1 in
+    let g : None ≡ Some _ = sym none ∙ reads in
+    cc (g)

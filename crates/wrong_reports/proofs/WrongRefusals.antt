@@ -1,0 +1,330 @@
+-- What refused commands did that they may not have done, and refusals that do not come so.
+use Rattle.std.proofs.Common.{◌≡◌, ◌⊎◌, inl, inr, ℕ, zero, suc, ◌<◌, ◌≤◌, List, [], ◌∷◌, ◌++◌, length, take, Some, refl, ap}
+use Rattle.std.proofs.Common.{sym, subst, ◌∙◌, arith, lit<, lit≤, slice_get, codes}
+use Rattle.std.proofs.Math.Nat.{le-max_right}
+use Rattle.std.specs.Prelude.{max, slice_index_or}
+use Rattle.std.specs.List.{All, Contains}
+use Rattle.log_node.specs.declared.ids.Counts.{Counts}
+use Rattle.log_node.specs.declared.ids.Colours.{Colours}
+use Rattle.log_node.specs.declared.node.At.TheVariants.{Event}
+use Rattle.log_node.specs.declared.node.Node.{Node}
+use Rattle.log_node.specs.Sets.{members}
+use Rattle.log_node.specs.Vectors.{at}
+use Rattle.col_core.specs.declared.Event.TheVariants.{Raise}
+use Rattle.col_core.specs.declared.Entry.{Entry}
+use Rattle.col_core.specs.History.{clock}
+use Rattle.log_node.specs.Reach.{IsGreatestReachable}
+use Rattle.col_core.specs.Cuts.{chain, base}
+use Rattle.col_core.specs.Computed.{dated}
+use Rattle.col_core.specs.Log.{Log, places_of}
+use Rattle.col_core.specs.Keeping.{Kept, nothing_kept, updated}
+use Rattle.script_text.specs.declared.script.Object.{Object}
+use Rattle.script_text.specs.declared.script.What.TheVariants as whats
+use Rattle.report_text.specs.declared.report.ColumnReport.{ColumnReport}
+use Rattle.lawful_run.specs.Callers.{Caller, caller_of, node_of}
+use Rattle.lawful_run.specs.Appends.{IsSettledIn}
+use Rattle.lawful_run.specs.Reads.{RaisesAt, HidesRead, HidesSync, HidesSyncs, not_played, played}
+use Rattle.lawful_run.specs.Moves.{GivesTooLow, with_places}
+use Rattle.lawful_run.specs.Refusals.{FindsNoMemory, nothing, gone, gave, hidden}
+use Rattle.lawful_run.specs.Lawful.{LawfulRun}
+use Rattle.wrong_reports.specs.Cases.{IsUnlawful, a, x, y, by, on_x, on_both}
+use Rattle.wrong_reports.specs.Rows.{proposed}
+use Rattle.wrong_reports.specs.Proposals.{of_z}
+use Rattle.wrong_reports.specs.Objects.{map, queue}
+use Rattle.wrong_reports.specs.Hidden.{raised, on_yz, a_hidden_raise_below_the_floor, a_hidden_raise_below_a_clock}
+use Rattle.wrong_reports.specs.Hidden.{a_hidden_raise_in_another_colour, a_gets_hidden_look_at_nothing}
+use Rattle.wrong_reports.specs.Hidden.{a_dequeues_hidden_look_at_nothing, a_refused_pull_that_gives_twice}
+use Rattle.wrong_reports.specs.Hidden.{a_refused_pull_that_carries, trimmed_by_nothing, a_stop_at_once_that_is_full}
+use Rattle.wrong_reports.specs.Hidden.{the_stamps_end_of_what_is_open, a_base_behind_what_was_seen}
+use Rattle.wrong_reports.proofs.Tools.{only, ends_with, column_at, some_same}
+use Rattle.wrong_reports.proofs.Told.{two, trim_says, stood_says}
+use Rattle.wrong_reports.proofs.BegunRows.{one_row}
+use Rattle.wrong_reports.proofs.WrongMoves.{trim_counts}
+use Rattle.wrong_reports.proofs.WrongRows.{gone_at_end}
+use Rattle.wrong_reports.proofs.WrongStops.{open_in_x}
+use Rattle.wrong_reports.proofs.WrongHidden.{too_much, reached}
+
+-- the client a of the one region e
+abbrev pub in_e : List Object → Caller
+in_e objects = record { client = 0; own = 0; regions = 1; rows = 1; objects = objects }
+
+-- the syncs of a command that was refused make no events, and leave what was read
+pub record Leaves (kept after : Kept) : Type 0 where
+  pub made : after.made ≡ kept.made
+  pub reads : after.reads ≡ kept.reads
+
+pub syncs_leave : (log : Log) (caller : Caller) (kept after : Kept) (colours : List ℕ)
+    → HidesSyncs log caller kept colours after → Leaves kept after
+syncs_leave log caller kept after [] h = record { made = ap (λ (k : Kept). k.made) h; reads = ap (λ (k : Kept). k.reads) h }
+syncs_leave log caller kept after (c ∷ cs) (snapshot, stamp, s, rest) =
+    let l = syncs_leave log caller
+    (record kept { floor = max kept.floor stamp; starts = updated kept.starts c snapshot }) after cs rest in
+    record { made = l.made; reads = l.reads }
+
+-- A SCAN'S RAISES
+-- a scan that found no memory raised a colour by the first event there
+record HiddenRaise (log : Log) (kept after : Kept) (colours : Colours) (colour : ℕ) : Type 0 where
+  pub reads : HidesRead log (in_e []) kept (members colours) after
+  pub there : Contains (members colours) colour
+  pub raises : RaisesAt log (in_e []) kept reads.stamp colour (Event 0)
+
+raised_first : (log : Log) (kept after : Kept) (colours : Colours) (colour : ℕ) → kept.made 0 colour ≡ []
+    → 0 ∷ [] ≡ after.made 0 colour → FindsNoMemory log (in_e []) kept (whats.Scan colours) after
+    → HiddenRaise log kept after colours colour
+raised_first log kept after colours colour none made nothing = absurd (let f : 0 ∷ [] ≡ [] = made ∙ none in cc (f))
+raised_first log kept after colours colour none made (gone set text places asks is) = absurd asks
+raised_first log kept after colours colour none made (gave region other too_low gives pull low few all) =
+    absurd (let f : ⊥ = cc (pull) in f)
+raised_first log kept after colours colour none made (hidden other hides) = by other hides made where
+  by : (other : Kept) → HidesRead log (in_e []) kept (members colours) other → 0 ∷ [] ≡ other.made 0 colour
+      → HiddenRaise log kept other colours colour
+  by other h made =
+      let is : h.synced.made 0 colour ++ h.places colour ≡ other.made 0 colour = elim h.after_is [
+        | inl f ↦ sym (ap (λ (k : Kept). k.made 0 colour) f)
+        | inr f ↦ sym (ap (λ (k : Kept). k.made 0 colour) f)
+      ] in
+      let synced : h.synced.made 0 colour ≡ [] =
+      ap (λ (m : ℕ → ℕ → List ℕ). m 0 colour) (syncs_leave log _ kept _ _ h.syncing).made ∙ none in
+      let places : 0 ∷ [] ≡ h.places colour = made ∙ sym is ∙ ap (λ ps. ps ++ h.places colour) synced in
+      let P : ℕ → Type 0 = λ place. Contains (members colours) colour
+      × RaisesAt log (in_e []) kept h.stamp colour (Event place) in
+      let first = subst (All P) (sym places) (h.raises colour) 0 0 (lit< tt) in
+      record { reads = h; there = first.0; raises = first.1 }
+
+raised_to : (one other : ℕ) → Raise one ≡ Raise other → one ≡ other
+raised_to one other e = cc (e)
+
+-- the stamp of a raise to 1
+stamp_is : {log : Log} {kept after : Kept} {colours : Colours} {colour : ℕ} (r : HiddenRaise log kept after colours colour)
+    → by a (Raise 1) 0 ∷ [] ≡ log.histories 0 colour → 1 ≡ r.reads.stamp
+stamp_is r h =
+    let there = r.raises.2 in
+    raised_to _ _ (ap (λ (en : Entry). en.event)
+    (some_same (by a (Raise 1) 0) _ (ap (λ (es : List Entry). slice_get es 0) h ∙ there)))
+
+pub below_floor : IsUnlawful a_hidden_raise_below_the_floor
+below_floor run =
+    let client = run.clients 0 _ refl in
+    let last = ends_with run.log _ (_ ∷ _ ∷ []) (_ ∷ _ ∷ []) _ _ _ client.explained in
+    let t = two run.log _ _ _ _ _ _ last.before in
+    let one = (stood_says run.log _ _ _ _ _ _ _ _ _ _ _ t.first).1 in
+    let other = (stood_says run.log _ _ _ _ _ _ _ _ _ _ _ t.second).1 in
+    let h = (column_at a_hidden_raise_below_the_floor run 2 (of_z (raised x)) refl).history in
+    let made = ap (places_of 0) h ∙ client.made 0 2 (lit< tt) (lit< tt)
+    ∙ ap (λ (k : Kept). k.made 0 2) last.last.after_is in
+    let none : last.kept.made 0 2 ≡ [] = ap (λ (k : Kept). k.made 0 2) other ∙ ap (λ (k : Kept). k.made 0 2) one in
+    let r = raised_first run.log last.kept last.last.answered on_yz 2 none made last.last.explained.1 in
+    let s = stamp_is r h in
+    let floor : last.kept.floor ≡ max t.kept.floor 2 = ap (λ (k : Kept). k.floor) other in
+    let above = r.reads.above_floor in
+    let le = le-max_right t.kept.floor 2 in
+    omega (arith, s, floor, above, le)
+
+pub below_clock : IsUnlawful a_hidden_raise_below_a_clock
+below_clock run =
+    let client = run.clients 0 _ refl in
+    let last = ends_with run.log _ (_ ∷ _ ∷ []) (_ ∷ _ ∷ []) _ _ _ client.explained in
+    let t = two run.log _ _ _ _ _ _ last.before in
+    let one = (stood_says run.log _ _ _ _ _ _ _ _ _ _ _ t.first).1 in
+    let other = t.second.after_is ∙ t.second.explained.4 in
+    let h = (column_at a_hidden_raise_below_a_clock run 1 (raised y) refl).history in
+    let of_x = (column_at a_hidden_raise_below_a_clock run 0 _ refl).history in
+    let made = ap (places_of 0) h ∙ client.made 0 1 (lit< tt) (lit< tt)
+    ∙ ap (λ (k : Kept). k.made 0 1) last.last.after_is in
+    let none : last.kept.made 0 1 ≡ [] = ap (λ (k : Kept). k.made 0 1) other ∙ ap (λ (k : Kept). k.made 0 1) one in
+    let r = raised_first run.log last.kept last.last.answered on_both 1 none made last.last.explained.1 in
+    let s = stamp_is r h in
+    let seen : last.kept.seen 0 0 ≡ 2 = ap (λ (k : Kept). k.seen 0 0) other in
+    let d : clock (take (last.kept.seen 0 0) (run.log.histories 0 0)) ≡ 2 =
+    ap (λ n. clock (take n (run.log.histories 0 0))) seen ∙ ap (λ (es : List Entry). clock (take 2 es)) (sym of_x) in
+    let above = (r.reads.above_clocks 0 0 (lit< tt)).1 in
+    omega (arith, s, d, above)
+
+pub other_colour : IsUnlawful a_hidden_raise_in_another_colour
+other_colour run =
+    let client = run.clients 0 _ refl in
+    let t = two run.log _ _ _ _ _ _ client.explained in
+    let one = (stood_says run.log _ _ _ _ _ _ _ _ _ _ _ t.first).1 in
+    let h = (column_at a_hidden_raise_in_another_colour run 1 (raised y) refl).history in
+    let made = ap (places_of 0) h ∙ client.made 0 1 (lit< tt) (lit< tt) ∙ ap (λ (k : Kept). k.made 0 1) t.second.after_is in
+    let none : t.kept.made 0 1 ≡ [] = ap (λ (k : Kept). k.made 0 1) one in
+    not_x (raised_first run.log t.kept t.second.answered on_x 1 none made t.second.explained.1).there where
+      not_x : Contains {X = ℕ} (0 ∷ []) 1 → ⊥
+      not_x (zero, lt, same) = omega (arith, same)
+      not_x (suc k, lt, same) = let f : ⊥ = omega (arith, lt) in f
+
+-- OBJECTS
+plays_none : (log : Log) (objects : List Object) → too_much ∷ [] ≡ log.histories 0 0 → (snapshot : Counts) (stamp : ℕ)
+    → HidesSync log (in_e objects) nothing_kept 0 snapshot stamp → at snapshot 0 ≡ 0
+plays_none log objects h snapshot stamp not_played = refl
+plays_none log objects h snapshot stamp (played events snap syncs) =
+    reached events snap (subst (λ (es : List Entry). events ≤ length es) (sym h) syncs.there)
+    (subst (λ (es : List Entry). IsGreatestReachable (chain 0 (dated 0 (take events es))) snap) (sym h) syncs.cut)
+
+syncs_none : (log : Log) (objects : List Object) (after : Kept) → too_much ∷ [] ≡ log.histories 0 0
+    → HidesSyncs log (in_e objects) nothing_kept (0 ∷ []) after → at (after.starts 0) 0 ≡ 0
+syncs_none log objects after h s = ap (λ (k : Kept). at (k.starts 0) 0) s.3 ∙ plays_none log objects h s.0 s.1 s.2
+
+abbrev the_map : List Object
+the_map = record { name = codes "o"; kind = map } ∷ []
+
+abbrev the_queue : List Object
+the_queue = record { name = codes "o"; kind = queue } ∷ []
+
+got_none : (log : Log) (after : Kept) → too_much ∷ [] ≡ log.histories 0 0
+    → FindsNoMemory log (in_e the_map) nothing_kept (whats.Get 0 (codes "k")) after → at (after.starts 0) 0 ≡ 0
+got_none log after h nothing = refl
+got_none log after h (gone colours text places asks is) = absurd asks
+got_none log after h (gave region colour too_low gives pull low few all) = absurd (let f : ⊥ = cc (pull) in f)
+got_none log after h (hidden other hides) = syncs_none log the_map other h hides
+
+took_none : (log : Log) (after : Kept) → too_much ∷ [] ≡ log.histories 0 0
+    → FindsNoMemory log (in_e the_queue) nothing_kept (whats.Deq 0) after → at (after.starts 0) 0 ≡ 0
+took_none log after h nothing = refl
+took_none log after h (gone colours text places asks is) =
+    absurd (let s = is.begins.several in let l = ap (λ (cs : List ℕ). length cs) asks.0 in omega (arith, s, l))
+took_none log after h (gave region colour too_low gives pull low few all) = absurd (let f : ⊥ = cc (pull) in f)
+took_none log after h (hidden other hides) = syncs_none log the_queue other h hides
+
+pub get_looks : IsUnlawful a_gets_hidden_look_at_nothing
+get_looks run =
+    let t = two run.log _ _ _ _ _ _ (run.clients 0 _ refl).explained in
+    let trims = (trim_says run.log _ _ _ _ _ _ _ _ t.second).0.trimmed in
+    let h = (column_at a_gets_hidden_look_at_nothing run 0 _ refl).history in
+    let same = some_same too_much _ (ap (λ (es : List Entry). slice_get es 0) h ∙ trims) in
+    let start = trim_counts _ _ (ap (λ (en : Entry). en.event) same) in
+    let none = got_none run.log _ h t.first.explained.1 in
+    let f : 1 ≡ 0 = ap (λ v. at v 0) start ∙ ap (λ (k : Kept). at (k.starts 0) 0) t.first.after_is ∙ none in
+    omega (arith, f)
+
+pub dequeue_looks : IsUnlawful a_dequeues_hidden_look_at_nothing
+dequeue_looks run =
+    let t = two run.log _ _ _ _ _ _ (run.clients 0 _ refl).explained in
+    let trims = (trim_says run.log _ _ _ _ _ _ _ _ t.second).0.trimmed in
+    let h = (column_at a_dequeues_hidden_look_at_nothing run 0 _ refl).history in
+    let same = some_same too_much _ (ap (λ (es : List Entry). slice_get es 0) h ∙ trims) in
+    let start = trim_counts _ _ (ap (λ (en : Entry). en.event) same) in
+    let none = took_none run.log _ h t.first.explained.1 in
+    let f : 1 ≡ 0 = ap (λ v. at v 0) start ∙ ap (λ (k : Kept). at (k.starts 0) 0) t.first.after_is ∙ none in
+    omega (arith, f)
+
+-- PULLS
+-- what a pull of the region e made, which found no memory
+made_by : (kept : Kept) (region colour own of : ℕ) (places : List ℕ) (too_low gives : List ℕ)
+    → whats.Pull 0 0 ≡ whats.Pull region colour
+    → places ≡ (with_places (with_places kept region colour too_low) region colour gives).made own of
+    → places ≡ (with_places (with_places kept 0 0 too_low) 0 0 gives).made own of
+made_by kept region colour own of places too_low gives pull made =
+    let r : region ≡ 0 = cc (pull) in
+    let c : colour ≡ 0 = cc (pull) in
+    subst (λ c. places ≡ (with_places (with_places kept 0 c too_low) 0 c gives).made own of) c
+    (subst (λ r. places ≡ (with_places (with_places kept r colour too_low) r colour gives).made own of) r made)
+
+module _ (run : LawfulRun a_refused_pull_that_gives_twice.script a_refused_pull_that_gives_twice.report) where
+  abbrev b_of_w : Caller
+  b_of_w = caller_of a_refused_pull_that_gives_twice.script 1
+
+  two_gives : (too_low gives : List ℕ) → All (GivesTooLow run.log b_of_w 0 0) too_low → length gives ≤ 1
+      → 0 ∷ 1 ∷ [] ≡ too_low ++ gives → ⊥
+  two_gives [] gives low few made =
+      let l : 2 ≡ length gives = ap (λ (ps : List ℕ). length ps) made in
+      omega (arith, few, l)
+  two_gives (p ∷ ps) gives low few made =
+      let first : 0 ≡ p = cc (made) in
+      let h = (column_at a_refused_pull_that_gives_twice run 0 _ refl).history in
+      let again = (subst (λ p. GivesTooLow run.log b_of_w 0 0 p) (sym first)
+      (low 0 p (let l : 0 < length (p ∷ ps) = omega arith in l))).2 in
+      let none : at (base 0 2 (dated 0 (take 0 (run.log.histories 0 0)))) 0 ≡ 0 =
+      ap (λ (es : List Entry). at (base 0 2 (dated 0 (take 0 es))) 0) (sym h) in
+      omega (arith, again, none)
+
+  gave_twice : (after : Kept) → FindsNoMemory run.log b_of_w nothing_kept (whats.Pull 0 0) after
+      → 0 ∷ 1 ∷ [] ≡ after.made 0 0 → ⊥
+  gave_twice after nothing made = cc (made)
+  gave_twice after (gone colours text places asks is) made = asks
+  gave_twice after (gave region colour too_low gives pull low few all) made =
+      let r : region ≡ 0 = cc (pull) in
+      let c : colour ≡ 0 = cc (pull) in
+      two_gives too_low gives (subst (λ c. All (GivesTooLow run.log b_of_w 0 c) too_low) c
+      (subst (λ r. All (GivesTooLow run.log b_of_w r colour) too_low) r low)) few
+      (made_by nothing_kept region colour 0 0 _ too_low gives pull made)
+  gave_twice after (hidden other hides) made =
+      let f : 0 ∷ 1 ∷ [] ≡ [] = made ∙ ap (λ (k : Kept). k.made 0 0) hides in
+      cc (f)
+
+pub gives_twice : IsUnlawful a_refused_pull_that_gives_twice
+gives_twice run =
+    let client = run.clients 1 _ refl in
+    let s = only run.log _ _ _ _ client.explained in
+    let h = (column_at a_refused_pull_that_gives_twice run 0 _ refl).history in
+    let made = ap (places_of 1) h ∙ client.made 0 0 (lit< tt) (lit< tt) in
+    gave_twice run _ s.explained.1 (made ∙ ap (λ (k : Kept). k.made 0 0) s.after_is)
+
+carried_none : (log : Log) (after : Kept)
+    → FindsNoMemory log (caller_of a_refused_pull_that_carries.script 1) nothing_kept (whats.Pull 0 0) after
+    → 0 ∷ [] ≡ after.made 1 0 → ⊥
+carried_none log after nothing made = cc (made)
+carried_none log after (gone colours text places asks is) made = asks
+carried_none log after (gave region colour too_low gives pull low few all) made =
+    let f : 0 ∷ [] ≡ [] = made_by nothing_kept region colour 1 0 _ too_low gives pull made in
+    cc (f)
+carried_none log after (hidden other hides) made =
+    let f : 0 ∷ [] ≡ [] = made ∙ ap (λ (k : Kept). k.made 1 0) hides in
+    cc (f)
+
+pub carries : IsUnlawful a_refused_pull_that_carries
+carries run =
+    let client = run.clients 1 _ refl in
+    let s = only run.log _ _ _ _ client.explained in
+    let h = (column_at a_refused_pull_that_carries run 1 _ refl).history in
+    let made = ap (places_of 1) h ∙ client.made 1 0 (lit< tt) (lit< tt) in
+    carried_none run.log _ s.explained.1 (made ∙ ap (λ (k : Kept). k.made 1 0) s.after_is)
+
+-- REFUSALS
+pub by_nothing : IsUnlawful trimmed_by_nothing
+by_nothing run =
+    let t = (only run.log _ _ _ _ (run.clients 0 _ refl).explained).explained.3 in
+    let h = (column_at trimmed_by_nothing run 0 _ refl).history in
+    let l : 0 ≡ length (run.log.histories 0 0) = ap (λ (es : List Entry). length es) h in
+    let there = t.there in
+    let n : t.events ≡ 0 = omega (arith, there, l) in
+    let f : 1 ≡ 0 = ap (λ (v : Counts). at v 0) (t.is_base
+    ∙ ap (λ n. base 0 1 (dated 0 (take n (run.log.histories 0 0)))) n
+    ∙ ap (λ (es : List Entry). base 0 1 (dated 0 (take 0 es))) (sym h)) in
+    omega (arith, f)
+
+pub earlier_base : IsUnlawful a_base_behind_what_was_seen
+earlier_base run =
+    let s = two run.log _ _ _ _ _ _ (run.clients 0 _ refl).explained in
+    let k = ap (λ (k : Kept). k.seen 0 0) (stood_says run.log _ _ _ _ _ _ _ _ _ _ _ s.first).1 in
+    let t = s.second.explained.3 in
+    let h = (column_at a_base_behind_what_was_seen run 0 _ refl).history in
+    let l : 5 ≡ length (run.log.histories 0 0) = ap (λ (es : List Entry). length es) h in
+    let there = t.there in
+    let unseen = t.unseen in
+    let n : t.events ≡ 5 = omega (arith, k, unseen, there, l) in
+    let f : 1 ≡ 2 = ap (λ (v : Counts). at v 0) (t.is_base
+    ∙ ap (λ n. base 0 1 (dated 0 (take n (run.log.histories 0 0)))) n
+    ∙ ap (λ (es : List Entry). base 0 1 (dated 0 (take 5 es))) (sym h)) in
+    omega (arith, f)
+
+pub at_once : IsUnlawful a_stop_at_once_that_is_full
+at_once run =
+    let t = two run.log _ _ _ _ _ _ (run.clients 0 _ refl).explained in
+    t.second.explained.1 on_both (codes "t") refl
+
+pub still_open : IsUnlawful the_stamps_end_of_what_is_open
+still_open run =
+    let t = two run.log _ _ _ _ _ _ (run.clients 0 _ refl).explained in
+    let said = t.first.explained.2 in
+    let several : 2 ≤ length (members said.0) =
+    subst (λ (cs : Colours). 2 ≤ length (members cs)) (sym said.2.0) (lit≤ tt) in
+    let settled = (gone_at_end run.log _ _ _ _ _ several said.3).1.settled in
+    let some = subst (λ (cs : Colours). 0 < length (members cs)) (sym said.2.0) (lit< tt) in
+    let first : slice_index_or (members said.0) 0 0 ≡ 0 = ap (λ (cs : Colours). slice_index_or (members cs) 0 0)
+    said.2.0 in
+    let h = (column_at the_stamps_end_of_what_is_open run 0 (proposed x) refl).history in
+    let caller = caller_of the_stamps_end_of_what_is_open.script 0 in
+    let node = node_of caller nothing_kept said.0 said.1 in
+    open_in_x run.log caller node _ _ refl refl refl h (one_row 0 (run.log.rows 0) _ run.begun.all)
+    (subst (λ c. IsSettledIn run.log caller node c) first (settled 0 0 some))
