@@ -109,7 +109,8 @@ other_stamp run =
     omega (arith, f)
 
 -- COMMITS
-same_object : (object other : ℕ) (keys more : List (List ℕ)) → whats.Read object keys ≡ whats.Read other more → object ≡ other
+same_object : (object other : ℕ) (keys more : List (List ℕ))
+    → whats.Read object keys ≡ whats.Read other more → object ≡ other
 same_object object other keys more e = cc (e)
 
 -- a node that was proposed and not settled stands nowhere
@@ -135,7 +136,8 @@ not_settled run =
       | inr f ↦
           let objects = t.first.explained.5 in
           let reads = ap (λ (k : Kept). k.reads 0) (t.first.after_is ∙ f.4
-          ∙ ap (λ o. with_read t.first.explained.1 o (Some (versions_after objects f.1))) (sym (same_object _ _ _ _ f.2))) in
+          ∙ ap (λ o. with_read t.first.explained.1 o (Some (versions_after objects f.1)))
+          (sym (same_object _ _ _ _ f.2))) in
           let versions : versions_after objects f.1 ≡ said.2.0 = some_same _ _ (sym reads ∙ said.2.1) in
           let asked : codes "j" ∷ [] ≡ f.1 = same_read _ _ _ _ f.2 in
           let are = ap (λ ks. versions_after objects ks) asked ∙ versions in
