@@ -143,8 +143,10 @@ module _ (r : Region) (h g : Hold) (x : Node) (row : Row) (is : IsHold r h) (sam
 
   fits : IsRowNode r.board.size r.number row x
   fits = record {
-    on_board = (let c = is.clients.0 in let e = ap (λ (z : Row). z.client) next.1 in omega (arith, c, e),
-        let u = next.0 in let e = ap (λ (z : Row). z.number) next.1 in omega (arith, u, e));
+    on_board = (
+      let c = is.clients.0 in let e = ap (λ (z : Row). z.client) next.1 in omega (arith, c, e),
+      let u = next.0 in let e = ap (λ (z : Row). z.number) next.1 in omega (arith, u, e),
+    );
     named = named row next;
     client = mine ∙ sym (ap (λ (z : Row). z.client) row_is);
     in_region = region;

@@ -35,12 +35,12 @@ dealt_one old now ps i z m is c d p dealt e here at got =
       same = length-set now m d ∙ dealt.same;
       got = λ n b l there. elim (got_set now m n d b there) [
         | inl t ↦ (
-              c,
-              p,
-              ap (slice_get old) t.0 ∙ sym (dealt.early m (omega (arith, e))) ∙ ap (slice_get now) (sym is) ∙ at,
-              ap (slice_get ps) t.0 ∙ here,
-              subst (λ (x : ColumnPasses). Got c x p) t.1 got,
-            )
+          c,
+          p,
+          ap (slice_get old) t.0 ∙ sym (dealt.early m (omega (arith, e))) ∙ ap (slice_get now) (sym is) ∙ at,
+          ap (slice_get ps) t.0 ∙ here,
+          subst (λ (x : ColumnPasses). Got c x p) t.1 got,
+        )
         | inr t ↦ let far : n ≢ m = t.0 in dealt.got n b (omega (arith, far, l, e)) t.1
       ];
       early = λ n l. set_other now m n d (λ z. omega (arith, z, l)) ∙ dealt.early n (omega (arith, l, e));
@@ -73,10 +73,11 @@ pub have_more : (cells more : List ColumnCell) (c : ColumnCell) (old new : List 
     → HaveAll cells old → Dealt old new ps 0 → more ≡ c ∷ cells → AreNewHolders c m ps → HaveAll more new
 have_more cells more c old new ps m all dealt is each n d at =
     let t = dealt.got n d (omega arith) at in
-    let b = all n t.0 t.2 in
-    (t.4.0 ∙ b.0,
-    subst (λ (z : List ColumnCell). HasNew z n d.items.items) (sym is)
-    (subst (HasNew (c ∷ cells) n) (sym t.4.1) (has_more cells c t.0.items.items t.1 n b.1 (each.1 n t.1 t.3))))
+    let b = all n t.0 t.2 in (
+      t.4.0 ∙ b.0,
+      subst (λ (z : List ColumnCell). HasNew z n d.items.items) (sym is)
+          (subst (HasNew (c ∷ cells) n) (sym t.4.1) (has_more cells c t.0.items.items t.1 n b.1 (each.1 n t.1 t.3))),
+    )
 
 -- the columns from the colour i on are tied, and then those from m on
 pub tied_more : (b : Board) (region regions i m : ℕ) (c : ColumnCell) (cells more : List ColumnCell) → i ≡ m + 1
@@ -101,10 +102,11 @@ zip_one ps ss i m x hs more e is zipped p s none n h at = by n (ap (λ l. slice_
       → (slice_get ps (m + n) ≡ Some h.passes) × (slice_get ss (m + n) ≡ Some h.seat) × (h.next ≡ 0)
   by zero here =
       let same : x ≡ h = cc (here) in
-      let w : m + 0 ≡ m = omega arith in
-      (ap (slice_get ps) w ∙ p ∙ ap (λ (y : Hold). Some y.passes) same,
-      ap (slice_get ss) w ∙ s ∙ ap (λ (y : Hold). Some y.seat) same,
-      ap (λ (y : Hold). y.next) (sym same) ∙ none)
+      let w : m + 0 ≡ m = omega arith in (
+        ap (slice_get ps) w ∙ p ∙ ap (λ (y : Hold). Some y.passes) same,
+        ap (slice_get ss) w ∙ s ∙ ap (λ (y : Hold). Some y.seat) same,
+        ap (λ (y : Hold). y.next) (sym same) ∙ none,
+      )
   by (suc n) here =
       let t = zipped n h here in
       let w : m + suc n ≡ i + n = omega (arith, e) in
@@ -132,32 +134,32 @@ pub new_holds : (r : Region) (ps : List ColumnPasses) (ss : List Seat) (hs given
 new_holds r ps ss hs given is count clients all zipped =
     subst (AreNewHolds r) (sym is)
     ((count, λ n h at. ((hold n h at).0, (hold n h at).1)), λ n h at. (hold n h at).2) where
-  hold : (n : ℕ) (h : Hold) → slice_get hs n ≡ Some h → IsHold r h × (h.passes.number ≡ n) × IsNewHold h
-  hold n h at =
-      let t = zipped n h at in
-      let w : 0 + n ≡ n = omega arith in
-      let f = clients n h.seat (ap (slice_get ss) (sym w) ∙ t.1) in
-      let p = all n h.passes (ap (slice_get ps) (sym w) ∙ t.0) in
-      let used : h.seat.used ≡ 0 = f.used in
-      let seen : (c : ℕ) → turned_in h c ≡ [] =
-      λ c. seen_none (slice_get h.passes.items.items c) (λ q here. p.1.1 c q here) in (
-        record {
-          passes = subst (λ (z : ℕ). HasPasses r.columns.items z h.passes.items.items) (sym p.0) p.1.0;
-          seat = f.board;
-          clients = f.clients;
-          number = f.client ∙ sym p.0;
-          owns = record {
-            nodes = λ j. no_node;
-            known = λ j l. absurd (omega (arith, used, l));
-            fit = λ j l. absurd (omega (arith, used, l));
-            below = λ j l. absurd (omega (arith, used, l));
-            rising = λ i j l m. absurd (omega (arith, used, m));
-            entries = λ c k u there. absurd
-                (let none = ap (λ (l : List Told). slice_get (made_by maker h.passes.number l) k) (seen c) in
-                let f : None ≡ Some u = sym none ∙ there in
-                cc (f));
-          };
-        },
-        p.0,
-        record { seen = seen; known = f.known; begun = f.begun; used = f.used; next = t.2 },
-      )
+      hold : (n : ℕ) (h : Hold) → slice_get hs n ≡ Some h → IsHold r h × (h.passes.number ≡ n) × IsNewHold h
+      hold n h at =
+          let t = zipped n h at in
+          let w : 0 + n ≡ n = omega arith in
+          let f = clients n h.seat (ap (slice_get ss) (sym w) ∙ t.1) in
+          let p = all n h.passes (ap (slice_get ps) (sym w) ∙ t.0) in
+          let used : h.seat.used ≡ 0 = f.used in
+          let seen : (c : ℕ) → turned_in h c ≡ [] =
+          λ c. seen_none (slice_get h.passes.items.items c) (λ q here. p.1.1 c q here) in (
+            record {
+              passes = subst (λ (z : ℕ). HasPasses r.columns.items z h.passes.items.items) (sym p.0) p.1.0;
+              seat = f.board;
+              clients = f.clients;
+              number = f.client ∙ sym p.0;
+              owns = record {
+                nodes = λ j. no_node;
+                known = λ j l. absurd (omega (arith, used, l));
+                fit = λ j l. absurd (omega (arith, used, l));
+                below = λ j l. absurd (omega (arith, used, l));
+                rising = λ i j l m. absurd (omega (arith, used, m));
+                entries = λ c k u there. absurd
+                    (let none = ap (λ (l : List Told). slice_get (made_by maker h.passes.number l) k) (seen c) in
+                    let f : None ≡ Some u = sym none ∙ there in
+                    cc (f));
+              };
+            },
+            p.0,
+            record { seen = seen; known = f.known; begun = f.begun; used = f.used; next = t.2 },
+          )

@@ -70,7 +70,7 @@ entered_row : (v : View) (region colour : ℕ) (id : Id) (x : Node) (row : Row) 
     → IsRowOf v row x × FitsColumn region colour x
 entered_row v region colour id x row (events.Single other floor wants) nodes brought it of brings backs =
     absurd (let same = one_of x brings.0 nodes brought brings.1 in
-        let f : Some row ≡ None = sym of ∙ ap (λ (y : Node). y.row) same ∙ brings.2 in let g : ⊥ = cc in g)
+    let f : Some row ≡ None = sym of ∙ ap (λ (y : Node). y.row) same ∙ brings.2 in let g : ⊥ = cc in g)
 entered_row v region colour id x row (events.Propose other floor wants) nodes brought it of brings backs =
     let one = one_of brings.0 x nodes brings.1 brought in
     let two = one_of backs.0 x nodes backs.2 brought in

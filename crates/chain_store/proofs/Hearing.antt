@@ -40,9 +40,9 @@ made_between n xs es log a b whole =
     let short : length (made_by maker n a.0) ≡ 0 = omega (arith, long, l, m) in
     first ∙ ap (λ (l : List Told). made_by maker n xs ++ l) (empty (made_by maker n a.0) short)
     ∙ append-nil (made_by maker n xs) where
-  empty : (l : List Told) → length l ≡ 0 → l ≡ []
-  empty [] e = refl
-  empty (x ∷ l) e = absurd (omega (arith, e))
+      empty : (l : List Told) → length l ≡ 0 → l ≡ []
+      empty [] e = refl
+      empty (x ∷ l) e = absurd (omega (arith, e))
 
 -- a pass that was split knows what it knew
 pub split_holder : (c : ColumnCell) (n : ℕ) (p q : ColumnPass) → IsHolder c n p → IsReady tag_of c q × IsSameView p q

@@ -178,10 +178,10 @@ module _ (r : Region) (h g : Hold) (k : ℕ) (c : ColumnCell) (p q : ColumnPass)
           | inl e ↦ elim (get_cases (made_in h k) t i u
               (ap (λ (l : List Told). slice_get l i) (sym (made_more t place by m))
               ∙ subst (λ (z : ℕ). slice_get (made_in g z) i ≡ Some u) e at)) [
-            | inl old ↦ inl (subst (λ (z : ℕ). slice_get (made_in h z) i ≡ Some u) (sym e) old)
-            | inr same ↦ inr (subst (λ (x : Told). IsAccountedFor n h.seat.used g.next is.owns.nodes x.entry.event)
-                same fits)
-          ]
+                | inl old ↦ inl (subst (λ (z : ℕ). slice_get (made_in h z) i ≡ Some u) (sym e) old)
+                | inr same ↦ inr (subst (λ (x : Told). IsAccountedFor n h.seat.used g.next is.owns.nodes x.entry.event)
+                    same fits)
+              ]
           | inr ne ↦ inl (ap (λ (l : List Told). slice_get l i) (sym (made_else j ne)) ∙ at)
         ]))
 

@@ -99,8 +99,8 @@ module _ (k : Size) (ws : List ℕ) (v : View) (may : MayBe k ws v) (row : Row) 
       (sym (if_false (slice_index ws (row_word k row) == 0) Open
       (outcome_of (marks_at k ws (row_at k row) record { 0 = slice_index ws (row_word k row) }))
       (not_zero (slice_index ws (row_word k row)) b.0)) ∙ is) where
-    not_zero : (n : ℕ) → n ≢ 0 → (n == 0) ≡ false
-    not_zero n ne = by_test ((n == 0) ≡ false) (n == 0) (λ t. absurd (ne (eqb-true n 0 t))) (λ z. z)
+        not_zero : (n : ℕ) → n ≢ 0 → (n == 0) ≡ false
+        not_zero n ne = by_test ((n == 0) ≡ false) (n == 0) (λ t. absurd (ne (eqb-true n 0 t))) (λ z. z)
 
   -- where a row keeps a final outcome, the mark of each of its colours has a number at most the final one
   pub under_final : (c : ℕ) → has x.colours c ≡ true → c < 64 → IsUnder (mark_in k ws row c) f

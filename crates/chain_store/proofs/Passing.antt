@@ -53,16 +53,24 @@ pub made_place : (n : ℕ) (log : List Told) (i : ℕ) (t : Told) → slice_get 
     → (j : ℕ) × (slice_get (made_by maker n log) j ≡ Some t)
 made_place n [] i t at by = absurd cc
 made_place n (u ∷ log) zero t at by =
-    let same : u ≡ t = cc at in
-    (0, ap (λ l. slice_get l 0) (if_true (maker u == n) (u ∷ made_by maker n log) (made_by maker n log)
-    (eq-eqb (maker u) n (ap maker same ∙ by))) ∙ at)
+    let same : u ≡ t = cc at in (
+      0,
+      ap (λ l. slice_get l 0) (if_true (maker u == n) (u ∷ made_by maker n log) (made_by maker n log)
+          (eq-eqb (maker u) n (ap maker same ∙ by))) ∙ at,
+    )
 made_place n (u ∷ log) (suc i) t at by =
     let r = made_place n log i t at by in
     by_test ((j : ℕ) × (slice_get (made_by maker n (u ∷ log)) j ≡ Some t)) (maker u == n)
-    (λ here. (suc r.0, ap (λ l. slice_get l (suc r.0))
-    (if_true (maker u == n) (u ∷ made_by maker n log) (made_by maker n log) here) ∙ r.1))
-    (λ other. (r.0, ap (λ l. slice_get l r.0)
-    (if_false (maker u == n) (u ∷ made_by maker n log) (made_by maker n log) other) ∙ r.1))
+    (λ here. (
+      suc r.0,
+      ap (λ l. slice_get l (suc r.0))
+          (if_true (maker u == n) (u ∷ made_by maker n log) (made_by maker n log) here) ∙ r.1,
+    ))
+    (λ other. (
+      r.0,
+      ap (λ l. slice_get l r.0)
+          (if_false (maker u == n) (u ∷ made_by maker n log) (made_by maker n log) other) ∙ r.1,
+    ))
 
 -- what a column stands for is lawful
 pub lawful_of : (s : Seated) (t : Tag) (log : List Told) → Stands s log → tag_of s ≡ t

@@ -95,9 +95,9 @@ in_stored w v (u ∷ us) i = by_test ((w ≡ v) ⊎ In v (u ∷ us)) (key_below 
     (if_true (key_below w.key u.key) (w ∷ u ∷ us) (u ∷ with_stored w us) t) i)
     (λ f. later (in_stored w v us) (subst (λ (l : List (Waiting EnteredNode)). In v l)
     (if_false (key_below w.key u.key) (w ∷ u ∷ us) (u ∷ with_stored w us) f) i)) where
-  later : (In v (with_stored w us) → (w ≡ v) ⊎ In v us) → In v (u ∷ with_stored w us) → (w ≡ v) ⊎ In v (u ∷ us)
-  later rest (inl e) = inr (inl e)
-  later rest (inr j) = elim (rest j) [ | inl e ↦ inl e | inr k ↦ inr (inr k) ]
+      later : (In v (with_stored w us) → (w ≡ v) ⊎ In v us) → In v (u ∷ with_stored w us) → (w ≡ v) ⊎ In v (u ∷ us)
+      later rest (inl e) = inr (inl e)
+      later rest (inr j) = elim (rest j) [ inl e ↦ inl e | inr k ↦ inr (inr k) ]
 
 -- a stored entry after a settling was stored under the same id, with the same node
 abbrev WasStored : List (Waiting EnteredNode) → Waiting EnteredNode → Type 0
@@ -112,13 +112,12 @@ settled_was id (Final f) ws v i = from (find (λ (w : Waiting EnteredNode). is_o
       → In v (with_found f o (stored_without id ws)) → WasStored ws v
   from None e j = (v, (in_filter (λ (w : Waiting EnteredNode). not (same_id w.key.id id)) v ws j).0, refl, refl)
   from (Some w) e j = elim (in_stored (final_entry f w) v (stored_without id ws) j) [
-    | inl same ↦
-        (
-          w,
-          found_in (λ (w : Waiting EnteredNode). is_open_id id (standing_of w)) ws w e,
-          ap (λ (z : Waiting EnteredNode). z.key.id) same,
-          ap (λ (z : Waiting EnteredNode). z.thing) same,
-        )
+    | inl same ↦ (
+      w,
+      found_in (λ (w : Waiting EnteredNode). is_open_id id (standing_of w)) ws w e,
+      ap (λ (z : Waiting EnteredNode). z.key.id) same,
+      ap (λ (z : Waiting EnteredNode). z.thing) same,
+    )
     | inr k ↦ (v, (in_filter (λ (w : Waiting EnteredNode). not (same_id w.key.id id)) v ws k).0, refl, refl)
   ]
 
@@ -466,15 +465,13 @@ module _ (column new : ColumnState) (by : ℕ) (id : Id) (o : Outcome) (b : Bool
   pub settles_keep : (new.region ≡ column.region) × (new.colour ≡ column.colour) × (new.regions ≡ column.regions)
   settles_keep = by_test ((new.region ≡ column.region) × (new.colour ≡ column.colour) × (new.regions ≡ column.regions)) b
       (λ t.
-      let e = is ∙ if_true b (after_settle column by id o) column t in
-      (
+      let e = is ∙ if_true b (after_settle column by id o) column t in (
         ap (λ (c : ColumnState). c.region) e,
         ap (λ (c : ColumnState). c.colour) e,
         ap (λ (c : ColumnState). c.regions) e,
       ))
       (λ f.
-      let e = is ∙ if_false b (after_settle column by id o) column f in
-      (
+      let e = is ∙ if_false b (after_settle column by id o) column f in (
         ap (λ (c : ColumnState). c.region) e,
         ap (λ (c : ColumnState). c.colour) e,
         ap (λ (c : ColumnState). c.regions) e,

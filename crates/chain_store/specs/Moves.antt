@@ -9,7 +9,6 @@ use Rattle.col_core.specs.declared.Event.TheVariants.{Raise, Give, Trim}
 use Rattle.col_core.specs.History.{clock, line}
 use Rattle.col_core.specs.Cuts.{chain, base}
 use Rattle.column.specs.declared.given.Given.{Given}
-
 use Rattle.chain_store.specs.declared.told.Tag.{Tag}
 use Rattle.chain_store.specs.declared.told.Told.{Told}
 use Rattle.chain_store.specs.Histories.{entries_in, EntersAs}

@@ -61,7 +61,13 @@ impl Seated {
     }
 
     /// Proposes the append of which the client's seat knows; the client's seat then knows the mark.
-    pub(crate) fn propose_told(&mut self, board: &Board, seat: &mut Seat, by: u8, begun: &Begun) -> Step
+    pub(crate) fn propose_told(
+        &mut self,
+        board: &Board,
+        seat: &mut Seat,
+        by: u8,
+        begun: &Begun,
+    ) -> Step
         requires seats { IsColumnOf board.now self.old.seat × IsSeatOf board.now seat.old }
         requires begun { KnowsRow board.now.size self.old.column.region (seen seat.old) begun.now }
         requires colour { has begun.now.colours self.old.column.colour ≡ true }
@@ -70,7 +76,7 @@ impl Seated {
         ensures seat { IsLater seat.old seat.new }
         ensures step { MatchStep result
             (λ n. (x : Node) × IsBegunRow board.now.size self.old.column.region (seen seat.new) begun.now x
-                × Gains self.old self.new (told_propose self.old.column.colour by x n))
+            × Gains self.old self.new (told_propose self.old.column.colour by x n))
             (λ _. Stays self.old self.new) }
         ensures known { KnowsMark (seen seat.new) begun.now.row self.old.column.colour (mark_after result) }
         ensures agrees { (log : List Told) → Stands self.new log

@@ -120,7 +120,7 @@ impl Seated {
         ensures seat { IsLaterColumn self.old.seat self.new.seat }
         ensures step { MatchStep result
             (λ n. (x : Node) × IsBegunRow board.now.size self.old.column.region (column_seen self.old.seat) begun.now x
-                × Gains self.old self.new (told_propose self.old.column.colour by x n))
+            × Gains self.old self.new (told_propose self.old.column.colour by x n))
             (λ _. Stays self.old self.new) }
         ensures known { KnowsMark (column_seen self.new.seat) begun.now.row self.old.column.colour
             (mark_after result) }

@@ -65,8 +65,8 @@ pub fn propose_in<R: Wait>(
     ensures agrees { stamps_of begun.now.row (seen pass.new) ≡ numbers result.mark }
     ensures at { MatchAt result.at
         (λ _. (x : Node) × (n : ℕ) × IsBegunRow board.now.size (tag_in cell.now).region (seat_seen seat.new) begun.now x
-            × (result.mark ≡ Number n)
-            × MakesOne by (told_propose (tag_in cell.now).colour by x n) (seen pass.old) (seen pass.new) result.at)
+        × (result.mark ≡ Number n)
+        × MakesOne by (told_propose (tag_in cell.now).colour by x n) (seen pass.old) (seen pass.new) result.at)
         (λ events. Looks by (seen pass.old) (seen pass.new) events) }
     ensures ended { result.mark ≡ Fenced StampEnd
         → (x : Node) × IsBegunRow board.now.size (tag_in cell.now).region (seat_seen seat.new) begun.now x

@@ -227,7 +227,6 @@ module _ (old new : Log) (later : IsLater old new) (caller : Caller) where
   hides_read_later kept colours after h = record {
     stamp = h.stamp;
     places = h.places;
-    few = h.few;
     raises = λ colour k d lt. let r = h.raises colour k d lt in
         (r.0, raise_later kept h.stamp colour (Event (slice_index_or (h.places colour) k d)) r.1);
     above_floor = h.above_floor;

@@ -166,13 +166,12 @@ HidesSyncs log caller kept (colour ∷ colours) after =
     × HidesSyncs log caller
     (record kept { floor = max kept.floor stamp; starts = updated kept.starts colour snapshot }) colours after
 
--- What a stamped read may have done of which no answer tells: at most one raise of each of its columns to its stamp,
--- which is chosen as that of any read; syncs; and that the floor rose to the stamp.
+-- What a stamped read may have done of which no answer tells: raises of its columns to its stamp, which is chosen as
+-- that of any read; syncs; and that the floor rose to the stamp. A lawful history has one raise to a stamp at most.
 pub record HidesRead (log : Log) (caller : Caller) (kept : Kept) (colours : List ℕ) (after : Kept) : Type 0 where
   pub stamp : ℕ
   -- the places of the raises, by colour
   pub places : ℕ → List ℕ
-  pub few : (colour : ℕ) → length (places colour) ≤ 1
   pub raises : (colour : ℕ) → All (λ place. Contains colours colour
       × RaisesAt log caller kept stamp colour (Event place))
       (places colour)

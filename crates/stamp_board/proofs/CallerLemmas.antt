@@ -74,11 +74,11 @@ pub rows_below_more : (s t : Seat) (row : Row) (x : Node) → row ≡ next_row_o
     → AreRowsBelow s x.id.count → AreRowsBelow t (x.id.count + 1)
 rows_below_more s t row x is begun all j lt = elim (cases_eq j s.used) [
   | inl last ↦ (
-        x,
-        subst (λ (r : Row). KnowsBegun (seen t) r x)
-            (is ∙ (λ i. record { client = sym begun.client i; number = sym last i })) begun.knows,
-        omega arith,
-      )
+    x,
+    subst (λ (r : Row). KnowsBegun (seen t) r x)
+        (is ∙ (λ i. record { client = sym begun.client i; number = sym last i })) begun.knows,
+    omega arith,
+  )
   | inr before ↦
       let near = subst (λ (n : ℕ). j < n) begun.used lt in
       let y = all j (omega (arith, near, before)) in

@@ -1,12 +1,9 @@
 -- Conditions that follow from others.
-use Rattle.std.proofs.Common.{◌≡◌, ◌⊎◌, inl, inr, ℕ, zero, suc, ◌<◌, ◌≤◌, List, [], ◌∷◌, length, map, take, Some, refl, ap, sym}
+use Rattle.std.proofs.Common.{◌≡◌, ℕ, zero, suc, ◌<◌, ◌≤◌, List, [], ◌∷◌, take, Some, refl, ap}
 use Rattle.std.proofs.Common.{subst, ◌∙◌, arith, slice_get}
 use Rattle.std.proofs.Math.Nat.{le-max_left, le-max_right}
-use Rattle.std.specs.Prelude.{max, nat_lt}
-use Rattle.log_node.specs.declared.ids.Id.{Id}
-use Rattle.log_node.specs.declared.ids.Counts.{Counts}
 use Rattle.col_core.specs.declared.Event as events
-use Rattle.col_core.specs.declared.Event.TheVariants.{Single, Raise}
+use Rattle.col_core.specs.declared.Event.TheVariants.{Raise}
 use Rattle.col_core.specs.declared.Entry.{Entry}
 use Rattle.col_core.specs.History.{clock, event_number}
 use Rattle.col_core.specs.Cuts.{Dated, entries_of}

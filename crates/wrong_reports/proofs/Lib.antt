@@ -19,6 +19,7 @@ mod WrongScans
 mod WrongStops
 mod WrongNodes
 mod WrongUnread
+mod WrongCausal
 mod WrongPoints
 mod WrongProposals
 mod WrongRefusals

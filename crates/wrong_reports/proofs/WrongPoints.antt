@@ -1,16 +1,15 @@
 -- Appends that tell a wrong place.
-use Rattle.std.proofs.Common.{◌≡◌, ◌≢◌, ℕ, zero, suc, ◌<◌, ◌≤◌, List, [], ◌∷◌, length, Some, None, refl, ap, sym, subst}
+use Rattle.std.proofs.Common.{◌≡◌, ℕ, List, [], ◌∷◌, length, refl, ap, sym}
 use Rattle.std.proofs.Common.{◌∙◌, arith, lit<, slice_get}
 use Rattle.log_node.specs.declared.ids.Id.{Id}
 use Rattle.log_node.specs.declared.ids.Counts.{Counts}
 use Rattle.log_node.specs.declared.ids.Colours.{Colours}
 use Rattle.log_node.specs.Sets.{members}
 use Rattle.log_node.specs.declared.marks.Outcome.{Outcome}
-use Rattle.log_node.specs.declared.marks.Outcome.TheVariants.{Final}
 use Rattle.col_core.specs.declared.Event.TheVariants.{Propose, Settle}
 use Rattle.col_core.specs.declared.Entry.{Entry}
 use Rattle.col_core.specs.Keeping.{Kept}
-use Rattle.wrong_reports.specs.Cases.{IsUnlawful, a, b, e, x, id, proposes, point, on_x}
+use Rattle.wrong_reports.specs.Cases.{IsUnlawful, a, b, e, x, id, proposes, point}
 use Rattle.wrong_reports.specs.Rows.{settles, complete}
 use Rattle.wrong_reports.specs.Points.{an_append_in_another_colour, a_single_told_as_a_look, point_seen}
 use Rattle.wrong_reports.specs.Points.{an_append_that_shows_a_node, an_append_of_what_was_seen}

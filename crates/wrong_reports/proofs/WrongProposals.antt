@@ -1,5 +1,5 @@
 -- Rows, proposals and settlings that no command may leave so.
-use Rattle.std.proofs.Common.{◌≡◌, ◌≢◌, ℕ, zero, suc, ◌+◌, ◌<◌, ◌≤◌, List, [], ◌∷◌, length, map, Some, None, refl, ap, sym}
+use Rattle.std.proofs.Common.{◌≡◌, ℕ, zero, suc, ◌+◌, ◌<◌, List, [], ◌∷◌, length, map, Some, refl, ap, sym}
 use Rattle.std.proofs.Common.{subst, ◌∙◌, arith, lit<, slice_get, codes}
 use Rattle.std.specs.List.{All, Contains}
 use Rattle.log_node.specs.declared.ids.Id.{Id}
@@ -12,9 +12,8 @@ use Rattle.log_node.specs.Vectors.{at, zeros}
 use Rattle.log_node.specs.declared.marks.ColourMark.{ColourMark}
 use Rattle.log_node.specs.declared.marks.Mark.TheVariants as marks
 use Rattle.log_node.specs.declared.marks.Why.TheVariants.{Memory}
-use Rattle.log_node.specs.declared.marks.Outcome.TheVariants.{Open, Gone, Final}
-use Rattle.col_core.specs.declared.Event as events
-use Rattle.col_core.specs.declared.Event.TheVariants.{Propose, Trim}
+use Rattle.log_node.specs.declared.marks.Outcome.TheVariants.{Open, Final}
+use Rattle.col_core.specs.declared.Event.TheVariants.{Propose}
 use Rattle.col_core.specs.declared.Entry.{Entry}
 use Rattle.col_core.specs.Rows.{BegunRow, AreLawfulRows, FitsRow, FitsRows, IsMarkOf, IsKept, node_wants}
 use Rattle.col_core.specs.Log.{places_of}
@@ -27,7 +26,7 @@ use Rattle.lawful_run.specs.Refusals.{FindsNoMemory, nothing, gone, gave, hidden
 use Rattle.lawful_run.specs.Lawful.{LawfulRun}
 use Rattle.wrong_reports.specs.Cases.{IsUnlawful, a, b, e, x, id, by, counts, proposes, trims, on_both}
 use Rattle.wrong_reports.specs.Rows.{row, settles, complete}
-use Rattle.wrong_reports.specs.Proposals.{row_of_first, a_row_of_another_number, a_later_row_first, a_row_too_many}
+use Rattle.wrong_reports.specs.Proposals.{a_row_of_another_number, a_later_row_first, a_row_too_many}
 use Rattle.wrong_reports.specs.Proposals.{a_proposal_with_other_wants, a_proposal_in_another_colour}
 use Rattle.wrong_reports.specs.Proposals.{a_proposal_for_no_row, a_settling_with_a_stamp, taken_out}
 use Rattle.wrong_reports.specs.Proposals.{a_stopped_append_that_settles, a_fence_of_what_was_proposed}

@@ -1,5 +1,5 @@
 -- What refused commands did that they may not have done, and refusals that do not come so.
-use Rattle.std.proofs.Common.{◌≡◌, ◌⊎◌, inl, inr, ℕ, zero, suc, ◌<◌, ◌≤◌, List, [], ◌∷◌, ◌++◌, length, take, Some, refl, ap}
+use Rattle.std.proofs.Common.{◌≡◌, inl, inr, ℕ, zero, suc, ◌<◌, ◌≤◌, List, [], ◌∷◌, ◌++◌, length, take, refl, ap}
 use Rattle.std.proofs.Common.{sym, subst, ◌∙◌, arith, lit<, lit≤, slice_get, codes}
 use Rattle.std.proofs.Math.Nat.{le-max_right}
 use Rattle.std.specs.Prelude.{max, slice_index_or}
@@ -7,7 +7,6 @@ use Rattle.std.specs.List.{All, Contains}
 use Rattle.log_node.specs.declared.ids.Counts.{Counts}
 use Rattle.log_node.specs.declared.ids.Colours.{Colours}
 use Rattle.log_node.specs.declared.node.At.TheVariants.{Event}
-use Rattle.log_node.specs.declared.node.Node.{Node}
 use Rattle.log_node.specs.Sets.{members}
 use Rattle.log_node.specs.Vectors.{at}
 use Rattle.col_core.specs.declared.Event.TheVariants.{Raise}
@@ -20,7 +19,6 @@ use Rattle.col_core.specs.Log.{Log, places_of}
 use Rattle.col_core.specs.Keeping.{Kept, nothing_kept, updated}
 use Rattle.script_text.specs.declared.script.Object.{Object}
 use Rattle.script_text.specs.declared.script.What.TheVariants as whats
-use Rattle.report_text.specs.declared.report.ColumnReport.{ColumnReport}
 use Rattle.lawful_run.specs.Callers.{Caller, caller_of, node_of}
 use Rattle.lawful_run.specs.Appends.{IsSettledIn}
 use Rattle.lawful_run.specs.Reads.{RaisesAt, HidesRead, HidesSync, HidesSyncs, not_played, played}

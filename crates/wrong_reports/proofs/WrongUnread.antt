@@ -1,26 +1,31 @@
--- Reads of several keys that are wrong, and dequeues that are told unread.
+-- Reads of several keys that are wrong, and dequeues and commits that are told unread.
 use Rattle.std.proofs.Common.{◌≡◌, inl, inr, ℕ, zero, suc, List, [], ◌∷◌, length, Some, None, refl, ap, sym, subst, ◌∙◌}
-use Rattle.std.proofs.Common.{arith, codes, slice_get}
-use Rattle.std.specs.Prelude.{IsFalse}
-use Rattle.std.specs.List.{Contains}
+use Rattle.std.proofs.Common.{arith, codes, lit<, ◌++◌, slice_get}
+use Rattle.std.specs.Prelude.{IsFalse, map}
+use Rattle.std.specs.List.{All, Contains}
 use Rattle.log_node.specs.Vectors.{is_within, zeros}
 use Rattle.log_node.specs.declared.node.Node.{Node}
+use Rattle.log_node.specs.declared.forms.Version.{Version}
 use Rattle.log_node.specs.Sets.{members}
 use Rattle.object_fold.specs.Maps.{values_among}
-use Rattle.object_fold.specs.Transactions.{values_after}
+use Rattle.object_fold.specs.Transactions.{values_after, versions_after}
 use Rattle.col_core.specs.declared.Entry.{Entry}
 use Rattle.col_core.specs.Log.{Log}
-use Rattle.col_core.specs.Keeping.{Kept, nothing_kept}
+use Rattle.col_core.specs.History.{line}
+use Rattle.col_core.specs.Keeping.{Kept, nothing_kept, with_read}
 use Rattle.script_text.specs.declared.script.What.TheVariants as whats
 use Rattle.lawful_run.specs.Callers.{Caller, caller_of}
-use Rattle.lawful_run.specs.Asks.{colours_of}
+use Rattle.lawful_run.specs.Asks.{colours_of, shards}
 use Rattle.lawful_run.specs.Objects.{AreObjectNodes}
-use Rattle.lawful_run.specs.Appends.{AppendsUnshown, one_unshown, several_unshown}
+use Rattle.lawful_run.specs.Appends.{AppendsUnshown, one_unshown, several_unshown, StandsUnder}
 use Rattle.wrong_reports.specs.Cases.{IsUnlawful, a, id, counts, enters}
 use Rattle.wrong_reports.specs.Naming.{one_node}
 use Rattle.wrong_reports.specs.Objects.{many_values_of_nothing, a_read_of_nothing, unread_where_nothing_is_trimmed}
 use Rattle.wrong_reports.specs.Objects.{unread_for_another_colour, unread_under_another_stamp}
-use Rattle.wrong_reports.proofs.Tools.{only, column_at, some_same, none_there}
+use Rattle.wrong_reports.specs.Objects.{unread_before_it_is_settled}
+use Rattle.wrong_reports.specs.Rows.{proposed}
+use Rattle.wrong_reports.proofs.Tools.{only, ends_with, column_at, some_same, none_there}
+use Rattle.wrong_reports.proofs.Told.{two}
 use Rattle.wrong_reports.proofs.WrongObjects.{no_nodes, same_asked}
 use Rattle.wrong_reports.proofs.WrongVerdict.{none_read}
 
@@ -102,3 +107,41 @@ other_stamp run =
     let h = (column_at unread_under_another_stamp run 0 one_node refl).history in
     let f : 2 ≡ 1 = stands_under run.log _ _ _ _ refl h said.2.0 said.3.1 in
     omega (arith, f)
+
+-- COMMITS
+same_object : (object other : ℕ) (keys more : List (List ℕ))
+    → whats.Read object keys ≡ whats.Read other more → object ≡ other
+same_object object other keys more e = cc (e)
+
+-- a node that was proposed and not settled stands nowhere
+stands_nowhere : (log : Log) (caller : Caller) (kept : Kept) (node : Node) (stamp : ℕ) (after : Kept)
+    → (proposed 0).journal ≡ log.histories caller.own 0 → members node.colours ≡ 0 ∷ 1 ∷ []
+    → AppendsUnshown log caller kept node stamp after → ⊥
+stands_nowhere log caller kept node stamp after h of_both (one_unshown colour place position is appends) =
+    let l : colour ∷ [] ≡ 0 ∷ 1 ∷ [] = sym is ∙ of_both in
+    cc (l)
+stands_nowhere log caller kept node stamp after h of_both (several_unshown places begins outcome stand above) =
+    let P : ℕ → Type 0 = λ colour. (position : ℕ) × StandsUnder log caller node stamp colour position in
+    let s = subst (All P) of_both stand 0 0 (lit< tt) in
+    none_there _ (ap (λ (es : List Entry). slice_get (line es) s.0) h ∙ s.1)
+
+pub not_settled : IsUnlawful unread_before_it_is_settled
+not_settled run =
+    let last = ends_with run.log _ (_ ∷ _ ∷ []) (_ ∷ _ ∷ []) _ _ _ (run.clients 0 _ refl).explained in
+    let t = two run.log _ _ _ _ _ _ last.before in
+    let said = t.second.explained.2 in
+    let h = (column_at unread_before_it_is_settled run 0 (proposed 0) refl).history in
+    elim t.first.explained.7 [
+      | inl f ↦ let w = f.2 in cc (w)
+      | inr f ↦
+          let objects = t.first.explained.5 in
+          let reads = ap (λ (k : Kept). k.reads 0) (t.first.after_is ∙ f.4
+          ∙ ap (λ o. with_read t.first.explained.1 o (Some (versions_after objects f.1)))
+          (sym (same_object _ _ _ _ f.2))) in
+          let versions : versions_after objects f.1 ≡ said.2.0 = some_same _ _ (sym reads ∙ said.2.1) in
+          let asked : codes "j" ∷ [] ≡ f.1 = same_read _ _ _ _ f.2 in
+          let are = ap (λ ks. versions_after objects ks) asked ∙ versions in
+          let both : members said.0 ≡ 0 ∷ 1 ∷ [] = said.2.2
+          ∙ ap (λ vs. shards (0 ∷ 1 ∷ []) (map (λ (v : Version). v.key) vs ++ codes "k" ∷ [])) (sym are) in
+          stands_nowhere run.log _ _ _ _ _ h both said.3.1
+    ]

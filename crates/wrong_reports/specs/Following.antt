@@ -15,7 +15,7 @@ EntersAboveItsFloor = (own regions : ℕ) (history : List Entry) → IsColumnHis
     → floor < stamp
 
 -- A lawful history has one raise to a stamp at most. So a read that was refused raised each colour once at most, since
--- all its raises are to one stamp.
+-- all its raises are to one stamp; no definition says it.
 abbrev pub RaisesOnce : Type 0
 RaisesOnce = (own regions : ℕ) (history : List Entry) → IsColumnHistory own regions (dated own history)
     → (p q to : ℕ) (one other : Entry) → one.event ≡ Raise to → other.event ≡ Raise to

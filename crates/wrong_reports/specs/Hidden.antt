@@ -5,9 +5,8 @@ use Rattle.log_node.specs.declared.node.At.TheVariants.{Event}
 use Rattle.log_node.specs.Seen.{PlacedNode}
 use Rattle.log_node.specs.declared.marks.Mark.TheVariants as marks
 use Rattle.log_node.specs.declared.marks.Why.TheVariants.{StampEnd}
-use Rattle.log_node.specs.declared.marks.Outcome.TheVariants.{Open, Gone, Final}
+use Rattle.log_node.specs.declared.marks.Outcome.TheVariants.{Open, Gone}
 use Rattle.col_core.specs.declared.Event.TheVariants.{Single, Raise}
-use Rattle.col_core.specs.declared.Entry.{Entry}
 use Rattle.script_text.specs.declared.script.What.TheVariants as whats
 use Rattle.script_text.specs.declared.script.Word.{Word}
 use Rattle.script_text.specs.declared.script.Word.TheVariants as words

@@ -1,7 +1,6 @@
 -- Reports of syncs, reads, pulls and trims that look elsewhere or at another time than they may.
 use Rattle.std.specs.Prelude.{ℕ, List, [], ◌∷◌, codes, Some, None}
 use Rattle.log_node.specs.declared.node.At.TheVariants.{Event, Look}
-use Rattle.log_node.specs.declared.ids.Counts.{Counts}
 use Rattle.log_node.specs.declared.marks.Mark.TheVariants as marks
 use Rattle.log_node.specs.declared.marks.Why.TheVariants.{Memory}
 use Rattle.log_node.specs.declared.marks.Outcome.TheVariants.{Gone, Final}
@@ -271,3 +270,13 @@ abbrev pub a_value_of_another_text : Case
 a_value_of_another_text =
     over map (asks 7 a (whats.Append on_x (codes "p:k=v")) ∷ asks 8 a (whats.Get 0 (codes "k")) ∷ [])
     (stood_at 7 1 0 0 ∷ replies 8 words.Get (answers.Got (Some (codes "w")) (look x 1 (counts 1 0))) ∷ []) one_node
+
+-- causal o x
+-- 7 a append x s
+-- 8 a get o k
+-- 7 append ok 1 x!0@0
+-- 8 get ok v x?1/1
+abbrev pub a_causal_value_of_another_text : Case
+a_causal_value_of_another_text =
+    over (kinds.Causal x) (append 7 ∷ asks 8 a (whats.Get 0 (codes "k")) ∷ [])
+    (stood_at 7 1 0 0 ∷ replies 8 words.Get (answers.GotMany (codes "v" ∷ []) (look x 1 (counts 1 0))) ∷ []) one_node

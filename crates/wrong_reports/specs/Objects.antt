@@ -2,6 +2,8 @@
 use Rattle.std.specs.Prelude.{ℕ, List, [], ◌∷◌, codes, Some, None}
 use Rattle.log_node.specs.declared.forms.Pair.{Pair}
 use Rattle.log_node.specs.declared.node.At.TheVariants.{Look}
+use Rattle.log_node.specs.declared.marks.Mark.TheVariants as marks
+use Rattle.log_node.specs.declared.marks.Outcome.TheVariants.{Final}
 use Rattle.script_text.specs.declared.script.Kind.{Kind}
 use Rattle.script_text.specs.declared.script.Kind.TheVariants as kinds
 use Rattle.script_text.specs.declared.script.What.TheVariants as whats
@@ -12,8 +14,9 @@ use Rattle.report_text.specs.declared.report.Answer.TheVariants as answers
 use Rattle.report_text.specs.declared.report.ReplyLine.{ReplyLine}
 use Rattle.report_text.specs.declared.report.ColumnReport.{ColumnReport}
 use Rattle.wrong_reports.specs.Cases.{Case, a, b, e, w, x, counts, script, asks, replies, to_a, to_both, look, empty}
-use Rattle.wrong_reports.specs.Cases.{y, point, shows}
+use Rattle.wrong_reports.specs.Cases.{y, id, on_both, point, shows}
 use Rattle.wrong_reports.specs.Naming.{one_node}
+use Rattle.wrong_reports.specs.Rows.{row, proposed}
 use Rattle.wrong_reports.specs.Reads.{raise}
 
 abbrev pub over : Kind → List Command → List ReplyLine → ColumnReport → Case
@@ -177,3 +180,25 @@ unread_for_another_colour = dequeues (answers.UnreadTrimmed 1 y (counts 0 0))
 -- 7 deq unread 2 nomemory
 abbrev pub unread_under_another_stamp : Case
 unread_under_another_stamp = dequeues (answers.UnreadNoMemory 2)
+
+-- tx o e x,y
+-- 8 a read o j
+-- 9 a commit o k=v
+-- 10 a stop 0 x,y t
+-- 8 read ok 0 j=- x?0 y?0 x?0/0 y?0/0
+-- 9 commit unread 1 nomemory
+-- 10 stop stopped 0
+-- row e a.0 a.0 x=1 y=1 final 1
+-- column e x and column e y
+-- 0 a propose a.0 floor 0 wants 0 stamp 1
+-- = clock 1 line - queue a.0:1? cut 0 base 0
+abbrev pub unread_before_it_is_settled : Case
+unread_before_it_is_settled = record {
+  script = script 1 2 (e ∷ []) (record { name = codes "o"; kind = kinds.Tx e (x ∷ y ∷ []) } ∷ [])
+      (asks 8 a (whats.Read 0 (codes "j" ∷ [])) ∷ asks 9 a (whats.Commit 0 one_pair)
+      ∷ asks 10 a (whats.Stop 0 on_both (codes "t")) ∷ []);
+  report = shows (to_a (replies 8 words.Read (answers.GotKeys 0 (record { key = codes "j"; value = None } ∷ [])
+      (raise x (Look 0) ∷ raise y (Look 0) ∷ []) (look x 0 (counts 0 0) ∷ look y 0 (counts 0 0) ∷ []))
+      ∷ replies 9 words.Commit (answers.UnreadNoMemory 1) ∷ replies 10 words.Stop (answers.Stopped 0) ∷ []))
+      (row e a 0 (id a 0) (marks.Number 1) (marks.Number 1) (Final 1) ∷ []) (proposed x ∷ proposed y ∷ []);
+}

@@ -12,10 +12,10 @@ use Rattle.report_text.specs.declared.report.ReplyLine.{ReplyLine}
 use Rattle.report_text.specs.declared.report.PointPiece.{PointPiece}
 use Rattle.report_text.specs.declared.report.ColumnReport.{ColumnReport}
 use Rattle.wrong_reports.specs.Cases.{Case, a, b, e, w, x, y, id, key, counts, on_x, on_both, script, together, apart}
-use Rattle.wrong_reports.specs.Cases.{asks, replies, to_a, to_both, point, by, enters, proposes, column, empty, shows}
+use Rattle.wrong_reports.specs.Cases.{asks, replies, to_both, point, by, enters, proposes, column, empty, shows}
 use Rattle.wrong_reports.specs.Naming.{case, append, stood_at, one_node}
 use Rattle.wrong_reports.specs.Shown.{shown}
-use Rattle.wrong_reports.specs.Rows.{row, settles, complete, one_append}
+use Rattle.wrong_reports.specs.Rows.{row, settles, complete}
 use Rattle.wrong_reports.specs.Several.{answered}
 use Rattle.wrong_reports.specs.Moves.{pulled}
 

@@ -1,21 +1,18 @@
 -- Reports of rows, proposals and settlings that no command may leave so.
-use Rattle.std.specs.Prelude.{ℕ, List, [], ◌∷◌, codes, Some, None, false}
-use Rattle.log_node.specs.declared.ids.Counts.{Counts}
+use Rattle.std.specs.Prelude.{ℕ, List, [], ◌∷◌, codes}
 use Rattle.log_node.specs.declared.marks.Mark.{Mark}
 use Rattle.log_node.specs.declared.marks.Mark.TheVariants as marks
 use Rattle.log_node.specs.declared.marks.Why.TheVariants.{Memory}
 use Rattle.log_node.specs.declared.marks.Outcome.TheVariants.{Open, Gone, Final}
 use Rattle.col_core.specs.declared.Event.TheVariants as made
-use Rattle.col_core.specs.declared.Entry.{Entry}
 use Rattle.script_text.specs.declared.script.What.TheVariants.{Append, Stop}
 use Rattle.script_text.specs.declared.script.Word.TheVariants as words
 use Rattle.script_text.specs.declared.script.Command.{Command}
 use Rattle.script_text.specs.declared.script.Script.{Script}
 use Rattle.report_text.specs.declared.report.Answer.TheVariants as answers
 use Rattle.report_text.specs.declared.report.RowReport.{RowReport}
-use Rattle.report_text.specs.declared.report.ReplyLine.{ReplyLine}
 use Rattle.report_text.specs.declared.report.ColumnReport.{ColumnReport}
-use Rattle.wrong_reports.specs.Cases.{Case, a, b, e, x, y, id, key, counts, on_x, on_both, together, asks, replies}
+use Rattle.wrong_reports.specs.Cases.{Case, a, b, e, x, y, id, counts, on_x, on_both, together, asks, replies}
 use Rattle.wrong_reports.specs.Cases.{to_both, column, empty, by, proposes, trims, shows}
 use Rattle.wrong_reports.specs.Rows.{row, complete, proposed, one_append, stood}
 

@@ -9,6 +9,7 @@ ghost use Rattle.wrong_reports.specs.Looks.{a_carry_beyond_the_events, a_pull_be
 ghost use Rattle.wrong_reports.specs.Looks.{a_carry_that_was_seen, a_get_of_another_colour};
 ghost use Rattle.wrong_reports.specs.Looks.{a_causal_get_of_another_colour, a_dequeue_of_another_colour};
 ghost use Rattle.wrong_reports.specs.Looks.{a_value_of_another_text, a_refused_read_that_keeps_an_earlier_one};
+ghost use Rattle.wrong_reports.specs.Looks.{a_causal_value_of_another_text};
 
 /// A sync is of the colour that was asked.
 #[tactic(auto, using(crate::proofs::WrongLooks::sync_elsewhere))]
@@ -116,6 +117,12 @@ pub fn a_dequeue_of_another_colour_is_unlawful()
 #[tactic(auto, using(crate::proofs::WrongLooks::another_text))]
 pub fn a_value_of_another_text_is_unlawful()
     ensures { IsUnlawful a_value_of_another_text }
+{}
+
+/// A causal map reads the text that was appended.
+#[tactic(auto, using(crate::proofs::WrongCausal::another_text))]
+pub fn a_causal_value_of_another_text_is_unlawful()
+    ensures { IsUnlawful a_causal_value_of_another_text }
 {}
 
 /// A read lets an earlier read go, also where it is refused.

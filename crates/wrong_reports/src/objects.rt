@@ -6,7 +6,7 @@ ghost use Rattle.wrong_reports.specs.Objects.{a_dequeue_answered_as_an_append, a
 ghost use Rattle.wrong_reports.specs.Objects.{a_read_that_is_forgotten, a_commit_that_keeps_its_read};
 ghost use Rattle.wrong_reports.specs.Objects.{a_conflict_with_nothing, many_values_of_nothing, a_read_of_nothing};
 ghost use Rattle.wrong_reports.specs.Objects.{unread_where_nothing_is_trimmed, unread_for_another_colour};
-ghost use Rattle.wrong_reports.specs.Objects.{unread_under_another_stamp};
+ghost use Rattle.wrong_reports.specs.Objects.{unread_under_another_stamp, unread_before_it_is_settled};
 
 /// At its home an object is not refused.
 #[tactic(auto, using(crate::proofs::WrongObjects::at_home))]
@@ -102,4 +102,10 @@ pub fn unread_for_another_colour_is_unlawful()
 #[tactic(auto, using(crate::proofs::WrongUnread::other_stamp))]
 pub fn unread_under_another_stamp_is_unlawful()
     ensures { IsUnlawful unread_under_another_stamp }
+{}
+
+/// A commit that is told unread stands in all its colours.
+#[tactic(auto, using(crate::proofs::WrongUnread::not_settled))]
+pub fn unread_before_it_is_settled_is_unlawful()
+    ensures { IsUnlawful unread_before_it_is_settled }
 {}

@@ -31,8 +31,7 @@ below_told-below-requires-clause-seats g c =
 
 pub below_told-below-requires-clause-stands : goal.below_told-below-requires-clause-stands
 below_told-below-requires-clause-stands g c =
-    let q = c.begin-turn.new.pass in
-    (
+    let q = c.begin-turn.new.pass in (
       seen q,
       stood c.begin-turn.result.value.value c.deref_mut.result.now (seen q) c.deref_mut.ensures.value
           c.begin-turn.ensures.value,

@@ -48,8 +48,7 @@ settle_told-position-requires-clause-colour g c =
 
 pub settle_told-position-requires-clause-stands : goal.settle_told-position-requires-clause-stands
 settle_told-position-requires-clause-stands g c =
-    let q = c.begin-turn.new.pass in
-    (
+    let q = c.begin-turn.new.pass in (
       seen q,
       stood c.begin-turn.result.value.value c.deref_mut.result.now (seen q) c.deref_mut.ensures.value
           c.begin-turn.ensures.value,

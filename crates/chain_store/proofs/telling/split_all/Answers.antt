@@ -64,7 +64,8 @@ returns-clause-told c =
     let l = c.loop-colour in
     let i = l.invariant in
     let end : l.colour ≡ length c.args.cells.now = search rules in
-    let many = c.requires.0 in
-    ((i.count ∙ end, i.told),
-    alike_all c.args.passes.now.items.items l.all.items (i.count ∙ end ∙ sym many)
-    (λ k lt. i.alike k (omega (arith, lt, end, many))))
+    let many = c.requires.0 in (
+      (i.count ∙ end, i.told),
+      alike_all c.args.passes.now.items.items l.all.items (i.count ∙ end ∙ sym many)
+          (λ k lt. i.alike k (omega (arith, lt, end, many))),
+    )

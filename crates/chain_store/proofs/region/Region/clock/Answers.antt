@@ -12,7 +12,7 @@ pub clock_in-requires : goal.clock_in-requires
 clock_in-requires g c =
     record {
       pass = holder c.args.self.now c.args.hold.now c.args.colour c.column.result.now c.index_mut-pass.result.now
-      c.requires.hold
+          c.requires.hold
           c.requires.colour c.column.ensures c.index_mut-pass.ensures.value;
     }
 

@@ -95,7 +95,7 @@ returns-in-Err-clause-cause g c =
 pub returns-in-Err-clause-err : goal.returns-in-Err-clause-err
 returns-in-Err-clause-err g c = (
   of_turn c.args.self.now c.args.hold.now (turned c.args.hold.now c.args.colour c.single_in.new.pass
-  c.args.hold.now.next) c.args.colour c.column.result.now c.index_mut-pass.result.now
+      c.args.hold.now.next) c.args.colour c.column.result.now c.index_mut-pass.result.now
       c.single_in.new.pass c.requires.hold c.requires.colour c.column.ensures c.index_mut-pass.ensures.value refl refl
       (λ (t : Tag) (old new : List Told). SeesMore c.args.hold.now.passes.number old new) c.in-Err.ensures.err,
   refl,
