@@ -1,7 +1,7 @@
 use Rattle.std.proofs.Common.{◌≡◌, ◌<◌, ◌+◌, ◌∷◌, ◌++◌, [], rules, length, slice_get, ap, sym, ◌∙◌, arith, length-append}
 use Rattle.chain_store.proofs.Entering.{get_last, get_old}
 use Rattle.chain_store.proofs.Holding.{passes_set, set_other}
-use Rattle.chain_store.proofs.Hearing.{reached_at, met_holder, met_heard, heard_more}
+use Rattle.chain_store.proofs.Notes.{reached_at, met_holder, met_heard, heard_more}
 use Rattle.chain_store.proofs.telling.meet_all.Goals as goal
 
 pub meet-requires-clause-pass : goal.meet-requires-clause-pass

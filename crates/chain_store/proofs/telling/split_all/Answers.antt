@@ -1,6 +1,6 @@
 use Rattle.std.proofs.Common.{◌≡◌, ◌<◌, rules, length, ap, sym, ◌∙◌, arith}
 use Rattle.chain_store.specs.Holds.{history_seen}
-use Rattle.chain_store.proofs.Hearing.{reached_at, split_step, split_told, told_more, alike_more, alike_all, long}
+use Rattle.chain_store.proofs.Notes.{reached_at, split_step, split_told, told_more, alike_more, alike_all, long}
 use Rattle.chain_store.proofs.telling.split_all.Goals as goal
 
 pub split-requires : goal.split-requires

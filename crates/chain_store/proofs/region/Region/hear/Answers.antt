@@ -2,7 +2,7 @@ use Rattle.std.proofs.Common.{List, refl, subst}
 use Rattle.chain_store.specs.declared.hold.Hold.{Hold}
 use Rattle.chain_store.specs.Passes.{ColumnCell}
 use Rattle.chain_store.specs.Holds.{HasPasses}
-use Rattle.chain_store.proofs.Hearing.{hold_kept, made_heard}
+use Rattle.chain_store.proofs.Notes.{hold_kept, made_heard}
 use Rattle.chain_store.proofs.region.Region.hear.Goals as goal
 
 pub returns-clause-hold : goal.returns-clause-hold

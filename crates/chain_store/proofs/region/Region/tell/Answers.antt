@@ -3,7 +3,7 @@ use Rattle.chain_store.specs.declared.hold.Hold.{Hold}
 use Rattle.chain_store.specs.Passes.{ColumnCell}
 use Rattle.chain_store.specs.Holds.{HasPasses}
 use Rattle.chain_store.proofs.Holding.{same_seat}
-use Rattle.chain_store.proofs.Hearing.{hold_kept, made_alike}
+use Rattle.chain_store.proofs.Notes.{hold_kept, made_alike}
 use Rattle.chain_store.proofs.region.Region.tell.Goals as goal
 
 pub returns-in_err-passes-clause-hold : goal.returns-in_err-passes-clause-hold
