@@ -59,13 +59,7 @@ impl Locked {
 }
 
 // Appends so many nodes, and says how many entered.
-fn append_all<R: Wait>(
-    rt: &R,
-    alloc: Global,
-    lock: &Mutex<Locked>,
-    by: u8,
-    appends: u64,
-) -> u64
+fn append_all<R: Wait>(rt: &R, alloc: Global, lock: &Mutex<Locked>, by: u8, appends: u64) -> u64
     requires by { by < 16 }
     requires appends { appends < 2 ^ 63 }
 {

@@ -4,6 +4,7 @@
 //! With no argument each thread appends 500 nodes, and what is printed is how many entered. With a number as its
 //! argument each appends that many, and what is printed is how long an append took.
 #![tactic(auto)]
+
 ghost use Rattle.std.specs.Prelude.{◌<◌, ◌^◌};
 
 mod jobs;
