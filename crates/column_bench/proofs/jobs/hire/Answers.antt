@@ -1,4 +1,4 @@
-use Rattle.std.proofs.Common.{rules, ◌≡◌, ◌≤◌, ◌<◌, ◌+◌, ℕ, [], ◌∷◌, length, refl, ap, sym, subst, ◌∙◌, arith, length-append, slice_get, Some}
+use Rattle.std.proofs.Common.{rules, ◌≡◌, ◌<◌, ℕ, [], ◌∷◌, length, refl, ap, sym, subst, ◌∙◌, arith, length-append, slice_get}
 use Rattle.turn_cell.specs.Cells.{seen}
 use Rattle.turn_cell.proofs.CallerLemmas.{joined_at, left_at}
 use Rattle.chain_store.specs.Passes.{IsHolder}

@@ -1,4 +1,4 @@
-use Rattle.std.proofs.Common.{ℕ, refl, ap, sym, subst, ◌∙◌, ◌≡◌, ◌≤◌, ◌<◌, arith, length, false, ◌+◌}
+use Rattle.std.proofs.Common.{ℕ, refl, ap, sym, subst, ◌∙◌, ◌≡◌, ◌≤◌, arith, false, ◌+◌}
 use Rattle.std.specs.Prelude.{slice_index}
 use Rattle.std.proofs.lemmas.List.{length-set}
 use Rattle.log_node.specs.declared.node.Node.{Node}
