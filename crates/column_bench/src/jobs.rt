@@ -1,6 +1,5 @@
 // Threads that append at columns under turns.
-ghost use Rattle.std.specs.Prelude.{◌≡◌, ◌<◌, ◌≤◌, ◌^◌, IfOk, length};
-ghost use Rattle.chain_store.specs.Passes.{tag_in};
+ghost use Rattle.std.specs.Prelude.{◌<◌, ◌^◌, IfOk};
 ghost use Rattle.chain_store.specs.Ends.{AreNewHolders};
 ghost use Rattle.column_bench.specs.Jobs.{IsBenchColumn, IsJob, AreJobs};
 

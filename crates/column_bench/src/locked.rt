@@ -1,5 +1,5 @@
 // Threads that append at columns behind locks.
-ghost use Rattle.std.specs.Prelude.{◌≡◌, ◌<◌, ◌^◌, length, IfOk};
+ghost use Rattle.std.specs.Prelude.{◌≡◌, ◌<◌, ◌^◌, length};
 ghost use Rattle.chain_store.specs.Entered.{AreBelow};
 ghost use Rattle.column_bench.specs.Nodes.{IsAppended};
 
