@@ -18,6 +18,7 @@ use turn_cell::{Cell, Pass};
 
 /// What a node that entered as final answers: its event, its stamp, and its position in the line, counted from 0; `None`
 /// where an open entry stands before it.
+#[derive(Clone, Copy, Debug, PartialEq, Eq)]
 pub struct Single {
     pub at: At,
     pub stamp: u64,

@@ -31,12 +31,14 @@ use std::sync::Wait;
 use turn_cell::{Cell, Pass};
 
 /// What a proposal answers: its event, or a look where it added none, and the mark that stands.
+#[derive(Clone, Copy, Debug, PartialEq, Eq)]
 pub struct Proposed {
     pub at: At,
     pub mark: Mark,
 }
 
 /// What a settling answers: its event, or a look where it added none, and the position of the final key in the line.
+#[derive(Clone, Copy, Debug, PartialEq, Eq)]
 pub struct Settled {
     pub at: At,
     pub position: Option<u64>,
