@@ -1,0 +1,2 @@
+// What the clients of a region see, by rows that were worked out by hand.
+mod singles;
