@@ -26,11 +26,13 @@ pub(crate) fn append<R: Wait>(
 {
     let node = node(alloc, region.number(), by, count)?;
     match region.single(rt, hold, 0, &node) {
-        Ok(Single {
-            at,
-            stamp,
-            position,
-        }) => Ok((at, stamp, position)),
+        Ok(
+            Single {
+                at,
+                stamp,
+                position,
+            },
+        ) => Ok((at, stamp, position)),
         Err(_) => Err(AllocError),
     }
 }
