@@ -4,7 +4,6 @@ ghost use Rattle.region_tests.specs.Clients.{IsSmall, IsClient};
 
 use crate::made::{node, opened};
 use chain_store::{Hold, Region, Single};
-use col_core::View;
 use log_node::{At, Counts, Id, Key};
 use std::alloc::{AllocError, Global};
 use std::sync::Wait;
@@ -58,5 +57,21 @@ fn a_single_stands_in_the_line(rt: HostRuntime) -> Result<(), Fail> {
     assert_eq!(rt; place, (At::Look(1), Some(0)));
     assert_eq!(rt; clock, (At::Look(1), 1));
     assert_eq!(rt; held, (At::Look(1), Counts([1, 0, 0, 0])));
+    Ok(())
+}
+
+#[test]
+fn a_clock_is_raised_by_an_event_where_it_was_smaller(rt: HostRuntime) -> Result<(), Fail> {
+    let alloc = rt.alloc();
+    let (region, mut hold, _) = opened(alloc, 0)?;
+    let raised = region.raise(&rt, &mut hold, 0, 5)?;
+    let again = region.raise(&rt, &mut hold, 0, 3)?;
+    let clock = region.clock(&rt, &mut hold, 0);
+    let other = region.clock(&rt, &mut hold, 1);
+    let single = append(&rt, alloc, &region, &mut hold, 0, 0)?;
+    assert_eq!(rt; (raised, again), (At::Event(0), At::Look(1)));
+    assert_eq!(rt; clock, (At::Look(1), 5));
+    assert_eq!(rt; other, (At::Look(0), 0));
+    assert_eq!(rt; single, (At::Event(1), 6, Some(0)));
     Ok(())
 }
