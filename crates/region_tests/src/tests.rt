@@ -1,0 +1,5 @@
+// What the clients of a region see, by rows that were worked out by hand.
+mod moves;
+mod rows;
+mod singles;
+mod threads;
