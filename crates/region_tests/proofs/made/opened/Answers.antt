@@ -1,4 +1,4 @@
-use Rattle.std.proofs.Common.{◌≡◌, ◌≤◌, ℕ, length, ap, sym, subst, ◌∙◌, arith}
+use Rattle.std.proofs.Common.{◌≡◌, length, ap, sym, ◌∙◌, arith}
 use Rattle.stamp_board.specs.declared.view.Size.{Size}
 use Rattle.stamp_board.proofs.CallerLemmas.{last_two}
 use Rattle.region_tests.proofs.made.opened.Goals as goal

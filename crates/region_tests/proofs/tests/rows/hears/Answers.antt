@@ -1,5 +1,5 @@
-use Rattle.std.proofs.Common.{ap, sym, subst, ◌∙◌}
-use Rattle.std.specs.Prelude.{◌≡◌, List}
+use Rattle.std.proofs.Common.{subst}
+use Rattle.std.specs.Prelude.{List}
 use mathlib.Core.List.{IsPrefix}
 use Rattle.chain_store.specs.declared.told.Told.{Told}
 use Rattle.chain_store.specs.Holds.{seen_in}
