@@ -156,10 +156,17 @@ fn forms_are_written(rt: HostRuntime) -> Result<(), Fail> {
 #[test]
 fn a_transaction_is_written(rt: HostRuntime) -> Result<(), Fail> {
     let alloc = rt.alloc();
+    let writer = Key {
+        stamp: 1,
+        id: Id {
+            client: 1,
+            count: 0,
+        },
+    };
     let mut reads = ListOf::new(alloc);
     reads.push(Version {
         key: Text::copied(alloc, b"b")?,
-        writer: Some(key(1, 1, 0)),
+        writer: Some(writer),
     })?;
     let mut writes = ListOf::new(alloc);
     writes.push(Pair {
