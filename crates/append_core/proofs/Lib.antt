@@ -1,0 +1,4 @@
+mod Going
+mod Settling
+mod Clearing
+pub mod CallerLemmas
