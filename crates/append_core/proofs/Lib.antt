@@ -1,4 +1,6 @@
 mod Going
-mod Settling
-mod Clearing
+mod Taking
+mod Lasting
+mod Marked
+mod Cleared
 pub mod CallerLemmas

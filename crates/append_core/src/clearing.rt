@@ -51,7 +51,8 @@ pub fn clear<R: Wait>(rt: &R, region: &Region, hold: &mut Hold, colour: u8, key:
     ensures none { open_below key (entries_seen hold.new colour) ≡ [] }
 {
     let count = help_first(rt, region, hold, colour, key);
-    for _ in 1..count {
+    for turn in 1..count {
+        let _turn = turn;
         if help_first(rt, region, hold, colour, key) == 0 {
             return;
         }

@@ -4,8 +4,8 @@ ghost use Rattle.std.specs.Prelude.{◌≡◌, ◌≢◌, ◌<◌, ℕ, true};
 ghost use Rattle.log_node.specs.Marks.{IsOutcome};
 ghost use Rattle.log_node.specs.Sets.{has};
 ghost use Rattle.stamp_board.specs.Seats.{IsLater};
-ghost use Rattle.stamp_board.specs.Views.{KnowsAll, KnowsOutcome};
-ghost use Rattle.chain_store.specs.Holds.{IsHold, KnowsAppend, view_of};
+ghost use Rattle.stamp_board.specs.Views.{KnowsOutcome};
+ghost use Rattle.chain_store.specs.Holds.{IsHold, KnowsAppend, SameBut, view_of};
 ghost use Rattle.append_core.specs.Going.{GoesOn, IsStepIn};
 ghost use Rattle.append_core.specs.Settled.{IsMarkedThere, IsSettledThere};
 
@@ -24,9 +24,10 @@ fn mark_colour<R: Wait>(rt: &R, region: &Region, hold: &mut Hold, begun: &Begun,
     ensures goes { GoesOn (IsStepIn begun.now) hold.old hold.new }
     ensures marked { has begun.now.colours colour ≡ true → IsMarkedThere hold.new begun.now colour }
 {
-    if begun.colours.has(colour) {
-        region.propose(rt, hold, colour, begun);
+    if !begun.colours.has(colour) {
+        return;
     }
+    region.propose(rt, hold, colour, begun);
 }
 
 // The append is marked in each of its colours, the least first.
@@ -59,14 +60,16 @@ fn settle_colour<R: Wait>(
     requires colour { colour < MAX_COLOURS }
     requires marked { has begun.now.colours colour ≡ true → IsMarkedThere hold.old begun.now colour }
     ensures hold { IsHold region.now hold.new }
+    ensures others { SameBut colour hold.old hold.new }
     ensures seat { IsLater hold.old.seat hold.new.seat }
     ensures next { hold.new.next ≡ hold.old.next }
     ensures goes { GoesOn (IsStepIn begun.now) hold.old hold.new }
     ensures settled { has begun.now.colours colour ≡ true → IsSettledThere hold.new begun.now outcome colour }
 {
-    if begun.colours.has(colour) {
-        region.settle(rt, hold, colour, begun, outcome);
+    if !begun.colours.has(colour) {
+        return;
     }
+    region.settle(rt, hold, colour, begun, outcome);
 }
 
 // The append, which is marked in each of its colours, is settled in each with the outcome that its row keeps.
