@@ -148,7 +148,7 @@ none_kept test [] e = refl
 none_kept {A} test (y ∷ ys) e = by_case (test y) e (λ f. none_kept test ys f) where
   by_case : (b : Bool) → cond b (Some y) (find test ys) ≡ None → (find test ys ≡ None → filter test ys ≡ [])
       → cond b (y ∷ filter test ys) (filter test ys) ≡ []
-  by_case true f rest = absurd cc
+  by_case true f rest = absurd (let g : ⊥ = cc f in g)
   by_case false f rest = rest f
 
 -- where a look has found none there is none
@@ -170,4 +170,4 @@ helped_open g m h b k key but sees first goes =
     (find (is_open_below key) (entries (entries_seen m k))) refl first in
     goes_then (λ c e. HelpsOpen g h e) g m h (looks_on (λ c e. HelpsOpen g h e) k g m but sees)
     (goes_weaken (IsStepIn b) m h (λ c e. HelpsOpen g h e)
-    (λ c e step. (b.id, step.1, k, seen_in m k, sees.more, goes.more k, f.3)) goes)
+    (λ c e step. (b.id, step.1, (k, seen_in m k, sees.more, goes.more k, f.3))) goes)

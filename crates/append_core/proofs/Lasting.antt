@@ -17,8 +17,7 @@ use Rattle.col_core.specs.Legal.{IsColumnHistory}
 use Rattle.col_core.specs.Ids.{IsFinal, HasEntry, Settles, Singles, IsOver, alone, settled}
 use Rattle.col_core.proofs.CallerLemmas.{In, in_contains, contains_in, lawful_beginning, past_is_lawful, entries-of, shown}
 use Rattle.col_core.proofs.CallerLemmas.{shown_entered, open_is_proposed, entered_is_over, singles_stay, settled_stays}
-use Rattle.col_core.proofs.CallerLemmas.{IsLawfulPast, status, standing_of}
-use Rattle.col_core.proofs.CallerLemmas as past
+use Rattle.col_core.proofs.CallerLemmas.{IsLawfulPast, status, standing_of, entries as past_entries}
 use Rattle.chain_store.specs.declared.told.Told.{Told}
 use Rattle.chain_store.specs.declared.hold.Hold.{Hold}
 use Rattle.chain_store.specs.declared.region.Region.{Region}
@@ -34,7 +33,7 @@ found test [] x e = absurd cc
 found {A} test (y ∷ ys) x e = by_case (test y) refl e (λ f. found test ys x f) where
   by_case : (b : Bool) → test y ≡ b → cond b (Some y) (find test ys) ≡ Some x
       → (find test ys ≡ Some x → In x ys × (test x ≡ true)) → ((y ≡ x) ⊎ In x ys) × (test x ≡ true)
-  by_case true is f rest = let same : y ≡ x = cc in (inl same, sym (ap test same) ∙ is)
+  by_case true is f rest = let same : y ≡ x = cc f in (inl same, sym (ap test same) ∙ is)
   by_case false is f rest = let r = rest f in (inr r.0, r.1)
 
 pub finds : {A : Type 0} (test : A → Bool) (xs : List A) (x : A) → In x xs → test x ≡ true → find test xs ≡ None → ⊥
@@ -42,7 +41,7 @@ finds test [] x i t e = i
 finds {A} test (y ∷ ys) x i t e = by_case (test y) refl e i (λ j f. finds test ys x j t f) where
   by_case : (b : Bool) → test y ≡ b → cond b (Some y) (find test ys) ≡ None → (y ≡ x) ⊎ In x ys
       → (In x ys → find test ys ≡ None → ⊥) → ⊥
-  by_case true is f j rest = let g : ⊥ = cc in g
+  by_case true is f j rest = let g : ⊥ = cc f in g
   by_case false is f (inl same) rest = true≢false (sym t ∙ (ap test (sym same) ∙ is))
   by_case false is f (inr j) rest = rest j f
 
@@ -56,16 +55,16 @@ module _ (own regions : ℕ) (history more : List Entry) (id : Id)
   -- what has entered and is not open is never open again
   pub closed_longer : has_entered id history ≡ true → open_entry id (entries history) ≡ None
       → open_entry id (entries (history ++ more)) ≡ None
-  closed_longer entered none = by_over (entered_is_over own regions history id start entered none) where
-    by_over : IsOver history id → open_entry id (entries (history ++ more)) ≡ None
-    by_over (alone s one) = (singles_stay own regions history more id s h one).closed
-    by_over (settled o one) = (settled_stays own regions history more id o h one).closed
+  closed_longer entered none = go (entered_is_over own regions history id start entered none) where
+    go : IsOver history id → open_entry id (entries (history ++ more)) ≡ None
+    go (alone s one) = (singles_stay own regions history more id s h one).closed
+    go (settled o one) = (settled_stays own regions history more id o h one).closed
 
   module _ (f : ℕ) (final : IsFinal history id f) where
     lawful : IsLawfulPast (reverse history)
     lawful = past_is_lawful own regions history start
 
-    in_past : (x : Standing) → Contains (entries history) x → In x (past.entries (reverse history))
+    in_past : (x : Standing) → Contains (entries history) x → In x (past_entries (reverse history))
     in_past x c = subst (λ (es : List Standing). In x es) (entries-of history) (in_contains (entries history) x c)
 
     shows : (x : Standing) → Contains (entries history) x

@@ -1,6 +1,5 @@
 // How the open entries that stand in the way of a key are cleared.
-ghost use Rattle.std.specs.Prelude.{◌≡◌, ◌<◌, ◌≤◌, ◌-◌, ℕ, [], length};
-ghost use Rattle.col_core.specs.declared.Event.{Event};
+ghost use Rattle.std.specs.Prelude.{◌≡◌, ◌<◌, ◌≤◌, ◌-◌, [], length};
 ghost use Rattle.col_core.specs.Ids.{open_below};
 ghost use Rattle.stamp_board.specs.Seats.{IsLater};
 ghost use Rattle.chain_store.specs.Holds.{IsHold, entries_seen};

@@ -26,7 +26,7 @@ proposer row (u ∷ log) n e =
           × (proposes row t.entry.event t.nodes ≡ true) × (t.entry.stamp ≡ n))
           → (i : ℕ) × (t : Told) × (slice_get (u ∷ log) i ≡ Some t)
           × (proposes row t.entry.event t.nodes ≡ true) × (t.entry.stamp ≡ n)
-      by_case true is f rest = (0, u, refl, is, (let g : u.entry.stamp ≡ n = cc in g))
+      by_case true is f rest = (0, u, refl, is, (let g : u.entry.stamp ≡ n = cc f in g))
       by_case false is f rest = let r = rest f in (suc r.0, r.1, r.2, r.3, r.4)
 
 one_of : (x y : Node) (nodes : List Node) → nodes ≡ x ∷ [] → nodes ≡ y ∷ [] → x ≡ y
@@ -48,9 +48,9 @@ module _ (v : View) (region colour : ℕ) (row : Row) (by n : ℕ) where
             (subst (λ (r : Row). KnowsBegun v r backs.0) (sym of) backs.3.knows),
         λ i. record { entry = record { by = by; event = brings.3 i; stamp = is i }; nodes = brings.1 i },
       )
-  proposal_of (Single id floor wants) stamp nodes it is brings backs = absurd cc
-  proposal_of (Settle id outcome) stamp nodes it is brings backs = absurd cc
-  proposal_of (Raise to) stamp nodes it is brings backs = absurd cc
-  proposal_of (Give other from) stamp nodes it is brings backs = absurd cc
-  proposal_of (Carry other start heads) stamp nodes it is brings backs = absurd cc
-  proposal_of (Trim counts) stamp nodes it is brings backs = absurd cc
+  proposal_of (Single id floor wants) stamp nodes it is brings backs = absurd (let g : ⊥ = cc in g)
+  proposal_of (Settle id outcome) stamp nodes it is brings backs = absurd (let g : ⊥ = cc in g)
+  proposal_of (Raise to) stamp nodes it is brings backs = absurd (let g : ⊥ = cc in g)
+  proposal_of (Give other from) stamp nodes it is brings backs = absurd (let g : ⊥ = cc in g)
+  proposal_of (Carry other start heads) stamp nodes it is brings backs = absurd (let g : ⊥ = cc in g)
+  proposal_of (Trim counts) stamp nodes it is brings backs = absurd (let g : ⊥ = cc in g)
