@@ -52,7 +52,8 @@ pub fn clear<R: Wait>(rt: &R, region: &Region, hold: &mut Hold, colour: u8, key:
     let count = help_first(rt, region, hold, colour, key);
     for turn in 1..count {
         let _turn = turn;
-        if help_first(rt, region, hold, colour, key) <= 1 {
+        let found = help_first(rt, region, hold, colour, key);
+        if found <= 1 {
             return;
         }
     }

@@ -23,8 +23,8 @@ pub loop-turn-preserved : goal.loop-turn-preserved
 loop-turn-preserved g c =
     let l = c.loop-turn in
     let i = l.invariant in
-    let e = c.help_first.ensures in
-    let h = c.help_first.new.hold in record {
+    let e = c.help_first-found.ensures in
+    let h = c.help_first-found.new.hold in record {
       hold = e.hold;
       seat = later_then c.args.hold.now.seat l.hold.seat h.seat i.seat e.seat;
       next = e.next ∙ i.next;
@@ -39,3 +39,20 @@ returns-clause-none g c =
     let l = c.loop-turn in
     empty (open_below c.args.key (entries_seen l.hold c.args.colour))
     (omega (arith, l.invariant.few, c.loop-turn-test.false))
+
+pub returns-then-found-le1-clause-seat : goal.returns-then-found-le1-clause-seat
+returns-then-found-le1-clause-seat g c =
+    let l = c.loop-turn in
+    later_then c.args.hold.now.seat l.hold.seat c.help_first-found.new.hold.seat l.invariant.seat
+    c.help_first-found.ensures.seat
+
+pub returns-then-found-le1-clause-goes : goal.returns-then-found-le1-clause-goes
+returns-then-found-le1-clause-goes g c =
+    let l = c.loop-turn in
+    helps_then c.args.hold.now l.hold c.help_first-found.new.hold l.invariant.goes c.help_first-found.ensures.goes
+
+pub returns-then-found-le1-clause-none : goal.returns-then-found-le1-clause-none
+returns-then-found-le1-clause-none g c =
+    let e = c.help_first-found.ensures in
+    empty (open_below c.args.key (entries_seen c.help_first-found.new.hold c.args.colour))
+    (omega (arith, e.fewer, c.if-found-le1.true))
