@@ -1,6 +1,6 @@
 -- Open entries below a key under the clock: some only leave.
 use Rattle.std.proofs.Common.{◌≡◌, ℕ, ◌+◌, ◌<◌, ◌≤◌, List, [], ◌∷◌, ◌++◌, length, Option, Some, None, Bool, true, false, cond}
-use Rattle.std.proofs.Common.{refl, ap, sym, subst, ◌∙◌, arith, inl, inr, ◌⊎◌}
+use Rattle.std.proofs.Common.{refl, ap, sym, subst, ◌∙◌, arith, inl, inr}
 use Rattle.std.specs.Prelude.{◌||◌, ◌&&◌, ◌==◌, ◌≢◌, not, nat_lt, reverse}
 use Rattle.std.specs.List.{find, filter}
 use Rattle.std.specs.Option.{option_map}
@@ -18,7 +18,7 @@ use Rattle.col_core.specs.Legal.{IsColumnHistory}
 use Rattle.col_core.specs.Ids.{is_open_below, open_below}
 use Rattle.col_core.proofs.CallerLemmas.{In, Rises, in_contains, contains_in, in_filter, in_filter-back, rises, rises-filter}
 use Rattle.col_core.proofs.CallerLemmas.{by_test, entries-of, fewer, fewer_less, key-stamps, opens_above, past_is_lawful}
-use Rattle.col_core.proofs.CallerLemmas.{lawful_beginning, clocks_rise, same_id-refl}
+use Rattle.col_core.proofs.CallerLemmas.{clocks_rise, same_id-refl}
 use Rattle.chain_store.specs.declared.hold.Hold.{Hold}
 use Rattle.chain_store.specs.declared.region.Region.{Region}
 use Rattle.chain_store.specs.Histories.{entries_in}

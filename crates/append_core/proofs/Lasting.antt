@@ -18,7 +18,6 @@ use Rattle.col_core.specs.Ids.{IsFinal, HasEntry, Settles, Singles, IsOver, alon
 use Rattle.col_core.proofs.CallerLemmas.{In, in_contains, contains_in, lawful_beginning, past_is_lawful, entries-of, shown}
 use Rattle.col_core.proofs.CallerLemmas.{shown_entered, open_is_proposed, entered_is_over, singles_stay, settled_stays}
 use Rattle.col_core.proofs.CallerLemmas.{IsLawfulPast, status, standing_of, entries as past_entries}
-use Rattle.chain_store.specs.declared.told.Told.{Told}
 use Rattle.chain_store.specs.declared.hold.Hold.{Hold}
 use Rattle.chain_store.specs.declared.region.Region.{Region}
 use Rattle.chain_store.specs.Histories.{entries_in}

@@ -1,8 +1,7 @@
 -- What a hold knows of a begun append in the columns of its colours, and that it knows it later.
-use Rattle.std.proofs.Common.{◌≡◌, ◌≢◌, ℕ, ◌<◌, List, ◌++◌, true, false, Some, None, refl, ap, sym, subst, ◌∙◌, arith, inl, inr, ◌⊎◌}
+use Rattle.std.proofs.Common.{◌≡◌, ◌≢◌, ℕ, ◌<◌, List, true, false, None, refl, sym, subst, ◌∙◌, arith, inl, inr, ◌⊎◌}
 use Rattle.std.proofs.lemmas.Bool.{true≢false}
 use mathlib.Core.List.{IsPrefix}
-use Rattle.log_node.specs.declared.ids.Id.{Id}
 use Rattle.log_node.specs.declared.ids.Colours.{Colours}
 use Rattle.log_node.specs.declared.marks.Why.{Why}
 use Rattle.log_node.specs.declared.marks.Mark.{Mark}
@@ -12,7 +11,6 @@ use Rattle.log_node.specs.declared.marks.Outcome.TheVariants.{Final}
 use Rattle.log_node.specs.Seen.{BegunAppend}
 use Rattle.log_node.specs.Sets.{has}
 use Rattle.log_node.specs.Standings.{open_entry}
-use Rattle.col_core.specs.declared.Entry.{Entry}
 use Rattle.col_core.specs.declared.Event.{Event}
 use Rattle.col_core.specs.History.{entries, has_entered}
 use Rattle.col_core.specs.Ids.{IsFinal}

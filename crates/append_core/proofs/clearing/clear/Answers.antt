@@ -1,4 +1,4 @@
-use Rattle.std.proofs.Common.{◌≡◌, ◌<◌, ◌≤◌, ◌-◌, ◌+◌, ℕ, [], length, refl, ap, sym, subst, ◌∙◌, arith}
+use Rattle.std.proofs.Common.{◌∙◌, arith}
 use Rattle.col_core.specs.Ids.{open_below}
 use Rattle.chain_store.specs.Holds.{entries_seen}
 use Rattle.append_core.proofs.Going.{later_then}

@@ -1,4 +1,4 @@
-use Rattle.std.proofs.Common.{◌≡◌, ◌≤◌, ◌-◌, ℕ, length}
+use Rattle.std.proofs.Common.{◌≡◌, ◌≤◌, ◌-◌, length}
 use Rattle.col_core.specs.Ids.{open_below}
 use Rattle.stamp_board.specs.Seats.{IsLater}
 use Rattle.chain_store.specs.Holds.{IsHold, entries_seen}

@@ -1,17 +1,16 @@
-use Rattle.std.proofs.Common.{◌≡◌, ◌<◌, ◌≤◌, ◌-◌, ◌+◌, ℕ, [], true, length, None, Some, refl, ap, sym, subst, ◌∙◌, arith, Option, List}
+use Rattle.std.proofs.Common.{◌≡◌, true, length, None, refl, ap, sym, subst, ◌∙◌, arith, Option, List}
 use Rattle.std.specs.Prelude.{IfSome}
-use Rattle.std.specs.List.{find, filter}
+use Rattle.std.specs.List.{find}
 use Rattle.std.specs.Option.{option_map}
 use Rattle.log_node.specs.declared.ids.Id.{Id}
 use Rattle.log_node.specs.Seen.{BegunAppend}
 use Rattle.log_node.specs.Sets.{has}
 use Rattle.log_node.specs.Standings.{Standing, open_entry}
-use Rattle.col_core.specs.declared.Event.{Event}
 use Rattle.col_core.specs.History.{entries}
-use Rattle.col_core.specs.Ids.{is_open_below, open_below}
+use Rattle.col_core.specs.Ids.{is_open_below}
 use Rattle.chain_store.specs.Holds.{KnowsAppend, entries_seen}
-use Rattle.append_core.specs.Going.{HelpsOpen, IsStepIn}
-use Rattle.append_core.proofs.Going.{later_then, looks_on, goes_then, goes_weaken}
+use Rattle.append_core.specs.Going.{HelpsOpen}
+use Rattle.append_core.proofs.Going.{later_then, looks_on}
 use Rattle.append_core.proofs.Cleared.{under_later, fewer_later, less_later, first_open, none_open, helped_open}
 use Rattle.append_core.proofs.clearing.help_first.Goals as goal
 

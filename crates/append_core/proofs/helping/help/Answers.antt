@@ -1,7 +1,6 @@
-use Rattle.std.proofs.Common.{◌≡◌, ◌<◌, ℕ, true, refl, ap, sym, subst, ◌∙◌}
+use Rattle.std.proofs.Common.{ap, sym, subst}
 use Rattle.log_node.specs.declared.ids.Row.{Row}
 use Rattle.log_node.specs.Seen.{BegunAppend}
-use Rattle.log_node.specs.Sets.{has}
 use Rattle.stamp_board.specs.Rows.{IsRow}
 use Rattle.stamp_board.specs.Views.{KnowsAll, KnowsOutcome}
 use Rattle.stamp_board.proofs.CallerLemmas.{Learns-from, outcome_learnt}

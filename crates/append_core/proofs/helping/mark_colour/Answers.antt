@@ -1,6 +1,5 @@
-use Rattle.std.proofs.Common.{◌≡◌, ◌<◌, ℕ, true, refl, ap, sym, subst, ◌∙◌}
+use Rattle.std.proofs.Common.{refl, ap, sym, ◌∙◌}
 use Rattle.log_node.specs.Seen.{BegunAppend}
-use Rattle.log_node.specs.Sets.{has}
 use Rattle.chain_store.specs.Holds.{view_of}
 use Rattle.append_core.specs.Going.{IsStepIn}
 use Rattle.append_core.proofs.Going.{later_same, goes_same}
