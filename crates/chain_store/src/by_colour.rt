@@ -20,6 +20,7 @@ ghost use Rattle.chain_store.specs.Histories.{FitsColumn};
 ghost use Rattle.chain_store.specs.Columns.{told_single, told_propose, told_settle};
 ghost use Rattle.chain_store.specs.Marks.{stamps_of, numbers};
 ghost use Rattle.chain_store.specs.Rows.{IsBegunRow, place_after};
+ghost use Rattle.chain_store.specs.Proposals.{HasProposal};
 ghost use Rattle.chain_store.specs.Steps.{HasSingleCause, MatchAt};
 ghost use Rattle.chain_store.specs.Passes.{ShowsHistory, dated_in};
 ghost use Rattle.chain_store.specs.Regions.{tag_at, IsColumnAt};
@@ -36,7 +37,7 @@ use crate::rows::{Proposed, Settled, below_in, propose_in, settle_in};
 use crate::seated::Seated;
 use col_core::View;
 use column::{Below, ColumnFault, Given};
-use log_node::{At, Begun, Counts, Key, MAX_STAMP, Node, Outcome};
+use log_node::{At, Begun, Counts, Key, MAX_STAMP, Mark, Node, Outcome};
 use std::alloc::{AllocError, Global};
 use std::sync::{Arc, Wait};
 use turn_cell::Cell;
@@ -258,7 +259,10 @@ impl Region {
         ensures others { SameBut colour hold.old hold.new }
         ensures same { IsLater hold.old.seat hold.new.seat × (hold.new.next ≡ hold.old.next) }
         ensures known { KnowsMark (view_of hold.new) begun.now.row colour result.mark }
+        ensures set { result.mark ≢ Mark.None }
         ensures agrees { stamps_of begun.now.row (seen_in hold.new colour) ≡ numbers result.mark }
+        ensures entered { (n : ℕ) → result.mark ≡ Number n → HasProposal self.now.board.size self.now.number colour
+            (view_of hold.new) begun.now (seen_in hold.new colour) n }
         ensures at { MatchAt result.at
             (λ _. (x : Node) × (n : ℕ) × IsBegunRow self.now.board.size self.now.number (view_of hold.new) begun.now x
             × (result.mark ≡ Number n)

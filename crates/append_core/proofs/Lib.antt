@@ -1,0 +1,6 @@
+mod Going
+mod Taking
+mod Lasting
+mod Marked
+mod Cleared
+pub mod CallerLemmas

@@ -1,0 +1,139 @@
+-- What a hold knows of a begun append in the columns of its colours, and that it knows it later.
+use Rattle.std.proofs.Common.{◌≡◌, ◌≢◌, ℕ, ◌<◌, List, true, false, None, refl, sym, subst, ◌∙◌, arith, inl, inr, ◌⊎◌}
+use Rattle.std.proofs.lemmas.Bool.{true≢false}
+use mathlib.Core.List.{IsPrefix}
+use Rattle.log_node.specs.declared.ids.Colours.{Colours}
+use Rattle.log_node.specs.declared.marks.Why.{Why}
+use Rattle.log_node.specs.declared.marks.Mark.{Mark}
+use Rattle.log_node.specs.declared.marks.Mark.TheVariants as marks
+use Rattle.log_node.specs.declared.marks.Outcome.{Outcome}
+use Rattle.log_node.specs.declared.marks.Outcome.TheVariants.{Final}
+use Rattle.log_node.specs.Seen.{BegunAppend}
+use Rattle.log_node.specs.Sets.{has}
+use Rattle.log_node.specs.Standings.{open_entry}
+use Rattle.col_core.specs.declared.Event.{Event}
+use Rattle.col_core.specs.History.{entries, has_entered}
+use Rattle.col_core.specs.Ids.{IsFinal}
+use Rattle.stamp_board.specs.Views.{KnowsAll, KnowsMark}
+use Rattle.stamp_board.specs.Seats.{IsLater}
+use Rattle.stamp_board.proofs.CallerLemmas.{Learns-from, mark_learnt}
+use Rattle.chain_store.specs.declared.told.Told.{Told}
+use Rattle.chain_store.specs.declared.hold.Hold.{Hold}
+use Rattle.chain_store.specs.declared.region.Region.{Region}
+use Rattle.chain_store.specs.Histories.{entries_in}
+use Rattle.chain_store.specs.Proposals.{HasProposal}
+use Rattle.chain_store.specs.Holds.{IsHold, KnowsAppend, SameBut, seen_in, entries_seen, view_of}
+use Rattle.append_core.specs.Going.{GoesOn}
+use Rattle.append_core.specs.Settled.{IsMarkedThere, IsSettledThere}
+use Rattle.append_core.proofs.Taking.{entered_proposed, entered_more}
+use Rattle.append_core.proofs.Lasting.{final_later, closed_later}
+
+-- what a test of the colours that the code has says of the append
+pub has_colour : (b : BegunAppend) (set : Colours) (k : ℕ) → set ≡ b.colours → has set k ≡ true → has b.colours k ≡ true
+has_colour b set k is e = subst (λ (s : Colours). has s k ≡ true) is e
+
+pub lacks_colour : (b : BegunAppend) (set : Colours) (k : ℕ) → set ≡ b.colours → has set k ≡ false
+    → has b.colours k ≡ true → ⊥
+lacks_colour b set k is e it = true≢false (sym it ∙ subst (λ (s : Colours). has s k ≡ false) is e)
+
+module _ (r : Region) (h : Hold) (b : BegunAppend) (knows : KnowsAppend r h b) where
+  -- its colours are those of the region
+  pub colour_within : (c : ℕ) → has b.colours c ≡ true → c < r.board.size.colours
+  colour_within c coloured =
+      knows.knows.1.several.within c (subst (λ (s : Colours). has s c ≡ true) knows.knows.1.of.colours coloured)
+
+  pub below_all : (c : ℕ) → has b.colours c ≡ true → c < 16
+  below_all c coloured =
+      let lt = colour_within c coloured in
+      let few = r.board.is_size.3 in
+      omega (arith, lt, few)
+
+  -- all its marks are known where it is marked in each colour
+  pub all_known : ((c : ℕ) → has b.colours c ≡ true → IsMarkedThere h b c) → KnowsAll (view_of h) b.row
+  all_known marked = (
+    knows.knows.0,
+    knows.knows.1.knows,
+    λ c it. let m = marked c (subst (λ (s : Colours). has s c ≡ true) (sym knows.knows.1.of.colours) it) in (
+      m.mark,
+      m.known,
+    ),
+  )
+
+-- by a proposal it is marked in the colour
+pub marked_at : (r : Region) (h : Hold) (b : BegunAppend) (k : ℕ) (mark : Mark) → mark ≢ marks.None
+    → KnowsMark (view_of h) b.row k mark
+    → ((n : ℕ) → mark ≡ marks.Number n → HasProposal r.board.size r.number k (view_of h) b (seen_in h k) n)
+    → IsMarkedThere h b k
+marked_at r h b k marks.None set known entered = absurd (set refl)
+marked_at r h b k (marks.Fenced why) set known entered = record {
+  mark = marks.Fenced why;
+  set = set;
+  known = known;
+  done = inl (why, refl);
+}
+marked_at r h b k (marks.Number n) set known entered = let p = entered n refl in record {
+  mark = marks.Number n;
+  set = set;
+  known = known;
+  done = inr (entered_proposed (seen_in h k) k p.0 n p.1 b.id (sym p.2.of.id) p.3);
+}
+
+-- the hold has gone on
+module _ (Made : ℕ → Event → Type 0) (g h : Hold) (b : BegunAppend) (goes : GoesOn Made g h)
+    (later : IsLater g.seat h.seat) where
+  known_later : (c : ℕ) (m : Mark) → KnowsMark (view_of g) b.row c m → KnowsMark (view_of h) b.row c m
+  known_later c m = mark_learnt (view_of g) (view_of h) b.row later.grows.size
+      (Learns-from (view_of g) (view_of h) later.grows) c m
+
+  pub marked_later : (c : ℕ) → IsMarkedThere g b c → IsMarkedThere h b c
+  marked_later c m = record {
+    mark = m.mark;
+    set = m.set;
+    known = known_later c m.mark m.known;
+    done = elim m.done [
+      | inl fenced ↦ inl fenced
+      | inr entered ↦ inr (entered_more (seen_in g c) (seen_in h c) b.id (goes.more c) entered)
+    ];
+  }
+
+-- by a settling it is settled in the colour where it was marked
+pub settled_at : (h : Hold) (b : BegunAppend) (o : Outcome) (c : ℕ) → IsMarkedThere h b c
+    → open_entry b.id (entries (entries_seen h c)) ≡ None
+    → ((f : ℕ) → o ≡ Final f → IsFinal (entries_seen h c) b.id f) → IsSettledThere h b o c
+settled_at h b o c m closed final = record {
+  mark = m.mark;
+  set = m.set;
+  known = m.known;
+  closed = closed;
+  done = m.done;
+  final = final;
+}
+
+-- it stays settled in other columns than that of a call
+pub settled_elsewhere : (g h : Hold) (b : BegunAppend) (o : Outcome) (k c : ℕ) → SameBut k g h → IsLater g.seat h.seat
+    → c ≢ k → IsSettledThere g b o c → IsSettledThere h b o c
+settled_elsewhere g h b o k c but later ne s =
+    let same : seen_in g c ≡ seen_in h c = sym (but.others c ne) in record {
+      mark = s.mark;
+      set = s.set;
+      known = mark_learnt (view_of g) (view_of h) b.row later.grows.size
+          (Learns-from (view_of g) (view_of h) later.grows) c s.mark s.known;
+      closed = subst (λ (l : List Told). open_entry b.id (entries (entries_in l)) ≡ None) same s.closed;
+      done = subst (λ (l : List Told). ((why : Why) × (s.mark ≡ marks.Fenced why))
+          ⊎ (has_entered b.id (entries_in l) ≡ true)) same s.done;
+      final = λ f is. subst (λ (l : List Told). IsFinal (entries_in l) b.id f) same (s.final f is);
+    }
+
+-- it stays settled in each column where it has entered
+pub settled_later : (r : Region) (g h : Hold) (b : BegunAppend) (o : Outcome) (c : ℕ) → IsHold r h
+    → c < r.board.size.colours → IsPrefix (seen_in g c) (seen_in h c) → IsLater g.seat h.seat
+    → has_entered b.id (entries_seen g c) ≡ true → IsSettledThere g b o c → IsSettledThere h b o c
+settled_later r g h b o c is lt more later entered s = record {
+  mark = s.mark;
+  set = s.set;
+  known = mark_learnt (view_of g) (view_of h) b.row later.grows.size
+      (Learns-from (view_of g) (view_of h) later.grows) c s.mark s.known;
+  closed = closed_later r g h c is lt more b.id entered s.closed;
+  done = inr (entered_more (seen_in g c) (seen_in h c) b.id more entered);
+  final = λ f final. final_later r g h c is lt more b.id f (s.final f final);
+}
