@@ -1,0 +1,13 @@
+mod Lists
+mod Counting
+mod Keeping
+mod Events
+mod AppendOne
+mod Above
+mod Rows
+mod Several
+mod Syncs
+mod Pulls
+mod Origins
+mod Replies
+pub mod CallerLemmas
