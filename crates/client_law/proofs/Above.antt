@@ -1,5 +1,5 @@
 -- The stamp under which a proposed node is final is above the floor of its proposal.
-use Rattle.std.proofs.Common.{◌≡◌, ℕ, ◌+◌, ◌<◌, ◌≤◌, List, [], ◌∷◌, true, false, Bool, Some, None, slice_get, refl, ap, sym, subst, ◌∙◌, inl, inr, ◌⊎◌, arith, reverse}
+use Rattle.std.proofs.Common.{◌≡◌, ℕ, ◌<◌, List, [], ◌∷◌, true, false, Some, ap, sym, subst, ◌∙◌, inl, inr, arith, reverse}
 use Rattle.log_node.specs.declared.ids.Id.{Id}
 use Rattle.log_node.specs.declared.ids.Key.{Key}
 use Rattle.log_node.specs.declared.ids.Counts.{Counts}
@@ -13,7 +13,7 @@ use Rattle.col_core.specs.declared.Entry.{Entry}
 use Rattle.col_core.specs.History as History
 use Rattle.col_core.specs.History.{line, entry_key}
 use Rattle.col_core.proofs.CallerLemmas.{choice, In, in_line, in_reverse, slice_in, entries-of, shown, past_is_lawful, same_id-true, same_id-refl, if_true}
-use Rattle.col_core.proofs.CallerLemmas.{Status, Absent, Alone, Waits, Settled, status, after_event, standing_of, entries, IsSettling, IsLawfulNext, IsLawfulPast}
+use Rattle.col_core.proofs.CallerLemmas.{Status, Absent, Alone, Waits, Settled, status, after_event, standing_of, IsSettling, IsLawfulNext, IsLawfulPast}
 use Rattle.client_law.specs.Appends.{FinalIsAbove}
 
 -- the id was proposed, and its tentative and its final stamp are above the floor

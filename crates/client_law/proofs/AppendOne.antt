@@ -1,12 +1,9 @@
 -- Appends to one colour.
-use Rattle.std.proofs.Common.{◌≡◌, ℕ, ◌+◌, ◌<◌, ◌≤◌, max, List, [], ◌∷◌, ◌++◌, length, map, take, Some, slice_get, refl, ap, sym, subst, ◌∙◌, inl, inr, ◌⊎◌, arith, take_all}
+use Rattle.std.proofs.Common.{◌≡◌, ℕ, ◌+◌, ◌<◌, ◌≤◌, max, List, [], ◌∷◌, ◌++◌, length, map, Some, slice_get, refl, ap, sym, subst, inl, inr, ◌⊎◌, arith, take_all}
 use Rattle.std.specs.Prelude.{◌==◌, false}
-use Rattle.std.specs.List.{Contains}
 use Rattle.std.proofs.lemmas.Bool.{cases_lt, eqb-true, eq-eqb}
-use Rattle.std.proofs.lemmas.Option.{same_Some}
 use Rattle.log_node.specs.declared.ids.Key.{Key}
 use Rattle.log_node.specs.declared.ids.Counts.{Counts}
-use Rattle.log_node.specs.declared.ids.Colours.{Colours}
 use Rattle.log_node.specs.declared.node.Node.{Node}
 use Rattle.log_node.specs.Sets.{members}
 use Rattle.col_core.specs.declared.Entry.{Entry}
@@ -14,11 +11,11 @@ use Rattle.col_core.specs.declared.Event.TheVariants.{Single}
 use Rattle.col_core.specs.History.{IsAtEnd, line, entry_key}
 use Rattle.col_core.specs.Log.{places_of}
 use Rattle.col_core.specs.Rows.{wants_of}
-use Rattle.col_core.specs.Keeping.{Kept, updated, kept_after_single}
+use Rattle.col_core.specs.Keeping.{Kept, kept_after_single}
 use Rattle.col_core.proofs.CallerLemmas.{choice, In, in_contains}
 use Rattle.lawful_run.specs.Callers.{Caller}
 use Rattle.lawful_run.proofs.CallerLemmas.{get_within, prefix_length}
-use Rattle.client_law.specs.Knowing.{Seen, Rest, log_of, SeesOn}
+use Rattle.client_law.specs.Knowing.{Seen, Rest, SeesOn}
 use Rattle.client_law.specs.Making.{IsOwnStepAt}
 use Rattle.client_law.specs.Kept.{AreUnder, IsKeptBy}
 use Rattle.client_law.specs.Appends.{WantsAreStarts, StandsAlone, AppendsStand, KeptAfterAppend, NoStampWasLeft}
@@ -70,7 +67,7 @@ module _ (old new : Seen) (rest : Rest) (caller : Caller) (kept : Kept) (node : 
       let e = m.stamped in
       omega (arith, e)
 
-  own_single : IsOwnStepAt caller.client (old caller.own colour) (new caller.own colour) place
+  pub own_single : IsOwnStepAt caller.client (old caller.own colour) (new caller.own colour) place
   own_single = (
     s.unseen,
     record { by = caller.client; event = Single node.id kept.floor (kept.starts colour); stamp = stamp },

@@ -1,10 +1,9 @@
 -- The places of a client's own steps, counted.
 use Rattle.std.proofs.Common.{◌≡◌, ℕ, zero, suc, ◌+◌, ◌<◌, ◌≤◌, List, [], ◌∷◌, ◌++◌, length, drop, Some, slice_get, Bool, true, false, cond, refl, ap, sym, subst, ◌∙◌, inl, inr, ◌⊎◌, arith, length-append, append-nil, drop_at}
-use Rattle.std.specs.Prelude.{◌==◌, ◌&&◌, IsTrue}
-use Rattle.std.specs.List.{All, Contains, filter}
+use Rattle.std.specs.Prelude.{◌==◌, ◌&&◌}
+use Rattle.std.specs.List.{All, filter}
 use Rattle.std.proofs.lemmas.Bool.{cases_lt, eq-eqb}
 use Rattle.std.proofs.lemmas.List.Elements.{All-nil, All-cons, All-contains, filter-append}
-use mathlib.Core.List.{IsPrefix}
 use Rattle.col_core.specs.declared.Entry.{Entry}
 use Rattle.col_core.specs.Log.{is_own, places_from, places_of}
 use Rattle.col_core.proofs.CallerLemmas.{In, in_filter-back, contains_in, slice_in}
@@ -54,7 +53,7 @@ all_stand k client (x ∷ xs) =
     by_bool (is_own_step client x) refl (places_from (k + 1) client xs)
     (λ n d lt. own_next k client x xs _ (all_stand (k + 1) client xs n d lt)) where
       here : is_own_step client x ≡ true → OwnAt k client (x ∷ xs) k
-            here t = (0, x, omega arith, refl, t)
+      here t = (0, x, omega arith, refl, t)
 
       by_bool : (b : Bool) → is_own_step client x ≡ b → (ps : List ℕ) → All (OwnAt k client (x ∷ xs)) ps
           → All (OwnAt k client (x ∷ xs)) (cond b (k ∷ ps) ps)
@@ -64,8 +63,7 @@ all_stand k client (x ∷ xs) =
 stands_at : (client : ℕ) (old more : List Entry) (place : ℕ) → OwnAt (length old) client more place
     → IsOwnStepAt client old (old ++ more) place
 stands_at client old more place o =
-    let e = o.2 in
-    (
+    let e = o.2 in (
       omega (arith, e),
       o.1,
       ap (λ (n : ℕ). slice_get (old ++ more) n) e ∙ get_onward old more o.0 o.1 o.3,

@@ -1,5 +1,5 @@
 -- What one client knows goes on explaining its replies, and what it keeps stays of what it has seen.
-use Rattle.std.proofs.Common.{◌≡◌, ◌≢◌, ℕ, ◌+◌, ◌<◌, ◌≤◌, List, [], ◌∷◌, ◌++◌, length, map, take, true, Some, slice_get, refl, ap, sym, subst, ◌∙◌, inl, inr, ◌⊎◌, arith, take_all, eq-eqb}
+use Rattle.std.proofs.Common.{◌≡◌, ℕ, ◌+◌, ◌<◌, ◌≤◌, List, [], ◌∷◌, ◌++◌, length, map, take, true, Some, slice_get, refl, ap, sym, subst, ◌∙◌, inl, inr, ◌⊎◌, arith, eq-eqb}
 use Rattle.std.specs.Prelude.{◌==◌}
 use Rattle.std.specs.List.{AllZip}
 use Rattle.std.proofs.lemmas.Bool.{cases_lt}
@@ -14,7 +14,7 @@ use Rattle.log_node.specs.Reach.{Reachable, nothing}
 use Rattle.log_node.specs.declared.marks.ColourMark.{ColourMark}
 use Rattle.col_core.specs.declared.Entry.{Entry}
 use Rattle.col_core.specs.History.{line}
-use Rattle.col_core.specs.Cuts.{Dated, chain, entries_of}
+use Rattle.col_core.specs.Cuts.{Dated, chain}
 use Rattle.col_core.specs.Computed.{dated}
 use Rattle.col_core.specs.Legal.{IsColumnHistory, IsLawfulEvent}
 use Rattle.col_core.specs.Rows.{BegunRow}
@@ -23,9 +23,9 @@ use Rattle.col_core.specs.Keeping.{Kept}
 use Rattle.col_core.proofs.CallerLemmas.{chains_grow, cut-is_greatest, dated-is_dated, dates_longer, entries_dated, head_with, if_true, key-stamps, later, later_by_growth, line_rises, reachable_grows, reached_within}
 use Rattle.lawful_run.specs.Callers.{Caller}
 use Rattle.lawful_run.specs.Explains.{next}
-use Rattle.lawful_run.proofs.CallerLemmas.{explained_later, get_within, prefix_get, prefix_length}
-use Rattle.client_law.specs.Knowing.{Seen, Rest, log_of, SeesMore, AreLawful, SeesOn, RepliesLast, ExplainedOn, ExplainedAtEnd}
-use Rattle.client_law.specs.Making.{own_steps, MakesNone}
+use Rattle.lawful_run.proofs.CallerLemmas.{explained_later, prefix_length}
+use Rattle.client_law.specs.Knowing.{Seen, Rest, log_of, SeesOn, RepliesLast, ExplainedOn, ExplainedAtEnd}
+use Rattle.client_law.specs.Making.{own_steps}
 use Rattle.client_law.specs.Kept.{AreUnder, IsKeptBy, NothingIsKept, KeptStays, StartsWithin, StepsAtEnd}
 use Rattle.client_law.proofs.Lists.{prefix_self, prefix_back, image_at}
 use Rattle.client_law.proofs.Counting.{places_stay}

@@ -9,5 +9,6 @@ mod Several
 mod Syncs
 mod Pulls
 mod Origins
+mod Unshown
 mod Replies
 pub mod CallerLemmas

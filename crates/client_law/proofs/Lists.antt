@@ -1,11 +1,11 @@
 -- Beginnings of lists, items by place, and functions with another value at one number.
-use Rattle.std.proofs.Common.{◌≡◌, ℕ, zero, suc, ◌+◌, ◌-◌, ◌<◌, ◌≤◌, List, [], ◌∷◌, ◌++◌, length, map, drop, Some, slice_get, refl, ap, sym, subst, ◌∙◌, inl, inr, ◌⊎◌, arith, length-append, append_assoc, append-nil}
-use Rattle.std.specs.Prelude.{◌==◌, ◌≢◌, ◌&&◌, Bool, true, false, cond}
-use Rattle.std.proofs.lemmas.Bool.{cases_lt, eqb-true, eq-eqb}
+use Rattle.std.proofs.Common.{◌≡◌, ℕ, zero, suc, ◌+◌, ◌<◌, ◌≤◌, List, [], ◌∷◌, ◌++◌, length, map, drop, Some, slice_get, refl, ap, sym, subst, ◌∙◌, inl, inr, ◌⊎◌, arith, append_assoc, append-nil}
+use Rattle.std.specs.Prelude.{◌==◌, ◌≢◌, Bool, true, false}
+use Rattle.std.proofs.lemmas.Bool.{eqb-true, eq-eqb}
 use Rattle.std.proofs.lemmas.Option.{same_Some}
 use mathlib.Core.List.{IsPrefix}
 use Rattle.col_core.specs.Keeping.{updated, updated_at}
-use Rattle.col_core.proofs.CallerLemmas.{choice, In}
+use Rattle.col_core.proofs.CallerLemmas.{choice}
 
 module _ {A : Type 0} where
   pub prefix_self : (xs : List A) → IsPrefix xs xs
@@ -47,8 +47,10 @@ module _ {A : Type 0} where
 
   pub get_onward : (xs more : List A) (j : ℕ) (x : A) → slice_get more j ≡ Some x
       → slice_get (xs ++ more) (length xs + j) ≡ Some x
-  get_onward [] more j x e = e
-  get_onward (y ∷ xs) more j x e = get_onward xs more j x e
+  get_onward [] more j x e = let is : j ≡ 0 + j = omega arith in subst (λ n. slice_get more n ≡ Some x) is e
+  get_onward (y ∷ xs) more j x e =
+      let is : suc (length xs + j) ≡ suc (length xs) + j = omega arith in
+      subst (λ n. slice_get (y ∷ (xs ++ more)) n ≡ Some x) is (get_onward xs more j x e)
 
   -- what begins a list from a place on begins a longer one from there on
   pub drop_longer : (n : ℕ) (xs more hs : List A) → IsPrefix hs (drop n xs) → IsPrefix hs (drop n (xs ++ more))

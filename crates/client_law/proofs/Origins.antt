@@ -1,23 +1,21 @@
 -- Copies are true.
-use Rattle.std.proofs.Common.{◌≡◌, ◌≢◌, ℕ, zero, suc, ◌+◌, ◌<◌, ◌≤◌, max, List, [], ◌∷◌, ◌++◌, length, map, take, drop, Bool, true, false, cond, Some, slice_get, refl, ap, sym, subst, ◌∙◌, inl, inr, ◌⊎◌, arith, length-append, append_assoc, append-nil, take_all, take-append-drop, drop_at, eqb-true, ne_eqb}
+use Rattle.std.proofs.Common.{◌≡◌, ◌≢◌, ℕ, zero, suc, ◌<◌, ◌≤◌, List, [], ◌∷◌, ◌++◌, length, map, take, drop, Some, slice_get, refl, ap, sym, subst, ◌∙◌, inl, inr, ◌⊎◌, arith, append_assoc, append-nil, take_all, drop_at, eqb-true, ne_eqb}
 use Rattle.std.specs.Prelude.{◌==◌}
 use Rattle.std.specs.List.{flat_map}
-use Rattle.std.proofs.lemmas.Bool.{cases_lt}
-use Rattle.std.proofs.lemmas.List.{length-map}
 use mathlib.Core.List.{IsPrefix}
 use Rattle.log_node.specs.declared.node.Head.{Head}
 use Rattle.log_node.specs.Outcomes.{greatest}
 use Rattle.col_core.specs.declared.Entry.{Entry}
 use Rattle.col_core.specs.declared.Event as event_types
 use Rattle.col_core.specs.declared.Event.TheVariants as events
-use Rattle.col_core.specs.Cuts.{Dated, chain, carried, noted, noted_from}
+use Rattle.col_core.specs.Cuts.{Dated, chain, carried, noted_from}
 use Rattle.col_core.specs.Computed.{dated}
 use Rattle.col_core.specs.Legal.{IsColumnHistory, IsLawfulEvent}
-use Rattle.col_core.specs.Copies.{AreTrueCopies, IsTrueCopy}
+use Rattle.col_core.specs.Copies.{IsTrueCopy}
 use Rattle.col_core.proofs.CallerLemmas.{by_test, choice, dated-is_dated, if_true, if_false}
-use Rattle.lawful_run.proofs.CallerLemmas.{prefix_length, get_within}
-use Rattle.client_law.specs.Origins.{IsOfOrigin, CarriesOfOrigins, GivesAreHeld, OriginsStay, CopiesAreTrue}
-use Rattle.client_law.proofs.Lists.{drop_longer, map_at, prefix_trans, prefix_self}
+use Rattle.lawful_run.proofs.CallerLemmas.{prefix_length}
+use Rattle.client_law.specs.Origins.{CarriesOfOrigins, GivesAreHeld, OriginsStay, CopiesAreTrue}
+use Rattle.client_law.proofs.Lists.{drop_longer, map_at}
 use Rattle.client_law.proofs.Keeping.{chain_later}
 
 pub origins_stay : OriginsStay

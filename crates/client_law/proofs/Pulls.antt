@@ -1,28 +1,25 @@
 -- Pulls and trims.
-use Rattle.std.proofs.Common.{◌≡◌, ◌≢◌, ℕ, zero, suc, ◌+◌, ◌<◌, ◌≤◌, max, min, List, [], ◌∷◌, ◌++◌, length, take, drop, Bool, true, false, Some, slice_get, refl, ap, sym, subst, ◌∙◌, inl, inr, ◌⊎◌, arith, length-append, append_assoc, append-nil, take-append-drop, eqb-true, eq-eqb}
+use Rattle.std.proofs.Common.{◌≡◌, ◌≢◌, ℕ, suc, ◌+◌, ◌<◌, ◌≤◌, List, [], ◌∷◌, ◌++◌, length, take, drop, Bool, true, false, refl, ap, sym, subst, ◌∙◌, inl, inr, ◌⊎◌, arith, length-append, append_assoc, append-nil, take-append-drop, eqb-true, eq-eqb}
 use Rattle.std.specs.Prelude.{◌==◌}
 use Rattle.std.specs.List.{All}
 use Rattle.std.proofs.lemmas.List.Elements.{All-nil, All-cons, All-append, All-weaker}
-use mathlib.Core.List.{IsPrefix}
-use Rattle.log_node.specs.declared.ids.Counts.{Counts}
 use Rattle.log_node.specs.declared.node.At.{At}
 use Rattle.log_node.specs.declared.node.At.TheVariants.{Event, Look}
 use Rattle.col_core.specs.declared.Entry.{Entry}
 use Rattle.col_core.specs.declared.Event.TheVariants as events
-use Rattle.col_core.specs.History.{line}
-use Rattle.col_core.specs.Cuts.{chain, base}
+use Rattle.col_core.specs.Cuts.{chain}
 use Rattle.col_core.specs.Computed.{dated}
 use Rattle.col_core.specs.Legal.{IsColumnHistory}
 use Rattle.col_core.specs.Log.{places_of, first}
-use Rattle.col_core.specs.Keeping.{Kept, updated_at, kept_after_event, seen_after, seen_past}
-use Rattle.col_core.proofs.CallerLemmas.{by_test, lawful_beginning, if_true}
+use Rattle.col_core.specs.Keeping.{Kept, updated_at, kept_after_event, seen_past}
+use Rattle.col_core.proofs.CallerLemmas.{by_test, lawful_beginning}
 use Rattle.lawful_run.specs.Callers.{Caller}
-use Rattle.lawful_run.specs.Moves.{GivesAt, GivesTooLow, CarriesAt, with_places, kept_after_pull}
+use Rattle.lawful_run.specs.Moves.{GivesAt, GivesTooLow, CarriesAt, with_places}
 use Rattle.lawful_run.proofs.CallerLemmas.{prefix_length, prefix_take}
 use Rattle.client_law.specs.Knowing.{Seen, Rest, log_of, SeesOn}
 use Rattle.client_law.specs.Making.{own_steps, IsOwnStepAt, RiseFrom}
 use Rattle.client_law.specs.Kept.{IsKeptBy}
-use Rattle.client_law.specs.Moves.{home_dated, CarriesThere, PullsThere, PullsStand, carry_count, MakesPull, KeptAfterPull, KeptAfterGives, TrimsStand}
+use Rattle.client_law.specs.Moves.{home_dated, CarriesThere, PullsThere, PullsStand, KeptAfterPull, KeptAfterGives, TrimsStand}
 use Rattle.client_law.proofs.Lists.{at_new_at}
 use Rattle.client_law.proofs.Keeping.{chain_later, keeps_on, seen_on, known_on, under_on, made_on}
 use Rattle.client_law.proofs.Events.{own_step, at_column, made_here, made_one, place_seen}
@@ -288,8 +285,7 @@ kept_after_pulling old new rest caller kept region colour nodes place (Event the
     (All-cons (λ place. (from : ℕ) × GivesAt (log_of new rest) caller region colour place from) place []
     (p.from, p.gives) (All-nil (λ place. (from : ℕ) × GivesAt (log_of new rest) caller region colour place from))) in
     let c = p.carries in
-    carried_kept old new rest caller kept region colour nodes place too_low on k p.another gives p.rising m.given there
-    (
+    carried_kept old new rest caller kept region colour nodes place too_low on k p.another gives p.rising m.given there (
       c.0,
       record { by = caller.client; event = events.Carry region c.1 c.2; stamp = 0 },
       c.3,

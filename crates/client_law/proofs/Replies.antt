@@ -1,6 +1,5 @@
 -- What explains each reply.
-use Rattle.std.proofs.Common.{◌≡◌, ℕ, ◌+◌, ◌<◌, ◌≤◌, List, [], ◌∷◌, ◌++◌, length, refl, inl, inr, ◌⊎◌, arith}
-use Rattle.log_node.specs.Sets.{members}
+use Rattle.std.proofs.Common.{◌+◌, refl, inl, arith}
 use Rattle.lawful_run.specs.Appends.{none_for_one, none_for_several}
 use Rattle.lawful_run.specs.Callers.{node_of}
 use Rattle.lawful_run.specs.Refusals.{gone, gave}

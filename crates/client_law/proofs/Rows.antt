@@ -1,13 +1,11 @@
 -- Appends to several colours: what began, what is settled, what is gone, and where an append stopped.
-use Rattle.std.proofs.Common.{◌≡◌, ◌≢◌, ℕ, suc, ◌+◌, ◌<◌, ◌≤◌, max, List, [], ◌∷◌, ◌++◌, length, take, Some, slice_get, refl, ap, sym, subst, ◌∙◌, inl, inr, ◌⊎◌, arith, take_all, eqb-true}
+use Rattle.std.proofs.Common.{◌≡◌, ℕ, suc, ◌+◌, ◌<◌, ◌≤◌, max, List, [], ◌∷◌, ◌++◌, length, Some, slice_get, refl, ap, sym, subst, ◌∙◌, inl, inr, ◌⊎◌, arith, take_all, eqb-true}
 use Rattle.std.specs.Prelude.{◌==◌, IsTrue, None}
 use Rattle.std.specs.List.{All}
 use Rattle.std.proofs.lemmas.List.Elements.{All-weaker}
-use Rattle.log_node.specs.declared.ids.Id.{Id}
 use Rattle.log_node.specs.declared.node.Node.{Node}
 use Rattle.log_node.specs.Sets.{members}
 use Rattle.log_node.specs.declared.marks.Why.{Why}
-use Rattle.log_node.specs.declared.marks.Mark.{Mark}
 use Rattle.log_node.specs.declared.marks.Mark.TheVariants as marks
 use Rattle.log_node.specs.Standings.{open_entry}
 use Rattle.col_core.specs.declared.Event as events
@@ -24,9 +22,9 @@ use Rattle.lawful_run.specs.Appends.{IsStepOf, IsSettledIn, IsSettled}
 use Rattle.lawful_run.specs.Stops.{IsStepWithin}
 use Rattle.lawful_run.proofs.CallerLemmas.{get_within}
 use Rattle.client_law.specs.Knowing.{Seen, Rest, log_of, SeesOn}
-use Rattle.client_law.specs.Making.{own_steps, places_since, IsOwnStepAt, MakesAtHome}
-use Rattle.client_law.specs.Kept.{AreUnder, IsKeptBy}
-use Rattle.client_law.specs.Appends.{steps_since, EachStep, HasBegun, RowsBegin, KeptAfterRow, IsSettledThere, SettledForGood, ClosedStays, IsSettledEverywhere, GoneAtEnd, GoneForMemory, StopsStand}
+use Rattle.client_law.specs.Making.{MakesAtHome}
+use Rattle.client_law.specs.Kept.{IsKeptBy}
+use Rattle.client_law.specs.Appends.{steps_since, EachStep, RowsBegin, KeptAfterRow, IsSettledThere, SettledForGood, ClosedStays, IsSettledEverywhere, GoneAtEnd, GoneForMemory, StopsStand}
 use Rattle.client_law.proofs.Lists.{at_new}
 use Rattle.client_law.proofs.Counting.{places_grow, places_stand}
 use Rattle.client_law.proofs.Keeping.{keeps_on, seen_on, known_on, under_on, made_on}
@@ -132,19 +130,19 @@ settled_all new rest caller node s =
     (settled_for_good new rest caller node) (members node.colours) s
 
 pub gone_at_end : GoneAtEnd
-gone_at_end old new rest caller kept node colour on b ends settled = record {
+gone_at_end old new rest caller kept node colour on b ends over = record {
   begins = rows_begin old new rest caller kept node on b;
   outcome = ends.outcome;
   fence = ends.fence;
   least = ends.least;
-  settled = settled_all new rest caller node settled;
+  settled = settled_all new rest caller node over;
 }
 
 pub gone_for_memory : GoneForMemory
-gone_for_memory old new rest caller kept node on b outcome settled = record {
+gone_for_memory old new rest caller kept node on b outcome over = record {
   begins = rows_begin old new rest caller kept node on b;
   outcome = outcome;
-  settled = settled_all new rest caller node settled;
+  settled = settled_all new rest caller node over;
 }
 
 pub stops_stand : StopsStand

@@ -1,15 +1,12 @@
 -- An append to several colours that stands in all of them.
-use Rattle.std.proofs.Common.{◌≡◌, ◌≢◌, ℕ, suc, ◌+◌, ◌<◌, ◌≤◌, max, List, [], ◌∷◌, ◌++◌, length, map, Some, slice_get, refl, ap, sym, subst, ◌∙◌, arith}
+use Rattle.std.proofs.Common.{◌≡◌, ℕ, ◌+◌, ◌<◌, ◌≤◌, max, List, [], ◌∷◌, ◌++◌, length, Some, slice_get, refl, ap, sym, subst, ◌∙◌, arith}
 use Rattle.std.specs.List.{All}
 use Rattle.std.proofs.lemmas.List.{length-map}
 use Rattle.std.proofs.lemmas.List.Elements.{All-weaker, All-head, All-tail}
-use Rattle.log_node.specs.declared.ids.Counts.{Counts}
 use Rattle.log_node.specs.declared.node.At.{At}
 use Rattle.log_node.specs.declared.node.At.TheVariants.{Event, Look}
 use Rattle.log_node.specs.declared.node.Node.{Node}
-use Rattle.log_node.specs.Sets.{members}
 use Rattle.col_core.specs.History.{line, entry_key}
-use Rattle.col_core.specs.Log.{places_of}
 use Rattle.col_core.specs.Rows.{node_wants}
 use Rattle.col_core.specs.Keeping.{Kept, updated, seen_after, kept_after_point, with_made, with_floor, with_row}
 use Rattle.report_text.specs.declared.report.PointPiece.{PointPiece}
@@ -18,7 +15,7 @@ use Rattle.lawful_run.specs.Appends.{EntersAt, StandsAt, kept_after_points}
 use Rattle.lawful_run.proofs.CallerLemmas.{get_within}
 use Rattle.client_law.specs.Knowing.{Seen, Rest, log_of, SeesOn}
 use Rattle.client_law.specs.Kept.{AreUnder, IsKeptBy}
-use Rattle.client_law.specs.Appends.{steps_since, EntersThere, StandsThere, StandInAll, SeveralStand, KeptAfterSeveral}
+use Rattle.client_law.specs.Appends.{steps_since, EntersThere, StandsThere, SeveralStand, KeptAfterSeveral}
 use Rattle.client_law.proofs.Lists.{at_new, at_new_at}
 use Rattle.client_law.proofs.Keeping.{keeps_on, under_node, seen_on, known_on, under_on}
 use Rattle.client_law.proofs.Events.{at_column, place_seen}

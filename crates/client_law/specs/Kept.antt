@@ -1,8 +1,7 @@
 -- What a client keeps of its replies, beside what it has seen: all that its next reply rests on.
-use Rattle.std.specs.Prelude.{◌≡◌, ◌≢◌, ℕ, ◌<◌, ◌≤◌, List, [], length, Some, slice_get}
+use Rattle.std.specs.Prelude.{◌≡◌, ℕ, ◌<◌, ◌≤◌, List, [], length, Some, slice_get}
 use mathlib.Core.List.{IsPrefix}
 use Rattle.log_node.specs.declared.ids.Key.{Key}
-use Rattle.log_node.specs.declared.ids.Counts.{Counts}
 use Rattle.log_node.specs.Vectors.{at, IsWithin}
 use Rattle.log_node.specs.Reach.{Reachable}
 use Rattle.col_core.specs.declared.Entry.{Entry}
@@ -13,7 +12,7 @@ use Rattle.col_core.specs.Log.{places_of}
 use Rattle.col_core.specs.Keeping.{Kept, nothing_kept, kept_after_event, kept_after_look}
 use Rattle.lawful_run.specs.Callers.{Caller}
 use Rattle.client_law.specs.Knowing.{Seen, SeesOn}
-use Rattle.client_law.specs.Making.{own_steps, is_own_step, IsOwnStepAt, MakesNone, MakesOnly}
+use Rattle.client_law.specs.Making.{own_steps, IsOwnStepAt, MakesNone, MakesOnly}
 
 -- the first nodes of the line, so many, have no stamp above this one
 abbrev pub AreUnder : List Entry → ℕ → ℕ → Type 0

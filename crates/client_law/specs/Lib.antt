@@ -4,4 +4,5 @@ pub mod Kept
 pub mod Appends
 pub mod Moves
 pub mod Origins
+pub mod Unshown
 pub mod Replies

@@ -1,5 +1,5 @@
 -- Syncs, pulls and trims, from what a client has seen.
-use Rattle.std.specs.Prelude.{◌≡◌, ◌≢◌, ◌⊎◌, IsFalse, ℕ, ◌+◌, ◌<◌, ◌≤◌, min, List, [], ◌∷◌, ◌++◌, length, take, Some, slice_get}
+use Rattle.std.specs.Prelude.{◌≡◌, ◌≢◌, ◌⊎◌, IsFalse, ℕ, ◌+◌, ◌≤◌, min, List, [], ◌∷◌, ◌++◌, length, take, Some, slice_get}
 use Rattle.std.specs.List.{All, AllZip}
 use Rattle.log_node.specs.declared.ids.Counts.{Counts}
 use Rattle.log_node.specs.declared.node.At.{At}
@@ -7,14 +7,13 @@ use Rattle.log_node.specs.declared.node.At.TheVariants.{Event, Look}
 use Rattle.log_node.specs.declared.node.Head.{Head}
 use Rattle.log_node.specs.Seen.{PlacedNode}
 use Rattle.log_node.specs.Vectors.{IsWithin, is_within}
-use Rattle.col_core.specs.declared.Entry.{Entry}
 use Rattle.col_core.specs.declared.Event.TheVariants as events
 use Rattle.col_core.specs.History.{line}
 use Rattle.col_core.specs.Cuts.{Dated, chain, base}
 use Rattle.col_core.specs.Computed.{cut, dated}
 use Rattle.col_core.specs.PlayOrder.{Place, Stands, IsPlayOrder}
 use Rattle.col_core.specs.Log.{HasText}
-use Rattle.col_core.specs.Keeping.{Kept, kept_after_event, kept_after_sync, seen_after}
+use Rattle.col_core.specs.Keeping.{Kept, kept_after_sync, seen_after}
 use Rattle.lawful_run.specs.Callers.{Caller}
 use Rattle.lawful_run.specs.Reads.{Syncs, ShowsPlayed, IsTrimmed, greatest_stamp}
 use Rattle.lawful_run.specs.Moves.{GivesAt, GivesTooLow, Pulls, with_places, kept_after_pull, Trims}

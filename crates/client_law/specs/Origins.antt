@@ -1,5 +1,5 @@
 -- That copies are true, from what each client knows of what it carried and gave.
-use Rattle.std.specs.Prelude.{◌≡◌, ◌≢◌, ℕ, ◌<◌, ◌≤◌, List, length, drop, Some, slice_get}
+use Rattle.std.specs.Prelude.{◌≡◌, ℕ, ◌<◌, ◌≤◌, List, length, drop, Some, slice_get}
 use mathlib.Core.List.{IsPrefix}
 use Rattle.log_node.specs.declared.node.Head.{Head}
 use Rattle.col_core.specs.declared.Entry.{Entry}

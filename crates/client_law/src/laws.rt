@@ -5,6 +5,7 @@ ghost use Rattle.client_law.specs.Kept.{KeptAfterEvent, KeptAfterLook, KeptStays
 ghost use Rattle.client_law.specs.Appends.{AppendsStand, ClosedStays, FinalIsAbove, GoneAtEnd, GoneForMemory, KeptAfterAppend, KeptAfterRow, KeptAfterSeveral, NoStampWasLeft, RowsBegin, SettledForGood, SeveralStand, StopsStand, WantsAreStarts};
 ghost use Rattle.client_law.specs.Moves.{KeptAfterGives, KeptAfterPull, KeptAfterSync, PlaysStand, PullsStand, SyncsStand, TrimmedThere, TrimsStand};
 ghost use Rattle.client_law.specs.Origins.{CopiesAreTrue, OriginsStay};
+ghost use Rattle.client_law.specs.Unshown.{KeptUnshownAlone, KeptUnshownInAll, UnshownAlone, UnshownInAll};
 ghost use Rattle.client_law.specs.Replies.{EndedAlone, EndedInColour, GaveForMemory, LackedThere, PulledThere, StoodAlone, StoodInAll, StoppedWithin, SyncedThere, TrimmedTo, WentForMemory};
 
 /// What a client keeps of its replies stays of what it has seen, from nothing on, as more is seen and after each event or
@@ -81,6 +82,14 @@ pub fn trims_stand()
 pub fn copies_are_true()
     ensures stay { OriginsStay }
     ensures copies { CopiesAreTrue }
+{}
+
+/// An append whose answer does not show where its node stands stands as any other.
+pub fn unshown_stand()
+    ensures alone { UnshownAlone }
+    ensures kept_alone { KeptUnshownAlone }
+    ensures several { UnshownInAll }
+    ensures kept { KeptUnshownInAll }
 {}
 
 /// What was seen explains the replies to appends, stops, syncs, pulls and trims.
