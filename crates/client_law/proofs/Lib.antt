@@ -10,5 +10,6 @@ mod Syncs
 mod Pulls
 mod Origins
 mod Unshown
+mod Pieces
 mod Replies
 pub mod CallerLemmas

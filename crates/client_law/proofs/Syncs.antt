@@ -26,19 +26,19 @@ use Rattle.client_law.proofs.Lists.{at_new, map_at}
 use Rattle.client_law.proofs.Keeping.{own_chain, seen_on, known_on, under_on, made_on, starts_on, reached_on}
 use Rattle.client_law.proofs.Events.{seen_here}
 
-whole : (new : Seen) (caller : Caller) (colour : ℕ)
+pub whole : (new : Seen) (caller : Caller) (colour : ℕ)
     → take (length (new caller.own colour)) (new caller.own colour) ≡ new caller.own colour
 whole new caller colour = take_all (length (new caller.own colour)) (new caller.own colour) (omega arith)
 
 -- the snapshot counts the whole own line
-counts_line : (caller : Caller) (old new : Seen) (kept : Kept) (colour : ℕ) (snapshot : Counts) → SeesOn caller old new
+pub counts_line : (caller : Caller) (old new : Seen) (kept : Kept) (colour : ℕ) (snapshot : Counts) → SeesOn caller old new
     → LooksThere new caller kept colour snapshot
     → at snapshot caller.own ≡ length (line (new caller.own colour))
 counts_line caller old new kept colour snapshot on l =
     ap (λ (v : Counts). at v caller.own) l.is_cut
     ∙ own_line_within caller.own caller.regions (new caller.own colour) on.home (on.lawful caller.own colour)
 
-is_greatest : (new : Seen) (caller : Caller) (kept : Kept) (colour : ℕ) (snapshot : Counts)
+pub is_greatest : (new : Seen) (caller : Caller) (kept : Kept) (colour : ℕ) (snapshot : Counts)
     → LooksThere new caller kept colour snapshot
     → IsGreatestReachable (chain caller.own (home_dated new caller colour)) snapshot
 is_greatest new caller kept colour snapshot l =

@@ -5,4 +5,5 @@ pub mod Appends
 pub mod Moves
 pub mod Origins
 pub mod Unshown
+pub mod Pieces
 pub mod Replies

@@ -6,6 +6,7 @@ ghost use Rattle.client_law.specs.Appends.{AppendsStand, ClosedStays, FinalIsAbo
 ghost use Rattle.client_law.specs.Moves.{KeptAfterGives, KeptAfterPull, KeptAfterSync, PlaysStand, PullsStand, SyncsStand, TrimmedThere, TrimsStand};
 ghost use Rattle.client_law.specs.Origins.{CopiesAreTrue, OriginsStay};
 ghost use Rattle.client_law.specs.Unshown.{KeptUnshownAlone, KeptUnshownInAll, UnshownAlone, UnshownInAll};
+ghost use Rattle.client_law.specs.Pieces.{KeptAfterPiece, KeptUntold, PlayedUntold};
 ghost use Rattle.client_law.specs.Replies.{EndedAlone, EndedInColour, GaveForMemory, LackedThere, PulledThere, StoodAlone, StoodInAll, StoppedWithin, SyncedThere, TrimmedTo, WentForMemory};
 
 /// What a client keeps of its replies stays of what it has seen, from nothing on, as more is seen and after each event or
@@ -90,6 +91,13 @@ pub fn unshown_stand()
     ensures kept_alone { KeptUnshownAlone }
     ensures several { UnshownInAll }
     ensures kept { KeptUnshownInAll }
+{}
+
+/// A sync whose nodes no answer shows lifts the floor above all that it has played.
+pub fn pieces_stand()
+    ensures kept { KeptAfterPiece }
+    ensures untold { PlayedUntold }
+    ensures kept_untold { KeptUntold }
 {}
 
 /// What was seen explains the replies to appends, stops, syncs, pulls and trims.
