@@ -11,5 +11,6 @@ mod Pulls
 mod Origins
 mod Unshown
 mod Pieces
+mod StampedReads
 mod Replies
 pub mod CallerLemmas

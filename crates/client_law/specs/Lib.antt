@@ -6,4 +6,5 @@ pub mod Moves
 pub mod Origins
 pub mod Unshown
 pub mod Pieces
+pub mod StampedReads
 pub mod Replies

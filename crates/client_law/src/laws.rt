@@ -7,6 +7,7 @@ ghost use Rattle.client_law.specs.Moves.{KeptAfterGives, KeptAfterPull, KeptAfte
 ghost use Rattle.client_law.specs.Origins.{CopiesAreTrue, OriginsStay};
 ghost use Rattle.client_law.specs.Unshown.{KeptUnshownAlone, KeptUnshownInAll, UnshownAlone, UnshownInAll};
 ghost use Rattle.client_law.specs.Pieces.{KeptAfterPiece, KeptUntold, PlayedUntold};
+ghost use Rattle.client_law.specs.StampedReads.{ClearSyncsOn, KeptWithFloor, RaiseStands, RaisesOn, ReadsStand};
 ghost use Rattle.client_law.specs.Replies.{EndedAlone, EndedInColour, GaveForMemory, LackedThere, PulledThere, StoodAlone, StoodInAll, StoppedWithin, SyncedThere, TrimmedTo, WentForMemory};
 
 /// What a client keeps of its replies stays of what it has seen, from nothing on, as more is seen and after each event or
@@ -98,6 +99,15 @@ pub fn pieces_stand()
     ensures kept { KeptAfterPiece }
     ensures untold { PlayedUntold }
     ensures kept_untold { KeptUntold }
+{}
+
+/// A stamped read is explained raise by raise and sync by sync, as more is seen after each.
+pub fn reads_stand()
+    ensures raise { RaiseStands }
+    ensures raises { RaisesOn }
+    ensures syncs { ClearSyncsOn }
+    ensures stand { ReadsStand }
+    ensures floor { KeptWithFloor }
 {}
 
 /// What was seen explains the replies to appends, stops, syncs, pulls and trims.
