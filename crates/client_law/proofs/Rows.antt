@@ -1,22 +1,23 @@
 -- Appends to several colours: what began, what is settled, what is gone, and where an append stopped.
 use Rattle.std.proofs.Common.{◌≡◌, ℕ, suc, ◌+◌, ◌<◌, ◌≤◌, max, List, [], ◌∷◌, ◌++◌, length, Some, slice_get, refl, ap, sym, subst, ◌∙◌, inl, inr, ◌⊎◌, arith, take_all, eqb-true}
-use Rattle.std.specs.Prelude.{◌==◌, IsTrue, None}
+use Rattle.std.specs.Prelude.{◌==◌, Option, None, IsTrue}
 use Rattle.std.specs.List.{All}
 use Rattle.std.proofs.lemmas.List.Elements.{All-weaker}
+use mathlib.Core.List.{IsPrefix}
 use Rattle.log_node.specs.declared.node.Node.{Node}
 use Rattle.log_node.specs.Sets.{members}
 use Rattle.log_node.specs.declared.marks.Why.{Why}
 use Rattle.log_node.specs.declared.marks.Mark.TheVariants as marks
-use Rattle.log_node.specs.Standings.{open_entry}
+use Rattle.log_node.specs.Standings.{Standing, open_entry}
 use Rattle.col_core.specs.declared.Event as events
 use Rattle.col_core.specs.declared.Entry.{Entry}
 use Rattle.col_core.specs.History.{entries, has_entered}
 use Rattle.col_core.specs.Computed.{dated}
 use Rattle.col_core.specs.Legal.{IsColumnHistory}
-use Rattle.col_core.specs.Ids.{IsOver, alone, settled}
+use Rattle.col_core.specs.Ids.{IsOver, Proposes, alone, settled}
 use Rattle.col_core.specs.Log.{is_own, places_of, HasMark}
 use Rattle.col_core.specs.Keeping.{Kept, updated, seen_past, with_made, with_row}
-use Rattle.col_core.proofs.CallerLemmas.{both, entered_is_over, lawful_beginning, settled_stays, singles_stay}
+use Rattle.col_core.proofs.CallerLemmas.{both, entered_is_over, lawful_beginning, open_is_proposed, proposes_longer, settled_stays, singles_stay}
 use Rattle.lawful_run.specs.Callers.{Caller}
 use Rattle.lawful_run.specs.Appends.{IsStepOf, IsSettledIn, IsSettled}
 use Rattle.lawful_run.specs.Stops.{IsStepWithin}
@@ -24,7 +25,7 @@ use Rattle.lawful_run.proofs.CallerLemmas.{get_within}
 use Rattle.client_law.specs.Knowing.{Seen, Rest, log_of, SeesOn}
 use Rattle.client_law.specs.Making.{MakesAtHome}
 use Rattle.client_law.specs.Kept.{IsKeptBy}
-use Rattle.client_law.specs.Appends.{steps_since, EachStep, RowsBegin, KeptAfterRow, IsSettledThere, SettledForGood, ClosedStays, IsSettledEverywhere, GoneAtEnd, GoneForMemory, StopsStand}
+use Rattle.client_law.specs.Appends.{steps_since, EachStep, RowsBegin, KeptAfterRow, IsSettledThere, SettledForGood, ClosedStays, NotOpenBetween, IsSettledEverywhere, GoneAtEnd, GoneForMemory, StopsStand}
 use Rattle.client_law.proofs.Lists.{at_new}
 use Rattle.client_law.proofs.Counting.{places_grow, places_stand}
 use Rattle.client_law.proofs.Keeping.{keeps_on, seen_on, known_on, under_on, made_on}
@@ -112,6 +113,13 @@ settled_for_good new rest caller node colour s =
       turn (inl f) = inl (f.0, subst (HasMark (log_of new rest) node colour) f.1 s.known)
       turn (inr e) = inr e
 
+-- a beginning of a lawful history is lawful
+lawful_before : (own regions : ℕ) (history longer : List Entry) → IsColumnHistory own regions (dated own longer)
+    → IsPrefix history longer → IsColumnHistory own regions (dated own history)
+lawful_before own regions history longer lawful p =
+    lawful_beginning own regions history p.0
+    (subst (λ (h : List Entry). IsColumnHistory own regions (dated own h)) (sym p.1) lawful)
+
 pub closed_stays : ClosedStays
 closed_stays own regions seen more id lawful p entered closed =
     subst (λ (h : List Entry). open_entry id (entries h) ≡ None) p.1
@@ -122,6 +130,17 @@ closed_stays own regions seen more id lawful p entered closed =
       turn : IsOver seen id → open_entry id (entries (seen ++ p.0)) ≡ None
       turn (alone stamp s) = (singles_stay own regions seen p.0 id stamp whole s).closed
       turn (settled outcome s) = (settled_stays own regions seen p.0 id outcome whole s).closed
+
+pub not_open_between : NotOpenBetween
+not_open_between own regions old between new id lawful p q (inl over) =
+    closed_stays own regions old between id (lawful_before own regions between new lawful q) p over.0 over.1
+not_open_between own regions old between new id lawful p q (inr none) = turn (open_entry id (entries between)) refl where
+  turn : (o : Option Standing) → open_entry id (entries between) ≡ o → o ≡ None
+  turn None e = refl
+  turn (Some x) e =
+      let proposed = (open_is_proposed own regions between id x (lawful_before own regions between new lawful q) e).proposed in
+      absurd (none x.key.stamp (subst (λ (h : List Entry). Proposes h id x.key.stamp) q.1
+      (proposes_longer between q.0 id x.key.stamp proposed)))
 
 settled_all : (new : Seen) (rest : Rest) (caller : Caller) (node : Node) → IsSettledEverywhere new rest caller node
     → IsSettled (log_of new rest) caller node

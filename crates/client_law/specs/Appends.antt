@@ -21,6 +21,7 @@ use Rattle.col_core.specs.declared.Entry.{Entry}
 use Rattle.col_core.specs.History.{IsAtEnd, entries, line, entry_key, has_entered}
 use Rattle.col_core.specs.Computed.{dated}
 use Rattle.col_core.specs.Legal.{IsColumnHistory}
+use Rattle.col_core.specs.Ids.{Proposes}
 use Rattle.col_core.specs.Rows.{BegunRow, node_wants}
 use Rattle.col_core.specs.Log.{is_own, IsBegunFor, HasMark, HasOutcome}
 use Rattle.col_core.specs.Keeping.{Kept, kept_after_single, with_made, with_floor, with_row}
@@ -171,6 +172,17 @@ abbrev pub ClosedStays : Type 0
 ClosedStays = (own regions : ℕ) (seen more : List Entry) (id : Id)
     → IsColumnHistory own regions (dated own more) → IsPrefix seen more
     → IsTrue (has_entered id seen) → open_entry id (entries seen) ≡ None → open_entry id (entries more) ≡ None
+
+-- an id that has entered and is open no more in what had been seen, or that is not proposed in what is seen
+abbrev pub NeverOpens : List Entry → List Entry → Id → Type 0
+NeverOpens old new id = (IsTrue (has_entered id old) × (open_entry id (entries old) ≡ None))
+    ⊎ ((stamp : ℕ) → Proposes new id stamp → ⊥)
+
+-- Such an id was open at no point between, so no help of what was open then is of it.
+abbrev pub NotOpenBetween : Type 0
+NotOpenBetween = (own regions : ℕ) (old between new : List Entry) (id : Id)
+    → IsColumnHistory own regions (dated own new) → IsPrefix old between → IsPrefix between new
+    → NeverOpens old new id → open_entry id (entries between) ≡ None
 
 -- the node is settled in all its colours
 abbrev pub IsSettledEverywhere : Seen → Rest → Caller → Node → Type 0

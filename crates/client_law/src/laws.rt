@@ -2,7 +2,7 @@
 //! and `explained_at_end` are lemmas for callers, since they are over predicates.
 ghost use Rattle.client_law.specs.Making.{MadeOnTop, PlacesCounted, PlacesGrow, PlacesStand, PlacesStay, StepsAmongMade};
 ghost use Rattle.client_law.specs.Kept.{KeptAfterEvent, KeptAfterLook, KeptStays, NothingIsKept, StartsWithin, StepsAtEnd};
-ghost use Rattle.client_law.specs.Appends.{AppendsStand, ClosedStays, FinalIsAbove, GoneAtEnd, GoneForMemory, KeptAfterAppend, KeptAfterRow, KeptAfterSeveral, NoStampWasLeft, RowsBegin, SettledForGood, SeveralStand, StopsStand, WantsAreStarts};
+ghost use Rattle.client_law.specs.Appends.{AppendsStand, ClosedStays, FinalIsAbove, GoneAtEnd, GoneForMemory, KeptAfterAppend, KeptAfterRow, KeptAfterSeveral, NoStampWasLeft, NotOpenBetween, RowsBegin, SettledForGood, SeveralStand, StopsStand, WantsAreStarts};
 ghost use Rattle.client_law.specs.Moves.{KeptAfterGives, KeptAfterPull, KeptAfterSync, PlaysStand, PullsStand, SyncsStand, TrimmedThere, TrimsStand};
 ghost use Rattle.client_law.specs.Origins.{CopiesAreTrue, OriginsStay};
 ghost use Rattle.client_law.specs.Unshown.{KeptUnshownAlone, KeptUnshownInAll, UnshownAlone, UnshownInAll};
@@ -48,6 +48,7 @@ pub fn several_stand()
     ensures kept { KeptAfterSeveral }
     ensures settled { SettledForGood }
     ensures closed { ClosedStays }
+    ensures not_open { NotOpenBetween }
     ensures stamp_end { GoneAtEnd }
     ensures no_memory { GoneForMemory }
     ensures row { KeptAfterRow }

@@ -1,5 +1,5 @@
 use Rattle.client_law.proofs.Above.{final_is_above}
-use Rattle.client_law.proofs.Rows.{closed_stays, gone_at_end, gone_for_memory, kept_after_row, rows_begin, settled_for_good}
+use Rattle.client_law.proofs.Rows.{closed_stays, gone_at_end, gone_for_memory, kept_after_row, not_open_between, rows_begin, settled_for_good}
 use Rattle.client_law.proofs.Several.{kept_after_several, several_stand}
 use Rattle.client_law.proofs.laws.several_stand.Goals as goal
 
@@ -11,6 +11,7 @@ returns c = record {
   kept = kept_after_several;
   settled = settled_for_good;
   closed = closed_stays;
+  not_open = not_open_between;
   stamp_end = gone_at_end;
   no_memory = gone_for_memory;
   row = kept_after_row;
