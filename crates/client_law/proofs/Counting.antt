@@ -7,7 +7,7 @@ use Rattle.std.proofs.lemmas.List.Elements.{All-nil, All-cons, All-contains, fil
 use Rattle.col_core.specs.declared.Entry.{Entry}
 use Rattle.col_core.specs.Log.{is_own, places_from, places_of}
 use Rattle.col_core.proofs.CallerLemmas.{In, in_filter-back, contains_in, slice_in}
-use Rattle.client_law.specs.Making.{made_of, is_own_step, own_steps, places_since, IsOwnStepAt, RiseFrom, PlacesGrow, PlacesStand, PlacesCounted, PlacesStay, StepsAmongMade, MadeOnTop}
+use Rattle.client_law.specs.Making.{made_of, is_own_step, own_steps, places_since, IsOwnStepAt, RiseFrom, PlacesGrow, PlacesStand, PlacesCounted, PlacesStay, StepsAmongMade, StepsCounted, MadeOnTop}
 use Rattle.client_law.proofs.Lists.{nil_of, get_behind, get_onward}
 
 places_append : (k client : ℕ) (xs ys : List Entry)
@@ -232,6 +232,11 @@ steps_among_made client old new more e =
     ∙ (ap (filter (λ (e : Entry). is_own client e.event)) e
     ∙ (filter-append (λ (e : Entry). is_own client e.event) (made_of client old) more
     ∙ ap (λ (l : List Entry). l ++ filter (λ (e : Entry). is_own client e.event) more) (sym (own_among client old))))
+
+pub steps_counted : StepsCounted
+steps_counted client old new more e =
+    ap length (steps_among_made client old new more e)
+    ∙ length-append (own_steps client old) (filter (λ (x : Entry). is_own client x.event) more)
 
 -- what two lists end with after the same beginning is the same
 same_end : (xs ys zs : List Entry) → xs ++ ys ≡ xs ++ zs → ys ≡ zs

@@ -2,7 +2,7 @@
 use Rattle.std.proofs.Common.{◌≡◌, ℕ, suc, ◌+◌, ◌<◌, ◌≤◌, max, List, [], ◌∷◌, ◌++◌, length, Some, slice_get, refl, ap, sym, subst, ◌∙◌, inl, inr, ◌⊎◌, arith, take_all, eqb-true}
 use Rattle.std.specs.Prelude.{◌==◌, Option, None, IsTrue}
 use Rattle.std.specs.List.{All}
-use Rattle.std.proofs.lemmas.List.Elements.{All-weaker}
+use Rattle.std.proofs.lemmas.List.Elements.{All-contains, All-weaker}
 use mathlib.Core.List.{IsPrefix}
 use Rattle.log_node.specs.declared.node.Node.{Node}
 use Rattle.log_node.specs.Sets.{members}
@@ -25,10 +25,16 @@ use Rattle.lawful_run.proofs.CallerLemmas.{get_within}
 use Rattle.client_law.specs.Knowing.{Seen, Rest, log_of, SeesOn}
 use Rattle.client_law.specs.Making.{MakesAtHome}
 use Rattle.client_law.specs.Kept.{IsKeptBy}
-use Rattle.client_law.specs.Appends.{steps_since, EachStep, RowsBegin, KeptAfterRow, IsSettledThere, SettledForGood, ClosedStays, NotOpenBetween, IsSettledEverywhere, GoneAtEnd, GoneForMemory, StopsStand}
+use Rattle.client_law.specs.Appends.{steps_since, EachStep, StepsOfMade, RowsBegin, KeptAfterRow, IsSettledThere, SettledForGood, ClosedStays, NotOpenBetween, IsSettledEverywhere, GoneAtEnd, GoneForMemory, StopsStand}
 use Rattle.client_law.proofs.Lists.{at_new}
-use Rattle.client_law.proofs.Counting.{places_grow, places_stand}
+use Rattle.client_law.proofs.Counting.{made_on_top, places_grow, places_stand}
 use Rattle.client_law.proofs.Keeping.{keeps_on, seen_on, known_on, under_on, made_on}
+
+pub steps_of_made : StepsOfMade
+steps_of_made caller old new colour Is more on made all place e unseen there by own =
+    All-contains (λ (x : Entry). IsTrue (is_own caller.client x.event) → Is x.event) more e all
+    (made_on_top caller.client (old caller.own colour) (new caller.own colour) more place e (on.more caller.own colour)
+    made unseen there by) own
 
 -- At each place of late stands an own step, with an event of the kind that each has.
 each_there : (caller : Caller) (old new : Seen) (colour : ℕ) (Is : events.Event → Type 0) → SeesOn caller old new

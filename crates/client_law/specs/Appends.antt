@@ -1,5 +1,5 @@
 -- Appends, from what a client has seen and knows of its row.
-use Rattle.std.specs.Prelude.{◌≡◌, ◌≢◌, ◌⊎◌, IsTrue, ℕ, ◌+◌, ◌<◌, ◌≤◌, List, length, map, Some, None, slice_get}
+use Rattle.std.specs.Prelude.{◌≡◌, ◌≢◌, ◌⊎◌, IsTrue, ℕ, ◌+◌, ◌<◌, ◌≤◌, List, ◌++◌, length, map, Some, None, slice_get}
 use Rattle.std.specs.List.{All, Contains}
 use mathlib.Core.List.{IsPrefix}
 use Rattle.log_node.specs.declared.ids.Id.{Id}
@@ -30,7 +30,7 @@ use Rattle.lawful_run.specs.Callers.{Caller, node_of}
 use Rattle.lawful_run.specs.Appends.{AppendsOne, HadNoStamp, IsStepOf, BeginsRow, AppendsSeveral, kept_after_points, IsSettledIn, IsGoneAtEnd, IsGoneForMemory}
 use Rattle.lawful_run.specs.Stops.{IsMarked, IsDecided, IsStepWithin, StopsAfter}
 use Rattle.client_law.specs.Knowing.{Seen, Rest, log_of, SeesOn}
-use Rattle.client_law.specs.Making.{places_since, MakesOnly, MakesAtHome}
+use Rattle.client_law.specs.Making.{MakesAtHome, MakesOnly, made_of, places_since}
 use Rattle.client_law.specs.Kept.{IsKeptBy}
 
 -- The node that a client appends wants of each of its colours what the client has played of it.
@@ -84,6 +84,14 @@ abbrev pub EachStep : Caller → Seen → Seen → ℕ → (events.Event → Typ
 EachStep caller old new colour Is =
     (place : ℕ) (e : Entry) → length (old caller.own colour) ≤ place → slice_get (new caller.own colour) place ≡ Some e
     → e.by ≡ caller.client → IsTrue (is_own caller.client e.event) → Is e.event
+
+-- Where the client made these on top, each own step of late is of the kind that each of them is.
+abbrev pub StepsOfMade : Type 1
+StepsOfMade = (caller : Caller) (old new : Seen) (colour : ℕ) (Is : events.Event → Type 0) (more : List Entry)
+    → SeesOn caller old new
+    → made_of caller.client (new caller.own colour) ≡ made_of caller.client (old caller.own colour) ++ more
+    → All (λ (e : Entry). IsTrue (is_own caller.client e.event) → Is e.event) more
+    → EachStep caller old new colour Is
 
 -- An append to several colours has begun: a row was left and is begun for the client's next node, and all that the client
 -- did of its own are steps of it.

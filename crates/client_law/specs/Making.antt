@@ -75,6 +75,12 @@ abbrev pub StepsAmongMade : Type 0
 StepsAmongMade = (client : ℕ) (old new more : List Entry) → made_of client new ≡ made_of client old ++ more
     → own_steps client new ≡ own_steps client old ++ filter (λ (e : Entry). is_own client e.event) more
 
+-- So many of them they are.
+abbrev pub StepsCounted : Type 0
+StepsCounted = (client : ℕ) (old new more : List Entry) → made_of client new ≡ made_of client old ++ more
+    → length (own_steps client new)
+    ≡ length (own_steps client old) + length (filter (λ (e : Entry). is_own client e.event) more)
+
 -- What a client made and had not seen before is among what it made on top.
 abbrev pub MadeOnTop : Type 0
 MadeOnTop = (client : ℕ) (old new more : List Entry) (place : ℕ) (e : Entry) → IsPrefix old new

@@ -1,6 +1,6 @@
-//! Laws of what one client knows. Each function does nothing, and its contract is the law. `replies_last`, `explained_on`
-//! and `explained_at_end` are lemmas for callers, since they are over predicates.
-ghost use Rattle.client_law.specs.Making.{MadeOnTop, PlacesCounted, PlacesGrow, PlacesStand, PlacesStay, StepsAmongMade};
+//! Laws of what one client knows. Each function does nothing, and its contract is the law. `replies_last`, `explained_on`,
+//! `explained_at_end` and `steps_of_made` are lemmas for callers, since they are over predicates.
+ghost use Rattle.client_law.specs.Making.{MadeOnTop, PlacesCounted, PlacesGrow, PlacesStand, PlacesStay, StepsAmongMade, StepsCounted};
 ghost use Rattle.client_law.specs.Kept.{KeptAfterEvent, KeptAfterLook, KeptStays, NothingIsKept, StartsWithin, StepsAtEnd};
 ghost use Rattle.client_law.specs.Appends.{AppendsStand, ClosedStays, FinalIsAbove, GoneAtEnd, GoneForMemory, KeptAfterAppend, KeptAfterRow, KeptAfterSeveral, NoStampWasLeft, NotOpenBetween, RowsBegin, SettledForGood, SeveralStand, StopsStand, WantsAreStarts};
 ghost use Rattle.client_law.specs.Moves.{KeptAfterGives, KeptAfterPull, KeptAfterSync, PlaysStand, PullsStand, SyncsStand, TrimmedThere, TrimsStand};
@@ -28,6 +28,7 @@ pub fn counted_steps_are_all()
     ensures counted { PlacesCounted }
     ensures stay { PlacesStay }
     ensures among { StepsAmongMade }
+    ensures among_counted { StepsCounted }
     ensures on_top { MadeOnTop }
     ensures at_end { StepsAtEnd }
 {}

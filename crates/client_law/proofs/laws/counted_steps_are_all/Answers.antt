@@ -1,4 +1,4 @@
-use Rattle.client_law.proofs.Counting.{made_on_top, places_counted, places_grow, places_stand, places_stay, steps_among_made}
+use Rattle.client_law.proofs.Counting.{made_on_top, places_counted, places_grow, places_stand, places_stay, steps_among_made, steps_counted}
 use Rattle.client_law.proofs.Keeping.{steps_at_end}
 use Rattle.client_law.proofs.laws.counted_steps_are_all.Goals as goal
 
@@ -9,6 +9,7 @@ returns c = record {
   counted = places_counted;
   stay = places_stay;
   among = steps_among_made;
+  among_counted = steps_counted;
   on_top = made_on_top;
   at_end = steps_at_end;
 }
