@@ -27,7 +27,7 @@ use Rattle.wrong_reports.specs.Naming.{one_node, trim, trimmed}
 use Rattle.wrong_reports.specs.Shown.{shown}
 use Rattle.wrong_reports.specs.Looks.{a_sync_of_another_colour, a_scan_of_another_text, a_scan_under_another_stamp}
 use Rattle.wrong_reports.specs.Looks.{a_trim_told_as_a_raise, a_raise_behind_what_was_seen, a_raise_that_was_seen}
-use Rattle.wrong_reports.specs.Looks.{a_read_that_leaves_the_floor, a_trim_told_as_a_look, a_give_told_as_a_look}
+use Rattle.wrong_reports.specs.Looks.{a_read_that_leaves_the_floor, a_trim_told_as_a_look, a_give_told_as_a_look, a_sync_answered_as_a_trim}
 use Rattle.wrong_reports.specs.Looks.{a_trim_told_as_a_give, a_carry_beyond_the_events, a_pull_behind_what_was_seen}
 use Rattle.wrong_reports.specs.Looks.{a_carry_that_was_seen, a_get_of_another_colour, a_causal_get_of_another_colour}
 use Rattle.wrong_reports.specs.Looks.{a_dequeue_of_another_colour, a_refused_read_that_keeps_an_earlier_one}
@@ -130,6 +130,11 @@ leaves_floor run =
 pub trim_as_look : IsUnlawful a_trim_told_as_a_look
 trim_as_look run =
     let p = (only run.log _ _ _ _ (run.clients 0 _ refl).explained).explained.4 in
+    cc (p)
+
+pub sync_as_trim : IsUnlawful a_sync_answered_as_a_trim
+sync_as_trim run =
+    let p = (only run.log _ _ _ _ (run.clients 0 _ refl).explained).explained.2 in
     cc (p)
 
 pub give_as_look : IsUnlawful a_give_told_as_a_look

@@ -152,6 +152,14 @@ abbrev pub a_trim_told_as_a_look : Case
 a_trim_told_as_a_look = case (asks 6 a (whats.Trim x) ∷ [])
     (replies 6 words.Trim (answers.Based (Look 1) (counts 0 0)) ∷ []) (trimmed (trim ∷ []))
 
+-- 6 sync ok !0 base 0
+-- column e x
+-- 0 a trim 0
+-- = clock 0 line - queue - cut 0 base 0
+abbrev pub a_sync_answered_as_a_trim : Case
+a_sync_answered_as_a_trim = case (asks 6 a (whats.Sync x) ∷ [])
+    (replies 6 words.Sync (answers.Based (Event 0) (counts 0 0)) ∷ []) (trimmed (trim ∷ []))
+
 -- b of the region w pulls of e
 abbrev pub b_pulls : ReplyLine → Entry → Case
 b_pulls reply entry = record {

@@ -4,7 +4,7 @@ ghost use Rattle.wrong_reports.specs.Looks.{a_sync_of_another_colour, a_scan_of_
 ghost use Rattle.wrong_reports.specs.Looks.{a_scan_under_another_stamp, a_trim_told_as_a_raise};
 ghost use Rattle.wrong_reports.specs.Looks.{a_raise_behind_what_was_seen, a_raise_that_was_seen};
 ghost use Rattle.wrong_reports.specs.Looks.{a_raise_before_its_clients_node_is_settled, a_read_that_leaves_the_floor};
-ghost use Rattle.wrong_reports.specs.Looks.{a_trim_told_as_a_look, a_give_told_as_a_look, a_trim_told_as_a_give};
+ghost use Rattle.wrong_reports.specs.Looks.{a_trim_told_as_a_look, a_give_told_as_a_look, a_trim_told_as_a_give, a_sync_answered_as_a_trim};
 ghost use Rattle.wrong_reports.specs.Looks.{a_carry_beyond_the_events, a_pull_behind_what_was_seen};
 ghost use Rattle.wrong_reports.specs.Looks.{a_carry_that_was_seen, a_get_of_another_colour};
 ghost use Rattle.wrong_reports.specs.Looks.{a_causal_get_of_another_colour, a_dequeue_of_another_colour};
@@ -63,6 +63,12 @@ pub fn a_read_that_leaves_the_floor_is_unlawful()
 #[tactic(auto, using(crate::proofs::WrongLooks::trim_as_look))]
 pub fn a_trim_told_as_a_look_is_unlawful()
     ensures { IsUnlawful a_trim_told_as_a_look }
+{}
+
+/// Only a trim is answered by the base after it.
+#[tactic(auto, using(crate::proofs::WrongLooks::sync_as_trim))]
+pub fn a_sync_answered_as_a_trim_is_unlawful()
+    ensures { IsUnlawful a_sync_answered_as_a_trim }
 {}
 
 /// A pull names its give.

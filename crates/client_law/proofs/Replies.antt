@@ -1,0 +1,124 @@
+-- What explains each reply.
+use Rattle.std.proofs.Common.{◌+◌, refl, inl, arith}
+use Rattle.lawful_run.specs.Appends.{none_for_one, none_for_several}
+use Rattle.lawful_run.specs.Callers.{node_of}
+use Rattle.lawful_run.specs.Refusals.{gone, gave}
+use Rattle.lawful_run.specs.Stops.{stopped_after}
+use Rattle.client_law.specs.Appends.{steps_since}
+use Rattle.client_law.specs.Replies.{StoodAlone, StoodInAll, EndedAlone, EndedInColour, WentForMemory, StoppedWithin, SyncedThere, LackedThere, PulledThere, GaveForMemory, TrimmedTo}
+use Rattle.client_law.proofs.AppendOne.{appends_stand, no_stamp_was_left}
+use Rattle.client_law.proofs.Several.{several_stand}
+use Rattle.client_law.proofs.Rows.{gone_at_end, gone_for_memory, stops_stand}
+use Rattle.client_law.proofs.Syncs.{syncs_stand, plays_stand, trimmed_there}
+use Rattle.client_law.proofs.Pulls.{pulls_stand, trims_stand}
+
+pub stood_alone : StoodAlone
+stood_alone old new rest caller kept what colours text colour stamp place position a appending one s =
+    let node = node_of caller kept colours text in (
+      refl,
+      appending,
+      (
+        colours,
+        text,
+        a.asks,
+        (one, place, refl, appends_stand old new rest caller kept node colour stamp place position a.on a.keeps s, refl),
+      ),
+    )
+
+pub stood_in_all : StoodInAll
+stood_in_all old new rest caller kept what colours text stamp points a appending s =
+    let node = node_of caller kept colours text in (
+      refl,
+      appending,
+      (
+        colours,
+        text,
+        a.asks,
+        (
+          refl,
+          steps_since caller old new,
+          several_stand old new rest caller kept node stamp points a.on a.keeps s,
+          refl,
+        ),
+      ),
+    )
+
+pub ended_alone : EndedAlone
+ended_alone old new rest caller kept what colours text colour a not_stopping one ended = (
+  refl,
+  not_stopping,
+  (colours, text, a.asks, none_for_one one (no_stamp_was_left old new rest caller kept colour a.on a.keeps ended)),
+)
+
+pub ended_in_colour : EndedInColour
+ended_in_colour old new rest caller kept what colours text colour a not_stopping b ends settled =
+    let node = node_of caller kept colours text in (
+      refl,
+      not_stopping,
+      (
+        colours,
+        text,
+        a.asks,
+        none_for_several (steps_since caller old new)
+            (gone_at_end old new rest caller kept node colour a.on b ends settled),
+      ),
+    )
+
+pub went_for_memory : WentForMemory
+went_for_memory old new rest caller kept what colours text a b outcome settled =
+    let node = node_of caller kept colours text in (
+      refl,
+      gone colours text (steps_since caller old new) a.asks
+          (gone_for_memory old new rest caller kept node a.on b outcome settled),
+    )
+
+pub stopped_within : StoppedWithin
+stopped_within old new rest caller kept colours text steps on b s =
+    let node = node_of caller kept colours text in (
+      refl,
+      colours,
+      text,
+      refl,
+      stopped_after steps (steps_since caller old new) (stops_stand old new rest caller kept node (steps + 1) on b s),
+    )
+
+pub synced_there : SyncedThere
+synced_there old new rest caller kept colour snapshot nodes on k l p = (
+  refl,
+  refl,
+  syncs_stand old new rest caller kept colour snapshot on k l,
+  plays_stand new rest caller kept colour snapshot nodes p,
+  refl,
+)
+
+pub lacked_there : LackedThere
+lacked_there old new rest caller kept colour shown on k is below =
+    (refl, inl refl, (0, omega arith, refl), trimmed_there old new rest caller kept colour shown on k is below, refl)
+
+pub pulled_there : PulledThere
+pulled_there old new rest caller kept region colour nodes place carry too_low on k p = (
+  refl,
+  region,
+  colour,
+  refl,
+  place,
+  refl,
+  too_low,
+  pulls_stand old new rest caller kept region colour nodes place carry too_low on k p,
+  refl,
+)
+
+pub gave_for_memory : GaveForMemory
+gave_for_memory new rest caller kept region colour too_low gives low few all =
+    (refl, gave region colour too_low gives refl low few all)
+
+pub trimmed_to : TrimmedTo
+trimmed_to old new rest caller kept colour place shown on k unseen there is = (
+  refl,
+  colour,
+  refl,
+  place,
+  refl,
+  trims_stand old new rest caller kept colour place shown on k unseen there is,
+  refl,
+)
