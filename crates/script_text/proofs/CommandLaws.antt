@@ -57,6 +57,9 @@ word_again words.Commit = refl
 word_again words.Enq = refl
 word_again words.Deq = refl
 
+pub word_is : (field : List ℕ) (word : Word) → bytes_eq field (word_text word) ≡ true → Some word ≡ word_at field
+word_is field word e = sym (ap word_at ((bytes_eq-Decides field (word_text word)).0 e) ∙ word_again word)
+
 word_what : (word : Word) (given : Given) → word_of (what_of word given) ≡ word
 word_what words.Append given = refl
 word_what words.Stop given = refl

@@ -2,6 +2,7 @@
 use Rattle.std.specs.Prelude.{ℕ, ◌+◌, ◌*◌, ◌==◌, nat_lt, not, List, [], ◌∷◌, Option, Some, None, Result, Ok, Err}
 use Rattle.std.specs.List.{list_any}
 use Rattle.script_text.specs.declared.script.What.{What}
+use Rattle.script_text.specs.declared.script.What.TheVariants as whats
 use Rattle.script_text.specs.declared.script.Reason.{Reason}
 use Rattle.script_text.specs.declared.script.Reason.TheVariants as reasons
 use Rattle.script_text.specs.declared.item.Item.{Item}
@@ -53,6 +54,16 @@ what_at known client word args = refuse (not (fits (row_fields word) args)) reas
   given ← given_at known (row_fields word) args nothing
   ended ← ended_well known client (last_of word) given
   Ok (what_of word ended))
+
+-- what an append and a sync ask for, by their fields
+unfoldable pub append_at : Known → List ℕ → List ℕ → Result What Reason
+append_at known cols text = do
+  set ← colours_set_at known.script.colours (names_in cols)
+  bytes ← text_at text
+  Ok (whats.Append set.0 bytes)
+
+unfoldable pub sync_at : Known → List ℕ → Result What Reason
+sync_at known field = number_at reasons.UnknownColour known.script.colours field >>= λ colour. Ok (whats.Sync colour)
 
 unfoldable pub worded_at : Known → ℕ → Option Word → List (List ℕ) → Result What Reason
 worded_at known client None args = Err reasons.UnknownCommand

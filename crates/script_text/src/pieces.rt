@@ -1,6 +1,7 @@
 // The pieces of a script's bytes: lines, fields, and what a field may be.
 ghost use Rattle.std.specs.Prelude.{◌≡◌, ◌<◌, ◌≤◌, ◌==◌, ◌↔◌, [], ◌∷◌, ℕ, true, false, ◌+◌, length, drop, map, slice_index_or, Ok, IfOk, IsNone, IfSome, IsTrue};
 ghost use Rattle.std.specs.List.{list_all};
+ghost use Rattle.std.specs.Str.{bytes_eq};
 ghost use Rattle.script_text.specs.declared.limits.TheConstants.{ROWS_DIGITS};
 ghost use Rattle.script_text.specs.Pieces.{lines_of, fields_of, is_between, is_ascii_line, is_letter_or_digit, is_name, is_key, is_text, is_among, is_digit, is_number, number_value, number_of};
 ghost use Rattle.script_text.specs.Grammar.{has_equals, key_in, value_in};
@@ -24,14 +25,14 @@ pub fn first_line(bytes: &[u8]) -> (&[u8], &[u8])
     }
 }
 
-/// The fields of a line: in place, so that only a line of more of them, which no lawful line has, takes memory.
+/// The fields of a line: in place, so that only a line of more of them, which no command has, takes memory.
 pub type Fields<'a> = SmallVec<&'a [u8], PLACES>;
 
-// As many fields as a map's line with all colours has, and one more.
-const PLACES: usize = 20;
+// As many fields as a command has at most, and one more.
+const PLACES: usize = 8;
 
-/// How many bytes at the front are visible: none is a blank, a control or beyond ASCII.
-fn visible_front(bytes: &[u8]) -> usize
+// How many bytes at the front are visible, where the first that is not is near.
+fn short_front(bytes: &[u8]) -> usize
     ensures within { result ≤ length bytes.now }
     ensures front { (k : ℕ) → k < result → is_between 33 126 (slice_index_or bytes.now k 0) ≡ true }
     ensures stop { result < length bytes.now → is_between 33 126 (slice_index_or bytes.now result 0) ≡ false }
@@ -42,6 +43,21 @@ fn visible_front(bytes: &[u8]) -> usize
         }
     }
     bytes.len()
+}
+
+// So many fields of a line are mostly short. After them comes the text of an append, to the end of the line.
+const SHORT: usize = 3;
+
+/// How many bytes at the front are visible: none is a blank, a control or beyond ASCII. So many fields stand before.
+fn visible_front(before: usize, bytes: &[u8]) -> usize
+    ensures within { result ≤ length bytes.now }
+    ensures front { (k : ℕ) → k < result → is_between 33 126 (slice_index_or bytes.now k 0) ≡ true }
+    ensures stop { result < length bytes.now → is_between 33 126 (slice_index_or bytes.now result 0) ≡ false }
+{
+    if before >= SHORT && are_visible(bytes) {
+        return bytes.len();
+    }
+    short_front(bytes)
 }
 
 /// The bytes behind a place.
@@ -60,7 +76,7 @@ pub fn cut_line<'a>(fields: &mut Fields<'a>, line: &'a [u8]) -> Result<bool, All
 {
     let mut rest = line;
     loop {
-        let end = visible_front(rest);
+        let end = visible_front(fields.len(), rest);
         if end >= rest.len() {
             fields.push(rest)?;
             return Ok(true);
@@ -146,13 +162,31 @@ pub fn is_among(names: &[Text], name: &[u8]) -> bool
     names.iter().any(|other| name == other.as_bytes())
 }
 
+// Whether a field is this name. Names that differ mostly differ in their length or in their last byte.
+#[tactic(auto, using(crate::proofs::PieceLemmas::unlike_length, crate::proofs::PieceLemmas::unlike_at))]
+#[inline(always)]
+fn is_same(field: &[u8], name: &[u8]) -> bool
+    ensures { result ≡ bytes_eq field.now name.now }
+{
+    let len = field.len();
+    if len != name.len() {
+        return false;
+    }
+    if len > 0 {
+        if field[len - 1] != name[len - 1] {
+            return false;
+        }
+    }
+    field == name
+}
+
 /// The number of a name among these.
 pub fn number_of(names: &[Text], name: &[u8]) -> Option<u8>
     requires { length names.now ≤ 256 }
     ensures { result ≡ number_of names.now name.now }
 {
     for (number, other) in names.iter().enumerate() {
-        if name == other.as_bytes() {
+        if is_same(name, other.as_bytes()) {
             return Some(number as u8);
         }
     }

@@ -1,10 +1,10 @@
 -- Moving the final entries in front of those that wait to the line changes no entry.
-use Rattle.std.proofs.Common.{◌≡◌, ℕ, zero, suc, ◌+◌, ◌-◌, ◌<◌, ◌≤◌, max, Bool, true, false, cond, List, [], ◌∷◌}
-use Rattle.std.proofs.Common.{◌++◌, length, take, drop, refl, sym, ap, subst, ◌∙◌, arith, append-nil, append_assoc}
-use Rattle.std.proofs.Common.{length-append, length-drop, take-append-drop}
+use Rattle.std.proofs.Common.{◌≡◌, ℕ, suc, ◌+◌, ◌-◌, ◌≤◌, Bool, true, List, [], ◌∷◌}
+use Rattle.std.proofs.Common.{◌++◌, length, take, drop, refl, sym, ap, subst, ◌∙◌, arith, append_assoc}
+use Rattle.std.proofs.Common.{length-append, take-append-drop}
 use Rattle.std.specs.Prelude.{map}
-use Rattle.std.specs.List.{AllByRecursion, prefix_len}
-use Rattle.std.proofs.lemmas.Bool.{cond_both, cond-false}
+use Rattle.std.specs.List.{AllByRecursion}
+use Rattle.std.proofs.lemmas.Bool.{cond_both}
 use Rattle.std.proofs.lemmas.List.{map-append, drop-append-le, length-map}
 use Rattle.log_node.specs.declared.ids.Key.{Key}
 use Rattle.log_node.specs.declared.limits.TheConstants.{MAX_STAMP}
@@ -32,6 +32,10 @@ module _ {T : Type 0} where
       (λ t. let e : suc (ready ws) ≡ 1 + ready ws = omega arith in
       subst (λ (n : ℕ). StartsOpen (drop n (w ∷ ws))) e (left-open ws))
       (λ f. f)
+
+  -- a final entry that waits alone
+  pub alone : (w : Waiting T) → w.settled ≡ true → (left (w ∷ []) ≡ []) × (ready_keys (w ∷ []) ≡ w.key ∷ []) × (ready_things (w ∷ []) ≡ w.thing ∷ [])
+  alone w e = (rw e refl, rw e refl, rw e refl)
 
   finals-of : (ws : List (Waiting T)) → AllByRecursion (λ w. w.settled ≡ true) ws →
       map final_at (map (λ (w : Waiting T). w.key) ws) ≡ map standing_of ws

@@ -1,18 +1,16 @@
 -- The marks of a row, read from the first colour to the last that a set may have.
-use Rattle.std.proofs.Common.{◌≡◌, ℕ, suc, zero, ◌+◌, ◌-◌, ◌^◌, ◌<◌, ◌≤◌, Bool, true, false, List, [], ◌∷◌, ◌++◌}
+use Rattle.std.proofs.Common.{◌≡◌, ℕ, suc, zero, ◌+◌, ◌-◌, ◌^◌, ◌<◌, ◌≤◌, Bool, List, [], ◌∷◌, ◌++◌}
 use Rattle.std.proofs.Common.{map, sym, refl, ap, ◌∙◌, arith}
 use Rattle.std.specs.Prelude.{if◌then◌else◌, ◌==◌}
 use Rattle.std.specs.List.{filter, range_with_len, list_any}
-use Rattle.std.specs.Int.{bit_at}
 use Rattle.std.proofs.lemmas.Nat.Bits.{bit_at_above}
 use Rattle.std.proofs.lemmas.Bool.{cond-false}
 use Rattle.std.proofs.lemmas.List.{append-nil}
 use Rattle.std.proofs.lemmas.List.Elements.{filter-append}
 use Rattle.log_node.specs.declared.ids.Colours.{Colours}
-use Rattle.log_node.specs.Sets.{has, members}
+use Rattle.log_node.specs.Sets.{has}
 use Rattle.log_node.specs.declared.marks.Mark.{Mark}
 use Rattle.log_node.specs.declared.marks.Why.TheVariants.{Memory, StampEnd}
-use Rattle.log_node.specs.declared.marks.Outcome.{Outcome}
 use Rattle.log_node.specs.declared.marks.Outcome.TheVariants.{Open, Gone, Final}
 use Rattle.skeen_core.specs.declared.board_row.BoardRow.{BoardRow}
 use Rattle.log_node.specs.Outcomes.{outcome_of, is_missing, is_stamp_end_fence, is_memory_fence, number_of, greatest}
@@ -48,6 +46,11 @@ bits_only set bits more small =
 pub marks-are : (row : BoardRow) → row.colours.0 < 2 ^ 16 → marks_above row 0 ≡ row_marks row
 unfolding marks_above row_marks
 marks-are row small = ap (map (mark_at row)) (sym (bits_only row.colours 16 48 small))
+
+-- where the row has no colour from one on, there are no marks
+pub marks-none : (row : BoardRow) (from : ℕ) → row.colours.0 < 2 ^ from → marks_above row from ≡ []
+unfolding marks_above
+marks-none row from small = ap (map (mark_at row)) (none_from row.colours from from (16 - from) small (omega arith))
 
 -- an outcome, from what is among the marks
 pub outcome-from : (marks : List Mark) (missing stamp_end memory : Bool) (top : ℕ) →

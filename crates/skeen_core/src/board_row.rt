@@ -1,5 +1,5 @@
 // A begun row: its marks, one after another, and the outcome that they have.
-ghost use Rattle.std.specs.Prelude.{◌≡◌, ◌+◌, ◌-◌, ◌<◌, ◌≤◌, ◌||◌, ◌==◌, map, length};
+ghost use Rattle.std.specs.Prelude.{◌≡◌, ◌+◌, ◌-◌, ◌<◌, ◌≤◌, ◌^◌, ◌||◌, ◌==◌, IsTrue, map, length};
 ghost use Rattle.std.specs.List.{list_any};
 ghost use Rattle.log_node.specs.Outcomes.{outcome_of, is_missing, is_stamp_end_fence, is_memory_fence};
 ghost use Rattle.log_node.specs.Outcomes.{number_of, greatest};
@@ -22,6 +22,15 @@ pub struct BoardRow {
     pub last: Outcome,
 }
 
+// Whether the set has no colour from a number on.
+#[inline(always)]
+fn has_none_from(set: Colours, from: u8) -> bool
+    requires { from < MAX_COLOURS }
+    ensures { IsTrue result → set.0 < 2 ^ from }
+{
+    set.0 >> from == 0
+}
+
 // What the marks of the row's colours have among them, from a colour on.
 #[tactic(auto, unfolding(crate::specs::Boards::marks_above))]
 fn tally_from(row: &BoardRow, colour: u8) -> Tally
@@ -32,6 +41,9 @@ fn tally_from(row: &BoardRow, colour: u8) -> Tally
     ensures greatest { result.greatest ≡ greatest (map number_of (marks_above row.now colour)) }
 {
     if colour == MAX_COLOURS {
+        return Tally::NOTHING;
+    }
+    if has_none_from(row.colours, colour) {
         return Tally::NOTHING;
     }
     let rest = tally_from(row, colour + 1);

@@ -1,7 +1,7 @@
 // The delivery queue of one destination. Its clock is that of Lamport, "Time, Clocks, and the Ordering of Events in a
 // Distributed System" (1978); stamps and delivery are those of Skeen's multicast, as in Birman and Joseph, "Reliable
 // Communication in the Presence of Failures" (1987). That things can be dropped and keys stay is this project's own.
-ghost use Rattle.std.specs.Prelude.{◌≡◌, ◌+◌, ◌-◌, ◌<◌, ◌≤◌, ◌&&◌, max, nat_lt, false, true, [], ◌++◌};
+ghost use Rattle.std.specs.Prelude.{◌≡◌, ◌+◌, ◌-◌, ◌<◌, ◌≤◌, ◌&&◌, max, nat_lt, false, true, [], ◌∷◌, ◌++◌};
 ghost use Rattle.std.specs.Prelude.{map, drop, length, vec_len, vec_capacity, if◌then◌else◌, IfOk, IfErr, OnOk, OnErr};
 ghost use Rattle.log_node.specs.Standings.{line_of, queue_of};
 ghost use Rattle.skeen_core.specs.Queues.{Queued, standing_of, entry_under, has_id, has_open, is_decided, IsContinued};
@@ -64,6 +64,41 @@ fn deliver<T: Drop>(waiting: &mut Vec<Waiting<T>>, line: &mut Vec<Key>, kept: &m
         put(line, key);
         put(kept, thing);
     }
+}
+
+// Puts an entry behind those that wait, and moves the final ones at the front to the end of the line. Where nothing
+// waits, a final entry goes there at once.
+#[tactic(auto, using(crate::proofs::Delivering::alone))]
+fn take_in<T: Drop>(
+    waiting: &mut Vec<Waiting<T>>,
+    line: &mut Vec<Key>,
+    kept: &mut Vec<T>,
+    entry: Waiting<T>,
+)
+    requires room { vec_len waiting.old < vec_capacity waiting.old }
+    requires line_room { vec_len line.old + (vec_len waiting.old + 1) ≤ vec_capacity line.old }
+    requires kept_room { vec_len kept.old + (vec_len waiting.old + 1) ≤ vec_capacity kept.old }
+    ensures waiting { waiting.new.items ≡ left (waiting.old.items ++ entry ∷ []) }
+    ensures line { line.new.items ≡ line.old.items ++ ready_keys (waiting.old.items ++ entry ∷ []) }
+    ensures kept { kept.new.items ≡ kept.old.items ++ ready_things (waiting.old.items ++ entry ∷ []) }
+    ensures capacity { vec_capacity waiting.old ≤ vec_capacity waiting.new }
+    ensures line_capacity { vec_capacity line.old ≤ vec_capacity line.new }
+    ensures kept_capacity { vec_capacity kept.old ≤ vec_capacity kept.new }
+{
+    if entry.settled {
+        if waiting.is_empty() {
+            let Waiting {
+                key,
+                settled: _,
+                thing,
+            } = entry;
+            put(line, key);
+            put(kept, thing);
+            return;
+        }
+    }
+    put(waiting, entry);
+    deliver(waiting, line, kept);
 }
 
 impl<T: Drop> Queue<T> {
@@ -172,8 +207,7 @@ impl<T: Drop> Queue<T> {
             settled,
             thing,
         };
-        put(&mut self.waiting, entry);
-        deliver(&mut self.waiting, &mut self.line, &mut self.kept);
+        take_in(&mut self.waiting, &mut self.line, &mut self.kept, entry);
         stamp
     }
 

@@ -1,11 +1,11 @@
-use Rattle.std.proofs.Common.{◌≡◌, ◌<◌, ◌≤◌, ◌++◌, ◌+◌, ◌∷◌, [], false, max, sym, ap, ◌∙◌, arith}
+use Rattle.std.proofs.Common.{◌++◌, ◌+◌, ◌∷◌, [], sym, ap, ◌∙◌, arith}
 use Rattle.skeen_core.specs.declared.waiting.Waiting.{Waiting}
 use Rattle.log_node.specs.Standings.{line_of}
 use Rattle.skeen_core.specs.Queues.{has_id, entered_queue}
-use Rattle.skeen_core.specs.Inside.{all_entries, ready_keys, ready_things, left}
+use Rattle.skeen_core.specs.Inside.{ready_keys}
 use Rattle.skeen_core.proofs.Delivering.{queued-delivered}
 use Rattle.skeen_core.proofs.Stored.{line-queued}
-use Rattle.skeen_core.proofs.Adding.{queue-added, view-added, line-still, entries-added}
+use Rattle.skeen_core.proofs.Adding.{queue-added, view-added, line-still}
 use Rattle.skeen_core.proofs.queue.Queue.add.Goals as goal
 
 pub invariant_of-self : goal.invariant_of-self
@@ -17,10 +17,9 @@ invariant_of-self g c =
           = c.args.settled;
       thing = c.args.thing;
     } in
-    let put = c.put.ensures.items in
-    let line = c.deliver.ensures.line ∙ ap (λ ws. i.line.items ++ ready_keys ws) put in
-    let kept = c.deliver.ensures.kept ∙ ap (λ ws. i.kept.items ++ ready_things ws) put in
-    let waiting = c.deliver.ensures.waiting ∙ ap left put in
+    let line = c.take_in.ensures.line in
+    let kept = c.take_in.ensures.kept in
+    let waiting = c.take_in.ensures.waiting in
     let fresh = ap (λ q. has_id c.args.id q.entries) c.self.view_is ∙ c.requires.fresh in
     let clock = ap (λ q. q.clock) c.self.view_is in
     let spare = ap (λ q. q.spare) c.self.view_is in
@@ -38,19 +37,25 @@ returns-clause-queue g c =
           = c.args.settled;
       thing = c.args.thing;
     } in
-    let put = c.put.ensures.items in
-    let line = c.deliver.ensures.line ∙ ap (λ ws. i.line.items ++ ready_keys ws) put in
-    let kept = c.deliver.ensures.kept ∙ ap (λ ws. i.kept.items ++ ready_things ws) put in
-    let waiting = c.deliver.ensures.waiting ∙ ap left put in
+    let line = c.take_in.ensures.line in
+    let kept = c.take_in.ensures.kept in
+    let waiting = c.take_in.ensures.waiting in
     let clock = ap (λ q. q.clock) c.self.view_is in
     rw (line, kept, waiting) (view-added w c.self.invariant (omega (arith, clock))
     ∙ ap (entered_queue w) c.self.view_is)
 
 pub returns-clause-line : goal.returns-clause-line
 returns-clause-line g c =
-    let more = ready_keys c.put.new.list.items in
+    let i = c.self.inside in
+    let w : Waiting g.row.T.Denot = record {
+      key = record { stamp = c.max-stamp.result + 1; id = c.args.id };
+      settled
+          = c.args.settled;
+      thing = c.args.thing;
+    } in
+    let more = ready_keys (i.waiting.items ++ w ∷ []) in
     let old = sym (line-queued c.self.invariant) ∙ ap (λ q. line_of q.entries) c.self.view_is in
-    (more, line-queued (invariant_of-self g c) ∙ c.deliver.ensures.line ∙ ap (λ ks. ks ++ more) old)
+    (more, line-queued (invariant_of-self g c) ∙ c.take_in.ensures.line ∙ ap (λ ks. ks ++ more) old)
 
 pub returns-clause-still : goal.returns-clause-still
 returns-clause-still g c first =
@@ -61,9 +66,8 @@ returns-clause-still g c first =
           = c.args.settled;
       thing = c.args.thing;
     } in
-    let put = c.put.ensures.items in
-    let line = c.deliver.ensures.line ∙ ap (λ ws. i.line.items ++ ready_keys ws) put in
-    let waiting = c.deliver.ensures.waiting ∙ ap left put in
+    let line = c.take_in.ensures.line in
+    let waiting = c.take_in.ensures.waiting in
     let fresh = ap (λ q. has_id c.args.id q.entries) c.self.view_is ∙ c.requires.fresh in
     let clock = ap (λ q. q.clock) c.self.view_is in
     let more = queued-delivered w.key.stamp i.spare i.line.items i.kept.items (i.waiting.items ++ w ∷ [])

@@ -1,7 +1,7 @@
 use Rattle.std.proofs.Common.{ap, ◌∙◌}
 use Rattle.script_text.specs.Table.{last_of}
 use Rattle.script_text.proofs.CommandLaws.{stop_small}
-use Rattle.script_text.proofs.command.what_of.Goals as goal
+use Rattle.script_text.proofs.command.by_row.Goals as goal
 
 pub into_what-requires : goal.into_what-requires
 into_what-requires c = λ e.
