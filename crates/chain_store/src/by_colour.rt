@@ -20,6 +20,7 @@ ghost use Rattle.chain_store.specs.Histories.{FitsColumn};
 ghost use Rattle.chain_store.specs.Columns.{told_single, told_propose, told_settle};
 ghost use Rattle.chain_store.specs.Marks.{stamps_of, numbers};
 ghost use Rattle.chain_store.specs.Rows.{IsBegunRow, place_after};
+ghost use Rattle.chain_store.specs.Proposals.{HasProposal};
 ghost use Rattle.chain_store.specs.Steps.{HasSingleCause, MatchAt};
 ghost use Rattle.chain_store.specs.Passes.{ShowsHistory, dated_in};
 ghost use Rattle.chain_store.specs.Regions.{tag_at, IsColumnAt};
@@ -36,7 +37,7 @@ use crate::rows::{Proposed, Settled, below_in, propose_in, settle_in};
 use crate::seated::Seated;
 use col_core::View;
 use column::{Below, ColumnFault, Given};
-use log_node::{At, Begun, Counts, Key, MAX_STAMP, Node, Outcome};
+use log_node::{At, Begun, Counts, Key, MAX_STAMP, Mark, Node, Outcome};
 use std::alloc::{AllocError, Global};
 use std::sync::{Arc, Wait};
 use turn_cell::Cell;
@@ -201,7 +202,7 @@ impl Region {
         give_in(rt, alloc, self.column(colour), pass, by, region, from)
     }
 
-    /// Takes over what is new of a part of another region's line of the colour.
+    /// Takes over what is new of a part of another region's line of the colour, and answers how many nodes that is.
     pub fn carry<R: Wait>(
         &self,
         rt: &R,
@@ -210,7 +211,7 @@ impl Region {
         colour: u8,
         region: u8,
         given: &Given,
-    ) -> Result<At, AllocError>
+    ) -> Result<(At, u64), AllocError>
         requires hold { IsHold self.now hold.old }
         requires colour { colour < self.now.board.size.colours }
         requires other { (region ≢ self.now.number) × (region < self.now.regions) }
@@ -218,7 +219,8 @@ impl Region {
         ensures hold { IsHold self.now hold.new }
         ensures others { SameBut colour hold.old hold.new }
         ensures same { (hold.new.seat ≡ hold.old.seat) × (hold.new.next ≡ hold.old.next) }
-        ensures ok { IfOk result (CarriesIn colour hold.old hold.new (tag_at self.now colour) region given.now) }
+        ensures ok { IfOk result (λ r.
+            CarriesIn colour hold.old hold.new (tag_at self.now colour) region given.now r.0 r.1) }
         ensures err { OnErr result (SeesMoreIn colour hold.old hold.new) }
     {
         let by = hold.passes.number;
@@ -258,7 +260,10 @@ impl Region {
         ensures others { SameBut colour hold.old hold.new }
         ensures same { IsLater hold.old.seat hold.new.seat × (hold.new.next ≡ hold.old.next) }
         ensures known { KnowsMark (view_of hold.new) begun.now.row colour result.mark }
+        ensures set { result.mark ≢ Mark.None }
         ensures agrees { stamps_of begun.now.row (seen_in hold.new colour) ≡ numbers result.mark }
+        ensures entered { (n : ℕ) → result.mark ≡ Number n → HasProposal self.now.board.size self.now.number colour
+            (view_of hold.new) begun.now (seen_in hold.new colour) n }
         ensures at { MatchAt result.at
             (λ _. (x : Node) × (n : ℕ) × IsBegunRow self.now.board.size self.now.number (view_of hold.new) begun.now x
             × (result.mark ≡ Number n)

@@ -3,7 +3,7 @@ ghost use Rattle.std.specs.Prelude.{◌≡◌, ◌≢◌, ◌<◌, ℕ, true, fa
 ghost use Rattle.std.specs.List.{filter, find};
 ghost use Rattle.std.specs.Option.{option_map};
 ghost use Rattle.log_node.specs.declared.node.Node.{Node};
-ghost use Rattle.log_node.specs.declared.marks.Mark.TheVariants.{Fenced};
+ghost use Rattle.log_node.specs.declared.marks.Mark.TheVariants.{Number, Fenced};
 ghost use Rattle.log_node.specs.declared.marks.Why.TheVariants.{StampEnd};
 ghost use Rattle.log_node.specs.Seen.{BegunAppend};
 ghost use Rattle.log_node.specs.Sets.{has};
@@ -19,12 +19,13 @@ ghost use Rattle.chain_store.specs.Histories.{entries_in};
 ghost use Rattle.chain_store.specs.Marks.{stamps_of, numbers};
 ghost use Rattle.chain_store.specs.Columns.{Gains, Stands, Stays, told_propose, told_settle, tag_of};
 ghost use Rattle.chain_store.specs.Rows.{IsBegunRow, KnowsRow, OneNode, place_after, IsKnownBelow};
+ghost use Rattle.chain_store.specs.Proposals.{HasProposal};
 ghost use Rattle.chain_store.specs.Steps.{MatchStep, mark_after};
 
 use crate::proposing::Step;
 use crate::seated::Seated;
 use column::Below;
-use log_node::{Begun, Id, Key, Outcome};
+use log_node::{Begun, Id, Key, Mark, Outcome};
 use stamp_board::{Board, Seat};
 
 impl Seated {
@@ -79,8 +80,11 @@ impl Seated {
             × Gains self.old self.new (told_propose self.old.column.colour by x n))
             (λ _. Stays self.old self.new) }
         ensures known { KnowsMark (seen seat.new) begun.now.row self.old.column.colour (mark_after result) }
+        ensures set { mark_after result ≢ Mark.None }
         ensures agrees { (log : List Told) → Stands self.new log
             → stamps_of begun.now.row log ≡ numbers (mark_after result) }
+        ensures entered { (log : List Told) → Stands self.new log → (n : ℕ) → mark_after result ≡ Number n
+            → HasProposal board.now.size self.old.column.region self.old.column.colour (seen seat.new) begun.now log n }
         ensures ended { (log : List Told) → Stands self.new log → mark_after result ≡ Fenced StampEnd
             → (x : Node) × IsBegunRow board.now.size self.old.column.region (seen seat.new) begun.now x
             × IsAtEnd (entries_in log) x.floor }

@@ -80,6 +80,7 @@ impl Seated {
         ensures stays { Stays self.old self.new }
         ensures known { KnowsMark (column_seen self.new.seat) row self.old.column.colour result }
         ensures mark { set_mark self.new.seat row ≡ result }
+        ensures set { result ≢ Mark.None }
     {
         board.fence(&mut self.seat, row, why)
     }
@@ -99,6 +100,7 @@ impl Seated {
             (λ _. Stays self.old self.new) }
         ensures known { KnowsMark (column_seen self.new.seat) row self.old.column.colour (mark_after result) }
         ensures mark { set_mark self.new.seat row ≡ mark_after result }
+        ensures set { mark_after result ≢ Mark.None }
     {
         match self.enter_open(by, node) {
             Ok(stamp) => match board.mark(&mut self.seat, row, stamp) {
@@ -125,6 +127,7 @@ impl Seated {
         ensures known { KnowsMark (column_seen self.new.seat) begun.now.row self.old.column.colour
             (mark_after result) }
         ensures mark { set_mark self.new.seat begun.now.row ≡ mark_after result }
+        ensures set { mark_after result ≢ Mark.None }
     {
         let row = begun.row;
         match board.look(&mut self.seat, row) {

@@ -19,6 +19,7 @@ ghost use Rattle.chain_store.specs.Marks.{stamps_of, numbers};
 ghost use Rattle.chain_store.specs.Columns.{told_propose, told_settle};
 ghost use Rattle.chain_store.specs.Passes.{IsHolder, IsBeside, SeesMore, MakesOne, Looks, tag_in};
 ghost use Rattle.chain_store.specs.Rows.{IsBegunRow, KnowsRow, IsKnownBelow, OneNode, place_after};
+ghost use Rattle.chain_store.specs.Proposals.{HasProposal};
 ghost use Rattle.chain_store.specs.Steps.{MatchAt};
 
 use crate::proposing::Step;
@@ -64,7 +65,10 @@ pub fn propose_in<R: Wait>(
     ensures pass { IsHolder cell.now by pass.new }
     ensures seat { IsLater seat.old seat.new }
     ensures known { KnowsMark (seat_seen seat.new) begun.now.row (tag_in cell.now).colour result.mark }
+    ensures set { result.mark ≢ Mark.None }
     ensures agrees { stamps_of begun.now.row (seen pass.new) ≡ numbers result.mark }
+    ensures entered { (n : ℕ) → result.mark ≡ Number n → HasProposal board.now.size (tag_in cell.now).region
+        (tag_in cell.now).colour (seat_seen seat.new) begun.now (seen pass.new) n }
     ensures at { MatchAt result.at
         (λ _. (x : Node) × (n : ℕ) × IsBegunRow board.now.size (tag_in cell.now).region (seat_seen seat.new) begun.now x
         × (result.mark ≡ Number n)

@@ -93,21 +93,23 @@ module _ (t : Tag) (before : List Told) (from : ℕ) (given : Given) (g : ShowsG
       (given_of_line (h - given.start))))
 
   module _ (log : List Told) (more : IsPrefix before log) (lawful : IsLawfulTold t log) (u : Tag) (n : ℕ)
-      (old new : List Told) (at : At) (c : CarriesAt u n t.region given old new at) where
-    pub carries_line : CarriesLine t log u n old new at
+      (old new : List Told) (at : At) (nodes : ℕ) (c : CarriesAt u n t.region given old new at nodes) where
+    pub carries_line : CarriesLine t log u n old new at nodes
     carries_line = elim c.either [
-      | inl look ↦ inl look.0
+      | inl look ↦ inl (look.0, look.2)
       | inr m ↦
           let items = new_after u m.1.before t.region given in
-          let some = m.3 in
+          let all = m.3 in
+          let some = m.4 in
           inr (
             m.0,
             items,
             m.1,
             m.2,
+            all,
             some,
             of_line_longer t before log more lawful (held_in u m.1.before t.region) items
-                (new_of_line u m.1.before some),
+                (new_of_line u m.1.before (omega (arith, all, some))),
           )
     ]
 
@@ -120,15 +122,15 @@ module _ (t : Tag) (before : List Told) (from : ℕ) (given : Given) (g : ShowsG
         omega (arith, all, long)
 
 -- a look before a carry is part of it
-pub looks_carries : (t : Tag) (log : List Told) (u : Tag) (n : ℕ) (old mid new : List Told) (at : At)
-    → SeesMore n old mid → CarriesLine t log u n mid new at → CarriesLine t log u n old new at
-looks_carries t log u n old mid new at s (inl look) =
+pub looks_carries : (t : Tag) (log : List Told) (u : Tag) (n : ℕ) (old mid new : List Told) (at : At) (nodes : ℕ)
+    → SeesMore n old mid → CarriesLine t log u n mid new at nodes → CarriesLine t log u n old new at nodes
+looks_carries t log u n old mid new at nodes s (inl look) =
     let seen : SeesMore n old new = record {
-      more = prefix_then old mid new s.more look.0.more;
-      none = look.0.none ∙ s.none;
+      more = prefix_then old mid new s.more look.0.0.more;
+      none = look.0.0.none ∙ s.none;
     } in
-    inl (seen, look.1)
-looks_carries t log u n old mid new at s (inr c) =
+    inl ((seen, look.0.1), look.1)
+looks_carries t log u n old mid new at nodes s (inr c) =
     let m : MakesOne n c.0 old new at = record {
       before = c.2.before;
       more = prefix_then old mid c.2.before s.more c.2.more;
@@ -136,7 +138,7 @@ looks_carries t log u n old mid new at s (inr c) =
       adds = c.2.adds;
       place = c.2.place;
     } in
-    inr (c.0, c.1, m, c.3, c.4, c.5)
+    inr (c.0, c.1, m, c.3, c.4, c.5, c.6)
 
 -- what a client has carried is of its origin, and what it then carries of it is
 module _ (t : Tag) (seen log : List Told) (more : IsPrefix seen log) (lawful : IsLawfulTold t log) (u : Tag) (n : ℕ)
@@ -148,10 +150,10 @@ module _ (t : Tag) (seen log : List Told) (more : IsPrefix seen log) (lawful : I
       of_origin_longer t seen log more lawful told
       (was k told (ap (λ (l : List Told). slice_get l k) (sym same) ∙ e))
 
-  pub origin_carried : (at : At) → CarriesLine t log u n old new at → (k : ℕ) (told : Told)
+  pub origin_carried : (at : At) (nodes : ℕ) → CarriesLine t log u n old new at nodes → (k : ℕ) (told : Told)
       → slice_get (made_by maker n new) k ≡ Some told → IsOfOrigin t log told
-  origin_carried at (inl look) k told e = origin_looked look.0.none k told e
-  origin_carried at (inr c) k told e =
+  origin_carried at nodes (inl look) k told e = origin_looked look.0.0.none k told e
+  origin_carried at nodes (inr c) k told e =
       let start = held_in u c.2.before t.region in
       let made : made_by maker n new ≡ made_by maker n old ++ c.0 ∷ [] =
       ap (made_by maker n) c.2.adds ∙ (made_with n c.2.before c.0 (ap maker c.3)
@@ -168,6 +170,6 @@ module _ (t : Tag) (seen log : List Told) (more : IsPrefix seen log) (lawful : I
               c.1,
               sym all,
               ap (λ (w : Told). w.nodes) is,
-              subst (λ (s : ℕ). AreOfLine t log s c.1) number c.5,
+              subst (λ (s : ℕ). AreOfLine t log s c.1) number c.6,
             )
       ]

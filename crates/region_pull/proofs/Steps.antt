@@ -184,10 +184,12 @@ module _ (from to : Region) (k : ℕ) (g g' h h' : Hold) (store : AreOfOneStore 
   pub carry_refused_goes : SeesMoreIn k h' i → GoesOnIn to k h i
   carry_refused_goes looked = goes_then to k h h' i to_goes is but same looked.more
 
-  module _ (given : Given) (carry : At) (c : CarriesIn k h' i (tag_at to k) from.number given carry) where
+  module _ (given : Given) (carry : At) (nodes : ℕ)
+      (c : CarriesIn k h' i (tag_at to k) from.number given carry nodes) where
     carries_here : CarriesAt (tag_at to k) h.passes.number from.number given (seen_in h' k) (seen_in i k) carry
+        nodes
     carries_here = subst
-        (λ (n : ℕ). CarriesAt (tag_at to k) n from.number given (seen_in h' k) (seen_in i k) carry)
+        (λ (n : ℕ). CarriesAt (tag_at to k) n from.number given (seen_in h' k) (seen_in i k) carry nodes)
         to_goes.others.number c
 
     carried_more : IsPrefix (seen_in h' k) (seen_in i k)
@@ -199,9 +201,9 @@ module _ (from to : Region) (k : ℕ) (g g' h h' : Hold) (store : AreOfOneStore 
     pub carried_goes : GoesOnIn to k h i
     carried_goes = goes_then to k h h' i to_goes is but same carried_more
 
-    pub pulled : (place : At) (p : Pulled) → p.give ≡ place → p.carry ≡ carry
+    pub pulled : (place : At) (p : Pulled) → p.nodes ≡ nodes → p.give ≡ place → p.carry ≡ carry
         → HasAsked from to k g g' h h' place given → Pulls from to k g g' h i p
-    pulled place p give_is carry_is a =
+    pulled place p count give_is carry_is a =
         let t = tag_at from k in
         let u = tag_at to k in
         let log = seen_in g' k in
@@ -212,16 +214,19 @@ module _ (from to : Region) (k : ℕ) (g g' h h' : Hold) (store : AreOfOneStore 
         from.number in
         let meets = a.meets in
         let line = carries_line t before a.asked given a.shows log more lawful u h.passes.number (seen_in h' k)
-        (seen_in i k) carry carries_here in
-        let all = looks_carries t log u h.passes.number (seen_in h k) (seen_in h' k) (seen_in i k) carry looks line in
+        (seen_in i k) carry nodes carries_here in
+        let all = looks_carries t log u h.passes.number (seen_in h k) (seen_in h' k) (seen_in i k) carry nodes looks
+        line in
         record {
           too_low = a.too_low;
           last = a.last;
           asks = asks_then carried_more (a.too_low ++ a.last ∷ []) a.asks;
           give = give_is ∙ a.there;
-          carries = subst (CarriesLine t log u h.passes.number (seen_in h k) (seen_in i k)) (sym carry_is) all;
+          carries = subst (CarriesLine t log u h.passes.number (seen_in h k) (seen_in i k) p.carry) (sym count)
+              (subst (λ (w : At). CarriesLine t log u h.passes.number (seen_in h k) (seen_in i k) w nodes) (sym carry_is)
+              all);
           holds = carries_all t before a.asked given a.shows log more lawful u h.passes.number (seen_in h' k)
-              (seen_in i k) carry carries_here (omega (arith, held, meets));
+              (seen_in i k) carry nodes carries_here (omega (arith, held, meets));
         }
 
 -- what is carried up stays true
@@ -243,7 +248,7 @@ module _ (from to : Region) (k : ℕ) (g g' h h' : Hold) (store : AreOfOneStore 
   origin_pulled p pulls was n told e =
       origin_carried (tag_at from k) (seen_in g k) (seen_in g' k) from_goes.more
       (lawful_seen from g' k from_goes.rests store.from_colour) (tag_at to k) h.passes.number (seen_in h k)
-      (seen_in h' k) was p.carry pulls.carries n told
+      (seen_in h' k) was p.carry p.nodes pulls.carries n told
       (ap (λ (l : List Told). slice_get l n) (sym (made_now to h h' to_goes)) ∙ e)
 
   pub held_asked : (gives : List Gave) → Asks (tag_at from k) (tag_at to k) g.passes.number (seen_in g k)

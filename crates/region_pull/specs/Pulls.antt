@@ -61,13 +61,13 @@ pub record Asks (t u : Tag) (n : ℕ) (old new to_old to_new : List Told) (gives
   pub on : (i : ℕ) (x : Gave) → slice_get gives i ≡ Some x → AsksOn t u new to_old to_new x
   pub again : (i : ℕ) (x : Gave) → slice_get gives i ≡ Some x → i + 1 < length gives → IsTooLow t new x
 
--- The client n carried nodes of the line that the history of the column with the tag t has, from where those held
+-- The client n carried so many nodes of the line that the history of the column with the tag t has, from where those held
 -- ended in the column with the tag u; or none, at a look.
-abbrev pub CarriesLine : Tag → List Told → Tag → ℕ → List Told → List Told → At → Type 0
-CarriesLine t log u n old new at =
-    LooksAt n old new at
+abbrev pub CarriesLine : Tag → List Told → Tag → ℕ → List Told → List Told → At → ℕ → Type 0
+CarriesLine t log u n old new at nodes =
+    (LooksAt n old new at × (nodes ≡ 0))
     ⊎ ((told : Told) × (items : List PlacedNode) × (m : MakesOne n told old new at)
-    × (told ≡ told_carry n t.region (held_in u m.before t.region) items) × (0 < length items)
+    × (told ≡ told_carry n t.region (held_in u m.before t.region) items) × (nodes ≡ length items) × (0 < nodes)
     × AreOfLine t log (held_in u m.before t.region) items)
 
 -- A pull of a client, by its holds g of the region that is pulled from and h of the other one, which are g' and h' then:
@@ -79,7 +79,7 @@ pub record Pulls (from to : Region) (colour : ℕ) (g g' h h' : Hold) (p : Pulle
       (seen_in h colour) (seen_in h' colour) (too_low ++ last ∷ [])
   pub give : p.give ≡ Event last.place
   pub carries : CarriesLine (tag_at from colour) (seen_in g' colour) (tag_at to colour) h.passes.number
-      (seen_in h colour) (seen_in h' colour) p.carry
+      (seen_in h colour) (seen_in h' colour) p.carry p.nodes
   pub holds : length (line (entries_in (before_gave (seen_in g' colour) last)))
       ≤ held_in (tag_at to colour) (seen_in h' colour) from.number
 

@@ -1,9 +1,10 @@
 // What a pull answers.
 use log_node::At;
 
-/// What a pull did: its last give, and its carry, which is a look where nothing was new.
+/// What a pull did: how many nodes it carried, its last give, and its carry, which is a look where nothing was new.
 #[derive(Clone, Copy, Debug, PartialEq, Eq)]
 pub struct Pulled {
+    pub nodes: u64,
     pub give: At,
     pub carry: At,
 }

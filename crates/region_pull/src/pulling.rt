@@ -44,7 +44,7 @@ pub fn pull<R: Wait>(
     }
     match ask(rt, alloc, from, to, from_hold, to_hold, colour) {
         Ok((give, given)) => match to.carry(rt, alloc, to_hold, colour, from.number(), &given) {
-            Ok(carry) => Ok(Pulled { give, carry }),
+            Ok((carry, nodes)) => Ok(Pulled { nodes, give, carry }),
             Err(_) => Err(PullFault::NoMemory),
         },
         Err(_) => Err(PullFault::NoMemory),

@@ -10,9 +10,13 @@ use Rattle.chain_store.specs.declared.told.Tag.{Tag}
 use Rattle.chain_store.specs.declared.told.Told.{Told}
 use Rattle.chain_store.specs.Rows.{IsBegunRow, KnowsRow}
 use Rattle.log_node.specs.declared.node.Node.{Node}
+use Rattle.log_node.specs.Seen.{BegunAppend}
+use Rattle.stamp_board.specs.declared.view.Size.{Size}
+use Rattle.stamp_board.specs.declared.view.View.{View}
 use Rattle.chain_store.specs.declared.seated.Seated.{Seated}
 use Rattle.chain_store.specs.Columns.{told_propose, tag_of, Gains}
 use Rattle.chain_store.specs.Passes.{tag_in}
+use Rattle.chain_store.specs.Proposals.{HasProposal}
 use Rattle.chain_store.specs.Steps.{MatchAt}
 use Rattle.chain_store.proofs.Turning.{at_rest, stood, tagged, may, adds, saw, makes}
 use Rattle.chain_store.proofs.Heard.{at_event, at_look}
@@ -42,6 +46,12 @@ propose_told-requires-clause-colour g c =
 gained : (x y : Seated) (t : Tag) (by : ℕ) (node : Node) (stamp : ℕ) → tag_of x ≡ t
     → Gains x y (told_propose x.column.colour by node stamp) → Gains x y (told_propose t.colour by node stamp)
 gained x y t by node stamp is g = subst (λ (u : Tag). Gains x y (told_propose u.colour by node stamp)) is g
+
+-- the proposal that stands, with the region and the colour of the cell's tag
+tagged_proposal : (x : Seated) (t : Tag) (size : Size) (v : View) (b : BegunAppend) (log : List Told) (n : ℕ)
+    → tag_of x ≡ t → HasProposal size x.column.region x.column.colour v b log n
+    → HasProposal size t.region t.colour v b log n
+tagged_proposal x t size v b log n is h = subst (λ (u : Tag). HasProposal size u.region u.colour v b log n) is h
 
 pub end-requires-clause-value : goal.end-requires-clause-value
 end-requires-clause-value g c =
@@ -132,3 +142,19 @@ returns-in-Looked-clause-at g c =
     c.begin-turn.ensures.value)) in
     at_look c.end-in-Looked.result (length (seen q)) _ _ w.0
     (saw c.args.by c.args.pass.now q r c.begin-turn.ensures.more w.1.0, ap (λ (l : List Told). length l) (sym w.1.0))
+
+pub returns-in-Added-clause-entered : goal.returns-in-Added-clause-entered
+returns-in-Added-clause-entered g c = λ n is.
+    tagged_proposal c.deref_mut.result.now (tag_in c.args.cell.now) c.args.board.now.size
+    (seat_seen c.propose_told.new.seat) c.args.begun.now (seen c.end.new.pass) n
+    (tagged c.begin-turn.result.value.value c.deref_mut.result.now (tag_in c.args.cell.now) c.deref_mut.ensures.value
+    c.begin-turn.ensures.tag)
+    (c.in-Added.ensures.entered (seen c.end.new.pass) c.end.ensures.value n is)
+
+pub returns-in-Looked-clause-entered : goal.returns-in-Looked-clause-entered
+returns-in-Looked-clause-entered g c = λ n is.
+    tagged_proposal c.deref_mut.result.now (tag_in c.args.cell.now) c.args.board.now.size
+    (seat_seen c.propose_told.new.seat) c.args.begun.now (seen c.end-in-Looked.new.pass) n
+    (tagged c.begin-turn.result.value.value c.deref_mut.result.now (tag_in c.args.cell.now) c.deref_mut.ensures.value
+    c.begin-turn.ensures.tag)
+    (c.in-Looked.ensures.entered (seen c.end-in-Looked.new.pass) c.end-in-Looked.ensures.value n is)

@@ -12,49 +12,49 @@ returns-in-Ok-carry-clause-to_hold g c =
     let e = c.in-Ok.ensures in
     let f = c.in-Ok-carry.ensures in
     let line = subst (λ (r : ℕ). CarriesIn c.args.colour c.ask.new.to_hold c.carry.new.hold
-    (tag_at c.args.to.now c.args.colour) r c.in-Ok.given c.in-Ok-carry.carry) c.number-in-Ok.ensures f.ok in
+    (tag_at c.args.to.now c.args.colour) r c.in-Ok.given c.in-Ok-carry.carry c.in-Ok-carry.nodes) c.number-in-Ok.ensures f.ok in
     (carried_goes c.args.from.now c.args.to.now c.args.colour c.args.from_hold.now c.ask.new.from_hold c.args.to_hold.now c.ask.new.to_hold
     c.requires.store e.from_hold e.to_hold e.looks c.carry.new.hold f.hold f.others f.same
-    c.in-Ok.given c.in-Ok-carry.carry line)
+    c.in-Ok.given c.in-Ok-carry.carry c.in-Ok-carry.nodes line)
 
 pub returns-in-Ok-carry-clause-ok : goal.returns-in-Ok-carry-clause-ok
 returns-in-Ok-carry-clause-ok g c =
     let e = c.in-Ok.ensures in
     let f = c.in-Ok-carry.ensures in
     let line = subst (λ (r : ℕ). CarriesIn c.args.colour c.ask.new.to_hold c.carry.new.hold
-    (tag_at c.args.to.now c.args.colour) r c.in-Ok.given c.in-Ok-carry.carry) c.number-in-Ok.ensures f.ok in
+    (tag_at c.args.to.now c.args.colour) r c.in-Ok.given c.in-Ok-carry.carry c.in-Ok-carry.nodes) c.number-in-Ok.ensures f.ok in
     pulled c.args.from.now c.args.to.now c.args.colour c.args.from_hold.now c.ask.new.from_hold c.args.to_hold.now c.ask.new.to_hold
     c.requires.store e.from_hold e.to_hold e.looks c.carry.new.hold f.hold f.others f.same
-    c.in-Ok.given c.in-Ok-carry.carry line c.in-Ok.give (record { give = c.in-Ok.give; carry = c.in-Ok-carry.carry }) refl refl e.ok
+    c.in-Ok.given c.in-Ok-carry.carry c.in-Ok-carry.nodes line c.in-Ok.give (record { nodes = c.in-Ok-carry.nodes; give = c.in-Ok.give; carry = c.in-Ok-carry.carry }) refl refl refl e.ok
 
 pub returns-in-Ok-carry-clause-origin : goal.returns-in-Ok-carry-clause-origin
 returns-in-Ok-carry-clause-origin g c =
     let e = c.in-Ok.ensures in
     let f = c.in-Ok-carry.ensures in
     let line = subst (λ (r : ℕ). CarriesIn c.args.colour c.ask.new.to_hold c.carry.new.hold
-    (tag_at c.args.to.now c.args.colour) r c.in-Ok.given c.in-Ok-carry.carry) c.number-in-Ok.ensures f.ok in
+    (tag_at c.args.to.now c.args.colour) r c.in-Ok.given c.in-Ok-carry.carry c.in-Ok-carry.nodes) c.number-in-Ok.ensures f.ok in
     let p = pulled c.args.from.now c.args.to.now c.args.colour c.args.from_hold.now c.ask.new.from_hold c.args.to_hold.now c.ask.new.to_hold
     c.requires.store e.from_hold e.to_hold e.looks c.carry.new.hold f.hold f.others f.same
-    c.in-Ok.given c.in-Ok-carry.carry line c.in-Ok.give (record { give = c.in-Ok.give; carry = c.in-Ok-carry.carry }) refl refl e.ok in
+    c.in-Ok.given c.in-Ok-carry.carry c.in-Ok-carry.nodes line c.in-Ok.give (record { nodes = c.in-Ok-carry.nodes; give = c.in-Ok.give; carry = c.in-Ok-carry.carry }) refl refl refl e.ok in
     origin_pulled c.args.from.now c.args.to.now c.args.colour c.args.from_hold.now c.ask.new.from_hold c.args.to_hold.now c.carry.new.hold
     c.requires.store e.from_hold (carried_goes c.args.from.now c.args.to.now c.args.colour c.args.from_hold.now c.ask.new.from_hold c.args.to_hold.now c.ask.new.to_hold
     c.requires.store e.from_hold e.to_hold e.looks c.carry.new.hold f.hold f.others f.same
-    c.in-Ok.given c.in-Ok-carry.carry line)
-    (record { give = c.in-Ok.give; carry = c.in-Ok-carry.carry }) p
+    c.in-Ok.given c.in-Ok-carry.carry c.in-Ok-carry.nodes line)
+    (record { nodes = c.in-Ok-carry.nodes; give = c.in-Ok.give; carry = c.in-Ok-carry.carry }) p
 
 pub returns-in-Ok-carry-clause-held : goal.returns-in-Ok-carry-clause-held
 returns-in-Ok-carry-clause-held g c =
     let e = c.in-Ok.ensures in
     let f = c.in-Ok-carry.ensures in
     let line = subst (λ (r : ℕ). CarriesIn c.args.colour c.ask.new.to_hold c.carry.new.hold
-    (tag_at c.args.to.now c.args.colour) r c.in-Ok.given c.in-Ok-carry.carry) c.number-in-Ok.ensures f.ok in
+    (tag_at c.args.to.now c.args.colour) r c.in-Ok.given c.in-Ok-carry.carry c.in-Ok-carry.nodes) c.number-in-Ok.ensures f.ok in
     let p = pulled c.args.from.now c.args.to.now c.args.colour c.args.from_hold.now c.ask.new.from_hold c.args.to_hold.now c.ask.new.to_hold
     c.requires.store e.from_hold e.to_hold e.looks c.carry.new.hold f.hold f.others f.same
-    c.in-Ok.given c.in-Ok-carry.carry line c.in-Ok.give (record { give = c.in-Ok.give; carry = c.in-Ok-carry.carry }) refl refl e.ok in
+    c.in-Ok.given c.in-Ok-carry.carry c.in-Ok-carry.nodes line c.in-Ok.give (record { nodes = c.in-Ok-carry.nodes; give = c.in-Ok.give; carry = c.in-Ok-carry.carry }) refl refl refl e.ok in
     held_asked c.args.from.now c.args.to.now c.args.colour c.args.from_hold.now c.ask.new.from_hold c.args.to_hold.now c.carry.new.hold
     c.requires.store e.from_hold (carried_goes c.args.from.now c.args.to.now c.args.colour c.args.from_hold.now c.ask.new.from_hold c.args.to_hold.now c.ask.new.to_hold
     c.requires.store e.from_hold e.to_hold e.looks c.carry.new.hold f.hold f.others f.same
-    c.in-Ok.given c.in-Ok-carry.carry line)
+    c.in-Ok.given c.in-Ok-carry.carry c.in-Ok-carry.nodes line)
     (p.too_low ++ p.last ∷ []) p.asks
 
 pub returns-in-Ok-clause-to_hold : goal.returns-in-Ok-clause-to_hold

@@ -18,6 +18,7 @@ use Rattle.log_node.specs.declared.marks.Mark.TheVariants.{Number, Fenced}
 use Rattle.log_node.specs.declared.marks.Why.TheVariants.{StampEnd}
 use Rattle.log_node.specs.declared.node.Node.{Node}
 use Rattle.log_node.specs.Sets.{has}
+use Rattle.chain_store.specs.Proposals.{HasProposal}
 use Rattle.chain_store.proofs.region.Region.propose.Goals as goal
 
 pub propose_in-requires-clause-cell : goal.propose_in-requires-clause-cell
@@ -106,3 +107,12 @@ returns-clause-ended g c =
     c.args.self.now.board.size t.region (seat_seen c.propose_in.new.seat) c.args.begun.now x
     × IsAtEnd (entries_in new) x.floor)
     c.propose_in.ensures.ended
+
+pub returns-clause-entered : goal.returns-clause-entered
+returns-clause-entered g c =
+    of_told c.args.self.now c.args.hold.now c.args.colour c.column.result.now c.index_mut-pass.result.now
+    c.propose_in.new.pass c.propose_in.new.seat c.requires.hold c.requires.colour c.column.ensures
+    c.index_mut-pass.ensures.value
+    (λ (t : Tag) (old new : List Told). (n : ℕ) → c.propose_in.result.mark ≡ Number n → HasProposal
+    c.args.self.now.board.size t.region t.colour (seat_seen c.propose_in.new.seat) c.args.begun.now new n)
+    c.propose_in.ensures.entered

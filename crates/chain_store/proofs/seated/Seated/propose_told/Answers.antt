@@ -1,4 +1,4 @@
-use Rattle.std.proofs.Common.{◌≡◌, ◌<◌, ◌≤◌, ℕ, true, false, List, refl, ap, sym, subst, ◌∙◌, arith}
+use Rattle.std.proofs.Common.{◌≡◌, ◌<◌, ◌≤◌, ℕ, true, false, List, Some, refl, ap, sym, subst, ◌∙◌, arith}
 use Rattle.log_node.specs.declared.ids.Id.{Id}
 use Rattle.log_node.specs.declared.ids.Row.{Row}
 use Rattle.log_node.specs.declared.node.Node.{Node}
@@ -9,18 +9,24 @@ use Rattle.skeen_core.specs.Queues.{has_open}
 use Rattle.col_core.specs.declared.Entry.{Entry}
 use Rattle.col_core.specs.History.{IsAtEnd, entries}
 use Rattle.column.specs.Columns.{ColumnState}
+use Rattle.log_node.specs.declared.marks.Mark.{Mark}
 use Rattle.stamp_board.specs.declared.view.Size.{Size}
 use Rattle.stamp_board.specs.declared.view.View.{View}
 use Rattle.stamp_board.specs.Rows.{IsRow}
 use Rattle.stamp_board.specs.Views.{KnowsBegun, Learns}
 use Rattle.stamp_board.specs.Seats.{seen, column_seen, set_mark}
 use Rattle.stamp_board.proofs.CallerLemmas.{Learns-from, Learns-trans, Grows-trans, begun_learnt, outcome_learnt}
+use Rattle.chain_store.specs.declared.told.Tag.{Tag}
+use Rattle.chain_store.specs.declared.told.Told.{Told}
 use Rattle.chain_store.specs.Histories.{entries_in}
+use Rattle.chain_store.specs.Marks.{numbers}
 use Rattle.chain_store.specs.Columns.{Gains, told_propose, told_settle}
 use Rattle.chain_store.specs.Rows.{IsBegunRow}
 use Rattle.chain_store.proofs.Begun.{begun_later}
 use Rattle.chain_store.proofs.Heard.{gains_between, same_marks}
+use Rattle.chain_store.proofs.Places.{contained}
 use Rattle.chain_store.proofs.Proposals.{step_after}
+use Rattle.chain_store.proofs.Proposers.{proposer, proposal_of}
 use Rattle.chain_store.proofs.seated.Seated.propose_told.Goals as goal
 
 pub propose-step-requires-clause-board : goal.propose-step-requires-clause-board
@@ -106,4 +112,42 @@ returns-clause-ended c = λ log st end.
       x,
       begun_later k s.column.region b u0 u3 g.size (Learns-from u0 u3 g) x h,
       subst (λ (y : Node). IsAtEnd (entries_in log) y.floor) (sym same) z.ends,
+    )
+
+pub returns-clause-entered : goal.returns-clause-entered
+returns-clause-entered c = λ log st n is.
+    let s = c.args.self.now in
+    let s2 = c.propose-step.new.self in
+    let s3 = c.teach.new.self in
+    let k = c.args.board.now.size in
+    let b = c.args.begun.now in
+    let u0 = seen c.args.seat.now in
+    let u1 = seen c.learn.new.seat in
+    let u3 = seen c.teach.new.seat in
+    let v3 = column_seen s3.seat in
+    let q = c.requires.seats in
+    let l = c.learn.ensures in
+    let e = c.teach.ensures in
+    let x = c.requires.begun.0 in
+    let h = c.requires.begun.1 in
+    let g = Grows-trans u0 u1 u3 l.seat.0.grows e.seat.grows in
+    let sized : v3.size ≡ k = e.later.0.grows.size ∙ c.propose-step.ensures.seat.grows.size ∙ l.later.grows.size ∙ q.0.1 in
+    let marked = same_marks s2.seat s3.seat e.later.1 e.later.0.colour b.row ∙ c.propose-step.ensures.mark ∙ is in
+    let stamps = st.1.numbered b.row (subst (λ (z : Size). IsRow z b.row) (sym sized) h.row)
+    ∙ ap (λ (m : Mark). numbers m) marked in
+    let p = proposer b.row log n stamps in
+    let t = p.1 in
+    let w = proposal_of v3 s3.column.region s3.column.colour b.row t.entry.by n t.entry.event t.entry.stamp t.nodes p.3
+    p.4 (st.0.brings p.0 t p.2) (st.1.backs p.0 t p.2) in
+    let same : x ≡ w.0 = e.agree.node b.row x w.0
+    (begun_learnt u0 u1 b.row l.seat.0.grows.size (Learns-from u0 u1 l.seat.0.grows) x h.knows)
+    (subst (λ (v : View). KnowsBegun v b.row w.0) e.later.1 w.1) in
+    let colour : s3.column.colour ≡ s.column.colour = ap (λ (d : ColumnState). d.colour) e.column
+    ∙ ap (λ (z : Tag). z.colour) c.propose-step.ensures.tag ∙ ap (λ (d : ColumnState). d.colour) l.column in
+    let told : t ≡ told_propose s.column.colour t.entry.by x n =
+    w.2 ∙ (λ i. told_propose (colour i) t.entry.by (sym same i) n) in (
+      t.entry.by,
+      x,
+      begun_later k s.column.region b u0 u3 g.size (Learns-from u0 u3 g) x h,
+      contained log p.0 (told_propose s.column.colour t.entry.by x n) (p.2 ∙ ap (λ (z : Told). Some z) told),
     )
