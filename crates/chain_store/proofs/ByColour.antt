@@ -64,9 +64,9 @@ module _ (n : ℕ) (old new : List Told) where
         λ used next nodes. subst (λ (u : Told). IsAccountedFor n used next nodes u.entry.event) (sym m.note) tt,
       )
 
-  pub carried : (t : Tag) (region : ℕ) (given : Given) (at : At) → CarriesAt t n region given old new at → Moves n
-      old new
-  carried t region given at r = elim r.either [
+  pub carried : (t : Tag) (region : ℕ) (given : Given) (at : At) (nodes : ℕ)
+      → CarriesAt t n region given old new at nodes → Moves n old new
+  carried t region given at nodes r = elim r.either [
     | inl look ↦ inl look.0.0
     | inr m ↦ inr (
       m.0,

@@ -197,36 +197,36 @@ covers_none : (t : Tag) (log : List Told) (region : ℕ) (given : Given) → len
 covers_none t log region given none le =
     let c = new_count (held_in t log region) given le in omega (arith, c, none, le)
 
-pub carries_at : (t : Tag) (x : Seated) (n region : ℕ) (given : Given) (p q r : ColumnPass) (at : At) (b : Bool)
+pub carries_at : (t : Tag) (x : Seated) (n region : ℕ) (given : Given) (p q r : ColumnPass) (at : At) (nodes : ℕ)
     → Stands x (seen q) → tag_of x ≡ t → region ≢ t.region
-    → b ≡ nat_lt 0 (length (new_items x.column region given))
-    → ((b ≡ false) × LooksAt n (seen p) (seen r) at × (seen r ≡ seen q))
-    ⊎ ((b ≡ true)
+    → nodes ≡ length (new_items x.column region given)
+    → ((nat_lt 0 nodes ≡ false) × LooksAt n (seen p) (seen r) at × (seen r ≡ seen q))
+    ⊎ ((nat_lt 0 nodes ≡ true)
     × (m : MakesOne n (told_carry n region (held_of x.column region) (new_items x.column region given)) (seen p) (seen r) at)
     × (m.before ≡ seen q))
-    → CarriesAt t n region given (seen p) (seen r) at
-carries_at t x n region given p q r at b stands is other test (inl l) =
-    let le = ltb-false 0 (length (new_items x.column region given)) (sym test ∙ l.0) in
+    → CarriesAt t n region given (seen p) (seen r) at nodes
+carries_at t x n region given p q r at nodes stands is other count (inl l) =
+    let le = ltb-false 0 nodes l.0 in
     let new = new_is x t (seen q) region given stands is in
     let none : length (new_after t (seen r) region given) ≡ 0 =
     ap (λ (h : List Told). length (new_after t h region given)) l.2
-    ∙ (let g = ap length new in omega (arith, le, g)) in record {
-      either = inl (l.1, empty (new_after t (seen r) region given) none);
+    ∙ (let g = ap length new in omega (arith, le, g, count)) in record {
+      either = inl (l.1, empty (new_after t (seen r) region given) none, omega (arith, le));
       covers = covers_none t (seen r) region given none;
     } where
       empty : {A : Type 0} (xs : List A) → length xs ≡ 0 → xs ≡ []
       empty [] e = refl
       empty (x ∷ xs) e = absurd (let f : ⊥ = omega (arith, e) in f)
-carries_at t x n region given p q r at b stands is other test (inr m) =
+carries_at t x n region given p q r at nodes stands is other count (inr m) =
     let u = told_carry n region (held_of x.column region) (new_items x.column region given) in
     let h = m.1.before in
-    let lt = ltb-true 0 (length (new_items x.column region given)) (sym test ∙ m.0) in
+    let lt = ltb-true 0 nodes m.0 in
     let new : new_items x.column region given ≡ new_after t h region given =
     new_is x t (seen q) region given stands is ∙ ap (λ (l : List Told). new_after t l region given) (sym m.2) in
     let held : held_of x.column region ≡ held_in t h region =
     held_is x t (seen q) region stands is ∙ ap (λ (l : List Told). held_in t l region) (sym m.2) in
-    let some : 0 < length (new_after t h region given) =
-    subst (λ (l : List PlacedNode). 0 < length l) new lt in
+    let all : nodes ≡ length (new_after t h region given) = count ∙ ap length new in
+    let some : 0 < length (new_after t h region given) = omega (arith, lt, all) in
     let after : held_in t (seen r) region ≡ held_in t h region + length (new_items x.column region given) =
     ap (λ (l : List Told). held_in t l region) m.1.adds
     ∙ held_more t h n region (held_of x.column region) (new_items x.column region given) other in record {
@@ -235,7 +235,8 @@ carries_at t x n region given p q r at b stands is other test (inr m) =
         m.1,
         ap (λ (k : ℕ). told_carry n region k (new_items x.column region given)) held
             ∙ ap (told_carry n region (held_in t h region)) new,
-        some,
+        all,
+        lt,
       );
       covers = λ le. by_test (given.start + length given.items ≤ held_in t (seen r) region)
           (nat_lt (held_in t h region) given.start)

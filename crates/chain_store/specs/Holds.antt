@@ -96,10 +96,10 @@ module _ (colour : ℕ) (g h : Hold) where
   GivesIn t region from at given =
       GivesAt t g.passes.number region from (seen_in g colour) (seen_in h colour) at given
 
-  -- it has carried what is new, by an event exactly where there is something
-  abbrev pub CarriesIn : Tag → ℕ → Given → At → Type 0
-  CarriesIn t region given at =
-      CarriesAt t g.passes.number region given (seen_in g colour) (seen_in h colour) at
+  -- it has carried what is new, so many nodes, by an event exactly where there is something
+  abbrev pub CarriesIn : Tag → ℕ → Given → At → ℕ → Type 0
+  CarriesIn t region given at nodes =
+      CarriesAt t g.passes.number region given (seen_in g colour) (seen_in h colour) at nodes
 
   -- it has trimmed nodes, and the answer is the base afterwards
   abbrev pub TrimsIn : Tag → Counts → At → Counts → Type 0

@@ -56,12 +56,12 @@ new_after t log region given =
     if nat_lt (held_in t log region) given.start then []
     else drop (held_in t log region - given.start) given.items
 
--- what is new is carried, by an event exactly where there is something
-pub record CarriesAt (t : Tag) (n region : ℕ) (given : Given) (old new : List Told) (at : At) : Type 0 where
-  pub either : (LooksAt n old new at × (new_after t new region given ≡ []))
+-- what is new is carried, by an event exactly where there is something: so many nodes
+pub record CarriesAt (t : Tag) (n region : ℕ) (given : Given) (old new : List Told) (at : At) (nodes : ℕ) : Type 0 where
+  pub either : (LooksAt n old new at × (new_after t new region given ≡ []) × (nodes ≡ 0))
       ⊎ ((told : Told) × (m : MakesOne n told old new at)
       × (told ≡ told_carry n region (held_in t m.before region) (new_after t m.before region given))
-      × (0 < length (new_after t m.before region given)))
+      × (nodes ≡ length (new_after t m.before region given)) × (0 < nodes))
   pub covers : given.start ≤ held_in t new region
       → given.start + length given.items ≤ held_in t new region
 

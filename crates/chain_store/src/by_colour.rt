@@ -202,7 +202,7 @@ impl Region {
         give_in(rt, alloc, self.column(colour), pass, by, region, from)
     }
 
-    /// Takes over what is new of a part of another region's line of the colour.
+    /// Takes over what is new of a part of another region's line of the colour, and answers how many nodes that is.
     pub fn carry<R: Wait>(
         &self,
         rt: &R,
@@ -211,7 +211,7 @@ impl Region {
         colour: u8,
         region: u8,
         given: &Given,
-    ) -> Result<At, AllocError>
+    ) -> Result<(At, u64), AllocError>
         requires hold { IsHold self.now hold.old }
         requires colour { colour < self.now.board.size.colours }
         requires other { (region ≢ self.now.number) × (region < self.now.regions) }
@@ -219,7 +219,8 @@ impl Region {
         ensures hold { IsHold self.now hold.new }
         ensures others { SameBut colour hold.old hold.new }
         ensures same { (hold.new.seat ≡ hold.old.seat) × (hold.new.next ≡ hold.old.next) }
-        ensures ok { IfOk result (CarriesIn colour hold.old hold.new (tag_at self.now colour) region given.now) }
+        ensures ok { IfOk result (λ r.
+            CarriesIn colour hold.old hold.new (tag_at self.now colour) region given.now r.0 r.1) }
         ensures err { OnErr result (SeesMoreIn colour hold.old hold.new) }
     {
         let by = hold.passes.number;

@@ -66,7 +66,7 @@ pub fn give_in<R: Wait>(
     }
 }
 
-/// Takes over what is new of a part of another region's line. Waits for the turn.
+/// Takes over what is new of a part of another region's line, and answers how many nodes that is. Waits for the turn.
 pub fn carry_in<R: Wait>(
     rt: &R,
     alloc: Global,
@@ -75,19 +75,20 @@ pub fn carry_in<R: Wait>(
     by: u8,
     region: u8,
     given: &Given,
-) -> Result<At, AllocError>
+) -> Result<(At, u64), AllocError>
     requires pass { IsHolder cell.now by pass.old }
     requires maker { by < (tag_in cell.now).size.clients }
     requires other { region ≢ (tag_in cell.now).region }
     requires region { region < (tag_in cell.now).regions }
     requires heads { OfTheirHeads given.now.items }
     ensures pass { IsHolder cell.now by pass.new }
-    ensures ok { IfOk result (CarriesAt (tag_in cell.now) by region given.now (seen pass.old) (seen pass.new)) }
+    ensures ok { IfOk result (λ r.
+        CarriesAt (tag_in cell.now) by region given.now (seen pass.old) (seen pass.new) r.0 r.1) }
     ensures err { OnErr result (SeesMore by (seen pass.old) (seen pass.new)) }
 {
     let mut turn = begin(rt, cell, pass, by);
     match turn.value.carry(alloc, by, region, given) {
-        Ok(_event) => Ok(end(turn, pass)),
+        Ok(count) => Ok((end(turn, pass), count)),
         Err(fault) => {
             end(turn, pass);
             Err(fault)

@@ -60,31 +60,31 @@ impl Seated {
         }
     }
 
-    /// Takes over what is new of a part of another region's line, and says whether there was any.
+    /// Takes over what is new of a part of another region's line, and says how much that was.
     pub(crate) fn carry(
         &mut self,
         alloc: Global,
         by: u8,
         region: u8,
         given: &Given,
-    ) -> Result<bool, AllocError>
+    ) -> Result<u64, AllocError>
         requires maker { by < (column_seen self.old.seat).size.clients }
         requires other { region ≢ self.old.column.region }
         requires region { region < self.old.column.regions }
         requires heads { OfTheirHeads given.now.items }
         ensures tag { tag_of self.new ≡ tag_of self.old }
-        ensures event { IfOk result (λ event. event ≡ nat_lt 0 (length (new_items self.old.column region given.now))) }
+        ensures count { IfOk result (λ count. count ≡ length (new_items self.old.column region given.now)) }
         ensures carried { let items = new_items self.old.column region given.now in
             let held = held_of self.old.column region in
-            IfOk result (λ event. event ≡ true → Gains self.old self.new (told_carry by region held items)) }
-        ensures kept { IfOk result (λ event. event ≡ false → Stays self.old self.new) }
+            IfOk result (λ count. 0 < count → Gains self.old self.new (told_carry by region held items)) }
+        ensures kept { IfOk result (λ count. count ≡ 0 → Stays self.old self.new) }
         ensures err { OnErr result (Stays self.old self.new) }
     {
         self.column.agrees();
         match self.column.carry(alloc, by, region, given) {
             Ok((_, count)) => {
                 let _few = self.column.journal().len();
-                Ok(0 < count)
+                Ok(count)
             }
             Err(fault) => Err(fault),
         }

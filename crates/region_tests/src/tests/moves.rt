@@ -86,7 +86,10 @@ fn whole_line<R: Wait>(rt: &R, alloc: Global) -> Result<Given, AllocError>
 }
 
 // The first region, with no own node, carries what the second gives, twice; then one looks.
-fn carried<R: Wait>(rt: &R, alloc: Global) -> Result<([At; 2], (At, Counts), View), AllocError> {
+fn carried<R: Wait>(
+    rt: &R,
+    alloc: Global,
+) -> Result<([(At, u64); 2], (At, Counts), View), AllocError> {
     let given = whole_line(rt, alloc)?;
     let (region, mut hold, _) = opened(alloc, 0)?;
     let first = region.carry(rt, alloc, &mut hold, 0, 1, &given)?;
@@ -107,7 +110,7 @@ fn shown(view: &View) -> (usize, usize) {
 #[test]
 fn a_region_carries_a_line_once(rt: HostRuntime) -> Result<(), Fail> {
     let (events, held, view) = carried(&rt, rt.alloc())?;
-    assert_eq!(rt; events, [At::Event(0), At::Look(1)]);
+    assert_eq!(rt; events, [(At::Event(0), 2), (At::Look(1), 0)]);
     assert_eq!(rt; held, (At::Look(1), Counts([0, 2, 0, 0])));
     assert_eq!(rt; (view.region, view.colour, view.events), (0, 0, 1));
     assert_eq!(rt; view.cut, Counts([0, 2, 0, 0]));

@@ -1,4 +1,6 @@
-use Rattle.std.proofs.Common.{◌≡◌, ◌<◌, ◌≢◌, ℕ, Bool, refl, ap, sym, subst, ◌∙◌, inl, min, length}
+use Rattle.std.proofs.Common.{◌≡◌, ◌<◌, ◌≢◌, ℕ, Bool, false, refl, ap, sym, subst, ◌∙◌, inl, min, length, arith}
+use Rattle.std.specs.Prelude.{nat_lt}
+use Rattle.std.proofs.lemmas.Bool.{ltb-true, ltb-false}
 use Rattle.turn_cell.specs.Cells.{seen}
 use Rattle.col_core.specs.declared.Entry.{Entry}
 use Rattle.col_core.specs.declared.Event.TheVariants.{Raise, Give, Trim}
@@ -10,6 +12,9 @@ use Rattle.chain_store.specs.Passes.{tag_in}
 use Rattle.chain_store.proofs.Turning.{at_rest, stood, tagged, saw, may}
 use Rattle.chain_store.proofs.Moved.{may_move, moved_at, carries_at}
 use Rattle.chain_store.proofs.changes.carry_in.Goals as goal
+
+none_of : (n : ℕ) → nat_lt 0 n ≡ false → n ≡ 0
+none_of n none = let le = ltb-false 0 n none in omega (arith, le)
 
 pub carry-requires-clause-maker : goal.carry-requires-clause-maker
 carry-requires-clause-maker g c =
@@ -41,8 +46,9 @@ end-requires-clause-value g c =
     let stands = stood z x (seen q) c.deref_mut.ensures.value t.value in
     let is = tagged z x (tag_in cell) c.deref_mut.ensures.value t.tag in
     let e = told_carry c.args.by c.args.region (held_of x.column c.args.region) (new_items x.column c.args.region c.args.given.now) in
-    may_move cell c.args.by q t.turn.0 x y e stands refl c.in-Ok._event
-    c.in-Ok.ensures.carried c.in-Ok.ensures.kept
+    may_move cell c.args.by q t.turn.0 x y e stands refl (nat_lt 0 c.in-Ok.count)
+    (λ yes. c.in-Ok.ensures.carried (ltb-true 0 c.in-Ok.count yes))
+    (λ none. c.in-Ok.ensures.kept (none_of c.in-Ok.count none))
 
 pub returns-in-Ok-clause-pass : goal.returns-in-Ok-clause-pass
 returns-in-Ok-clause-pass g c =
@@ -62,10 +68,11 @@ returns-in-Ok-clause-ok g c =
     let is = tagged z x (tag_in cell) c.deref_mut.ensures.value t.tag in
     let r = c.end.new.pass in
     let e = told_carry c.args.by c.args.region (held_of x.column c.args.region) (new_items x.column c.args.region c.args.given.now) in
-    carries_at (tag_in cell) x c.args.by c.args.region c.args.given.now p q r c.end.result c.in-Ok._event stands is
-    c.requires.other c.in-Ok.ensures.event
+    carries_at (tag_in cell) x c.args.by c.args.region c.args.given.now p q r c.end.result c.in-Ok.count stands is
+    c.requires.other c.in-Ok.ensures.count
     (moved_at cell c.args.by p q r c.end.result t.turn.0 t.more x y e stands refl c.end.ensures.look c.end.ensures.event
-    c.in-Ok._event c.in-Ok.ensures.carried c.in-Ok.ensures.kept)
+    (nat_lt 0 c.in-Ok.count) (λ yes. c.in-Ok.ensures.carried (ltb-true 0 c.in-Ok.count yes))
+    (λ none. c.in-Ok.ensures.kept (none_of c.in-Ok.count none)))
 
 pub end-requires-in-Err-clause-value : goal.end-requires-in-Err-clause-value
 end-requires-in-Err-clause-value g c =

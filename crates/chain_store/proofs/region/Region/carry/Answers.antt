@@ -1,4 +1,4 @@
-use Rattle.std.proofs.Common.{◌≢◌, ◌<◌, List, sym, subst}
+use Rattle.std.proofs.Common.{◌≢◌, ◌<◌, ℕ, List, sym, subst}
 use Rattle.log_node.specs.declared.node.At.{At}
 use Rattle.turn_cell.specs.Cells.{seen}
 use Rattle.chain_store.specs.declared.told.Tag.{Tag}
@@ -34,10 +34,10 @@ returns-clause-hold g c =
     c.carry_in.new.pass c.requires.hold c.requires.colour c.column.ensures c.index_mut-pass.ensures.value
     c.carry_in.ensures.pass (or_looked c.args.hold.now.passes.number (seen c.index_mut-pass.result.now) (seen
     c.carry_in.new.pass)
-    (λ (x : At). CarriesAt (tag_in c.column.result.now) c.args.hold.now.passes.number c.args.region c.args.given.now
-    (seen c.index_mut-pass.result.now) (seen c.carry_in.new.pass) x)
-    c.carry_in.result (carried c.args.hold.now.passes.number (seen c.index_mut-pass.result.now) (seen
-    c.carry_in.new.pass) (tag_in c.column.result.now) c.args.region c.args.given.now)
+    (λ (x : At × ℕ). CarriesAt (tag_in c.column.result.now) c.args.hold.now.passes.number c.args.region c.args.given.now
+    (seen c.index_mut-pass.result.now) (seen c.carry_in.new.pass) x.0 x.1)
+    c.carry_in.result (λ (x : At × ℕ). carried c.args.hold.now.passes.number (seen c.index_mut-pass.result.now) (seen
+    c.carry_in.new.pass) (tag_in c.column.result.now) c.args.region c.args.given.now x.0 x.1)
     c.carry_in.ensures.ok c.carry_in.ensures.err)
 
 pub returns-clause-others : goal.returns-clause-others
@@ -48,11 +48,11 @@ returns-clause-others g c =
 pub returns-clause-ok : goal.returns-clause-ok
 returns-clause-ok g c =
     ok_as c.carry_in.result _ _
-    (λ (x : At) y. of_turned c.args.self.now c.args.hold.now c.args.colour c.column.result.now
+    (λ (x : At × ℕ) y. of_turned c.args.self.now c.args.hold.now c.args.colour c.column.result.now
     c.index_mut-pass.result.now
     c.carry_in.new.pass c.requires.hold c.requires.colour c.column.ensures c.index_mut-pass.ensures.value
     (λ (t : Tag) (old new : List Told). CarriesAt t c.args.hold.now.passes.number c.args.region c.args.given.now old
-    new x)
+    new x.0 x.1)
     y) c.carry_in.ensures.ok
 
 pub returns-clause-err : goal.returns-clause-err

@@ -1,0 +1,7 @@
+mod Lists
+mod Seen
+mod Giving
+mod Carrying
+mod Steps
+mod Kept
+pub mod CallerLemmas

@@ -1,0 +1,80 @@
+-- What a hold has seen is lawful, and stays true as it sees more.
+use Rattle.std.proofs.Common.{◌≡◌, ℕ, ◌<◌, ◌≤◌, List, ◌++◌, ap, sym, subst, ◌∙◌, arith}
+use mathlib.Core.List.{IsPrefix}
+use Rattle.std.proofs.lemmas.List.{map-append}
+use Rattle.log_node.specs.declared.ids.Id.{Id}
+use Rattle.log_node.specs.declared.node.Node.{Node}
+use Rattle.log_node.specs.Seen.{PlacedNode}
+use Rattle.col_core.specs.Cuts.{Dated, chain}
+use Rattle.col_core.specs.Computed.{dated}
+use Rattle.col_core.specs.Legal.{IsColumnHistory}
+use Rattle.col_core.proofs.CallerLemmas.{chains_grow, dates_longer, later}
+use Rattle.chain_store.specs.declared.told.Tag.{Tag}
+use Rattle.chain_store.specs.declared.told.Told.{Told}
+use Rattle.chain_store.specs.declared.hold.Hold.{Hold}
+use Rattle.chain_store.specs.declared.region.Region.{Region}
+use Rattle.chain_store.specs.Histories.{entries_in, EntersAs}
+use Rattle.chain_store.specs.Passes.{dated_in, tag_in, IsLawfulTold}
+use Rattle.chain_store.specs.Moves.{held_in}
+use Rattle.chain_store.specs.Regions.{tag_at}
+use Rattle.chain_store.specs.Holds.{IsHold, history_seen, passes_of, seen_in}
+use Rattle.region_pull.specs.Origins.{AreOfLine, IsOfOrigin, IsHeldFor}
+use Rattle.region_pull.proofs.Lists.{prefix_get, prefix_long, get_within}
+
+-- what a hold at rest has seen of a column is lawful
+pub lawful_seen : (r : Region) (h : Hold) (k : ℕ) → IsHold r h → k < r.board.size.colours
+    → IsLawfulTold (tag_at r k) (seen_in h k)
+lawful_seen r h k is lt =
+    let many = is.passes.0 in
+    let all = r.count in
+    let c = get_within r.columns.items k (omega (arith, all, lt)) in
+    let p = get_within (passes_of h) k (omega (arith, many, all, lt)) in
+    let holder = is.passes.1 k c.0 p.0 c.1 p.1 in
+    subst (λ (t : Tag). IsLawfulTold t (seen_in h k)) (r.tied k c.0 c.1)
+    (subst (IsLawfulTold (tag_in c.0)) (sym (ap history_seen p.1)) holder.lawful)
+
+module _ (t : Tag) (old new : List Told) (more : IsPrefix old new) where
+  pub enters_longer : (id : Id) (node : Node) → EntersAs old id node → EntersAs new id node
+  enters_longer id node h = record {
+    place = h.place;
+    told = h.told;
+    there = prefix_get old new more h.place h.told h.there;
+    brought = h.brought;
+    entered = h.entered;
+    of_id = h.of_id;
+  }
+
+  module _ (lawful : IsLawfulTold t new) where
+    pub chain_longer : (region : ℕ)
+        → IsPrefix (chain t.region (dated_in t old) region) (chain t.region (dated_in t new) region)
+    chain_longer region =
+        let own = t.region in
+        let past = later own (dated_in t old) (entries_in more.0) in
+        let split : dated_in t new ≡ dated_in t old ++ past =
+        ap (dated_in t) (sym more.1) ∙ (ap (dated own) (map-append (λ (u : Told). u.entry) old more.0)
+        ∙ dates_longer own (entries_in old) (entries_in more.0)) in
+        let grown = chains_grow own t.regions (dated_in t old) past
+        (subst (IsColumnHistory own t.regions) split lawful) region in
+        subst (λ (l : List Dated). IsPrefix (chain own (dated_in t old) region) (chain own l region)) (sym split) grown
+
+    pub held_longer : (region : ℕ) → held_in t old region ≤ held_in t new region
+    held_longer region =
+        prefix_long (chain t.region (dated_in t old) region) (chain t.region (dated_in t new) region)
+        (chain_longer region)
+
+    pub of_line_longer : (start : ℕ) (items : List PlacedNode) → AreOfLine t old start items
+        → AreOfLine t new start items
+    of_line_longer start items h k i e =
+        let r = h k i e in (
+          prefix_get (chain t.region (dated_in t old) t.region) (chain t.region (dated_in t new) t.region)
+              (chain_longer t.region) _ i.head r.0,
+          enters_longer i.head.key.id i.node r.1,
+        )
+
+    pub of_origin_longer : (told : Told) → IsOfOrigin t old told → IsOfOrigin t new told
+    of_origin_longer told h start heads is =
+        let r = h start heads is in (r.0, r.1, r.2, of_line_longer start r.0 r.3)
+
+    pub held_for_longer : (region : ℕ) (told : Told) → IsHeldFor t old region told → IsHeldFor t new region told
+    held_for_longer region told h from is =
+        let a = h from is in let b = held_longer region in omega (arith, a, b)

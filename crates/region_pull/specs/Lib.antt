@@ -1,0 +1,4 @@
+pub mod Going
+pub mod Origins
+pub mod Pulls
+pub mod Inside

@@ -1,0 +1,17 @@
+// What a pull answers.
+use log_node::At;
+
+/// What a pull did: how many nodes it carried, its last give, and its carry, which is a look where nothing was new.
+#[derive(Clone, Copy, Debug, PartialEq, Eq)]
+pub struct Pulled {
+    pub nodes: u64,
+    pub give: At,
+    pub carry: At,
+}
+
+/// Why nothing was carried: both regions are one, or memory was refused. Gives that were made before stand.
+#[derive(Clone, Copy, Debug, PartialEq, Eq)]
+pub enum PullFault {
+    SameRegion,
+    NoMemory,
+}

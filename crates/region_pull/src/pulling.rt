@@ -1,0 +1,52 @@
+// A pull, from the look at what is held to the carry.
+ghost use Rattle.std.specs.Prelude.{◌≡◌, ◌↔◌, Err, IfOk, IfErr};
+ghost use Rattle.chain_store.specs.Holds.{IsHold};
+ghost use Rattle.region_pull.specs.Going.{GoesOnIn, AreOfOneStore};
+ghost use Rattle.region_pull.specs.Origins.{OfOrigin, AsksForHeld};
+ghost use Rattle.region_pull.specs.Pulls.{Pulls, Leaves};
+
+use crate::asking::ask;
+use crate::pulled::{PullFault, Pulled};
+use chain_store::{Hold, Region};
+use std::alloc::Global;
+use std::sync::Wait;
+
+/// Brings what is new of `from`'s line of the colour into `to`'s column of it. It looks how much of the line `to` holds,
+/// gives from there in `from`, and carries what was given. Where the stretch that was given begins above what was held,
+/// because another client pulled the nodes between and they were trimmed meanwhile, it looks and gives again, and the give
+/// before stays. Each step waits for one turn. It ends unless others go on pulling and trimming between its steps.
+pub fn pull<R: Wait>(
+    rt: &R,
+    alloc: Global,
+    from: &Region,
+    to: &Region,
+    from_hold: &mut Hold,
+    to_hold: &mut Hold,
+    colour: u8,
+) -> Result<Pulled, PullFault>
+    requires from_hold { IsHold from.now from_hold.old }
+    requires to_hold { IsHold to.now to_hold.old }
+    requires store { AreOfOneStore from.now to.now colour }
+    ensures from_hold { GoesOnIn from.now colour from_hold.old from_hold.new }
+    ensures to_hold { GoesOnIn to.now colour to_hold.old to_hold.new }
+    ensures ok { IfOk result (Pulls from.now to.now colour from_hold.old from_hold.new to_hold.old to_hold.new) }
+    ensures same_region { (result ≡ Err PullFault.SameRegion) ↔ (from.now.number ≡ to.now.number) }
+    ensures err { IfErr result (Leaves from.now to.now colour from_hold.old from_hold.new to_hold.old to_hold.new) }
+
+    // What it carries is of its origin, and what it asks for is held, as before.
+    ensures origin { OfOrigin from.now colour from_hold.old to_hold.old
+        → OfOrigin from.now colour from_hold.new to_hold.new }
+    ensures held { AsksForHeld from.now to.now colour from_hold.old to_hold.old
+        → AsksForHeld from.now to.now colour from_hold.new to_hold.new }
+{
+    if from.number() == to.number() {
+        return Err(PullFault::SameRegion);
+    }
+    match ask(rt, alloc, from, to, from_hold, to_hold, colour) {
+        Ok((give, given)) => match to.carry(rt, alloc, to_hold, colour, from.number(), &given) {
+            Ok((carry, nodes)) => Ok(Pulled { nodes, give, carry }),
+            Err(_) => Err(PullFault::NoMemory),
+        },
+        Err(_) => Err(PullFault::NoMemory),
+    }
+}
