@@ -18,12 +18,12 @@ use std::alloc::{AllocError, Global};
 use std::sync::{Arc, Wait};
 use std::test::Fail;
 
-const FIRST: Id = Id {
+pub(crate) const FIRST: Id = Id {
     client: 0,
     count: 0,
 };
 
-const ROW: Row = Row {
+pub(crate) const ROW: Row = Row {
     client: 0,
     number: 0,
 };
@@ -55,7 +55,7 @@ fn pair(alloc: Global) -> Result<Arc<Node>, AllocError>
 }
 
 // The first client begins its row.
-fn begin(alloc: Global, region: &Region, hold: &mut Hold) -> Result<Begun, AllocError>
+pub(crate) fn begin(alloc: Global, region: &Region, hold: &mut Hold) -> Result<Begun, AllocError>
     requires region { IsSmall 0 region.now }
     requires hold { IsClient region.now 0 0 hold.old × (hold.old.seat.used ≡ 0) }
     ensures hold { IsClient region.now 0 1 hold.new }
@@ -75,7 +75,7 @@ fn begin(alloc: Global, region: &Region, hold: &mut Hold) -> Result<Begun, Alloc
     })
 }
 
-fn propose<R: Wait>(
+pub(crate) fn propose<R: Wait>(
     rt: &R,
     region: &Region,
     hold: &mut Hold,
@@ -123,10 +123,10 @@ fn settle<R: Wait>(
 
 // What one sees who completes an append.
 #[derive(Clone, Copy, Debug, PartialEq, Eq)]
-struct Completed {
-    proposed: (At, Mark),
-    outcome: Outcome,
-    settled: [Option<(At, Option<u64>)>; 2],
+pub(crate) struct Completed {
+    pub(crate) proposed: (At, Mark),
+    pub(crate) outcome: Outcome,
+    pub(crate) settled: [Option<(At, Option<u64>)>; 2],
 }
 
 // Proposes the append in the second colour, decides it, and settles it in both.
@@ -154,7 +154,7 @@ fn complete<R: Wait>(rt: &R, region: &Region, hold: &mut Hold, begun: &Begun) ->
 }
 
 // The second colour's clock is then 6.
-fn raise_second<R: Wait>(rt: &R, region: &Region, hold: &mut Hold) -> Result<(), AllocError>
+pub(crate) fn raise_second<R: Wait>(rt: &R, region: &Region, hold: &mut Hold) -> Result<(), AllocError>
     requires region { IsSmall 0 region.now }
     requires hold { IsHold region.now hold.old }
     ensures hold { IsHold region.now hold.new }
@@ -182,7 +182,7 @@ pub(crate) fn closed<R: Wait>(
 }
 
 // The colour closed with the one node under this stamp.
-fn has_line(closed: &ClosedRegion, colour: usize, stamp: u64) -> bool {
+pub(crate) fn has_line(closed: &ClosedRegion, colour: usize, stamp: u64) -> bool {
     match closed.columns.get(colour) {
         Some(column) => match column.line() {
             [key] => *key == Key { stamp, id: FIRST },
@@ -193,7 +193,7 @@ fn has_line(closed: &ClosedRegion, colour: usize, stamp: u64) -> bool {
 }
 
 // One row closed, which is the first client's, with these marks and this outcome.
-fn has_row(closed: &ClosedRegion, marks: (u64, u64), last: Outcome) -> bool {
+pub(crate) fn has_row(closed: &ClosedRegion, marks: (u64, u64), last: Outcome) -> bool {
     let marks = [
         ColourMark {
             colour: 0,
@@ -253,7 +253,7 @@ fn an_append_stands_in_both_colours_under_the_greater_stamp(rt: HostRuntime) -> 
 
 // What a client is told of the least open append below a key: how many there are, after how many events, and its id and
 // row.
-type Met = (u64, u64, Option<(Id, Row)>);
+pub(crate) type Met = (u64, u64, Option<(Id, Row)>);
 
 // The first client stops after its proposal in the first colour; the second meets the open append and completes it.
 fn helped<R: Wait>(
@@ -270,7 +270,7 @@ fn helped<R: Wait>(
 }
 
 // The client completes the least append that is open in the first colour below the stamp 9.
-fn help<R: Wait>(rt: &R, region: &Region, hold: &mut Hold) -> (Met, Option<Completed>)
+pub(crate) fn help<R: Wait>(rt: &R, region: &Region, hold: &mut Hold) -> (Met, Option<Completed>)
     requires region { IsSmall 0 region.now }
     requires hold { IsHold region.now hold.old }
     ensures hold { IsHold region.now hold.new }

@@ -1,11 +1,16 @@
 // Clients on threads of their own.
-ghost use Rattle.std.specs.Prelude.{◌≡◌, ◌<◌, ◌≤◌};
+ghost use Rattle.std.specs.Prelude.{◌≡◌, ◌<◌, ◌≤◌, true};
+ghost use Rattle.log_node.specs.Sets.{has};
+ghost use Rattle.chain_store.specs.Holds.{IsHold, KnowsAppend};
 ghost use Rattle.region_tests.specs.Clients.{IsSmall, IsClient};
 
 use crate::made::opened;
-use crate::tests::rows::closed;
+use crate::tests::rows::{
+    Completed, FIRST, Met, ROW, begin, closed, has_line, has_row, help, propose, raise_second,
+};
 use crate::tests::singles::append;
 use chain_store::{ClosedRegion, Hold, Region};
+use log_node::{At, Begun, Mark, Outcome};
 use std::alloc::{AllocError, Global};
 use std::sync::Wait;
 use std::test::Fail;
@@ -83,5 +88,88 @@ fn two_threads_append_a_thousand_singles_each_to_one_line(rt: HostRuntime) -> Re
     assert_eq!(rt; first, 1000);
     assert_eq!(rt; second, 1000);
     assert_eq!(rt; rising(&closed), Some((2000, 1000)));
+    Ok(())
+}
+
+// The second client completes the append that it meets.
+fn help_beside<R: Wait>(
+    rt: &R,
+    region: &Region,
+    mut hold: Hold,
+) -> (Hold, (Met, Option<Completed>))
+    requires region { IsSmall 0 region.now }
+    requires hold { IsHold region.now hold × (hold.passes.number ≡ 1) }
+    ensures { IsHold region.now result.0 × (result.0.passes.number ≡ 1) }
+{
+    let helped = help(rt, region, &mut hold);
+    (hold, helped)
+}
+
+// The first client proposes its append in the second colour.
+fn propose_beside<R: Wait>(
+    rt: &R,
+    region: &Region,
+    mut hold: Hold,
+    begun: &Begun,
+) -> (Hold, Mark)
+    requires region { IsSmall 0 region.now }
+    requires hold { IsHold region.now hold × (hold.passes.number ≡ 0) × KnowsAppend region.now hold begun.now }
+    requires colour { has begun.now.colours 1 ≡ true }
+    ensures { IsHold region.now result.0 × (result.0.passes.number ≡ 0) }
+{
+    let (_, mark) = propose(rt, region, &mut hold, 1, begun);
+    (hold, mark)
+}
+
+// The first client proposes its append in the first colour. On a thread of its own the second then meets and completes
+// it, while the first goes on and proposes it in the second colour.
+fn helped_beside<R: Threads + Wait + Sync>(
+    rt: &R,
+    alloc: Global,
+) -> Result<(Mark, (Met, Option<Completed>), ClosedRegion), AllocError> {
+    let (region, mut one, mut two) = opened(alloc, 0)?;
+    raise_second(rt, &region, &mut two)?;
+    let begun = begin(alloc, &region, &mut one)?;
+    propose(rt, &region, &mut one, 0, &begun);
+    let ((two, helped), (one, mark)) = join(
+        rt,
+        || -> (Hold, (Met, Option<Completed>))
+            requires { IsSmall 0 region × IsHold region two × (two.passes.number ≡ 1) }
+            ensures { IsHold region result.0 × (result.0.passes.number ≡ 1) }
+        { help_beside(rt, &region, two) },
+        || -> (Hold, Mark)
+            requires { IsSmall 0 region × IsHold region one × (one.passes.number ≡ 0)
+                × KnowsAppend region one begun × (has begun.colours 1 ≡ true) }
+            ensures { IsHold region result.0 × (result.0.passes.number ≡ 0) }
+        { propose_beside(rt, &region, one, &begun) },
+    );
+    let closed = closed(rt, alloc, region, one, two)?;
+    Ok((mark, helped, closed))
+}
+
+// Whether the append's mark in the second colour was 7, whoever proposed it there, and it was then settled in both.
+fn is_completed(completed: Option<Completed>) -> bool {
+    let settled = [
+        Some((At::Event(1), Some(0))),
+        Some((At::Event(2), Some(0))),
+    ];
+    match completed {
+        Some(all) => {
+            all.proposed.1 == Mark::Number(7)
+                && all.outcome == Outcome::Final(7)
+                && all.settled == settled
+        }
+        None => false,
+    }
+}
+
+#[test]
+fn a_proposal_is_met_and_completed_on_another_thread(rt: HostRuntime) -> Result<(), Fail> {
+    let (mark, (met, completed), closed) = helped_beside(&rt, rt.alloc())?;
+    assert_eq!(rt; mark, Mark::Number(7));
+    assert_eq!(rt; met, (1, 1, Some((FIRST, ROW))));
+    assert!(rt; is_completed(completed));
+    assert!(rt; has_line(&closed, 0, 7) && has_line(&closed, 1, 7));
+    assert!(rt; has_row(&closed, (1, 7), Outcome::Final(7)));
     Ok(())
 }
