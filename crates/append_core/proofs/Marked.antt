@@ -31,12 +31,12 @@ use Rattle.append_core.proofs.Taking.{entered_proposed, entered_more}
 use Rattle.append_core.proofs.Lasting.{final_later, closed_later}
 
 -- what a test of the colours that the code has says of the append
-pub has_colour : (b inside : BegunAppend) (k : ℕ) → inside ≡ b → has inside.colours k ≡ true → has b.colours k ≡ true
-has_colour b inside k is e = subst (λ (a : BegunAppend). has a.colours k ≡ true) is e
+pub has_colour : (b : BegunAppend) (set : Colours) (k : ℕ) → set ≡ b.colours → has set k ≡ true → has b.colours k ≡ true
+has_colour b set k is e = subst (λ (s : Colours). has s k ≡ true) is e
 
-pub lacks_colour : (b inside : BegunAppend) (k : ℕ) → inside ≡ b → has inside.colours k ≡ false → has b.colours k ≡ true
-    → ⊥
-lacks_colour b inside k is e it = true≢false (sym it ∙ subst (λ (a : BegunAppend). has a.colours k ≡ false) is e)
+pub lacks_colour : (b : BegunAppend) (set : Colours) (k : ℕ) → set ≡ b.colours → has set k ≡ false
+    → has b.colours k ≡ true → ⊥
+lacks_colour b set k is e it = true≢false (sym it ∙ subst (λ (s : Colours). has s k ≡ false) is e)
 
 module _ (r : Region) (h : Hold) (b : BegunAppend) (knows : KnowsAppend r h b) where
   -- its colours are those of the region

@@ -42,7 +42,7 @@ module _ (v : View) (region colour : ℕ) (row : Row) (by n : ℕ) where
       let same = one_of brings.0 backs.0 nodes brings.1 backs.2 in
       let shown : is_row row backs.0.row ≡ true =
       subst (λ (ns : List Node). is_first_of row ns ≡ true) backs.2 it in
-      let of = same_row-is row backs.1 (subst (λ (o : Option Row). is_row row o ≡ true) backs.3.of_row shown) in (
+      let of = sym (same_row-is backs.1 row (subst (λ (o : Option Row). is_row row o ≡ true) backs.3.of_row shown)) in (
         brings.0,
         subst (λ (y : Node). KnowsBegun v row y) (sym same)
             (subst (λ (r : Row). KnowsBegun v r backs.0) (sym of) backs.3.knows),

@@ -1,13 +1,15 @@
 use Rattle.std.proofs.Common.{◌≡◌, ◌<◌, ◌≤◌, ◌-◌, ◌+◌, ℕ, [], true, length, None, Some, refl, ap, sym, subst, ◌∙◌, arith, Option, List}
+use Rattle.std.specs.Prelude.{IfSome}
 use Rattle.std.specs.List.{find, filter}
 use Rattle.std.specs.Option.{option_map}
 use Rattle.log_node.specs.declared.ids.Id.{Id}
 use Rattle.log_node.specs.Seen.{BegunAppend}
+use Rattle.log_node.specs.Sets.{has}
 use Rattle.log_node.specs.Standings.{Standing, open_entry}
 use Rattle.col_core.specs.declared.Event.{Event}
 use Rattle.col_core.specs.History.{entries}
 use Rattle.col_core.specs.Ids.{is_open_below, open_below}
-use Rattle.chain_store.specs.Holds.{entries_seen}
+use Rattle.chain_store.specs.Holds.{KnowsAppend, entries_seen}
 use Rattle.append_core.specs.Going.{HelpsOpen, IsStepIn}
 use Rattle.append_core.proofs.Going.{later_then, looks_on, goes_then, goes_weaken}
 use Rattle.append_core.proofs.Cleared.{under_later, fewer_later, less_later, first_open, none_open, helped_open}
@@ -15,18 +17,20 @@ use Rattle.append_core.proofs.clearing.help_first.Goals as goal
 
 pub returns-in-Some-clause-seat : goal.returns-in-Some-clause-seat
 returns-in-Some-clause-seat g c =
-    later_then c.args.hold.now.seat c.below.new.hold.seat c.help.new.hold.seat c.below.ensures.same.0 c.help.ensures.seat
+    later_then c.args.hold.now.seat c.below-count.new.hold.seat c.help.new.hold.seat c.below-count.ensures.same.0 c.help.ensures.seat
 
 pub returns-in-Some-clause-goes : goal.returns-in-Some-clause-goes
 returns-in-Some-clause-goes g c =
-    let e = c.below.ensures in
-    helped_open c.args.hold.now c.below.new.hold c.help.new.hold c.in-Some.begun c.args.colour c.args.key e.others
-    e.look.0 e.first_id c.help.ensures.goes
+    let e = c.below-count.ensures in
+    helped_open c.args.hold.now c.below-count.new.hold c.help.new.hold c.in-Some.begun c.args.colour c.args.key e.others
+    e.look.0
+    (sym (ap (λ (o : Option BegunAppend). option_map (λ (b : BegunAppend). b.id) o) c.in-Some.is) ∙ e.first_id)
+    c.help.ensures.goes
 
 pub returns-in-Some-clause-count : goal.returns-in-Some-clause-count
 returns-in-Some-clause-count g c =
-    let e = c.below.ensures in
-    let few = fewer_later c.args.region.now c.args.hold.now c.below.new.hold c.args.colour c.args.key e.hold
+    let e = c.below-count.ensures in
+    let few = fewer_later c.args.region.now c.args.hold.now c.below-count.new.hold c.args.colour c.args.key e.hold
     c.requires.colour e.look.0.more c.requires.under in
     omega (arith, few, e.count)
 
@@ -34,29 +38,33 @@ pub returns-in-Some-clause-fewer : goal.returns-in-Some-clause-fewer
 returns-in-Some-clause-fewer g c =
     let r = c.args.region.now in
     let h = c.args.hold.now in
-    let m = c.below.new.hold in
+    let m = c.below-count.new.hold in
     let n = c.help.new.hold in
     let k = c.args.colour in
     let key = c.args.key in
-    let e = c.below.ensures in
+    let e = c.below-count.ensures in
     let under = under_later r h m k key e.hold c.requires.colour e.look.0.more c.requires.under in
     let f = first_open key (entries (entries_seen m k)) c.in-Some.begun.id
-    (find (is_open_below key) (entries (entries_seen m k))) refl e.first_id in
+    (find (is_open_below key) (entries (entries_seen m k))) refl
+    (sym (ap (λ (o : Option BegunAppend). option_map (λ (b : BegunAppend). b.id) o) c.in-Some.is) ∙ e.first_id) in
+    let known = subst (λ (o : Option BegunAppend). IfSome o
+    (λ (b : BegunAppend). KnowsAppend r m b × (has b.colours k ≡ true))) c.in-Some.is e.known in
     let closed = subst (λ (i : Id). open_entry i (entries (entries_seen n k)) ≡ None) (sym f.2)
-    (c.help.ensures.settled k e.known.1).closed in
+    (c.help.ensures.settled k known.1).closed in
     let less = less_later r m n k key c.help.ensures.hold c.requires.colour (c.help.ensures.goes.more k) under f.0 f.1
     closed in
     omega (arith, less, e.count)
 
 pub returns-in-None-clause-goes : goal.returns-in-None-clause-goes
 returns-in-None-clause-goes g c =
-    looks_on (λ k e. HelpsOpen c.args.hold.now c.below.new.hold e) c.args.colour c.args.hold.now c.below.new.hold
-    c.below.ensures.others c.below.ensures.look.0
+    looks_on (λ k e. HelpsOpen c.args.hold.now c.below-count.new.hold e) c.args.colour c.args.hold.now c.below-count.new.hold
+    c.below-count.ensures.others c.below-count.ensures.look.0
 
 pub returns-in-None-clause-fewer : goal.returns-in-None-clause-fewer
 returns-in-None-clause-fewer g c =
-    let m = c.below.new.hold in
+    let m = c.below-count.new.hold in
     let es = entries (entries_seen m c.args.colour) in
     let none = ap (λ (l : List Standing). length l) (none_open c.args.key es (find (is_open_below c.args.key) es) refl
-    c.below.ensures.first_id) in
+    (sym (ap (λ (o : Option BegunAppend). option_map (λ (b : BegunAppend). b.id) o) c.in-None.is)
+    ∙ c.below-count.ensures.first_id)) in
     omega (arith, none)

@@ -16,22 +16,26 @@ returns-then-not-has-clause-goes g c = goes_same (IsStepIn c.args.begun.now) c.a
 
 pub returns-then-not-has-clause-marked : goal.returns-then-not-has-clause-marked
 returns-then-not-has-clause-marked g c = λ it.
-    absurd (lacks_colour c.args.begun.now c.begun.inside c.args.colour c.begun.view_is (sym c.has.ensures ∙ c.if-not-has.true) it)
+    absurd (lacks_colour c.args.begun.now c.begun.inside.colours c.args.colour
+    (ap (λ (a : BegunAppend). a.colours) c.begun.view_is) (sym c.has.ensures ∙ c.if-not-has.true) it)
 
 pub propose-requires-clause-coloured : goal.propose-requires-clause-coloured
 propose-requires-clause-coloured g c =
-    has_colour c.args.begun.now c.begun.inside c.args.colour c.begun.view_is (sym c.has.ensures ∙ c.if-not-has.false)
+    has_colour c.args.begun.now c.begun.inside.colours c.args.colour
+    (ap (λ (a : BegunAppend). a.colours) c.begun.view_is) (sym c.has.ensures ∙ c.if-not-has.false)
 
 pub propose-requires-clause-colour : goal.propose-requires-clause-colour
 propose-requires-clause-colour g c =
     colour_within c.args.region.now c.args.hold.now c.args.begun.now c.requires.begun c.args.colour
-    (has_colour c.args.begun.now c.begun.inside c.args.colour c.begun.view_is (sym c.has.ensures ∙ c.if-not-has.false))
+    (has_colour c.args.begun.now c.begun.inside.colours c.args.colour
+    (ap (λ (a : BegunAppend). a.colours) c.begun.view_is) (sym c.has.ensures ∙ c.if-not-has.false))
 
 pub returns-clause-goes : goal.returns-clause-goes
 returns-clause-goes g c =
     let r = c.args.region.now in
     proposed_on c.args.hold.now c.propose.new.hold c.args.begun.now c.args.colour
-    (has_colour c.args.begun.now c.begun.inside c.args.colour c.begun.view_is (sym c.has.ensures ∙ c.if-not-has.false))
+    (has_colour c.args.begun.now c.begun.inside.colours c.args.colour
+    (ap (λ (a : BegunAppend). a.colours) c.begun.view_is) (sym c.has.ensures ∙ c.if-not-has.false))
     c.propose.ensures.others r.board.size r.number (view_of c.propose.new.hold) c.propose.result.mark
     c.propose.result.at c.propose.ensures.at
 

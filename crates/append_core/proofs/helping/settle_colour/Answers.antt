@@ -1,4 +1,5 @@
 use Rattle.std.proofs.Common.{◌≡◌, ◌<◌, ℕ, true, refl, ap, sym, subst, ◌∙◌}
+use Rattle.log_node.specs.Seen.{BegunAppend}
 use Rattle.log_node.specs.Sets.{has}
 use Rattle.append_core.specs.Going.{IsStepIn}
 use Rattle.append_core.proofs.Going.{later_same, goes_same}
@@ -17,21 +18,25 @@ returns-then-not-has-clause-goes g c = goes_same (IsStepIn c.args.begun.now) c.a
 
 pub returns-then-not-has-clause-settled : goal.returns-then-not-has-clause-settled
 returns-then-not-has-clause-settled g c = λ it.
-    absurd (lacks_colour c.args.begun.now c.begun.inside c.args.colour c.begun.view_is (sym c.has.ensures ∙ c.if-not-has.true) it)
+    absurd (lacks_colour c.args.begun.now c.begun.inside.colours c.args.colour
+    (ap (λ (a : BegunAppend). a.colours) c.begun.view_is) (sym c.has.ensures ∙ c.if-not-has.true) it)
 
 pub settle-requires-clause-coloured : goal.settle-requires-clause-coloured
 settle-requires-clause-coloured g c =
-    has_colour c.args.begun.now c.begun.inside c.args.colour c.begun.view_is (sym c.has.ensures ∙ c.if-not-has.false)
+    has_colour c.args.begun.now c.begun.inside.colours c.args.colour
+    (ap (λ (a : BegunAppend). a.colours) c.begun.view_is) (sym c.has.ensures ∙ c.if-not-has.false)
 
 pub settle-requires-clause-colour : goal.settle-requires-clause-colour
 settle-requires-clause-colour g c =
     colour_within c.args.region.now c.args.hold.now c.args.begun.now c.requires.begun c.args.colour
-    (has_colour c.args.begun.now c.begun.inside c.args.colour c.begun.view_is (sym c.has.ensures ∙ c.if-not-has.false))
+    (has_colour c.args.begun.now c.begun.inside.colours c.args.colour
+    (ap (λ (a : BegunAppend). a.colours) c.begun.view_is) (sym c.has.ensures ∙ c.if-not-has.false))
 
 pub returns-clause-goes : goal.returns-clause-goes
 returns-clause-goes g c =
     settled_on c.args.hold.now c.settle.new.hold c.args.begun.now c.args.colour
-    (has_colour c.args.begun.now c.begun.inside c.args.colour c.begun.view_is (sym c.has.ensures ∙ c.if-not-has.false))
+    (has_colour c.args.begun.now c.begun.inside.colours c.args.colour
+    (ap (λ (a : BegunAppend). a.colours) c.begun.view_is) (sym c.has.ensures ∙ c.if-not-has.false))
     c.settle.ensures.others c.args.outcome c.settle.result.at c.settle.ensures.at
 
 pub returns-clause-settled : goal.returns-clause-settled
