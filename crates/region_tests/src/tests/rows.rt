@@ -154,7 +154,11 @@ fn complete<R: Wait>(rt: &R, region: &Region, hold: &mut Hold, begun: &Begun) ->
 }
 
 // The second colour's clock is then 6.
-pub(crate) fn raise_second<R: Wait>(rt: &R, region: &Region, hold: &mut Hold) -> Result<(), AllocError>
+pub(crate) fn raise_second<R: Wait>(
+    rt: &R,
+    region: &Region,
+    hold: &mut Hold,
+) -> Result<(), AllocError>
     requires region { IsSmall 0 region.now }
     requires hold { IsHold region.now hold.old }
     ensures hold { IsHold region.now hold.new }

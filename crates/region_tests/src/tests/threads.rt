@@ -92,11 +92,7 @@ fn two_threads_append_a_thousand_singles_each_to_one_line(rt: HostRuntime) -> Re
 }
 
 // The second client completes the append that it meets.
-fn help_beside<R: Wait>(
-    rt: &R,
-    region: &Region,
-    mut hold: Hold,
-) -> (Hold, (Met, Option<Completed>))
+fn help_beside<R: Wait>(rt: &R, region: &Region, mut hold: Hold) -> (Hold, (Met, Option<Completed>))
     requires region { IsSmall 0 region.now }
     requires hold { IsHold region.now hold × (hold.passes.number ≡ 1) }
     ensures { IsHold region.now result.0 × (result.0.passes.number ≡ 1) }
@@ -106,12 +102,7 @@ fn help_beside<R: Wait>(
 }
 
 // The first client proposes its append in the second colour.
-fn propose_beside<R: Wait>(
-    rt: &R,
-    region: &Region,
-    mut hold: Hold,
-    begun: &Begun,
-) -> (Hold, Mark)
+fn propose_beside<R: Wait>(rt: &R, region: &Region, mut hold: Hold, begun: &Begun) -> (Hold, Mark)
     requires region { IsSmall 0 region.now }
     requires hold { IsHold region.now hold × (hold.passes.number ≡ 0) × KnowsAppend region.now hold begun.now }
     requires colour { has begun.now.colours 1 ≡ true }
@@ -149,10 +140,7 @@ fn helped_beside<R: Threads + Wait + Sync>(
 
 // Whether the append's mark in the second colour was 7, whoever proposed it there, and it was then settled in both.
 fn is_completed(completed: Option<Completed>) -> bool {
-    let settled = [
-        Some((At::Event(1), Some(0))),
-        Some((At::Event(2), Some(0))),
-    ];
+    let settled = [Some((At::Event(1), Some(0))), Some((At::Event(2), Some(0)))];
     match completed {
         Some(all) => {
             all.proposed.1 == Mark::Number(7)
