@@ -13,10 +13,10 @@ use Rattle.column.specs.Columns.{ColumnState}
 use Rattle.log_node.specs.declared.node.Shape.{Shape}
 use Rattle.world_code.specs.WorldView.{WorldView, no_column, IsPlaced, IsWhole, column_at, world_of}
 use Rattle.script_meaning.specs.Meaning.{column_report, report_of}
-use Rattle.script_in_order.specs.Runs.{RunKept, state_of}
+use Rattle.script_in_order.specs.Runs.{RunView, state_of}
 use Rattle.script_in_order.specs.Reports.{client_shown, column_shown, region_shown, columns_shown, region_rows_shown}
-use Rattle.script_in_order.proofs.Running.{any_default}
-use Rattle.script_in_order.proofs.Shown.{range_more, flat_map_range_more}
+use Rattle.script_in_order.proofs.RunReplies.{any_default}
+use Rattle.script_in_order.proofs.ListsShown.{range_more, flat_map_range_more}
 
 -- the report of a colour's column
 abbrev pub colour_shown : Script → ℕ → List ColumnState → ℕ → ColumnReport
@@ -91,18 +91,18 @@ flat_map_range_same {A} f g a (suc n) same =
     (flat_map_range_same f g (a + 1) n (λ k low high. same k (omega (arith, low)) (omega (arith, high))))
 
 -- the columns of a whole world are those that its report has
-pub columns_are : (script : Script) (kept : WorldView) → IsWhole kept → kept.shape ≡ script.shape
-    → columns_shown script kept.columns
-    ≡ flat_map (λ region. map (column_report script (world_of kept) region) (range_with_len 0 script.shape.colours))
+pub columns_are : (script : Script) (code : WorldView) → IsWhole code → code.shape ≡ script.shape
+    → columns_shown script code.columns
+    ≡ flat_map (λ region. map (column_report script (world_of code) region) (range_with_len 0 script.shape.colours))
     (range_with_len 0 script.shape.regions)
-columns_are script kept w same =
+columns_are script code w same =
     let colours = script.shape.colours in
-    let many : length kept.columns ≡ script.shape.regions = w.regions ∙ ap (λ (s : Shape). s.regions) same in
-    flat_map_range_same (region_at script kept.columns)
-    (λ region. map (column_report script (world_of kept) region) (range_with_len 0 colours)) 0 (length kept.columns)
-    (λ k low high. ap (λ (n : ℕ). map (column_report script (world_of kept) k) (range_with_len 0 n))
+    let many : length code.columns ≡ script.shape.regions = w.regions ∙ ap (λ (s : Shape). s.regions) same in
+    flat_map_range_same (region_at script code.columns)
+    (λ region. map (column_report script (world_of code) region) (range_with_len 0 colours)) 0 (length code.columns)
+    (λ k low high. ap (λ (n : ℕ). map (column_report script (world_of code) k) (range_with_len 0 n))
     (w.wide k [] (omega (arith, high)) ∙ ap (λ (s : Shape). s.colours) same))
-    ∙ ap (λ (n : ℕ). flat_map (λ region. map (column_report script (world_of kept) region) (range_with_len 0 colours))
+    ∙ ap (λ (n : ℕ). flat_map (λ region. map (column_report script (world_of code) region) (range_with_len 0 colours))
     (range_with_len 0 n)) many
 
 -- The report
@@ -113,15 +113,15 @@ alike : (clients clients' : List ClientReport) (rows rows' : List RowReport) (co
     ≡ record { clients = clients'; rows = rows'; columns = columns' }
 alike clients clients' rows rows' columns columns' c d e = cc
 
-pub report_is : (script : Script) (kept : RunKept) (clients : List ClientReport) (rows : List RowReport)
-    (columns : List ColumnReport) → IsWhole kept.world → kept.world.shape ≡ script.shape
-    → clients ≡ map (client_shown kept.replies) (enumerate_from 0 script.clients)
-    → rows ≡ flat_map (region_rows_shown (world_of kept.world)) (range_with_len 0 kept.world.shape.regions)
-    → columns ≡ columns_shown script kept.world.columns
+pub report_is : (script : Script) (code : RunView) (clients : List ClientReport) (rows : List RowReport)
+    (columns : List ColumnReport) → IsWhole code.world → code.world.shape ≡ script.shape
+    → clients ≡ map (client_shown code.replies) (enumerate_from 0 script.clients)
+    → rows ≡ flat_map (region_rows_shown (world_of code.world)) (range_with_len 0 code.world.shape.regions)
+    → columns ≡ columns_shown script code.world.columns
     → (let r : Report = record { clients = clients; rows = rows; columns = columns } in r)
-    ≡ report_of script (state_of kept)
-report_is script kept clients rows columns w same clients_is rows_is columns_is =
-    let r = report_of script (state_of kept) in
+    ≡ report_of script (state_of code)
+report_is script code clients rows columns w same clients_is rows_is columns_is =
+    let r = report_of script (state_of code) in
     alike clients r.clients rows r.rows columns r.columns clients_is
-    (rows_is ∙ ap (λ (s : Shape). flat_map (region_rows_shown (world_of kept.world)) (range_with_len 0 s.regions)) same)
-    (columns_is ∙ columns_are script kept.world w same)
+    (rows_is ∙ ap (λ (s : Shape). flat_map (region_rows_shown (world_of code.world)) (range_with_len 0 s.regions)) same)
+    (columns_is ∙ columns_are script code.world w same)

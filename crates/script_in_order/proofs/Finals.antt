@@ -25,7 +25,7 @@ use Rattle.script_meaning.proofs.CallerLemmas.{final_stays, standing_as}
 use Rattle.log_node.specs.declared.ids.Colours.{Colours}
 use Rattle.world_code.specs.Completed.{IsCompleted}
 use Rattle.world_code.specs.declared.completing.Completed.{Completed}
-use Rattle.script_in_order.proofs.Beginning.{Begins}
+use Rattle.script_in_order.proofs.FirstSteps.{Begins}
 use Rattle.script_in_order.specs.Points.{AreFinal}
 
 -- a single that enters is final

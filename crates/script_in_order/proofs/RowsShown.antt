@@ -19,7 +19,7 @@ use Rattle.report_text.specs.declared.report.RowReport.{RowReport}
 use Rattle.lawful_run.specs.Columns.{row_report}
 use Rattle.col_core.specs.Rows.{BegunRow}
 use Rattle.script_in_order.specs.Reports.{client_rows_shown}
-use Rattle.script_in_order.proofs.Shown.{range_more, flat_map_range_more}
+use Rattle.script_in_order.proofs.ListsShown.{range_more, flat_map_range_more}
 
 -- The rows of a client
 
@@ -70,15 +70,15 @@ pub shown_as : (w : World) (region : ℕ) (row : Row) (id : Id) (marks : List Co
 shown_as w region row id marks last same_id same_marks same_last = cc
 
 -- the node of a row is the one that its client has
-pub node_of_row : (kept : WorldView) (row : Row) (node : Node)
-    → slice_get (client_at kept row.client).begun row.number ≡ Some node → (row_of (world_of kept) row).node ≡ node
-node_of_row kept row node is = get_or_from_slice_get (client_at kept row.client).begun row.number node no_row.node is
+pub node_of_row : (code : WorldView) (row : Row) (node : Node)
+    → slice_get (client_at code row.client).begun row.number ≡ Some node → (row_of (world_of code) row).node ≡ node
+node_of_row code row node is = get_or_from_slice_get (client_at code row.client).begun row.number node no_row.node is
 
 -- the colours of a row are colours of the world
-pub colours_within : (kept : WorldView) (client number : ℕ) (node : Node) (colours : Colours) → IsWhole kept
-    → slice_get (client_at kept client).begun number ≡ Some node → colours ≡ node.colours
-    → (colour : ℕ) → is_member colours colour ≡ true → colour < kept.shape.colours
-colours_within kept client number node colours w is same colour member =
+pub colours_within : (code : WorldView) (client number : ℕ) (node : Node) (colours : Colours) → IsWhole code
+    → slice_get (client_at code client).begun number ≡ Some node → colours ≡ node.colours
+    → (colour : ℕ) → is_member colours colour ≡ true → colour < code.shape.colours
+colours_within code client number node colours w is same colour member =
     (w.begun client number node is).within colour (ap (λ (s : Colours). is_member s colour) (sym same) ∙ member)
 
 -- The rows of a region

@@ -14,10 +14,10 @@ use Rattle.report_text.specs.declared.report.QueueKey.{QueueKey}
 use Rattle.lawful_run.specs.Columns.{row_report}
 use Rattle.column.specs.Columns.{ColumnState}
 use Rattle.world_code.specs.WorldView.{no_column}
-use Rattle.script_in_order.specs.Runs.{RepliesKept, replies_at}
+use Rattle.script_in_order.specs.Runs.{RepliesView, replies_at}
 
 -- the replies to a client under its name
-abbrev pub client_shown : List RepliesKept → ℕ × List ℕ → ClientReport
+abbrev pub client_shown : List RepliesView → ℕ × List ℕ → ClientReport
 client_shown replies c = record { name = c.1; replies = (replies_at replies c.0).lines }
 
 -- an entry that is not in the line

@@ -13,32 +13,32 @@ use Rattle.script_meaning.specs.States.{State, Grants}
 use Rattle.script_meaning.specs.Meaning.{LeadTo, done}
 
 -- the replies to a client so far, and for how many more there is memory
-pub record RepliesKept : Type 0 where
+pub record RepliesView : Type 0 where
   pub lines : List ReplyLine
   pub room : ℕ
 
 -- no replies, with memory for so many
-abbrev pub no_replies : ℕ → RepliesKept
+abbrev pub no_replies : ℕ → RepliesView
 no_replies room = record { lines = []; room = room }
 
 -- one reply more
-abbrev pub with_reply : RepliesKept → ReplyLine → RepliesKept
-with_reply kept reply = record { lines = kept.lines ++ reply ∷ []; room = kept.room - 1 }
+abbrev pub with_reply : RepliesView → ReplyLine → RepliesView
+with_reply old reply = record { lines = old.lines ++ reply ∷ []; room = old.room - 1 }
 
 -- the world, and the replies by client
-pub record RunKept : Type 0 where
+pub record RunView : Type 0 where
   pub world : WorldView
-  pub replies : List RepliesKept
+  pub replies : List RepliesView
 
 -- the replies to a client
-abbrev pub replies_at : List RepliesKept → ℕ → RepliesKept
+abbrev pub replies_at : List RepliesView → ℕ → RepliesView
 replies_at replies client = slice_index_or replies client (no_replies 0)
 
 -- the state that is meant
-abbrev pub state_of : RunKept → State
-state_of kept = record {
-  world = world_of kept.world;
-  replies = λ client. (replies_at kept.replies client).lines;
+abbrev pub state_of : RunView → State
+state_of code = record {
+  world = world_of code.world;
+  replies = λ client. (replies_at code.replies client).lines;
 }
 
 -- the reply line of a command
@@ -51,7 +51,7 @@ abbrev pub asks : ℕ → List Command → ℕ
 asks client commands = count_by (λ (c : Command). c.client == client) commands
 
 -- The command was done, wherever it is granted memory, and its client has one reply more.
-pub record IsDone (command : Command) (old new : RunKept) : Type 0 where
+pub record IsDone (command : Command) (old new : RunView) : Type 0 where
   pub grants : Grants
   pub reply : ReplyLine
   pub state : state_of new ≡ done grants (state_of old) command
@@ -59,8 +59,8 @@ pub record IsDone (command : Command) (old new : RunKept) : Type 0 where
       ≡ slice_set old.replies command.client (with_reply (replies_at old.replies command.client) reply)
 
 -- the first commands lead to the state, and each client has room for its replies to those that follow
-pub record IsRunAt (script : Script) (place : ℕ) (kept : RunKept) : Type 0 where
-  pub leads : LeadTo script (take place script.commands) (state_of kept)
-  pub clients : length kept.replies ≡ length script.shape.homes
+pub record IsRunAt (script : Script) (place : ℕ) (code : RunView) : Type 0 where
+  pub leads : LeadTo script (take place script.commands) (state_of code)
+  pub clients : length code.replies ≡ length script.shape.homes
   pub rooms : (client : ℕ) → client < length script.shape.homes
-      → asks client (drop place script.commands) ≤ (replies_at kept.replies client).room
+      → asks client (drop place script.commands) ≤ (replies_at code.replies client).room

@@ -16,9 +16,9 @@ pub struct Replies {
 
 impl Model for Replies {
     ghost use Rattle.std.specs.Prelude.{◌-◌, vec_len, vec_capacity};
-    ghost use Rattle.script_in_order.specs.Runs.{RepliesKept};
+    ghost use Rattle.script_in_order.specs.Runs.{RepliesView};
 
-    ghost Value = { RepliesKept };
+    ghost Value = { RepliesView };
 
     ghost view = { λ a. record { lines = a.items.items; room = vec_capacity a.items - vec_len a.items } };
 }

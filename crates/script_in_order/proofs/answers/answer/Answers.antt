@@ -11,7 +11,7 @@ use Rattle.script_meaning.specs.States.{is_built}
 use Rattle.script_meaning.specs.Appends.{appended, stopped}
 use Rattle.script_meaning.specs.Moves.{synced, pulled, trimmed}
 use Rattle.script_in_order.specs.Doing.{DoneBy, Does}
-use Rattle.script_in_order.proofs.Doing.{does_what, with_nodes, built_kinds}
+use Rattle.script_in_order.proofs.CommandKinds.{does_what, with_nodes, built_kinds}
 use Rattle.script_in_order.proofs.answers.answer.Goals as goal
 
 pub append-requires : goal.append-requires

@@ -9,7 +9,7 @@ use Rattle.script_text.specs.declared.script.Command.{Command}
 use Rattle.report_text.specs.declared.report.Answer.{Answer}
 use Rattle.script_meaning.specs.Appends.{appended, appended_one, appended_several}
 use Rattle.script_in_order.specs.Doing.{DoneBy}
-use Rattle.script_in_order.proofs.Beginning.{at_least}
+use Rattle.script_in_order.proofs.FirstSteps.{at_least}
 use Rattle.script_in_order.proofs.appends.append.Goals as goal
 
 one : (command : Command) (colours : Colours) (text : List ℕ) (colour : ℕ) (w new : World) (answer : Answer)

@@ -17,9 +17,9 @@ use Rattle.world_laws.specs.Laws.{IsReached}
 use Rattle.script_meaning.specs.Helping.{cleared}
 use Rattle.script_meaning.specs.Appends.{appended_one}
 use Rattle.script_in_order.specs.Doing.{DoneBy}
-use Rattle.script_in_order.proofs.Beginning.{entered, not_entered}
+use Rattle.script_in_order.proofs.FirstSteps.{entered, not_entered}
 use Rattle.script_in_order.proofs.Finals.{single_final, final_later, run_shape}
-use Rattle.script_in_order.proofs.Appending.{stands_alone, ends_alone}
+use Rattle.script_in_order.proofs.AppendsAndStops.{stands_alone, ends_alone}
 use Rattle.script_in_order.proofs.appends.append_one.Goals as goal
 
 pub clear-requires-clause-by : goal.clear-requires-clause-by

@@ -18,10 +18,10 @@ use Rattle.world_code.specs.Replies.{begun_reply}
 use Rattle.world_code.specs.WorldView.{world_of}
 use Rattle.script_meaning.specs.Appends.{appended_several}
 use Rattle.script_in_order.specs.Doing.{DoneBy}
-use Rattle.script_in_order.proofs.Beginning.{Begins, begins, fills, nothing_begun}
+use Rattle.script_in_order.proofs.FirstSteps.{Begins, begins, fills, nothing_begun}
 use Rattle.script_in_order.proofs.Finals.{several_final, several_begun, run_shape}
-use Rattle.script_in_order.proofs.Lists.{colours_of_places}
-use Rattle.script_in_order.proofs.Appending.{fills_several, ends_several}
+use Rattle.script_in_order.proofs.ListsChanged.{colours_of_places}
+use Rattle.script_in_order.proofs.AppendsAndStops.{fills_several, ends_several}
 use Rattle.script_in_order.proofs.appends.append_several.Goals as goal
 
 -- the shape stays

@@ -22,8 +22,8 @@ use Rattle.world_laws.proofs.CallerLemmas.{of_reached}
 use Rattle.world_code.specs.WorldView.{world_of}
 use Rattle.script_in_order.specs.Points.{AreFinal, EndsAs, standing_in}
 use Rattle.script_in_order.proofs.Finals.{final_later, run_shape}
-use Rattle.script_in_order.proofs.Lists.{all_placed, all_there}
-use Rattle.script_in_order.proofs.Appending.{ends_stamps, ends_final}
+use Rattle.script_in_order.proofs.ListsChanged.{all_placed, all_there}
+use Rattle.script_in_order.proofs.AppendsAndStops.{ends_stamps, ends_final}
 use Rattle.script_in_order.proofs.appends.end.Goals as goal
 
 pub unreachable-requires : goal.unreachable-requires

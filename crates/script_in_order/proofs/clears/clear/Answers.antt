@@ -1,6 +1,6 @@
 use Rattle.std.proofs.Common.{◌≡◌, ◌∙◌, refl, arith}
 use Rattle.world_code.specs.WorldView.{world_of}
-use Rattle.script_in_order.proofs.Helping.{helps_none, helps_more, clears_colour}
+use Rattle.script_in_order.proofs.HelpsAndClears.{helps_none, helps_more, clears_colour}
 use Rattle.script_in_order.proofs.clears.clear.Goals as goal
 
 pub loop-help-init : goal.loop-help-init

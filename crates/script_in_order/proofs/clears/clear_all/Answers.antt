@@ -7,7 +7,7 @@ use Rattle.world_code.specs.WorldView.{WorldView, world_of}
 use Rattle.script_meaning.specs.Helping.{cleared}
 use Rattle.script_in_order.specs.Helps.{Helps}
 use Rattle.script_in_order.proofs.Sets.{has_below, first_members, one_more, none_more, all_first}
-use Rattle.script_in_order.proofs.Helping.{helps_none, clears_more, clears_same}
+use Rattle.script_in_order.proofs.HelpsAndClears.{helps_none, clears_more, clears_same}
 use Rattle.script_in_order.proofs.clears.clear_all.Goals as goal
 use Rattle.script_in_order.proofs.clears.clear_all.Goals.{then-has, else-has}
 

@@ -4,7 +4,7 @@ use Rattle.world_laws.proofs.CallerLemmas.{run_grows}
 use Rattle.world_laws.specs.Completing.{complete_steps}
 use Rattle.world_code.specs.WorldView.{world_of}
 use Rattle.world_code.specs.Looks.{IsFirstBelow, open_below}
-use Rattle.script_in_order.proofs.Helping.{first_helped, none_helped, next_helped}
+use Rattle.script_in_order.proofs.HelpsAndClears.{first_helped, none_helped, next_helped}
 use Rattle.script_in_order.proofs.clears.help_first.Goals as goal
 
 pub returns-in-Some-clause-helps : goal.returns-in-Some-clause-helps

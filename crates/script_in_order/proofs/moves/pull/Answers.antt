@@ -3,7 +3,7 @@ use Rattle.std.proofs.lemmas.Result.{IfOk-weaker}
 use Rattle.world_code.specs.WorldView.{world_of}
 use Rattle.script_meaning.specs.Moves.{pulled, pulled_from}
 use Rattle.script_in_order.specs.Doing.{DoneBy}
-use Rattle.script_in_order.proofs.Moving.{pulls_own, pulls_other}
+use Rattle.script_in_order.proofs.PullsAndTrims.{pulls_own, pulls_other}
 use Rattle.script_in_order.proofs.moves.pull.Goals as goal
 
 pub returns-then-region-own-clause-ok : goal.returns-then-region-own-clause-ok

@@ -3,8 +3,8 @@ use Rattle.world_laws.specs.Worlds.{World, reply}
 use Rattle.world_laws.specs.declared.steps.Step.TheVariants.{Carry}
 use Rattle.world_code.specs.WorldView.{WorldView, world_of}
 use Rattle.script_in_order.specs.Points.{event_or_look}
-use Rattle.script_in_order.proofs.Guards.{both_there, give_at, carry_at}
-use Rattle.script_in_order.proofs.Moving.{pulls_all, pulls_none}
+use Rattle.script_in_order.proofs.MoveGuards.{both_there, give_at, carry_at}
+use Rattle.script_in_order.proofs.PullsAndTrims.{pulls_all, pulls_none}
 use Rattle.script_in_order.proofs.moves.pull_from.Goals as goal
 
 pub returns-in-Ok-clause-ok : goal.returns-in-Ok-clause-ok

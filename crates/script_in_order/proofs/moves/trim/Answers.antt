@@ -1,7 +1,7 @@
 use Rattle.std.proofs.Common.{◌∙◌}
 use Rattle.world_code.specs.WorldView.{world_of}
-use Rattle.script_in_order.proofs.Guards.{there, trim_at}
-use Rattle.script_in_order.proofs.Moving.{trims}
+use Rattle.script_in_order.proofs.MoveGuards.{there, trim_at}
+use Rattle.script_in_order.proofs.PullsAndTrims.{trims}
 use Rattle.script_in_order.proofs.moves.trim.Goals as goal
 
 pub returns-clause-ok : goal.returns-clause-ok

@@ -10,13 +10,13 @@ use Rattle.script_in_order.proofs.Sets.{has_below, made_more, made_same, all_fir
 use Rattle.script_in_order.proofs.points.places.Goals as goal
 use Rattle.script_in_order.proofs.points.places.Goals.{then-has+in_ok-push, else-has}
 
-place_is : (kept : WorldView) (client colour home : ℕ) (column : ColumnState) (journal : List Entry)
-    → home ≡ home_of (world_of kept) client → column ≡ column_at kept.columns home colour → journal ≡ column.journal
+place_is : (code : WorldView) (client colour home : ℕ) (column : ColumnState) (journal : List Entry)
+    → home ≡ home_of (world_of code) client → column ≡ column_at code.columns home colour → journal ≡ column.journal
     → (let p : PointPiece = record { colour = colour; at = Event (length journal); position = 0 } in p)
-    ≡ place_in (world_of kept) client colour
-place_is kept client colour home column journal h e j =
+    ≡ place_in (world_of code) client colour
+place_is code client colour home column journal h e j =
     ap (λ (l : List Entry). let p : PointPiece = record { colour = colour; at = Event (length l); position = 0 } in p)
-    (j ∙ (ap (λ (x : ColumnState). x.journal) e ∙ ap (λ (r : ℕ). (column_at kept.columns r colour).journal) h))
+    (j ∙ (ap (λ (x : ColumnState). x.journal) e ∙ ap (λ (r : ℕ). (column_at code.columns r colour).journal) h))
 
 pub column-column-requires-clause-colour : goal.column-column-requires-clause-colour
 column-column-requires-clause-colour c =

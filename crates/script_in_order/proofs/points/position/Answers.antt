@@ -7,7 +7,7 @@ use Rattle.world_laws.proofs.CallerLemmas.{of_reached}
 use Rattle.world_code.specs.WorldView.{world_of, column_at}
 use Rattle.std.specs.List.{position}
 use Rattle.log_node.specs.Order.{same_key}
-use Rattle.script_in_order.proofs.Standing.{found_at, none_at}
+use Rattle.script_in_order.proofs.FinalPlaces.{found_at, none_at}
 use Rattle.script_in_order.proofs.points.position.Goals as goal
 
 pub returns-in-Some : goal.returns-in-Some

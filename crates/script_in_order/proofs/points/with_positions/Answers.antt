@@ -5,7 +5,7 @@ use Rattle.world_laws.specs.Laws.{IsFinal}
 use Rattle.world_laws.specs.Worlds.{home_history}
 use Rattle.world_code.specs.WorldView.{world_of}
 use Rattle.script_in_order.specs.Points.{standing_in}
-use Rattle.script_in_order.proofs.Lists.{changed, changed_at, changed_more, changed_all, take_front}
+use Rattle.script_in_order.proofs.ListsChanged.{changed, changed_at, changed_more, changed_all, take_front}
 use Rattle.script_in_order.proofs.points.with_positions.Goals as goal
 
 abbrev none : PointPiece

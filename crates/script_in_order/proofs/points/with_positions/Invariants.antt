@@ -1,7 +1,7 @@
 use Rattle.std.proofs.Common.{◌≡◌}
 use Rattle.world_code.specs.WorldView.{world_of}
 use Rattle.script_in_order.specs.Points.{standing_in}
-use Rattle.script_in_order.proofs.Lists.{changed}
+use Rattle.script_in_order.proofs.ListsChanged.{changed}
 use Rattle.script_in_order.proofs.points.with_positions.Given as goal
 
 -- the points so far have their positions

@@ -3,10 +3,10 @@ use Rattle.std.proofs.Common.{get_or, get_or-set_other, subst}
 use Rattle.std.specs.List.{enumerate_from}
 use Rattle.report_text.specs.declared.report.ClientReport.{ClientReport}
 use Rattle.report_text.specs.declared.report.ReplyLine.{ReplyLine}
-use Rattle.script_in_order.specs.Runs.{RepliesKept, replies_at, no_replies}
+use Rattle.script_in_order.specs.Runs.{RepliesView, replies_at, no_replies}
 use Rattle.script_in_order.specs.Reports.{client_shown}
-use Rattle.script_in_order.proofs.Running.{any_default}
-use Rattle.script_in_order.proofs.Shown.{numbered_more}
+use Rattle.script_in_order.proofs.RunReplies.{any_default}
+use Rattle.script_in_order.proofs.ListsShown.{numbered_more}
 use Rattle.script_in_order.proofs.reports.client_reports.Goals as goal
 
 below : (number names n m : ℕ) → number < names → names ≤ m → n ≡ m → number < n
@@ -42,7 +42,7 @@ loop-number-preserved c =
     let mine = c.index_mut-mine.ensures.value
     ∙ (any_default replies number c.index_mut-mine.result.now (no_replies 0) lt
     ∙ was.others number (omega arith)) in
-    let lines = c.take.ensures ∙ ap (λ (x : RepliesKept). x.lines) mine in
+    let lines = c.take.ensures ∙ ap (λ (x : RepliesView). x.lines) mine in
     record {
       reports_are = c.in_ok-push.ensures.ok
           ∙ (ap (λ (l : List ClientReport). l ++ record { name = c.in_ok-copied.field-0; replies = c.take.result } ∷ [])

@@ -1,6 +1,6 @@
 use Rattle.std.proofs.Common.{◌∙◌, ap, List}
 use Rattle.column.specs.Columns.{ColumnState}
-use Rattle.script_in_order.specs.Runs.{RunKept}
+use Rattle.script_in_order.specs.Runs.{RunView}
 use Rattle.script_in_order.specs.Reports.{columns_shown}
 use Rattle.script_in_order.proofs.ColumnsShown.{report_is}
 use Rattle.script_in_order.proofs.reports.report.Goals as goal
@@ -8,8 +8,8 @@ use Rattle.script_in_order.proofs.reports.report.Goals as goal
 pub returns : goal.returns
 returns c =
     let script = c.args.script.now in
-    let kept : RunKept = record { world = c.args.world; replies = c.args.replies.items } in
-    report_is script kept c.in_ok-client_reports.field-0 c.rows.inside.items.items c.in_ok-column_reports.field-0
+    let code : RunView = record { world = c.args.world; replies = c.args.replies.items } in
+    report_is script code c.in_ok-client_reports.field-0 c.rows.inside.items.items c.in_ok-column_reports.field-0
     c.is_whole.ensures c.requires.shape c.in_ok-client_reports.ensures (c.rows.view_is ∙ c.in_ok-rows.ensures)
     (c.in_ok-column_reports.ensures ∙ ap (λ (l : List (List ColumnState)). columns_shown script l)
     c.into_columns.ensures)

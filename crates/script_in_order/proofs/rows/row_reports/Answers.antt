@@ -2,7 +2,7 @@ use Rattle.std.proofs.Common.{◌∙◌, ap, sym, List, ◌++◌}
 use Rattle.world_code.specs.WorldView.{world_of}
 use Rattle.report_text.specs.declared.report.RowReport.{RowReport}
 use Rattle.script_in_order.specs.Reports.{region_rows_shown}
-use Rattle.script_in_order.proofs.Shown.{flat_map_range_more}
+use Rattle.script_in_order.proofs.ListsShown.{flat_map_range_more}
 use Rattle.script_in_order.proofs.rows.row_reports.Goals as goal
 
 pub loop-region-preserved : goal.loop-region-preserved

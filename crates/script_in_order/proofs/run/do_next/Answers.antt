@@ -2,29 +2,29 @@ use Rattle.std.proofs.Common.{◌∙◌, sym, subst, ap, get_or, List}
 use Rattle.std.specs.Prelude.{IsTrue}
 use Rattle.script_text.specs.declared.script.Command.{Command}
 use Rattle.script_meaning.specs.States.{is_built}
-use Rattle.script_in_order.specs.Runs.{RunKept}
-use Rattle.script_in_order.proofs.Nexts.{next_fits, next_client, next_room, next_run}
+use Rattle.script_in_order.specs.Runs.{RunView}
+use Rattle.script_in_order.proofs.RunSteps.{next_fits, next_client, next_room, next_run}
 use Rattle.script_in_order.proofs.run.do_next.Goals as goal
 
 pub do_command-requires : goal.do_command-requires
 do_command-requires c =
     let script = c.args.script.now in
-    let kept : RunKept = record { world = c.args.world.now; replies = c.args.replies.now.items } in
+    let code : RunView = record { world = c.args.world.now; replies = c.args.replies.now.items } in
     let command = c.index-as_slice-place.result in
     let is = c.index-as_slice-place.is ∙ ap (λ (l : List Command). get_or l c.args.place command) c.as_slice.ensures in
     record {
       built = subst (λ (x : Command). IsTrue (is_built x.what)) (sym is) (c.requires.built c.args.place command
           c.requires.place);
-      fits = next_fits script c.requires.fits c.args.place kept c.requires.place c.requires.run command is;
-      client = next_client script c.requires.fits c.args.place kept c.requires.place c.requires.run command is;
-      room = next_room script c.requires.fits c.args.place kept c.requires.place c.requires.run command is;
+      fits = next_fits script c.requires.fits c.args.place code c.requires.place c.requires.run command is;
+      client = next_client script c.requires.fits c.args.place code c.requires.place c.requires.run command is;
+      room = next_room script c.requires.fits c.args.place code c.requires.place c.requires.run command is;
     }
 
 pub returns : goal.returns
 returns c =
     let script = c.args.script.now in
-    let kept : RunKept = record { world = c.args.world.now; replies = c.args.replies.now.items } in
+    let code : RunView = record { world = c.args.world.now; replies = c.args.replies.now.items } in
     let command = c.index-as_slice-place.result in
     let is = c.index-as_slice-place.is ∙ ap (λ (l : List Command). get_or l c.args.place command) c.as_slice.ensures in
-    next_run script c.requires.fits c.args.place kept c.requires.place c.requires.run command is
+    next_run script c.requires.fits c.args.place code c.requires.place c.requires.run command is
     (record { world = c.do_command.new.world; replies = c.do_command.new.replies.items }) c.do_command.ensures

@@ -2,7 +2,7 @@ use Rattle.std.proofs.Common.{◌≡◌, ◌∙◌, ◌++◌, ◌∷◌, [], ap,
 use Rattle.std.specs.List.{range_with_len}
 use Rattle.std.proofs.lemmas.List.FromFn.{map-range_with_len_more}
 use Rattle.script_text.specs.declared.script.Command.{Command}
-use Rattle.script_in_order.specs.Runs.{RepliesKept, no_replies, asks}
+use Rattle.script_in_order.specs.Runs.{RepliesView, no_replies, asks}
 use Rattle.script_in_order.proofs.run.room_for_replies.Goals as goal
 
 pub loop-client-preserved : goal.loop-client-preserved
@@ -12,8 +12,8 @@ loop-client-preserved c =
     let one = c.in_ok-new.ensures ∙ ap no_replies (c.asks-room.ensures ∙ ap (λ (l : List Command). asks n l)
     c.as_slice.ensures) in
     c.in_ok-push.ensures.items
-    ∙ (ap (λ (l : List RepliesKept). l ++ c.in_ok-new.field-0 ∷ []) c.loop-client.invariant
-    ∙ (ap (λ (x : RepliesKept). map made (range_with_len 0 n) ++ x ∷ []) one
+    ∙ (ap (λ (l : List RepliesView). l ++ c.in_ok-new.field-0 ∷ []) c.loop-client.invariant
+    ∙ (ap (λ (x : RepliesView). map made (range_with_len 0 n) ++ x ∷ []) one
     ∙ sym (map-range_with_len_more made 0 n n (zero-add n))))
 
 pub returns : goal.returns

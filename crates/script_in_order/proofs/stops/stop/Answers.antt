@@ -8,8 +8,8 @@ use Rattle.world_code.specs.WorldView.{world_of}
 use Rattle.report_text.specs.declared.report.Answer.TheVariants as answers
 use Rattle.script_meaning.specs.Appends.{stopped}
 use Rattle.script_in_order.specs.Doing.{DoneBy}
-use Rattle.script_in_order.proofs.Beginning.{begins, fills, nothing_begun, at_least}
-use Rattle.script_in_order.proofs.Appending.{stops_at_once, stops_full, stops_within}
+use Rattle.script_in_order.proofs.FirstSteps.{begins, fills, nothing_begun, at_least}
+use Rattle.script_in_order.proofs.AppendsAndStops.{stops_at_once, stops_full, stops_within}
 use Rattle.script_in_order.proofs.stops.stop.Goals as goal
 
 pub returns-then-steps-eq0-clause-ok : goal.returns-then-steps-eq0-clause-ok

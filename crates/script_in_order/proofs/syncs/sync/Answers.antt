@@ -12,7 +12,7 @@ use Rattle.world_code.specs.WorldView.{world_of}
 use Rattle.script_meaning.specs.Moves.{synced}
 use Rattle.report_text.specs.declared.report.Answer.TheVariants as answers
 use Rattle.script_in_order.specs.Doing.{DoneBy}
-use Rattle.script_in_order.proofs.Playing.{are_played, plays_just, plays, refuses}
+use Rattle.script_in_order.proofs.SyncPlays.{are_played, plays_just, plays, refuses}
 use Rattle.script_in_order.proofs.syncs.sync.Goals as goal
 
 pub play-requires-clause-cut : goal.play-requires-clause-cut
@@ -56,7 +56,7 @@ returns-in-Ok-clause-ok c =
     let look = c.in_ok-view.ensures in
     let from = (w.clients command.client).played c.args.colour in
     let mine : c.player_of-player.result.played ≡ from = ap (λ (p : Player). p.played) c.player_of-player.ensures in
-    let kept : IsWithin view.base from = subst (IsWithin view.base) mine c.in-Ok.ensures.trimmed in
+    let low : IsWithin view.base from = subst (IsWithin view.base) mine c.in-Ok.ensures.trimmed in
     let shown : (chains : Chains) → ShowsChains view chains → Reachable chains view.cut
     → ArePlayed view chains from c.in-Ok.played.items =
     subst (λ (v : Counts). (chains : Chains) → ShowsChains view chains → Reachable chains view.cut
@@ -64,6 +64,6 @@ returns-in-Ok-clause-ok c =
     plays command w (world_of c.play-played.new.self) c.args.colour view.events c.len-plays.result
     c.in-Ok.played.snapshot.counts c.in-Ok.played.items
     (plays_just w command.client c.args.colour view.base c.requires.caller
-    (c.is_whole.ensures.homes command.client 0 c.requires.caller) c.requires.within look.base ∙ kept)
-    (are_played w command.client c.args.colour view look kept c.in-Ok.played.items shown) c.len-plays.ensures
+    (c.is_whole.ensures.homes command.client 0 c.requires.caller) c.requires.within look.base ∙ low)
+    (are_played w command.client c.args.colour view look low c.in-Ok.played.items shown) c.len-plays.ensures
     look.events (ap (λ (s : Snapshot). s.counts) c.in-Ok.ensures.snapshot ∙ look.cut) c.play-played.ensures.world

@@ -16,10 +16,10 @@ use Rattle.report_text.specs.declared.report.Answer.TheVariants.{NoMemory}
 use Rattle.report_text.specs.declared.report.ReplyLine.{ReplyLine}
 use Rattle.script_meaning.specs.States.{Grants, answered}
 use Rattle.script_in_order.specs.Doing.{Does, with_replies}
-use Rattle.script_in_order.specs.Runs.{RepliesKept, RunKept, no_replies, with_reply, replies_at, state_of, reply_of, IsDone}
+use Rattle.script_in_order.specs.Runs.{RepliesView, RunView, no_replies, with_reply, replies_at, state_of, reply_of, IsDone}
 
 -- one client's replies are changed
-replied : (replies : List RepliesKept) (client : ℕ) (reply : ReplyLine) → client < length replies
+replied : (replies : List RepliesView) (client : ℕ) (reply : ReplyLine) → client < length replies
     → ◌≡◌ {A = ℕ → List ReplyLine}
     (λ n. (replies_at (set replies client (with_reply (replies_at replies client) reply)) n).lines)
     (updated (λ n. (replies_at replies n).lines) client ((replies_at replies client).lines ++ reply ∷ []))
@@ -29,14 +29,14 @@ replied replies client reply low =
     ≡ l)
     (λ k. (replies_at replies k).lines) client ((replies_at replies client).lines ++ reply ∷ []) n
     (λ e. ap (λ (k : ℕ). (replies_at (set replies client (with_reply (replies_at replies client) reply)) k).lines) e
-    ∙ ap (λ (r : RepliesKept). r.lines)
+    ∙ ap (λ (r : RepliesView). r.lines)
     (get_or-set_same replies client (with_reply (replies_at replies client) reply) (no_replies 0) low))
-    (λ other. ap (λ (r : RepliesKept). r.lines)
+    (λ other. ap (λ (r : RepliesView). r.lines)
     (get_or-set_other replies client n (with_reply (replies_at replies client) reply) (no_replies 0)
     (λ e. true≢false (sym (eq-eqb n client e) ∙ other)))))
 
 -- a command, with its reply
-pub command_done : (command : Command) (old : RunKept) (world : WorldView) (given : Result (Answer × List PlacedNode)
+pub command_done : (command : Command) (old : RunView) (world : WorldView) (given : Result (Answer × List PlacedNode)
     AllocError)
     (reply : ReplyLine) → command.client < length old.replies
     → IfOk given (λ g. Does command (world_of old.world) (world_of world) g.0 g.1)
@@ -49,7 +49,7 @@ pub command_done : (command : Command) (old : RunKept) (world : WorldView) (give
           (with_reply (replies_at old.replies command.client) reply);
     })
 command_done command old world given reply low ok err is = turn given ok err is where
-  next : List RepliesKept
+  next : List RepliesView
   next = set old.replies command.client (with_reply (replies_at old.replies command.client) reply)
 
   lines : ℕ → List ReplyLine

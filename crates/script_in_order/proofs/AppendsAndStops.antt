@@ -28,9 +28,9 @@ use Rattle.script_meaning.specs.Appends.{with_single, point_in}
 use Rattle.script_in_order.specs.Doing.{DoneBy, with_replies}
 use Rattle.script_in_order.specs.Helps.{Helps}
 use Rattle.script_in_order.specs.Points.{places_in, standing_in, EndsAs}
-use Rattle.script_in_order.proofs.Lists.{points_of}
-use Rattle.script_in_order.proofs.Beginning.{Begins, Fills, not_full}
-use Rattle.script_in_order.proofs.Helping.{helping, found_with, finds_all}
+use Rattle.script_in_order.proofs.ListsChanged.{points_of}
+use Rattle.script_in_order.proofs.FirstSteps.{Begins, Fills, not_full}
+use Rattle.script_in_order.proofs.HelpsAndClears.{helping, found_with, finds_all}
 
 -- Stops
 

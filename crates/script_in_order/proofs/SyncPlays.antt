@@ -73,19 +73,19 @@ module _ (w : World) (client colour : ℕ) (view : View) (look : IsLook w client
 
   -- where none of them is trimmed, the view starts no later than these counts
   starts : IsWithin view.base from → (region : ℕ) → region < 4 → at view.from region ≤ at from region
-  starts kept region lt =
+  starts inside region lt =
       let is : at view.from region ≡ max (at from region) (at view.base region) =
       ap (λ (v : Counts). at v region) look.start
       ∙ vector_at (λ r. max (at from r) (at view.base r)) region lt in
-      let low = within-at view.base from kept region lt in
+      let low = within-at view.base from inside region lt in
       omega (arith, is, low)
 
   -- the view shows the node at each place that is played
   each : IsWithin view.base from → (place : Place) → IsAhead from view.cut place
       → item_at view place ≡ Some (placed_at w chains place)
-  each kept place ahead =
+  each inside place ahead =
       let region = place.region in
-      let begin = starts kept region ahead.0 in
+      let begin = starts inside region ahead.0 in
       let here : at from region ≤ place.position = ahead.1 in
       let past : at view.from region ≤ place.position = omega (arith, begin, here) in
       let reaches = reached_within chains reach region ahead.0 in
@@ -99,8 +99,8 @@ module _ (w : World) (client colour : ℕ) (view : View) (look : IsLook w client
   pub are_played : IsWithin view.base from → (items : List PlacedNode)
       → ((chains : Chains) → ShowsChains view chains → Reachable chains view.cut → ArePlayed view chains from items)
       → items ≡ nodes_played w client colour
-  are_played kept items played =
-      played_items view chains from items (played chains shows reach) (placed_at w chains) (each kept)
+  are_played inside items played =
+      played_items view chains from items (played chains shows reach) (placed_at w chains) (each inside)
       ∙ ap (λ (v : Counts). map (placed_at w chains) (play_order chains from v)) look.cut
 
 -- a client may play where its column is there, and no node that it has not played is trimmed

@@ -20,18 +20,18 @@ use Rattle.script_meaning.specs.States.{State}
 use Rattle.script_meaning.specs.Meaning.{LeadTo, nothing, next}
 use Rattle.script_meaning.proofs.CallerLemmas.{lead_shape}
 use Rattle.script_in_order.specs.Doing.{IsFit}
-use Rattle.script_in_order.specs.Runs.{RepliesKept, RunKept, no_replies, with_reply, replies_at, state_of, asks, IsDone}
+use Rattle.script_in_order.specs.Runs.{RepliesView, RunView, no_replies, with_reply, replies_at, state_of, asks, IsDone}
 use Rattle.script_in_order.specs.Runs.{IsRunAt}
 
-module _ (script : Script) (fits : IsFitting script) (place : ℕ) (kept : RunKept) (low : place < length script.commands)
-    (run : IsRunAt script place kept) (command : Command) (is : command ≡ get_or script.commands place command) where
+module _ (script : Script) (fits : IsFitting script) (place : ℕ) (code : RunView) (low : place < length script.commands)
+    (run : IsRunAt script place code) (command : Command) (is : command ≡ get_or script.commands place command) where
   caller : command.client < length script.shape.homes
   caller = subst (λ (c : Command). c.client < length script.shape.homes) (sym is) (fits.callers place command low)
 
-  shape : (world_of kept.world).shape ≡ script.shape
+  shape : (world_of code.world).shape ≡ script.shape
   shape = lead_shape script run.leads
 
-  pub next_fits : IsFit (world_of kept.world) command.client command.what
+  pub next_fits : IsFit (world_of code.world) command.client command.what
   next_fits = record {
     caller = subst (λ (s : Shape). command.client < length s.homes) (sym shape) caller;
     within = subst (λ (s : Shape). IsWithin s.regions s.colours command.what) (sym shape)
@@ -39,7 +39,7 @@ module _ (script : Script) (fits : IsFitting script) (place : ℕ) (kept : RunKe
         (fits.commands place command low));
   }
 
-  pub next_client : command.client < length kept.replies
+  pub next_client : command.client < length code.replies
   next_client = subst (λ (n : ℕ). command.client < n) (sym run.clients) caller
 
   more_asked : (m : ℕ) → asks m (drop place script.commands)
@@ -57,21 +57,21 @@ module _ (script : Script) (fits : IsFitting script) (place : ℕ) (kept : RunKe
       more_asked command.client
       ∙ ap (λ (b : Bool). cond b 1 0 + asks command.client (drop (place + 1) script.commands)) is_own
 
-  pub next_room : 0 < (replies_at kept.replies command.client).room
+  pub next_room : 0 < (replies_at code.replies command.client).room
   next_room = let e = own_asked in let r = run.rooms command.client caller in omega (arith, e, r)
 
   -- the run after the command
-  pub next_run : (new : RunKept) → IsDone command kept new → IsRunAt script (place + 1) new
+  pub next_run : (new : RunView) → IsDone command code new → IsRunAt script (place + 1) new
   next_run new d = record {
     leads = subst (λ (l : List Command). LeadTo script l (state_of new)) (sym more)
         (subst (LeadTo script (take place script.commands ++ command ∷ [])) (sym d.state)
         (next command d.grants run.leads));
-    clients = ap length d.replies ∙ (length-set kept.replies command.client replied ∙ run.clients);
-    rooms = λ client h. subst (λ (l : List RepliesKept). asks client (drop (place + 1) script.commands)
+    clients = ap length d.replies ∙ (length-set code.replies command.client replied ∙ run.clients);
+    rooms = λ client h. subst (λ (l : List RepliesView). asks client (drop (place + 1) script.commands)
         ≤ (replies_at l client).room) (sym d.replies) (room client h);
   } where
-    replied : RepliesKept
-    replied = with_reply (replies_at kept.replies command.client) d.reply
+    replied : RepliesView
+    replied = with_reply (replies_at code.replies command.client) d.reply
 
     more : take (place + 1) script.commands ≡ take place script.commands ++ command ∷ []
     more = take_more script.commands place command low
@@ -84,36 +84,36 @@ module _ (script : Script) (fits : IsFitting script) (place : ℕ) (kept : RunKe
     same_as a b r r' e l f = omega (arith, e, l, f)
 
     room : (client : ℕ) → client < length script.shape.homes → asks client (drop (place + 1) script.commands)
-        ≤ (replies_at (set kept.replies command.client replied) client).room
+        ≤ (replies_at (set code.replies command.client replied) client).room
     room client h = elim (eqb_tells command.client client) [
       | inl t ↦ subst (λ (k : ℕ). asks k (drop (place + 1) script.commands)
-          ≤ (replies_at (set kept.replies command.client replied) k).room) t.1
+          ≤ (replies_at (set code.replies command.client replied) k).room) t.1
           (fewer (asks command.client (drop place script.commands))
           (asks command.client (drop (place + 1) script.commands))
-          (replies_at kept.replies command.client).room (replies_at (set kept.replies command.client replied)
+          (replies_at code.replies command.client).room (replies_at (set code.replies command.client replied)
           command.client).room
           own_asked (run.rooms command.client caller)
-          (ap (λ (c : RepliesKept). c.room) (get_or-set_same kept.replies command.client replied (no_replies 0)
+          (ap (λ (c : RepliesView). c.room) (get_or-set_same code.replies command.client replied (no_replies 0)
           next_client)))
       | inr t ↦ same_as (asks client (drop place script.commands)) (asks client (drop (place + 1) script.commands))
-          (replies_at kept.replies client).room (replies_at (set kept.replies command.client replied) client).room
+          (replies_at code.replies client).room (replies_at (set code.replies command.client replied) client).room
           (more_asked client ∙ ap (λ (b : Bool). cond b 1 0 + asks client (drop (place + 1) script.commands)) t.0)
           (run.rooms client h)
-          (ap (λ (c : RepliesKept). c.room)
-          (get_or-set_other kept.replies command.client client replied (no_replies 0) (λ f. t.1 (sym f))))
+          (ap (λ (c : RepliesView). c.room)
+          (get_or-set_other code.replies command.client client replied (no_replies 0) (λ f. t.1 (sym f))))
     ]
 
 -- before the first command
-abbrev first_replies : Script → ℕ → RepliesKept
+abbrev first_replies : Script → ℕ → RepliesView
 first_replies script client = no_replies (asks client script.commands)
 
-pub opens : (script : Script) (world : WorldView) (replies : List RepliesKept) → world_of world ≡ opened script.shape
+pub opens : (script : Script) (world : WorldView) (replies : List RepliesView) → world_of world ≡ opened script.shape
     → replies ≡ map (λ client. no_replies (asks client script.commands)) (range_with_len 0 (length script.shape.homes))
     → IsRunAt script 0 (record { world = world; replies = replies })
 opens script world replies w r = record {
   leads = subst (LeadTo script []) (sym state) nothing;
   clients = ap length r ∙ length-map-range_with_len (first_replies script) 0 (length script.shape.homes);
-  rooms = λ client h. subst (λ (x : RepliesKept). asks client script.commands ≤ x.room) (sym (there client h))
+  rooms = λ client h. subst (λ (x : RepliesView). asks client script.commands ≤ x.room) (sym (there client h))
       (at_most (asks client script.commands));
 } where
   at_most : (k : ℕ) → k ≤ k
@@ -121,12 +121,12 @@ opens script world replies w r = record {
 
   there : (client : ℕ) → client < length script.shape.homes → replies_at replies client ≡ first_replies script client
   there client h =
-      ap (λ (l : List RepliesKept). replies_at l client) r
+      ap (λ (l : List RepliesView). replies_at l client) r
       ∙ get_or-map-range_with_len (first_replies script) 0 (length script.shape.homes) client client (no_replies 0) h
       (zero-add client)
 
   none : (client : ℕ) → (replies_at replies client).lines ≡ []
-  none client = ap (λ (l : List RepliesKept). (replies_at l client).lines) r
+  none client = ap (λ (l : List RepliesView). (replies_at l client).lines) r
       ∙ empty (length script.shape.homes) 0 client where
         empty : (n from k : ℕ) → (replies_at (map (first_replies script) (range_with_len from n)) k).lines ≡ []
         empty zero from k = refl
