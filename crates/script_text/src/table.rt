@@ -217,10 +217,10 @@ impl Word {
     pub fn of_bytes(field: &[u8]) -> Option<Word>
         ensures { result ≡ word_at field.now }
     {
-        if field == b"append".as_slice() {
+        if field == Word::Append.as_bytes() {
             return Some(Word::Append);
         }
-        if field == b"sync".as_slice() {
+        if field == Word::Sync.as_bytes() {
             return Some(Word::Sync);
         }
         Word::among_all(field)
