@@ -10,8 +10,8 @@ use Rattle.log_node.specs.Sets.{has}
 use Rattle.log_node.specs.Standings.{open_entry}
 use Rattle.col_core.specs.declared.Entry.{Entry}
 use Rattle.col_core.specs.declared.Event.{Event}
-use Rattle.col_core.specs.declared.Event.TheVariants.{Single, Propose, Settle, Raise, Give, Carry, Trim}
 use Rattle.col_core.specs.History.{clock, entries}
+use Rattle.col_core.specs.Ids.{IsStepOf}
 use Rattle.chain_store.specs.declared.told.Told.{Told}
 use Rattle.chain_store.specs.declared.hold.Hold.{Hold}
 use Rattle.chain_store.specs.Histories.{entries_in}
@@ -24,16 +24,6 @@ pub record GoesOn (Made : ℕ → Event → Type 0) (g h : Hold) : Type 0 where
   pub more : (c : ℕ) → IsPrefix (seen_in g c) (seen_in h c)
   pub made : (c : ℕ) → (ts : List Told) × (made_in h c ≡ made_in g c ++ ts)
       × All (λ (t : Told). Made c t.entry.event) ts
-
--- the event proposes or settles the id
-abbrev pub IsStepOf : Id → Event → Type 0
-IsStepOf id (Single other floor wants) = ⊥
-IsStepOf id (Propose other floor wants) = other ≡ id
-IsStepOf id (Settle other outcome) = other ≡ id
-IsStepOf id (Raise to) = ⊥
-IsStepOf id (Give region from) = ⊥
-IsStepOf id (Carry region start heads) = ⊥
-IsStepOf id (Trim counts) = ⊥
 
 -- an event of a begun append in the column of a colour: a step of its id in one of its colours
 abbrev pub IsStepIn : BegunAppend → ℕ → Event → Type 0

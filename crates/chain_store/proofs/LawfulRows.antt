@@ -25,14 +25,14 @@ use Rattle.col_core.specs.declared.Event.{Event}
 use Rattle.col_core.specs.declared.Event.TheVariants.{Single, Propose, Settle, Raise, Give, Carry, Trim}
 use Rattle.col_core.specs.declared.Entry.{Entry}
 use Rattle.col_core.specs.History.{IsAtEnd}
-use Rattle.col_core.specs.Rows.{BegunRow, FitsRow, FitsRows, IsKept, IsMarkOf, Proposes, AreLawfulRows, is_of}
+use Rattle.col_core.specs.Rows.{BegunRow, FitsRow, FitsRows, FitsMarks, IsMarkOf, Proposes, AreLawfulRows, is_of}
 use Rattle.col_core.specs.Rows.{node_wants}
 use Rattle.col_core.proofs.CallerLemmas.{by_test, if_true, if_false}
 use Rattle.column.specs.Columns.{propose_event}
 use Rattle.stamp_board.specs.declared.view.Size.{Size}
 use Rattle.stamp_board.specs.declared.view.View.{View}
 use Rattle.stamp_board.specs.Words.{row_at, word_at}
-use Rattle.stamp_board.specs.Rows.{IsBegun, IsRow, colours_in, kept_in, mark_in, marks_in, outcome_in}
+use Rattle.stamp_board.specs.Rows.{IsBegun, IsRow, colours_in, decided_in, mark_in, marks_in, outcome_in}
 use Rattle.stamp_board.specs.Views.{KnowsBegun, MayBe}
 use Rattle.chain_store.specs.declared.told.Told.{Told}
 use Rattle.chain_store.specs.Histories.{entries_in, Brings}
@@ -228,7 +228,7 @@ module _ (region : ℕ) (k : Size) (ws : List ℕ) (v : View) (size : v.size ≡
 
   -- the row as the region closes with it
   abbrev pub begun_row : Row → BegunRow
-  begun_row row = record { row = row; node = node row; marks = marks_in k ws row; last = kept_in k ws row }
+  begun_row row = record { row = row; node = node row; marks = marks_in k ws row; last = decided_in k ws row }
 
   colours_are : (row : Row) → IsRow k row → IsBegun k ws row → colours_in k ws row ≡ (node row).colours
   colours_are row inside begun = (board.begun row (node row) (owned.knows row inside begun)).1
@@ -260,13 +260,13 @@ module _ (region : ℕ) (k : Size) (ws : List ℕ) (v : View) (size : v.size ≡
       (outcome_of (map (mark_in k ws row) (members (colours_in k ws row)))) (ne_eqb _ 0 begun)
       ∙ ap outcome_of (sym (marks_are row))
 
-  is_kept : (row : Row) → IsBegun k ws row → (o : Outcome) → kept_in k ws row ≡ o
-      → IsKept (map (λ (m : ColourMark). m.mark) (marks_in k ws row)) o
-  is_kept row begun Open is = tt
-  is_kept row begun (Gone why) is =
-      sym (outcome_is row begun) ∙ sym (board.kept row (λ none. let f : ⊥ = cc (none, is) in f)) ∙ is
-  is_kept row begun (Final f) is =
-      sym (outcome_is row begun) ∙ sym (board.kept row (λ none. let f : ⊥ = cc (none, is) in f)) ∙ is
+  fits_marks : (row : Row) → IsBegun k ws row → (o : Outcome) → decided_in k ws row ≡ o
+      → FitsMarks (map (λ (m : ColourMark). m.mark) (marks_in k ws row)) o
+  fits_marks row begun Open is = tt
+  fits_marks row begun (Gone why) is =
+      sym (outcome_is row begun) ∙ sym (board.decided row (λ none. let f : ⊥ = cc (none, is) in f)) ∙ is
+  fits_marks row begun (Final f) is =
+      sym (outcome_is row begun) ∙ sym (board.decided row (λ none. let f : ⊥ = cc (none, is) in f)) ∙ is
 
   module _ (rows : List Row) (lists : Lists k ws rows) where
     abbrev pub begun_rows : List BegunRow
@@ -383,7 +383,7 @@ module _ (region : ℕ) (k : Size) (ws : List ℕ) (v : View) (size : v.size ≡
           (board.colours row begun).within t.0 (member_has (colours_in k ws row) i t.0 t.1) in
           subst (λ (m : ColourMark). IsMarkOf (entries_in (logs m.colour)) (node row) m.mark) t.2
           (is_mark t.0 (logs t.0) (agree t.0 in_c) row inside begun (mark_in k ws row t.0) refl)));
-      kept = each_row (λ (r : BegunRow). IsKept (map (λ (m : ColourMark). m.mark) r.marks) r.last)
-          (λ row inside begun. is_kept row begun (kept_in k ws row) refl);
+      outcomes = each_row (λ (r : BegunRow). FitsMarks (map (λ (m : ColourMark). m.mark) r.marks) r.last)
+          (λ row inside begun. fits_marks row begun (decided_in k ws row) refl);
       events = λ c lt. event_fits c lt (logs c) (agree c lt);
     }

@@ -192,10 +192,10 @@ heard_more n ps ts now i m p t q e pat tat nat one all k le = elim (cases_eq k m
 -- holds
 
 -- a hold of the same client that has made and begun what it had
-pub hold_kept : (r : Region) (h g : Hold) → IsHold r h → g.passes.number ≡ h.passes.number
+pub hold_stays : (r : Region) (h g : Hold) → IsHold r h → g.passes.number ≡ h.passes.number
     → HasPasses r.columns.items h.passes.number (passes_of g) → ((c : ℕ) → made_in g c ≡ made_in h c)
     → g.next ≡ h.next → IsLater h.seat g.seat → IsHold r g
-hold_kept r h g is number passes made next later = record {
+hold_stays r h g is number passes made next later = record {
   passes = subst (λ (z : ℕ). HasPasses r.columns.items z (passes_of g)) (sym number) passes;
   seat = (later.board ∙ is.seat.0, later.grows.size ∙ is.seat.1);
   clients = clients_later r h.seat g.seat later is.clients;

@@ -19,7 +19,7 @@ use Rattle.col_core.proofs.CallerLemmas.{by_test, if_true, if_false, apart, In, 
 use Rattle.stamp_board.specs.declared.view.Size.{Size}
 use Rattle.stamp_board.specs.declared.view.View.{View}
 use Rattle.stamp_board.specs.Words.{row_at, word_at, row_word}
-use Rattle.stamp_board.specs.Rows.{mark_in, marks_at, kept_in, outcome_in}
+use Rattle.stamp_board.specs.Rows.{mark_in, marks_at, decided_in, outcome_in}
 use Rattle.stamp_board.specs.Views.{KnowsBegun, KnowsOutcome, MayBe}
 
 -- a mark with a number that is at most f, which is at most the last stamp
@@ -91,9 +91,9 @@ module _ (k : Size) (ws : List ℕ) (v : View) (may : MayBe k ws v) (row : Row) 
     (f : ℕ) (known : KnowsOutcome v row (Final f)) where
   of_marks : outcome_of (marks_at k ws (row_at k row) x.colours) ≡ Final f
   of_marks =
-      let kept = may.outcomes row (Final f) known in
-      let shown = may.kept row (λ e. absurd (let g : Final f ≡ Open = sym kept ∙ e in let h : ⊥ = cc in h)) in
-      let is : outcome_in k ws row ≡ Final f = sym shown ∙ kept in
+      let decided = may.outcomes row (Final f) known in
+      let shown = may.decided row (λ e. absurd (let g : Final f ≡ Open = sym decided ∙ e in let h : ⊥ = cc in h)) in
+      let is : outcome_in k ws row ≡ Final f = sym shown ∙ decided in
       let b = may.begun row x begun in
       subst (λ (s : Colours). outcome_of (marks_at k ws (row_at k row) s) ≡ Final f) b.1
       (sym (if_false (slice_index ws (row_word k row) == 0) Open

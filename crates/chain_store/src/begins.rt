@@ -43,7 +43,7 @@ impl Region {
         Ok(row)
     }
 
-    /// The outcome of the row's marks, which is kept from then on unless it is open: it is open where the row is not
+    /// The outcome of the row's marks, which stands from then on unless it is open: it is open where the row is not
     /// begun, or a mark that this call looked for was missing.
     pub fn decide(&self, hold: &mut Hold, row: Row) -> Outcome
         requires hold { IsHold self.now hold.old }

@@ -286,7 +286,7 @@ impl Region {
         )
     }
 
-    /// Settles a begun append in the colour's column with the outcome that its row keeps: where its id is open, it becomes
+    /// Settles a begun append in the colour's column with the outcome of its row: where its id is open, it becomes
     /// final under the number, or goes. It is then not open.
     pub fn settle<R: Wait>(
         &self,

@@ -21,7 +21,7 @@ impl Seated {
         ensures tag { tag_of self.new ≡ tag_of self.old }
         ensures event { IfOk result (λ event. event ≡ nat_lt (clock self.old.column.journal) to) }
         ensures raised { IfOk result (λ event. event ≡ true → Gains self.old self.new (told_event by (Raise to))) }
-        ensures kept { IfOk result (λ event. event ≡ false → Stays self.old self.new) }
+        ensures look { IfOk result (λ event. event ≡ false → Stays self.old self.new) }
         ensures err { OnErr result (Stays self.old self.new) }
     {
         let below = self.column.clock() < to;

@@ -92,7 +92,7 @@ pub fn propose_in<R: Wait>(
     }
 }
 
-/// Settles a begun append with the outcome that its row keeps: where its id is open, it becomes final under the number,
+/// Settles a begun append with the outcome of its row: where its id is open, it becomes final under the number,
 /// or goes. It is then not open. Waits for the turn.
 pub fn settle_in<R: Wait>(
     rt: &R,

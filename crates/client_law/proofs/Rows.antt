@@ -14,12 +14,12 @@ use Rattle.col_core.specs.declared.Entry.{Entry}
 use Rattle.col_core.specs.History.{entries, has_entered}
 use Rattle.col_core.specs.Computed.{dated}
 use Rattle.col_core.specs.Legal.{IsColumnHistory}
-use Rattle.col_core.specs.Ids.{IsOver, Proposes, alone, settled}
+use Rattle.col_core.specs.Ids.{IsOver, Proposes, alone, settled, IsStepOf}
 use Rattle.col_core.specs.Log.{is_own, places_of, HasMark}
 use Rattle.col_core.specs.Keeping.{Kept, updated, seen_past, with_made, with_row}
 use Rattle.col_core.proofs.CallerLemmas.{both, entered_is_over, lawful_beginning, open_is_proposed, proposes_longer, settled_stays, singles_stay}
 use Rattle.lawful_run.specs.Callers.{Caller}
-use Rattle.lawful_run.specs.Appends.{IsStepOf, IsSettledIn, IsSettled}
+use Rattle.lawful_run.specs.Appends.{IsSettledIn, IsSettled}
 use Rattle.lawful_run.specs.Stops.{IsStepWithin}
 use Rattle.lawful_run.proofs.CallerLemmas.{get_within}
 use Rattle.client_law.specs.Knowing.{Seen, Rest, log_of, SeesOn}

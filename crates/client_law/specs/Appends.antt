@@ -21,13 +21,13 @@ use Rattle.col_core.specs.declared.Entry.{Entry}
 use Rattle.col_core.specs.History.{IsAtEnd, entries, line, entry_key, has_entered}
 use Rattle.col_core.specs.Computed.{dated}
 use Rattle.col_core.specs.Legal.{IsColumnHistory}
-use Rattle.col_core.specs.Ids.{Proposes}
+use Rattle.col_core.specs.Ids.{Proposes, IsStepOf}
 use Rattle.col_core.specs.Rows.{BegunRow, node_wants}
 use Rattle.col_core.specs.Log.{is_own, IsBegunFor, HasMark, HasOutcome}
 use Rattle.col_core.specs.Keeping.{Kept, kept_after_single, with_made, with_floor, with_row}
 use Rattle.report_text.specs.declared.report.PointPiece.{PointPiece}
 use Rattle.lawful_run.specs.Callers.{Caller, node_of}
-use Rattle.lawful_run.specs.Appends.{AppendsOne, HadNoStamp, IsStepOf, BeginsRow, AppendsSeveral, kept_after_points, IsSettledIn, IsGoneAtEnd, IsGoneForMemory}
+use Rattle.lawful_run.specs.Appends.{AppendsOne, HadNoStamp, BeginsRow, AppendsSeveral, kept_after_points, IsSettledIn, IsGoneAtEnd, IsGoneForMemory}
 use Rattle.lawful_run.specs.Stops.{IsMarked, IsDecided, IsStepWithin, StopsAfter}
 use Rattle.client_law.specs.Knowing.{Seen, Rest, log_of, SeesOn}
 use Rattle.client_law.specs.Making.{MakesAtHome, MakesOnly, made_of, places_since}

@@ -12,7 +12,7 @@ use Rattle.log_node.specs.declared.marks.Outcome.TheVariants.{Final}
 use Rattle.col_core.specs.declared.Event.{Event}
 use Rattle.col_core.specs.declared.Event.TheVariants.{Single, Propose, Settle, Give, Carry}
 use Rattle.col_core.specs.declared.Entry.{Entry}
-use Rattle.col_core.specs.Rows.{BegunRow, FitsRow, FitsRows, IsMarkOf, IsKept, RegionHistories, AreLawfulRows}
+use Rattle.col_core.specs.Rows.{BegunRow, FitsRow, FitsRows, IsMarkOf, FitsMarks, RegionHistories, AreLawfulRows}
 use Rattle.col_core.specs.Cuts.{Dated}
 use Rattle.col_core.specs.Copies.{IsTrueCopy}
 use Rattle.col_core.specs.Computed.{dated}
@@ -88,7 +88,7 @@ rows_lawful = record {
   fit = All-cons (FitsRow 0) row [] (record { client = refl; row = refl; in_region = refl; several = lit≤ tt; a_mark_each = refl }) (All-nil (FitsRow 0));
   ids_differ = alone (λ r s. r.node.id ≢ s.node.id);
   marks = All-cons (λ (r : BegunRow). All (λ (m : ColourMark). IsMarkOf (histories m.colour) r.node m.mark) r.marks) row [] row_marks (All-nil (λ (r : BegunRow). All (λ (m : ColourMark). IsMarkOf (histories m.colour) r.node m.mark) r.marks));
-  kept = All-cons (λ (r : BegunRow). IsKept (map (λ (m : ColourMark). m.mark) r.marks) r.last) row [] refl (All-nil (λ (r : BegunRow). IsKept (map (λ (m : ColourMark). m.mark) r.marks) r.last));
+  outcomes = All-cons (λ (r : BegunRow). FitsMarks (map (λ (m : ColourMark). m.mark) r.marks) r.last) row [] refl (All-nil (λ (r : BegunRow). FitsMarks (map (λ (m : ColourMark). m.mark) r.marks) r.last));
   events = row_events;
 }
 

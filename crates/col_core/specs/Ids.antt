@@ -8,7 +8,8 @@ use Rattle.log_node.specs.Order.{key_below}
 use Rattle.log_node.specs.declared.marks.Outcome.{Outcome}
 use Rattle.log_node.specs.declared.marks.Outcome.TheVariants.{Open, Gone, Final}
 use Rattle.log_node.specs.Standings.{Standing}
-use Rattle.col_core.specs.declared.Event.TheVariants.{Single, Propose, Settle}
+use Rattle.col_core.specs.declared.Event.{Event}
+use Rattle.col_core.specs.declared.Event.TheVariants.{Single, Propose, Settle, Raise, Give, Carry, Trim}
 use Rattle.col_core.specs.declared.Entry.{Entry}
 use Rattle.col_core.specs.History.{entries, line, entry_key}
 
@@ -27,6 +28,16 @@ Proposes history id stamp =
 -- a settling of the id with this outcome stands in the history
 abbrev pub Settles : List Entry → Id → Outcome → Type 0
 Settles history id outcome = (e : Entry) × Contains history e × (e.event ≡ Settle id outcome)
+
+-- the event proposes or settles the id
+abbrev pub IsStepOf : Id → Event → Type 0
+IsStepOf id (Single other floor wants) = ⊥
+IsStepOf id (Propose other floor wants) = other ≡ id
+IsStepOf id (Settle other outcome) = other ≡ id
+IsStepOf id (Raise to) = ⊥
+IsStepOf id (Give region from) = ⊥
+IsStepOf id (Carry region start heads) = ⊥
+IsStepOf id (Trim counts) = ⊥
 
 -- the id is final under the stamp
 abbrev pub IsFinal : List Entry → Id → ℕ → Type 0

@@ -71,7 +71,7 @@ PlayOrderIsUnique = (chains : Chains) (from to : Counts) (one other : List Place
     → IsPlayOrder chains from to one → IsPlayOrder chains from to other → one ≡ other
 
 -- What a client was told of a log stays true of a later one: the event at a place, the key at a position of a line,
--- what a look after some number of events saw, the text of an id, a mark that was set, and an outcome that was kept.
+-- what a look after some number of events saw, the text of an id, a mark that was set, and an outcome that was decided.
 pub record StaysTrue (old new : Log) : Type 0 where
   pub event : (region colour place : ℕ) (e : Entry)
       → slice_get (old.histories region colour) place ≡ Some e → slice_get (new.histories region colour) place ≡ Some e

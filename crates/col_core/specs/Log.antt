@@ -29,7 +29,7 @@ pub record Log : Type 0 where
 abbrev pub IsLaterMark : ColourMark → ColourMark → Type 0
 IsLaterMark old new = (new.colour ≡ old.colour) × (old.mark ≢ marks.None → new.mark ≡ old.mark)
 
--- a row and the same row later: marks that are set stay, and so does an outcome that is kept
+-- a row and the same row later: marks that are set stay, and so does an outcome that is decided
 pub record IsLaterRow (old new : BegunRow) : Type 0 where
   pub row : new.row ≡ old.row
   pub node : new.node ≡ old.node
@@ -64,7 +64,7 @@ abbrev pub HasMark : Log → Node → ℕ → Mark → Type 0
 HasMark log node colour mark =
     (r : BegunRow) × IsBegunFor log node r × Contains r.marks (record { colour = colour; mark = mark })
 
--- the row of the node keeps this outcome
+-- the row of the node has this outcome
 abbrev pub HasOutcome : Log → Node → Outcome → Type 0
 HasOutcome log node outcome = (r : BegunRow) × IsBegunFor log node r × (r.last ≡ outcome)
 

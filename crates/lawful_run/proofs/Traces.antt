@@ -20,7 +20,8 @@ use Rattle.report_text.specs.declared.report.RaisePiece.{RaisePiece}
 use Rattle.report_text.specs.declared.report.SyncPiece.{SyncPiece}
 use Rattle.lawful_run.specs.Callers.{Caller}
 use Rattle.lawful_run.specs.Asks.{Manner, Appending, Stopping, Syncing, Moving, Getting, Reading, Committing, Dequeuing}
-use Rattle.lawful_run.specs.Appends.{IsStepOf, AreSteps}
+use Rattle.col_core.specs.Ids.{IsStepOf}
+use Rattle.lawful_run.specs.Appends.{AreSteps}
 use Rattle.lawful_run.specs.Refusals.{Hides}
 use Rattle.lawful_run.specs.Reads.{kept_after_piece, RaisesAt, kept_after_place, Raises, ClearSyncs, ReadsAt, HidesSyncs, HidesRead}
 use Rattle.lawful_run.specs.Moves.{GivesAt, GivesTooLow, CarriesAt, Pulls, with_places}

@@ -1,7 +1,6 @@
 -- What the answer to an append says of the log.
 use Rattle.std.specs.Prelude.{◌≡◌, ◌≢◌, ◌⊎◌, IsTrue, ℕ, ◌==◌, ◌<◌, ◌≤◌, List, [], ◌∷◌, length, take, map, Option, Some, None, slice_get, if◌then◌else◌}
 use Rattle.std.specs.List.{All, fold}
-use Rattle.log_node.specs.declared.ids.Id.{Id}
 use Rattle.log_node.specs.declared.ids.Colours.{Colours}
 use Rattle.log_node.specs.declared.node.At.{At}
 use Rattle.log_node.specs.declared.node.At.TheVariants.{Event, Look}
@@ -13,10 +12,10 @@ use Rattle.log_node.specs.declared.marks.Mark.{Mark}
 use Rattle.log_node.specs.declared.marks.Mark.TheVariants as marks
 use Rattle.log_node.specs.declared.marks.Outcome.TheVariants.{Gone, Final}
 use Rattle.log_node.specs.Standings.{open_entry}
-use Rattle.col_core.specs.declared.Event as events
-use Rattle.col_core.specs.declared.Event.TheVariants.{Single, Propose, Settle, Raise, Give, Carry, Trim}
+use Rattle.col_core.specs.declared.Event.TheVariants.{Single, Propose}
 use Rattle.col_core.specs.declared.Entry.{Entry}
 use Rattle.col_core.specs.History.{IsAtEnd, entries, line, entry_key, has_entered}
+use Rattle.col_core.specs.Ids.{IsStepOf}
 use Rattle.col_core.specs.Rows.{BegunRow, node_wants}
 use Rattle.col_core.specs.Log.{Log, IsBegunFor, HasMark, HasOutcome}
 use Rattle.col_core.specs.Keeping.{Kept, kept_after_single, kept_after_point, with_made, with_floor, with_node, with_row}
@@ -42,16 +41,6 @@ pub record HadNoStamp (log : Log) (caller : Caller) (kept : Kept) (colour : ℕ)
   pub unseen : kept.seen caller.own colour ≤ events
   pub there : events ≤ length (log.histories caller.own colour)
   pub ended : IsAtEnd (take events (log.histories caller.own colour)) kept.floor
-
--- the event proposes or settles the id
-abbrev pub IsStepOf : Id → events.Event → Type 0
-IsStepOf id (Single other floor wants) = ⊥
-IsStepOf id (Propose other floor wants) = other ≡ id
-IsStepOf id (Settle other outcome) = other ≡ id
-IsStepOf id (Raise to) = ⊥
-IsStepOf id (Give region from) = ⊥
-IsStepOf id (Carry region start heads) = ⊥
-IsStepOf id (Trim counts) = ⊥
 
 -- at the places, by colour, stand proposals and settlings of the node by the client itself
 abbrev pub AreSteps : Log → Caller → Node → (ℕ → List ℕ) → Type 0

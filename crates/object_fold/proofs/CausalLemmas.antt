@@ -11,7 +11,7 @@ use Rattle.object_fold.specs.declared.causal_map.LatestWrite.{LatestWrite}
 use Rattle.object_fold.specs.declared.causal_map.CausalMap.{CausalMap}
 use Rattle.object_fold.specs.Causal.{ChainNode, IsCausalAnswer, written_value}
 use Rattle.object_fold.specs.Pasts.{past_chain, at_once, past_of, IsNext}
-use Rattle.object_fold.specs.CausalStates.{IsCausalMap, HoldsLatest, latest_write, kept_at, change_by, kept_with}
+use Rattle.object_fold.specs.CausalStates.{IsCausalMap, HoldsLatest, latest_write, latest_at, change_by, latest_with}
 use Rattle.object_fold.proofs.PastLemmas.{one_more_past}
 use Rattle.object_fold.proofs.LatestLemmas.{form_step}
 
@@ -21,7 +21,7 @@ module _ (old new : CausalMap) (played : List ChainNode) (node : ChainNode) (sta
 
   -- the map stands for one node more
   pub one_more_node : new.pasts ≡ set old.pasts node.region (past_chain old.pasts node.region ++ past ∷ [])
-      → ((key : List ℕ) → kept_at new.latest.entries key ≡ kept_with old.latest.entries (change_by old.latest.entries node.region node.position past (form_of node.text)) key)
+      → ((key : List ℕ) → latest_at new.latest.entries key ≡ latest_with old.latest.entries (change_by old.latest.entries node.region node.position past (form_of node.text)) key)
       → IsCausalMap new (played ++ node ∷ [])
   one_more_node pasts latest =
       let within : node.region < length old.pasts = omega (arith, stands.pasts.four, next.region) in
@@ -36,10 +36,10 @@ value_of_latest : (key : List ℕ) (nodes : List ChainNode) → map (λ (w : Lat
 value_of_latest key [] = refl
 value_of_latest key (n ∷ ns) = ap (λ vs. unwrap_or (written_value key n) [] ∷ vs) (value_of_latest key ns)
 
--- sorted values of the kept writes are the answer
-pub answers : (played : List ChainNode) (key : List ℕ) (kept : List LatestWrite) (copied values : List (List ℕ)) → HoldsLatest played key kept
-    → copied ≡ map (λ (w : LatestWrite). w.value) kept → IsPermutation copied values → IsSorted (slice_cmp nat_cmp) values → IsCausalAnswer played key values
-answers played key kept copied values h all moved sorted =
+-- sorted values of the latest writes are the answer
+pub answers : (played : List ChainNode) (key : List ℕ) (latest : List LatestWrite) (copied values : List (List ℕ)) → HoldsLatest played key latest
+    → copied ≡ map (λ (w : LatestWrite). w.value) latest → IsPermutation copied values → IsSorted (slice_cmp nat_cmp) values → IsCausalAnswer played key values
+answers played key latest copied values h all moved sorted =
     let e : copied ≡ map (λ node. unwrap_or (written_value key node) []) (filter h.is_latest played) =
     all ∙ ap (map (λ (w : LatestWrite). w.value)) h.writes ∙ value_of_latest key (filter h.is_latest played) in
     record { is_latest = h.is_latest; exactly = h.exactly; each_value = IsPermutation-sym _ _ (rw e at moved); sorted = sorted }

@@ -1,4 +1,4 @@
--- The kept writes of a key, after one more played node.
+-- The latest writes of a key, after one more played node.
 use Rattle.std.proofs.Common.{◌≡◌, ℕ, zero, suc, ◌↔◌, inl, inr, Bool, true, false, not, ◌&&◌, ◌||◌, eqb, ltb, List, [], ◌∷◌, ◌++◌, length, get_or, map, Option, Some, None, refl, ap, sym, subst, ◌∙◌, arith}
 use Rattle.std.specs.Prelude.{IsTrue, filter, is_some}
 use Rattle.std.specs.List.{Contains, AllByRecursion}
@@ -16,7 +16,7 @@ use Rattle.object_form.specs.Readings.{form_of}
 use Rattle.object_fold.specs.declared.causal_map.LatestWrite.{LatestWrite}
 use Rattle.object_fold.specs.Causal.{ChainNode, Follows, IsLatestWrite, written_value}
 use Rattle.object_fold.specs.Pasts.{past_chain, at_once, past_of, ArePasts, IsNext}
-use Rattle.object_fold.specs.CausalStates.{latest_write, HoldsLatest, kept_at, not_followed, change_by, kept_with}
+use Rattle.object_fold.specs.CausalStates.{latest_write, HoldsLatest, latest_at, not_followed, change_by, latest_with}
 use Rattle.object_fold.proofs.PastLemmas.{grow, shrink, to_new, from_new, newest, own_position}
 
 -- ---- filters
@@ -110,8 +110,8 @@ module _ (pasts : List (List Counts)) (played : List ChainNode) (node : ChainNod
   }
 
   -- a node that does not write the key changes nothing of it
-  pub unwritten : (kept : List LatestWrite) → written_value key node ≡ None → HoldsLatest played key kept → HoldsLatest after key kept
-  unwritten kept none h = record {
+  pub unwritten : (latest : List LatestWrite) → written_value key node ≡ None → HoldsLatest played key latest → HoldsLatest after key latest
+  unwritten latest none h = record {
     is_latest = λ x. not (is_new x) && h.is_latest x;
     exactly = λ x c. elim (Contains-push_cases played node x c) [
       | inl inside ↦
@@ -136,9 +136,9 @@ module _ (pasts : List (List Counts)) (played : List ChainNode) (node : ChainNod
   is_apart x = not (ltb x.position (at past x.region))
 
   -- a node that writes the key takes the place of the writes that it follows
-  pub written : (kept : List LatestWrite) (v : List ℕ) → written_value key node ≡ Some v → HoldsLatest played key kept
-      → HoldsLatest after key (not_followed past kept ++ record { region = node.region; position = node.position; value = v } ∷ [])
-  written kept v some h = record {
+  pub written : (latest : List LatestWrite) (v : List ℕ) → written_value key node ≡ Some v → HoldsLatest played key latest
+      → HoldsLatest after key (not_followed past latest ++ record { region = node.region; position = node.position; value = v } ∷ [])
+  written latest v some h = record {
     is_latest = test;
     exactly = λ x c. elim (Contains-push_cases played node x c) [
       | inl inside ↦
@@ -163,7 +163,7 @@ module _ (pasts : List (List Counts)) (played : List ChainNode) (node : ChainNod
         let olds = filter_same test (λ (x : ChainNode). h.is_latest x && is_apart x) played (each (λ (x : ChainNode). test x ≡ (h.is_latest x && is_apart x)) played (λ x c. rw (old_is_not x c) refl)) in
         let new : filter test (node ∷ []) ≡ node ∷ [] = rw new_is_new refl in
         let all : filter test after ≡ filter is_apart (filter h.is_latest played) ++ node ∷ [] = filter-append test played (node ∷ []) ∙ rw (olds, new) (ap (λ (ys : List ChainNode). ys ++ node ∷ []) (filter_both h.is_latest is_apart played)) in
-        let lefts : not_followed past kept ≡ map (latest_write key) (filter is_apart (filter h.is_latest played)) =
+        let lefts : not_followed past latest ≡ map (latest_write key) (filter is_apart (filter h.is_latest played)) =
         ap (not_followed past) h.writes ∙ filter_mapped (latest_write key) (λ (w : LatestWrite). not (ltb w.position (at past w.region))) (filter h.is_latest played) in
         let last : latest_write key node ≡ record { region = node.region; position = node.position; value = v } = rw some refl in
         ap (λ (ws : List LatestWrite). ws ++ record { region = node.region; position = node.position; value = v } ∷ []) lefts
@@ -178,20 +178,20 @@ module _ (pasts : List (List Counts)) (played : List ChainNode) (node : ChainNod
 
   -- what a form leaves of the key
   pub form_step : (entries : List (List ℕ × List LatestWrite)) (form : Form) → form_of node.text ≡ form
-      → HoldsLatest played key (kept_at entries key) → HoldsLatest after key (kept_with entries (change_by entries node.region node.position past form) key)
+      → HoldsLatest played key (latest_at entries key) → HoldsLatest after key (latest_with entries (change_by entries node.region node.position past form) key)
   form_step entries (forms.Causal k v) e h = elim (cases_Bool (bytes_eq k key)) [
     | inl here ↦
         let same : k ≡ key = (bytes_eq-Decides k key).0 here in
         let some : written_value key node ≡ Some v = rw e (rw here refl) in
-        rw here (rw same (written (kept_at entries key) v some h))
+        rw here (rw same (written (latest_at entries key) v some h))
     | inr other ↦
         let none : written_value key node ≡ None = rw e (rw other refl) in
-        rw other (unwritten (kept_at entries key) none h)
+        rw other (unwritten (latest_at entries key) none h)
   ]
-  form_step entries (forms.Put k v) e h = unwritten (kept_at entries key) (rw e refl) h
-  form_step entries (forms.Delete k) e h = unwritten (kept_at entries key) (rw e refl) h
-  form_step entries (forms.PutAll pairs) e h = unwritten (kept_at entries key) (rw e refl) h
-  form_step entries (forms.Transaction reads pairs) e h = unwritten (kept_at entries key) (rw e refl) h
-  form_step entries (forms.Enqueue v) e h = unwritten (kept_at entries key) (rw e refl) h
-  form_step entries forms.Dequeue e h = unwritten (kept_at entries key) (rw e refl) h
-  form_step entries forms.Plain e h = unwritten (kept_at entries key) (rw e refl) h
+  form_step entries (forms.Put k v) e h = unwritten (latest_at entries key) (rw e refl) h
+  form_step entries (forms.Delete k) e h = unwritten (latest_at entries key) (rw e refl) h
+  form_step entries (forms.PutAll pairs) e h = unwritten (latest_at entries key) (rw e refl) h
+  form_step entries (forms.Transaction reads pairs) e h = unwritten (latest_at entries key) (rw e refl) h
+  form_step entries (forms.Enqueue v) e h = unwritten (latest_at entries key) (rw e refl) h
+  form_step entries forms.Dequeue e h = unwritten (latest_at entries key) (rw e refl) h
+  form_step entries forms.Plain e h = unwritten (latest_at entries key) (rw e refl) h

@@ -355,8 +355,8 @@ module _ (pasts : List (List Counts)) (played : List ChainNode) (node : ChainNod
   abbrev new : Counts
   new = past_of pasts (at_once node.region node.position node.needs)
 
-  kept : (t i : ℕ) (v : Counts) → slice_get (past_chain pasts t) i ≡ Some v → slice_get (past_chain later t) i ≡ Some v
-  kept t i v h = elim (cases_eq t node.region) [
+  stays : (t i : ℕ) (v : Counts) → slice_get (past_chain pasts t) i ≡ Some v → slice_get (past_chain later t) i ≡ Some v
+  stays t i v h = elim (cases_eq t node.region) [
     | inl same ↦ rw (same, own) (get_left (past_chain pasts node.region) (new ∷ []) i v (rw same at h))
     | inr apart ↦ rw (others t apart) h
   ]
@@ -372,7 +372,7 @@ module _ (pasts : List (List Counts)) (played : List ChainNode) (node : ChainNod
       let k = known.known x c in
       record {
         past = k.past;
-        here = kept x.region x.position k.past k.here;
+        here = stays x.region x.position k.past k.here;
         exact = λ m. (λ f. (k.exact m).0 (shrink pasts played node known next f c), λ h. grow played node ((k.exact m).1 h));
         within = λ t. omega (arith, k.within t, longer t);
       }

@@ -12,30 +12,30 @@ use Rattle.object_fold.specs.Tables.{value_at}
 use Rattle.object_fold.specs.Causal.{ChainNode, IsLatestWrite, written_value}
 use Rattle.object_fold.specs.Pasts.{ArePasts}
 
--- a kept write of a key: its node's place, and the value
+-- a latest write of a key: its node's place, and the value
 abbrev pub latest_write : List ℕ → ChainNode → LatestWrite
 latest_write key node =
     record { region = node.region; position = node.position; value = unwrap_or (written_value key node) [] }
 
--- the kept writes of a key are those that no other played write of the key follows
-pub record HoldsLatest (played : List ChainNode) (key : List ℕ) (kept : List LatestWrite) : Type 0 where
+-- the latest writes of a key are those that no other played write of the key follows
+pub record HoldsLatest (played : List ChainNode) (key : List ℕ) (latest : List LatestWrite) : Type 0 where
   pub is_latest : ChainNode → Bool
   pub exactly : (node : ChainNode) → Contains played node → IsTrue (is_latest node) ↔ IsLatestWrite played key node
-  pub writes : kept ≡ map (latest_write key) (filter is_latest played)
+  pub writes : latest ≡ map (latest_write key) (filter is_latest played)
 
--- the writes that are kept of a key
-abbrev pub kept_at : List (List ℕ × List LatestWrite) → List ℕ → List LatestWrite
-kept_at entries key = unwrap_or (value_at entries key) []
+-- the latest writes of a key
+abbrev pub latest_at : List (List ℕ × List LatestWrite) → List ℕ → List LatestWrite
+latest_at entries key = unwrap_or (value_at entries key) []
 
--- those of some kept writes that a node with this vector does not follow
+-- those of some writes that a node with this vector does not follow
 abbrev pub not_followed : Counts → List LatestWrite → List LatestWrite
-not_followed past kept = filter (λ write. not (nat_lt write.position (at past write.region))) kept
+not_followed past latest = filter (λ write. not (nat_lt write.position (at past write.region))) latest
 
--- the key that a node with this place, vector and form writes, and what is then kept of it
+-- the key that a node with this place, vector and form writes, and its latest writes then
 abbrev pub change_by : List (List ℕ × List LatestWrite) → ℕ → ℕ → Counts → Form → Option (List ℕ × List LatestWrite)
 change_by entries region position past (forms.Causal key value) =
     let write : LatestWrite = record { region = region; position = position; value = value } in
-    Some (key, not_followed past (kept_at entries key) ++ write ∷ [])
+    Some (key, not_followed past (latest_at entries key) ++ write ∷ [])
 change_by entries region position past (forms.Put key value) = None
 change_by entries region position past (forms.Delete key) = None
 change_by entries region position past (forms.PutAll pairs) = None
@@ -44,12 +44,12 @@ change_by entries region position past (forms.Enqueue value) = None
 change_by entries region position past forms.Dequeue = None
 change_by entries region position past forms.Plain = None
 
--- what is kept of a key after a change
-abbrev pub kept_with : List (List ℕ × List LatestWrite) → Option (List ℕ × List LatestWrite) → List ℕ → List LatestWrite
-kept_with entries None other = kept_at entries other
-kept_with entries (Some change) other = if bytes_eq change.0 other then change.1 else kept_at entries other
+-- the latest writes of a key after a change
+abbrev pub latest_with : List (List ℕ × List LatestWrite) → Option (List ℕ × List LatestWrite) → List ℕ → List LatestWrite
+latest_with entries None other = latest_at entries other
+latest_with entries (Some change) other = if bytes_eq change.0 other then change.1 else latest_at entries other
 
 -- the causal map holds what these played nodes leave
 pub record IsCausalMap (map : CausalMap) (played : List ChainNode) : Type 0 where
   pub pasts : ArePasts map.pasts played
-  pub latest : (key : List ℕ) → HoldsLatest played key (kept_at map.latest.entries key)
+  pub latest : (key : List ℕ) → HoldsLatest played key (latest_at map.latest.entries key)

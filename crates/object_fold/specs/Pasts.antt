@@ -1,4 +1,4 @@
--- What is kept of played nodes for the causal map: for each node how many nodes of each chain it follows, and for each
+-- What the causal map has of played nodes: for each node how many nodes of each chain it follows, and for each
 -- key the writes that no other one follows.
 use Rattle.std.specs.Prelude.{◌≡◌, ◌↔◌, ℕ, ◌-◌, ◌<◌, ◌≤◌, ◌==◌, max, List, [], length, Some, unwrap_or, slice_get, slice_index_or, count_by, if◌then◌else◌}
 use Rattle.std.specs.List.{Contains}
@@ -30,7 +30,7 @@ abbrev pub past_of : List (List Counts) → Counts → Counts
 past_of pasts counted =
     let last = last_past pasts counted in joined (joined (joined (joined counted (last 0)) (last 1)) (last 2)) (last 3)
 
--- the node's vector is kept at its place, and counts exactly the nodes that it follows
+-- the node's vector stands at its place, and counts exactly the nodes that it follows
 pub record IsPast (pasts : List (List Counts)) (played : List ChainNode) (node : ChainNode) : Type 0 where
   pub past : Counts
   pub here : slice_get (past_chain pasts node.region) node.position ≡ Some past

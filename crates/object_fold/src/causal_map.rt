@@ -4,7 +4,7 @@ ghost use Rattle.log_node.specs.Vectors.{at};
 ghost use Rattle.object_form.specs.Readings.{form_of};
 ghost use Rattle.object_fold.specs.Causal.{ChainNode, IsCausalAnswer};
 ghost use Rattle.object_fold.specs.Pasts.{IsNext, at_once, past_of, past_chain};
-ghost use Rattle.object_fold.specs.CausalStates.{IsCausalMap, kept_at, not_followed, change_by, kept_with};
+ghost use Rattle.object_fold.specs.CausalStates.{IsCausalMap, latest_at, not_followed, change_by, latest_with};
 
 use crate::pasts::{at_once, past_of};
 use crate::table::Table;
@@ -55,12 +55,12 @@ impl LatestWrite {
 fn not_followed(
     alloc: Global,
     past: Counts,
-    kept: &[LatestWrite],
+    writes: &[LatestWrite],
 ) -> Result<ListOf<LatestWrite>, AllocError>
-    ensures { IfOk result (λ left. left ≡ not_followed past kept.now) }
+    ensures { IfOk result (λ left. left ≡ not_followed past writes.now) }
 {
     let mut left = ListOf::new(alloc);
-    for write in kept {
+    for write in writes {
         if !write.is_followed(past) {
             left.push(write.copied(alloc)?)?;
         }
@@ -84,16 +84,16 @@ impl CausalMap {
         }
     }
 
-    fn kept(&self, key: &[u8]) -> &[LatestWrite]
-        ensures { result.now ≡ kept_at self.now.latest.entries key.now }
+    fn latest_of(&self, key: &[u8]) -> &[LatestWrite]
+        ensures { result.now ≡ latest_at self.now.latest.entries key.now }
     {
         match self.latest.get(key) {
-            Some(kept) => kept.as_slice(),
+            Some(writes) => writes.as_slice(),
             None => &[],
         }
     }
 
-    // The key that a node with this place, vector and text writes, and what is then kept of it.
+    // The key that a node with this place, vector and text writes, and the latest writes of it then.
     fn change(
         &self,
         alloc: Global,
@@ -106,7 +106,7 @@ impl CausalMap {
     {
         match form {
             Form::Causal { key, value } => {
-                let mut left = not_followed(alloc, past, self.kept(key.as_bytes()))?;
+                let mut left = not_followed(alloc, past, self.latest_of(key.as_bytes()))?;
                 left.push(LatestWrite {
                     region,
                     position,
@@ -130,7 +130,7 @@ impl CausalMap {
         }
     }
 
-    // Takes a node over: its vector, and what is then kept of the key that it writes.
+    // Takes a node over: its vector, and the latest writes of the key that it writes.
     fn take(
         &mut self,
         region: u8,
@@ -140,15 +140,15 @@ impl CausalMap {
         requires { region < 4 }
         ensures pasts { OnOk result (self.new.pasts
             ≡ slice_set self.old.pasts region (past_chain self.old.pasts region ++ past ∷ [])) }
-        ensures latest { (other : List ℕ) → OnOk result (kept_at self.new.latest.entries other
-            ≡ kept_with self.old.latest.entries change other) }
+        ensures latest { (other : List ℕ) → OnOk result (latest_at self.new.latest.entries other
+            ≡ latest_with self.old.latest.entries change other) }
         ensures pasts_stay { OnErr result (self.new.pasts ≡ self.old.pasts) }
         ensures latest_stays { OnErr result (self.new.latest.entries ≡ self.old.latest.entries) }
     {
         self.latest.reserve(1)?;
         self.pasts[region as usize].push(past)?;
-        if let Some((key, kept)) = change {
-            self.latest.set(key, kept);
+        if let Some((key, writes)) = change {
+            self.latest.set(key, writes);
         }
         Ok(())
     }
@@ -181,7 +181,7 @@ impl CausalMap {
             → IfOk result (λ values. IsCausalAnswer played key.now values) }
     {
         let mut values = Vec::new(alloc);
-        for write in self.kept(key) {
+        for write in self.latest_of(key) {
             values.push(Text::copied(alloc, write.value.as_bytes())?)?;
         }
         values.sort_unstable_by(|a, b| a.as_bytes().cmp(b.as_bytes()));

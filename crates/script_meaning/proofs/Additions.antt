@@ -18,7 +18,7 @@ use Rattle.world_laws.specs.declared.steps.Step.{Step}
 use Rattle.world_laws.specs.declared.steps.Step.TheVariants as steps
 use Rattle.world_laws.specs.Worlds.{World, home_of, after, run_steps, is_begun, may_propose, may_fence, may_decide, may_settle, with_last, with_mark, after_propose, proposed_entry, after_decide, after_settle, settled_entry}
 use Rattle.world_laws.proofs.CallerLemmas.{in_append, at_last, after_grows}
-use Rattle.lawful_run.specs.Appends.{IsStepOf}
+use Rattle.col_core.specs.Ids.{IsStepOf}
 use Rattle.lawful_run.specs.Lawful.{IsHelp}
 use Rattle.script_meaning.proofs.StaysComplete.{OfDone}
 use Rattle.script_meaning.proofs.Rows.{node_id, still_begun}

@@ -26,7 +26,8 @@ use Rattle.world_laws.proofs.CallerLemmas.{slice_in, begun_client, used_before, 
 use Rattle.world_laws.proofs.CallerLemmas.{after_reached, run_reached}
 use Rattle.script_text.specs.declared.script.Object.{Object}
 use Rattle.lawful_run.specs.Callers.{Caller, node_of, row_of as named_row}
-use Rattle.lawful_run.specs.Appends.{IsStepOf, BeginsRow}
+use Rattle.col_core.specs.Ids.{IsStepOf}
+use Rattle.lawful_run.specs.Appends.{BeginsRow}
 use Rattle.lawful_run.proofs.CallerLemmas.{prefix_length, prefix_get, get_within}
 use Rattle.script_meaning.proofs.Rows.{IsDone, IsStill, done_still, still_trans, step_still, run_still}
 use Rattle.script_meaning.proofs.Completions.{IsOn, on_touches}

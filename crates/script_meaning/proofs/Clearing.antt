@@ -19,7 +19,7 @@ use Rattle.world_laws.specs.Completing.{complete_steps}
 use Rattle.world_laws.specs.Laws.{IsReached}
 use Rattle.world_laws.proofs.CallerLemmas.{status_in, Held, is_waiting, same_number, run_grows, run_held}
 use Rattle.world_laws.proofs.CallerLemmas.{run_steps-append, run_reached}
-use Rattle.lawful_run.specs.Appends.{IsStepOf}
+use Rattle.col_core.specs.Ids.{IsStepOf}
 use Rattle.script_meaning.specs.States.{Grants}
 use Rattle.script_meaning.specs.Helping.{Helping, open_below, node_with, helped_row, helped_node, helped_first, helped_times, cleared, all_cleared}
 use Rattle.script_meaning.proofs.Reached.{held_of, told_of, listed_of}

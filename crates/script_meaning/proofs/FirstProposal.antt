@@ -22,7 +22,7 @@ use Rattle.world_laws.specs.Laws.{IsReached}
 use Rattle.world_laws.proofs.CallerLemmas.{slice_in, status_in, lawful_past_in, not_entered, next_absent}
 use Rattle.world_laws.proofs.CallerLemmas.{reverse-split, same_number, FitsEvent}
 use Rattle.script_text.specs.declared.script.Object.{Object}
-use Rattle.lawful_run.specs.Appends.{IsStepOf}
+use Rattle.col_core.specs.Ids.{IsStepOf}
 use Rattle.script_meaning.proofs.Completions.{IsOn}
 use Rattle.script_meaning.proofs.Additions.{StepIn, OnRow}
 use Rattle.script_meaning.proofs.Reached.{held_of, told_of}

@@ -12,7 +12,7 @@ use Rattle.script_text.specs.declared.item.Item.{Item}
 use Rattle.script_text.specs.declared.item.Item.TheVariants as items
 use Rattle.script_text.specs.Items.{is_stop, client_names, commands, commands_in, has_stopped, has_begun}
 use Rattle.script_text.specs.Pieces.{lines_of}
-use Rattle.script_text.specs.Grammar.{may_follow, Say, kept_lines}
+use Rattle.script_text.specs.Grammar.{may_follow, Say, said_lines}
 use Rattle.script_meaning.specs.States.{StopsAreLast}
 use Rattle.script_meaning.specs.Laws.{ScriptsStopLast}
 use Rattle.script_meaning.proofs.FirstProposal.{in_any}
@@ -98,5 +98,5 @@ pub scripts_stop_last : ScriptsStopLast
 unfolding Last
 scripts_stop_last bytes script is =
     subst StopsAreLast (sym is.same)
-    (last_pairs (commands is.said) (all_last [] (kept_lines (enumerate_from 1
+    (last_pairs (commands is.said) (all_last [] (said_lines (enumerate_from 1
     (lines_of bytes))) is.said tt is.lines.say))

@@ -32,7 +32,7 @@ use Rattle.report_text.specs.declared.report.ClientReport.{ClientReport}
 use Rattle.report_text.specs.declared.report.ColumnReport.{ColumnReport}
 use Rattle.lawful_run.specs.Callers.{caller_of}
 use Rattle.lawful_run.specs.Columns.{IsColumnReport, AreColumns, AreRows, AreCopies, IsClientIn}
-use Rattle.lawful_run.specs.Appends.{IsStepOf}
+use Rattle.col_core.specs.Ids.{IsStepOf}
 use Rattle.lawful_run.specs.Lawful.{IsClientRun, IsHelp, HasHelping, HasStopped, LeavesOpen, IsComplete, LawfulRun}
 use Rattle.script_meaning.specs.States.{State}
 use Rattle.script_meaning.specs.Meaning.{column_report, report_of}

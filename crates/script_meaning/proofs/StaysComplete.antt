@@ -17,7 +17,7 @@ use Rattle.world_laws.specs.Worlds.{World, RowState, home_of, after, run_steps, 
 use Rattle.world_laws.specs.Completing.{colours_of}
 use Rattle.world_laws.proofs.CallerLemmas.{Held, is_waiting, any_mark, open_where_missing, open_is, lawful_past_in}
 use Rattle.world_laws.proofs.CallerLemmas.{open_is_waiting, kept_marks, run_grows, after_held}
-use Rattle.lawful_run.specs.Appends.{IsStepOf}
+use Rattle.col_core.specs.Ids.{IsStepOf}
 use Rattle.lawful_run.specs.Lawful.{IsHelp}
 use Rattle.script_meaning.proofs.Rows.{node_id, IsDone, IsStill, still, row_put, propose_still, settle_still, step_still, still_begun, still_trans, done_still}
 

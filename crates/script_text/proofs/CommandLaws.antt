@@ -23,7 +23,7 @@ use Rattle.script_text.specs.Reads.{holds}
 use Rattle.script_text.specs.Table.{word_at, row_fields, last_of, fits, nothing, what_of}
 use Rattle.script_text.specs.Words.{word_text, word_of}
 use Rattle.script_text.specs.Grammar.{SpellAll, SpellsWhat, ends_well, may_follow}
-use Rattle.script_text.specs.Kept.{known_of}
+use Rattle.script_text.specs.Known.{known_of}
 use Rattle.script_text.specs.Readings.{◌>>=◌, refuse, number_at}
 use Rattle.script_text.specs.CommandReadings.{given_at, ended_well, what_at, worded_at, asked_at, caller_at, command_at}
 use Rattle.script_text.proofs.EachLemmas.{refused_ok, bind_ok, ok_is}

@@ -25,7 +25,7 @@ use Rattle.script_text.specs.Items.{may_come, region_names, colour_names, client
 use Rattle.script_text.specs.Reads.{holds}
 use Rattle.script_text.specs.Table.{word_at, row_fields, last_of, own_fields, later_fields, fits, nothing, what_of, sort_fields, sort_at, kind_of}
 use Rattle.script_text.specs.Faults.{when, each_field, new_name, region_field, field_at, kind_tests, field_tests, last_tests, word_tests, command_tests, is_full, header_tests, object_tests}
-use Rattle.script_text.specs.Kept.{known_of}
+use Rattle.script_text.specs.Known.{known_of}
 use Rattle.script_text.specs.Readings.{◌>>=◌, refuse, found_or, each_at, new_name_at, number_at, colours_set_at, text_at, pair_at, digits_at, object_at, with_one, with_two}
 use Rattle.script_text.specs.HeaderReadings.{regions_at, colour_line_at, rows_at, client_named_at, client_at, object_name_at, sorted_at, declared_at, headed_at, header_at}
 use Rattle.script_text.specs.CommandReadings.{taken_at, given_at, ended_well, what_at, worded_at, asked_at, caller_at, command_at}

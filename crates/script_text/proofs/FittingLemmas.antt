@@ -27,7 +27,7 @@ use Rattle.script_text.specs.declared.item.Stage.{Stage}
 use Rattle.script_text.specs.declared.item.Stage.TheVariants as stages
 use Rattle.script_text.specs.Pieces.{lines_of, fields_of, is_among, is_between}
 use Rattle.script_text.specs.Items.{stage_after, stage_of, header_words, may_come, is_begun, has_begun, regions_in, colours_in, clients_in, commands_in, last_said, region_names, colour_names, client_names, client_homes, commands, script_of, set_of}
-use Rattle.script_text.specs.Grammar.{kept_lines, is_passed_over, may_follow, is_region, Spells, SpellAll, SpellsWhat, Says, Say, AreLines, IsScript}
+use Rattle.script_text.specs.Grammar.{said_lines, is_passed_over, may_follow, is_region, Spells, SpellAll, SpellsWhat, Says, Say, AreLines, IsScript}
 use Rattle.script_text.specs.Fitting.{AreBelow, IsWithin, IsFitting}
 
 and-left : (a b : Bool) → (a && b) ≡ true → a ≡ true
@@ -453,9 +453,9 @@ items_few before [] (item ∷ later) say = absurd say
 items_few before (line ∷ lines) [] say = omega arith
 items_few before (line ∷ lines) (item ∷ later) say = let r = items_few (before ++ item ∷ []) lines later say.2 in omega arith
 
-kept_few : (p : ℕ × List ℕ → Bool) (lines : List (ℕ × List ℕ)) → length (filter p lines) ≤ length lines
-kept_few p [] = omega arith
-kept_few p (line ∷ lines) = let r = kept_few p lines in of (p line) r where
+said_few : (p : ℕ × List ℕ → Bool) (lines : List (ℕ × List ℕ)) → length (filter p lines) ≤ length lines
+said_few p [] = omega arith
+said_few p (line ∷ lines) = let r = said_few p lines in of (p line) r where
   of : (b : Bool) → length (filter p lines) ≤ length lines → length (cond b (line ∷ filter p lines) (filter p lines)) ≤ length (line ∷ lines)
   of true r = omega arith
   of false r = omega arith
@@ -465,8 +465,8 @@ unfolding Fit
 fitting said lines fit begun are =
     let early = at_commands (stage_of said) (length (region_names said)) (length (colour_names said)) (client_homes said) (commands said) begun fit.early in
     let asked = commands_few said in
-    let many = items_few [] (kept_lines (enumerate_from 1 lines)) said are.say in
-    let kept = kept_few (λ line. not (is_passed_over line)) (enumerate_from 1 lines) in
+    let many = items_few [] (said_lines (enumerate_from 1 lines)) said are.say in
+    let here = said_few (λ line. not (is_passed_over line)) (enumerate_from 1 lines) in
     let numbered = length-enumerate_from 1 lines in
     let few = are.few in record {
       shape = record {
@@ -489,4 +489,4 @@ fitting said lines fit begun are =
 -- what is read as a script has numbers that name what there is
 pub script_fits : (bytes : List ℕ) (script : Script) → IsScript bytes script → IsFitting script
 script_fits bytes script is = subst (λ (s : Script). IsFitting s) (sym is.same)
-    (fitting is.said (lines_of bytes) (all_fit [] (kept_lines (enumerate_from 1 (lines_of bytes))) is.said fit_nothing is.lines.say) is.begun is.lines)
+    (fitting is.said (lines_of bytes) (all_fit [] (said_lines (enumerate_from 1 (lines_of bytes))) is.said fit_nothing is.lines.say) is.begun is.lines)

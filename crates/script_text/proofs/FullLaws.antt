@@ -6,7 +6,7 @@ use Rattle.script_text.specs.declared.item.Item.{Item}
 use Rattle.script_text.specs.Pieces.{is_name, is_key, is_text, is_number, is_between, is_letter_or_digit, is_among, name_of, names_in}
 use Rattle.script_text.specs.Items.{region_names, colour_names}
 use Rattle.script_text.specs.Grammar.{are_new_names, are_new_keys, are_new_numbers, are_colours, is_region, is_colour, has_equals}
-use Rattle.script_text.specs.Kept.{known_of}
+use Rattle.script_text.specs.Known.{known_of}
 use Rattle.script_text.proofs.NameLemmas.{named, new_parts}
 use Rattle.script_text.proofs.KnownLaws.{IsLawful}
 

@@ -20,7 +20,7 @@ use Rattle.script_text.specs.Pieces.{is_between, is_number, number_value, name_o
 use Rattle.script_text.specs.Items.{may_come, region_names, client_names, objects, object_names}
 use Rattle.script_text.specs.Grammar.{SpellsNumber, may_follow, are_new_names, is_region, SpellAll}
 use Rattle.script_text.specs.Laws.{Follows}
-use Rattle.script_text.specs.Kept.{known_of}
+use Rattle.script_text.specs.Known.{known_of}
 use Rattle.script_text.specs.Readings.{◌>>=◌, number_at, new_name_at, new_names_at}
 use Rattle.script_text.specs.HeaderReadings.{version_at, regions_at, colour_line_at, rows_at, client_named_at, client_at, object_name_at, sorted_at, declared_at, headed_at, header_at}
 use Rattle.script_text.proofs.EachLemmas.{refused_ok, bind_ok, ok_is}

@@ -20,7 +20,7 @@ use Rattle.script_text.specs.Items.{set_of, region_names, colour_names, object_n
 use Rattle.script_text.specs.Table.{own_in, later_in, at_most, own_fields, later_fields, has, fits}
 use Rattle.script_text.specs.Grammar.{Spells, SpellAll, are_colours, are_keys, are_pairs, are_new_keys, are_new_numbers, is_colour, has_equals, key_in, value_in, pair_of, is_one_of}
 use Rattle.script_text.specs.Faults.{when, kind_tests, colour_fields, key_field, pair_field}
-use Rattle.script_text.specs.Kept.{known_of}
+use Rattle.script_text.specs.Known.{known_of}
 use Rattle.script_text.specs.Readings.{each_at, number_at, colours_at, colours_set_at, text_at, value_at, key_at, pair_at, digits_at, object_at}
 use Rattle.script_text.specs.CommandReadings.{taken_at, given_at}
 use Rattle.script_text.proofs.EachLemmas.{refused_ok, bind_ok, ok_is}

@@ -1,4 +1,4 @@
--- What is kept of the lines is what they say, line after line, and names stay distinct and few.
+-- What is known of the lines is what they say, line after line, and names stay distinct and few.
 use Rattle.std.proofs.Common.{◌≡◌, ℕ, ◌<◌, Bool, true, false, ◌&&◌, not, inl, inr, lit≤, subst, codes, ltb, leb, eqb, List, [], ◌∷◌, ◌++◌, length, map, Option, Some, refl, sym, append_assoc, arith}
 use Rattle.std.specs.List.{list_any, filter_map, last_or}
 use Rattle.std.proofs.lemmas.Bool.{cases_Bool, and_parts, ltb-true, leb-true}
@@ -13,7 +13,7 @@ use Rattle.script_text.specs.Pieces.{is_name, is_among, is_between}
 use Rattle.script_text.specs.Items.{last_said, is_stop, may_come, client_names, objects, object_names}
 use Rattle.script_text.specs.Grammar.{are_new_names, may_follow, is_region}
 use Rattle.script_text.specs.Table.{sort_text, sort_of}
-use Rattle.script_text.specs.Kept.{known_of, known_after, with_item, stops_in, stopped_in, IsSmall}
+use Rattle.script_text.specs.Known.{known_of, known_after, with_item, stops_in, stopped_in, IsSmall}
 use Rattle.script_text.proofs.ReadLaws.{held_push}
 
 last_or-push : {A : Type 0} (o : Option A) (xs : List A) (x : A) → last_or o (xs ++ x ∷ []) ≡ Some x

@@ -21,11 +21,11 @@ use Rattle.script_text.specs.Items.{is_begun, has_begun, header_words, may_come,
 use Rattle.script_text.specs.Grammar.{is_passed_over}
 use Rattle.script_text.specs.Table.{sort_text, sort_of}
 use Rattle.script_text.specs.Faults.{when, first_of, command_tests, header_tests, fields_tests, fault_of}
-use Rattle.script_text.specs.Kept.{known_of, known_with}
+use Rattle.script_text.specs.Known.{known_of, known_with}
 use Rattle.script_text.specs.Readings.{◌>>=◌, refuse}
 use Rattle.script_text.specs.HeaderReadings.{version_at, headed_at, header_at}
 use Rattle.script_text.specs.CommandReadings.{command_at}
-use Rattle.script_text.specs.LineReadings.{item_at, full_item_at, kept_at, line_at}
+use Rattle.script_text.specs.LineReadings.{item_at, full_item_at, said_at, line_at}
 use Rattle.script_text.proofs.EachLemmas.{refused_ok, bind_ok, ok_is}
 use Rattle.script_text.proofs.KnownLaws.{IsLawful, known_push, lawful_push}
 use Rattle.script_text.specs.Laws.{Follows, Tells}
@@ -128,30 +128,30 @@ only_version number line (items.Asks command) f = absurd (let h = f.may in cc)
 
 -- ---- a line
 
-kept_ok : (before : List Item) (number : ℕ) (line : List ℕ) (said : Option Item) → kept_at (known_of before) number line ≡ Ok said → Tells before number line said
-unfolding kept_at full_item_at
-kept_ok before number line said e =
+said_ok : (before : List Item) (number : ℕ) (line : List ℕ) (said : Option Item) → said_at (known_of before) number line ≡ Ok said → Tells before number line said
+unfolding said_at full_item_at
+said_ok before number line said e =
     elim (cases_Bool (is_passed_over (number, line))) [
       | inl over ↦ let h = rw over at e in rw (← ok_is None said h) over
-      | inr kept ↦
-          let h = rw kept at e in
+      | inr passes ↦
+          let h = rw passes at e in
           let b = bind_ok (refuse (any_empty (fields_of line)) reasons.BadForm (item_at (known_of before) number (fields_of line))) (λ item. Ok (Some item)) said h in
           let r = refused_ok (any_empty (fields_of line)) reasons.BadForm (item_at (known_of before) number (fields_of line)) b.0 b.1 in
-          rw (← ok_is (Some b.0) said b.2) (kept, item_ok before number (fields_of line) b.0 r.1)
+          rw (← ok_is (Some b.0) said b.2) (passes, item_ok before number (fields_of line) b.0 r.1)
     ]
 
 pub line_ok : (before : List Item) (number : ℕ) (line : List ℕ) (said : Option Item) → line_at (known_of before) number line ≡ Ok said → (is_ascii_line line ≡ true) × Tells before number line said
 unfolding line_at
 line_ok before number line said e =
     let other = eqb number 1 && not (bytes_eq line (codes "fuzzylog 1")) in
-    let a = refused_ok (not (is_ascii_line line)) reasons.NotAscii (refuse other reasons.BadVersion (kept_at (known_of before) number line)) said e in
-    let b = refused_ok other reasons.BadVersion (kept_at (known_of before) number line) said a.1 in
-    (not-false (is_ascii_line line) a.0, kept_ok before number line said b.1)
+    let a = refused_ok (not (is_ascii_line line)) reasons.NotAscii (refuse other reasons.BadVersion (said_at (known_of before) number line)) said e in
+    let b = refused_ok other reasons.BadVersion (said_at (known_of before) number line) said a.1 in
+    (not-false (is_ascii_line line) a.0, said_ok before number line said b.1)
 
-kept_read : (before : List Item) (number : ℕ) (line : List ℕ) (said : Option Item) → IsLawful (known_of before) → Tells before number line said → kept_at (known_of before) number line ≡ Ok said
-unfolding kept_at full_item_at
-kept_read before number line None l t = rw t refl
-kept_read before number line (Some item) l t =
+said_read : (before : List Item) (number : ℕ) (line : List ℕ) (said : Option Item) → IsLawful (known_of before) → Tells before number line said → said_at (known_of before) number line ≡ Ok said
+unfolding said_at full_item_at
+said_read before number line None l t = rw t refl
+said_read before number line (Some item) l t =
     rw (t.0, says_full before number (fields_of line) item l t.1, item_read before number line item l t.1) refl
 
 -- a line that tells something at line 1 is the version's
@@ -172,7 +172,7 @@ is_version before number line said p t =
 pub line_read : (before : List Item) (number : ℕ) (line : List ℕ) (said : Option Item) → IsLawful (known_of before) → IsPlace before number → is_ascii_line line ≡ true → Tells before number line said
     → line_at (known_of before) number line ≡ Ok said
 unfolding line_at
-line_read before number line said l p ascii t = rw (ascii, is_version before number line said p t, kept_read before number line said l t) refl
+line_read before number line said l p ascii t = rw (ascii, is_version before number line said p t, said_read before number line said l t) refl
 
 -- ---- the first fault of a line
 
@@ -196,17 +196,17 @@ fields_fault before number word fields started =
       | inr header ↦ rw (header, on_header before number word fields header) (header_line_tests before word fields started)
     ])
 
-first_kept : kept_at (known_of []) 1 (codes "fuzzylog 1") ≡ Ok (Some items.Version)
-unfolding kept_at full_item_at item_at header_at headed_at version_at
-first_kept = refl
+first_said : said_at (known_of []) 1 (codes "fuzzylog 1") ≡ Ok (Some items.Version)
+unfolding said_at full_item_at item_at header_at headed_at version_at
+first_said = refl
 
-kept_over : (known : Known) (number : ℕ) (line : List ℕ) → is_passed_over (number, line) ≡ true → kept_at known number line ≡ Ok None
-unfolding kept_at
-kept_over known number line e = rw e refl
+said_over : (known : Known) (number : ℕ) (line : List ℕ) → is_passed_over (number, line) ≡ true → said_at known number line ≡ Ok None
+unfolding said_at
+said_over known number line e = rw e refl
 
-kept_full : (known : Known) (number : ℕ) (line : List ℕ) → is_passed_over (number, line) ≡ false → kept_at known number line ≡ (full_item_at known number (fields_of line) >>= λ item. Ok (Some item))
-unfolding kept_at
-kept_full known number line e = rw e refl
+said_full : (known : Known) (number : ℕ) (line : List ℕ) → is_passed_over (number, line) ≡ false → said_at known number line ≡ (full_item_at known number (fields_of line) >>= λ item. Ok (Some item))
+unfolding said_at
+said_full known number line e = rw e refl
 
 choose_tests : {A : Type 0} (one over : Bool) (tests : List (Option Reason)) (reading : Result A Reason) → (one ≡ true → Tests [] reading) → (one ≡ false → over ≡ true → Tests [] reading)
     → (one ≡ false → over ≡ false → Tests tests reading) → Tests (if one || over then [] else tests) reading
@@ -223,18 +223,18 @@ line_fields before number line started =
       some_item : Item → Option Item
       some_item item = Some item
 
-kept_fault : (before : List Item) (number : ℕ) (line : List ℕ) → IsPlace before number → (eqb number 1 && not (bytes_eq line (codes "fuzzylog 1"))) ≡ false
-    → Tests (if eqb number 1 || is_passed_over (number, line) then [] else fields_tests before (fields_of line)) (kept_at (known_of before) number line)
-kept_fault before number line p version =
-    choose_tests (eqb number 1) (is_passed_over (number, line)) (fields_tests before (fields_of line)) (kept_at (known_of before) number line)
+said_fault : (before : List Item) (number : ℕ) (line : List ℕ) → IsPlace before number → (eqb number 1 && not (bytes_eq line (codes "fuzzylog 1"))) ≡ false
+    → Tests (if eqb number 1 || is_passed_over (number, line) then [] else fields_tests before (fields_of line)) (said_at (known_of before) number line)
+said_fault before number line p version =
+    choose_tests (eqb number 1) (is_passed_over (number, line)) (fields_tests before (fields_of line)) (said_at (known_of before) number line)
     (λ e.
     let one = eqb-true number 1 e in
     let h = rw e at version in
     let same = (bytes_eq-Decides line (codes "fuzzylog 1")).0 (not-false (bytes_eq line (codes "fuzzylog 1")) h) in
-    let read : kept_at (known_of before) number line ≡ Ok (Some items.Version) = rw (one, p.first one, same) first_kept in
+    let read : said_at (known_of before) number line ≡ Ok (Some items.Version) = rw (one, p.first one, same) first_said in
     rw read (λ more. refl))
-    (λ e over. rw (kept_over (known_of before) number line over) (λ more. refl))
-    (λ e kept. rw (kept_full (known_of before) number line kept) (line_fields before number line (p.later (eqb-false number 1 e))))
+    (λ e over. rw (said_over (known_of before) number line over) (λ more. refl))
+    (λ e passes. rw (said_full (known_of before) number line passes) (line_fields before number line (p.later (eqb-false number 1 e))))
 
 -- the first fault of a line is the reason of its reading
 pub line_fault : (before : List Item) (number : ℕ) (line : List ℕ) → IsPlace before number
@@ -243,12 +243,12 @@ unfolding line_at
 line_fault before number line p =
     let other = eqb number 1 && not (bytes_eq line (codes "fuzzylog 1")) in
     let rest = if eqb number 1 || is_passed_over (number, line) then [] else fields_tests before (fields_of line) in
-    let kept = kept_at (known_of before) number line in
+    let rest_said = said_at (known_of before) number line in
     reason_is (when (eqb number 20001) reasons.TooManyLines ∷ when (not (is_ascii_line line)) reasons.NotAscii ∷ when other reasons.BadVersion ∷ rest)
-    (refuse (eqb number 20001) reasons.TooManyLines (refuse (not (is_ascii_line line)) reasons.NotAscii (refuse other reasons.BadVersion kept))) (
-    tests_refuse (eqb number 20001) reasons.TooManyLines (when (not (is_ascii_line line)) reasons.NotAscii ∷ when other reasons.BadVersion ∷ rest) (refuse (not (is_ascii_line line)) reasons.NotAscii (refuse other reasons.BadVersion kept)) (λ _.
-    tests_refuse (not (is_ascii_line line)) reasons.NotAscii (when other reasons.BadVersion ∷ rest) (refuse other reasons.BadVersion kept) (λ _.
-    tests_refuse other reasons.BadVersion rest kept (λ version. kept_fault before number line p version))))
+    (refuse (eqb number 20001) reasons.TooManyLines (refuse (not (is_ascii_line line)) reasons.NotAscii (refuse other reasons.BadVersion rest_said))) (
+    tests_refuse (eqb number 20001) reasons.TooManyLines (when (not (is_ascii_line line)) reasons.NotAscii ∷ when other reasons.BadVersion ∷ rest) (refuse (not (is_ascii_line line)) reasons.NotAscii (refuse other reasons.BadVersion rest_said)) (λ _.
+    tests_refuse (not (is_ascii_line line)) reasons.NotAscii (when other reasons.BadVersion ∷ rest) (refuse other reasons.BadVersion rest_said) (λ _.
+    tests_refuse other reasons.BadVersion rest rest_said (λ version. said_fault before number line p version))))
 
 -- ---- the place of the next line
 

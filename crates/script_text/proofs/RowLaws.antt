@@ -8,7 +8,7 @@ use Rattle.script_text.specs.declared.item.Item.{Item}
 use Rattle.script_text.specs.declared.item.Item.TheVariants as items
 use Rattle.script_text.specs.Pieces.{lines_of, is_between}
 use Rattle.script_text.specs.Items.{rows_in, row_number, last_said, may_come}
-use Rattle.script_text.specs.Grammar.{may_follow, Say, kept_lines}
+use Rattle.script_text.specs.Grammar.{may_follow, Say, said_lines}
 use Rattle.script_text.specs.Laws.{RowsAreWithinLimits}
 use Rattle.script_text.proofs.FittingLemmas.{and-right, said-last}
 
@@ -16,10 +16,10 @@ IsSmall : List Item → Type 0
 IsSmall before = row_number before ≤ 4096
 
 -- an item that says no rows leaves their number
-kept_small : (before : List Item) (item : Item) → rows_in item ≡ None → IsSmall before
+said_small : (before : List Item) (item : Item) → rows_in item ≡ None → IsSmall before
     → IsSmall (before ++ item ∷ [])
 unfolding IsSmall
-kept_small before item e s =
+said_small before item e s =
     let same : filter_map rows_in (before ++ item ∷ []) ≡ filter_map rows_in before =
     filter_map-append rows_in before (item ∷ [])
     ∙ (ap (λ (o : Option ℕ). filter_map rows_in before ++ cons_option o []) e
@@ -36,17 +36,17 @@ new_rows before number =
 item_small : (before : List Item) (item : Item) → IsSmall before → IsTrue (may_follow before item)
     → IsSmall (before ++ item ∷ [])
 unfolding IsSmall
-item_small before items.Version s ok = kept_small before items.Version refl s
-item_small before (items.Regions names) s ok = kept_small before (items.Regions names) refl s
-item_small before (items.Colours names) s ok = kept_small before (items.Colours names) refl s
+item_small before items.Version s ok = said_small before items.Version refl s
+item_small before (items.Regions names) s ok = said_small before (items.Regions names) refl s
+item_small before (items.Colours names) s ok = said_small before (items.Colours names) refl s
 item_small before (items.Rows number) s ok =
     subst (λ n. n ≤ 4096) (sym (new_rows before number))
     (leb-true number 4096 (and-right (nat_le 1 number) (nat_le number 4096)
     (and-right (may_come before (codes "rows")) (is_between 1 4096 number) ok)))
-item_small before (items.Client name home) s ok = kept_small before (items.Client name home) refl s
-item_small before (items.Declared object) s ok = kept_small before (items.Declared object) refl s
-item_small before items.Begin s ok = kept_small before items.Begin refl s
-item_small before (items.Asks command) s ok = kept_small before (items.Asks command) refl s
+item_small before (items.Client name home) s ok = said_small before (items.Client name home) refl s
+item_small before (items.Declared object) s ok = said_small before (items.Declared object) refl s
+item_small before items.Begin s ok = said_small before items.Begin refl s
+item_small before (items.Asks command) s ok = said_small before (items.Asks command) refl s
 
 -- the items of some lines, one after another
 all_small : (before : List Item) (lines : List (ℕ × List ℕ)) (said : List Item) → IsSmall before
@@ -62,4 +62,4 @@ pub rows_are_within_limits : RowsAreWithinLimits
 unfolding IsSmall
 rows_are_within_limits bytes script is =
     subst (λ s. s.shape.rows ≤ 4096) (sym is.same)
-    (all_small [] (kept_lines (enumerate_from 1 (lines_of bytes))) is.said (omega arith) is.lines.say)
+    (all_small [] (said_lines (enumerate_from 1 (lines_of bytes))) is.said (omega arith) is.lines.say)

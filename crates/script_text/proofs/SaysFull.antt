@@ -10,7 +10,7 @@ use Rattle.script_text.specs.Words.{word_of}
 use Rattle.script_text.specs.Pieces.{is_between}
 use Rattle.script_text.specs.Items.{may_come, client_names, object_names, objects}
 use Rattle.script_text.specs.Grammar.{are_new_names, is_region}
-use Rattle.script_text.specs.Kept.{known_of}
+use Rattle.script_text.specs.Known.{known_of}
 use Rattle.script_text.proofs.NameLemmas.{new_parts}
 use Rattle.script_text.proofs.KnownLaws.{IsLawful}
 use Rattle.script_text.specs.Laws.{Follows}

@@ -16,11 +16,11 @@ use Rattle.script_text.specs.declared.item.Item.{Item}
 use Rattle.script_text.specs.declared.known.Known.{Known}
 use Rattle.script_text.specs.Pieces.{lines_of, is_ascii_line}
 use Rattle.script_text.specs.Items.{is_begun}
-use Rattle.script_text.specs.Grammar.{is_passed_over, kept_lines, Say, IsScript}
+use Rattle.script_text.specs.Grammar.{is_passed_over, said_lines, Say, IsScript}
 use Rattle.script_text.specs.Faults.{fault_of, IsFirstFault, LacksBegin, IsRefused}
 use Rattle.script_text.specs.Parse.{IsFaultOf, GivesScript}
 use Rattle.script_text.specs.Laws.{Tells}
-use Rattle.script_text.specs.Kept.{known_of, known_with}
+use Rattle.script_text.specs.Known.{known_of, known_with}
 use Rattle.script_text.specs.Readings.{refuse, Fails}
 use Rattle.script_text.specs.LineReadings.{line_at, then_at, lines_at, ended_at, ends_at, script_at, fault_at, FailsAt, GivesAt}
 use Rattle.script_text.proofs.EachLemmas.{refused_ok}
@@ -57,7 +57,7 @@ goes_on known number line lines total e = by_reading (counted_at known number li
 -- the lines say items, after which this is known
 record AreRead (before : List Item) (number : ℕ) (lines : List (List ℕ)) (last : Known) : Type 0 where
   later : List Item
-  say : Say before (kept_lines (enumerate_from (number + 1) lines)) later
+  say : Say before (said_lines (enumerate_from (number + 1) lines)) later
   ascii : list_all is_ascii_line lines ≡ true
   same : last ≡ known_of (before ++ later)
   few : number ≤ 20000 → number + length lines ≤ 20000
@@ -122,7 +122,7 @@ lines_ok before number (line ∷ lines) last e =
     ]
 
 lines_read : (before : List Item) (number : ℕ) (lines : List (List ℕ)) (later : List Item) → IsLawful (known_of before) → IsPlace before (number + 1) → number + length lines ≤ 20000
-    → Say before (kept_lines (enumerate_from (number + 1) lines)) later → list_all is_ascii_line lines ≡ true → lines_at (known_of before) number lines ≡ Ok (known_of (before ++ later))
+    → Say before (said_lines (enumerate_from (number + 1) lines)) later → list_all is_ascii_line lines ≡ true → lines_at (known_of before) number lines ≡ Ok (known_of (before ++ later))
 lines_read before number [] [] l p few say ascii = lines_nil (known_of before) number ∙ ap (λ b. Ok (known_of b)) (sym (append-nil before))
 lines_read before number [] (item ∷ later) l p few say ascii = absurd say
 lines_read before number (line ∷ lines) [] l p few say ascii =
@@ -132,7 +132,7 @@ lines_read before number (line ∷ lines) [] l p few say ascii =
           let one = line_read before (number + 1) line None l p a.0 over in
           lines_more (known_of before) number line lines None (omega arith) one
           ∙ lines_read before (number + 1) lines [] l (place_next before number line None p over) (omega arith) (rw over at say) a.1
-      | inr kept ↦ let none = rw kept at say in absurd none
+      | inr passes ↦ let none = rw passes at say in absurd none
     ]
 lines_read before number (line ∷ lines) (item ∷ later) l p few say ascii =
     let a = and_parts (is_ascii_line line) (list_all is_ascii_line lines) ascii in
@@ -141,9 +141,9 @@ lines_read before number (line ∷ lines) (item ∷ later) l p few say ascii =
           let one = line_read before (number + 1) line None l p a.0 over in
           lines_more (known_of before) number line lines None (omega arith) one
           ∙ lines_read before (number + 1) lines (item ∷ later) l (place_next before number line None p over) (omega arith) (rw over at say) a.1
-      | inr kept ↦
-          let s = rw kept at say in
-          let t : Tells before (number + 1) line (Some item) = (kept, record { says = s.0; may = s.1 }) in
+      | inr passes ↦
+          let s = rw passes at say in
+          let t : Tells before (number + 1) line (Some item) = (passes, record { says = s.0; may = s.1 }) in
           let one = line_read before (number + 1) line (Some item) l p a.0 t in
           lines_more (known_of before) number line lines (Some item) (omega arith) one
           ∙ ap (λ k. lines_at k (number + 1) lines) (sym (known_said before (Some item)))
@@ -158,7 +158,7 @@ record FaultAfter (before : List Item) (number : ℕ) (lines : List (List ℕ)) 
   skipped : ℕ
   place : n ≡ number + skipped + 1
   later : List Item
-  say : Say before (kept_lines (enumerate_from (number + 1) (take skipped lines))) later
+  say : Say before (said_lines (enumerate_from (number + 1) (take skipped lines))) later
   ascii : list_all is_ascii_line (take skipped lines) ≡ true
   few : number + length (take skipped lines) ≤ 20000
   line : List ℕ

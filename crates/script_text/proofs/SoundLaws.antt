@@ -8,10 +8,10 @@ use Rattle.script_text.specs.declared.item.Stage.TheVariants as stages
 use Rattle.script_text.specs.declared.script.Reason.{Reason}
 use Rattle.script_text.specs.declared.script.Reason.TheVariants as reasons
 use Rattle.script_text.specs.Items.{stage_after}
-use Rattle.script_text.specs.Grammar.{kept_lines, Say, AreLines}
+use Rattle.script_text.specs.Grammar.{said_lines, Say, AreLines}
 use Rattle.script_text.specs.Faults.{fault_of}
 use Rattle.script_text.specs.Laws.{IsSound}
-use Rattle.script_text.specs.Kept.{known_of}
+use Rattle.script_text.specs.Known.{known_of}
 use Rattle.script_text.specs.Readings.{refuse}
 use Rattle.script_text.specs.LineReadings.{line_at}
 use Rattle.script_text.proofs.KnownLaws.{IsLawful, lawful_start, lawful_push}
@@ -30,7 +30,7 @@ something_last item [] e = something item e
 something_last item (next ∷ later) e = something_last next later e
 
 -- the place after lines that say items
-place_after : (lines : List (List ℕ)) (said : List Item) → Say [] (kept_lines (enumerate_from 1 lines)) said → IsPlace said (length lines + 1)
+place_after : (lines : List (List ℕ)) (said : List Item) → Say [] (said_lines (enumerate_from 1 lines)) said → IsPlace said (length lines + 1)
 place_after [] [] s = record { first = λ e. refl; later = λ other. absurd (other refl) }
 place_after [] (item ∷ later) s = absurd s
 place_after (line ∷ lines) [] s = absurd s
@@ -45,7 +45,7 @@ pub sound : (lines : List (List ℕ)) (said : List Item) (line : List ℕ) → A
 sound lines said line are few =
     let n = length lines + 1 in
     let p = place_after lines said are.say in
-    let l = say_lawful [] (kept_lines (enumerate_from 1 lines)) said lawful_start are.say in
+    let l = say_lawful [] (said_lines (enumerate_from 1 lines)) said lawful_start are.say in
     let counted : eqb n 20001 ≡ false = ne_eqb n 20001 (λ e. omega (arith, e, few)) in
     let fault : fault_of said n line ≡ reason_of (line_at (known_of said) n line) =
     line_fault said n line p ∙ ap (λ many. reason_of (refuse many reasons.TooManyLines (line_at (known_of said) n line))) counted in (

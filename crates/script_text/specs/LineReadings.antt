@@ -15,7 +15,7 @@ use Rattle.script_text.specs.declared.limits.TheConstants.{MAX_BYTES, MAX_LINES}
 use Rattle.script_text.specs.Pieces.{lines_of, fields_of, is_ascii_line}
 use Rattle.script_text.specs.Items.{is_begun}
 use Rattle.script_text.specs.Grammar.{is_passed_over}
-use Rattle.script_text.specs.Kept.{known_with, known_of}
+use Rattle.script_text.specs.Known.{known_with, known_of}
 use Rattle.script_text.specs.Readings.{◌>>=◌, refuse}
 use Rattle.script_text.specs.HeaderReadings.{header_at}
 use Rattle.script_text.specs.CommandReadings.{command_at}
@@ -33,13 +33,13 @@ unfoldable pub full_item_at : Known → ℕ → List (List ℕ) → Result Item 
 full_item_at known number fields = refuse (list_any (λ (field : List ℕ). length field == 0) fields) reasons.BadForm (item_at known number fields)
 
 -- what a line says that has passed the first tests, or nothing where it is passed over
-unfoldable pub kept_at : Known → ℕ → List ℕ → Result (Option Item) Reason
-kept_at known number line =
+unfoldable pub said_at : Known → ℕ → List ℕ → Result (Option Item) Reason
+said_at known number line =
     if is_passed_over (number, line) then Ok None else full_item_at known number (fields_of line) >>= λ item. Ok (Some item)
 
 unfoldable pub line_at : Known → ℕ → List ℕ → Result (Option Item) Reason
 line_at known number line =
-    refuse (not (is_ascii_line line)) reasons.NotAscii (refuse ((number == 1) && not (bytes_eq line (codes "fuzzylog 1"))) reasons.BadVersion (kept_at known number line))
+    refuse (not (is_ascii_line line)) reasons.NotAscii (refuse ((number == 1) && not (bytes_eq line (codes "fuzzylog 1"))) reasons.BadVersion (said_at known number line))
 
 -- a refusal has its line's number
 abbrev pub then_at : {A B : Type 0} → ℕ → Result A Reason → (A → Result B (ℕ × Reason)) → Result B (ℕ × Reason)

@@ -35,7 +35,7 @@ abbrev pub Gives : {X : Type 0} → Result X Fault → Result X Reason → Type 
 Gives (Ok x) reading = reading ≡ Ok x
 Gives (Err fault) reading = Fails fault reading
 
--- the same of what a field gave, where it is kept beside the result
+-- the same of what a field gave, where it stands beside the result
 abbrev pub Takes : {X : Type 0} → Result Unit Fault → X → Result X Reason → Type 0
 Takes (Ok _) next reading = reading ≡ Ok next
 Takes (Err fault) next reading = Fails fault reading

@@ -2,7 +2,7 @@
 ghost use Rattle.std.specs.Prelude.{◌≡◌, ◌≤◌, ◌==◌};
 ghost use Rattle.std.specs.List.{list_any};
 ghost use Rattle.script_text.specs.declared.limits.TheConstants.{VERSION_1};
-ghost use Rattle.script_text.specs.Kept.{IsSmall};
+ghost use Rattle.script_text.specs.Known.{IsSmall};
 ghost use Rattle.script_text.specs.Readings.{Gives, Takes, fields_in, with_one, with_two};
 ghost use Rattle.script_text.specs.CommandReadings.{ended_well, append_at, sync_at, what_at, worded_at, asked_at, caller_at, command_at};
 

@@ -1,7 +1,7 @@
 // The header's lines of objects.
 ghost use Rattle.std.specs.Prelude.{◌≡◌, map};
 ghost use Rattle.script_text.specs.Pieces.{is_among};
-ghost use Rattle.script_text.specs.Kept.{IsSmall};
+ghost use Rattle.script_text.specs.Known.{IsSmall};
 ghost use Rattle.script_text.specs.Table.{sort_at};
 ghost use Rattle.script_text.specs.Readings.{Gives, fields_in};
 ghost use Rattle.script_text.specs.HeaderReadings.{object_name_at, sorted_at, declared_at};

@@ -3,7 +3,7 @@ ghost use Rattle.std.specs.Prelude.{◌≡◌, [], ◌∷◌, codes, Ok};
 ghost use Rattle.script_text.specs.declared.item.Item.TheVariants.{Begin};
 ghost use Rattle.script_text.specs.Pieces.{is_among};
 ghost use Rattle.script_text.specs.Items.{header_words};
-ghost use Rattle.script_text.specs.Kept.{IsSmall};
+ghost use Rattle.script_text.specs.Known.{IsSmall};
 ghost use Rattle.script_text.specs.Readings.{Gives, fields_in, with_none, with_one, with_two};
 ghost use Rattle.script_text.specs.HeaderReadings.{version_at, regions_at, colour_line_at, rows_at, client_named_at, client_at, headed_at, header_at};
 

@@ -1,7 +1,7 @@
-// What is kept of the lines so far.
+// What is known of the lines so far.
 ghost use Rattle.std.specs.Prelude.{◌≡◌, [], OnOk};
 ghost use Rattle.script_text.specs.declared.script.Reason.TheVariants as reasons;
-ghost use Rattle.script_text.specs.Kept.{known_of, known_after, known_with, IsSmall};
+ghost use Rattle.script_text.specs.Known.{known_of, known_after, known_with, IsSmall};
 ghost use Rattle.script_text.specs.Readings.{Gives, number_at};
 
 use crate::fault::Fault;

@@ -2,9 +2,9 @@
 ghost use Rattle.std.specs.Prelude.{◌≡◌, ◌==◌, false, length};
 ghost use Rattle.std.specs.List.{list_any};
 ghost use Rattle.script_text.specs.Grammar.{is_passed_over};
-ghost use Rattle.script_text.specs.Kept.{IsSmall};
+ghost use Rattle.script_text.specs.Known.{IsSmall};
 ghost use Rattle.script_text.specs.Readings.{Gives, fields_in};
-ghost use Rattle.script_text.specs.LineReadings.{item_at, full_item_at, kept_at, line_at};
+ghost use Rattle.script_text.specs.LineReadings.{item_at, full_item_at, said_at, line_at};
 
 use crate::command::command_line;
 use crate::fault::Fault;
@@ -63,10 +63,10 @@ fn full_item_of(alloc: Global, known: &Known, number: u32, fields: &[&[u8]]) -> 
 }
 
 /// What a line says that is not passed over.
-#[tactic(auto, unfolding(crate::specs::LineReadings::line_at, crate::specs::LineReadings::kept_at))]
-fn kept_line(alloc: Global, known: &Known, number: u32, line: &[u8]) -> Result<Option<Item>, Fault>
+#[tactic(auto, unfolding(crate::specs::LineReadings::line_at, crate::specs::LineReadings::said_at))]
+fn said_line(alloc: Global, known: &Known, number: u32, line: &[u8]) -> Result<Option<Item>, Fault>
     requires small { IsSmall known.now }
-    requires kept { is_passed_over (number, line.now) ≡ false }
+    requires said { is_passed_over (number, line.now) ≡ false }
     ensures { Gives result (line_at known.now number line.now) }
 {
     let mut fields = SmallVec::new(alloc);
@@ -81,7 +81,7 @@ fn kept_line(alloc: Global, known: &Known, number: u32, line: &[u8]) -> Result<O
 }
 
 /// What a line says, or nothing where it is passed over.
-#[tactic(auto, unfolding(crate::specs::LineReadings::line_at, crate::specs::LineReadings::kept_at))]
+#[tactic(auto, unfolding(crate::specs::LineReadings::line_at, crate::specs::LineReadings::said_at))]
 pub fn line_of(
     alloc: Global,
     known: &Known,
@@ -92,7 +92,7 @@ pub fn line_of(
     ensures { Gives result (line_at known.now number line.now) }
 {
     if !is_passed_over(number, line) {
-        return kept_line(alloc, known, number, line);
+        return said_line(alloc, known, number, line);
     }
     if !is_ascii_line(line) {
         return Err(Fault::Refused(Reason::NotAscii));

@@ -281,16 +281,16 @@ never_open k v w row is few grows all ws law f e =
     ∙ present_below k ws r bits k.colours each in
     not_open marks here (sym (if_no bits 0 Open _ nonzero) ∙ e)
 
-module _ (k : Size) (v w : View) (row : Row) (new found : ℕ) (kept : Outcome) (is : v.size ≡ k)
+module _ (k : Size) (v w : View) (row : Row) (new found : ℕ) (decided : Outcome) (is : v.size ≡ k)
     (turns : w ≡ heard v (word_at k (row_at k row) (k.colours + 1)) (if found == 0 then new else found))
     (told : Told v (word_at k (row_at k row) (k.colours + 1)) found)
     (marks : (ws : List ℕ) → Lawful k ws → Fits k ws v
-    → outcome_at k ws (row_at k row) ≡ kept) (word : outcome_from new ≡ kept) (pos : 0 < new) where
-  pub ended_knows : KnowsOutcome w row kept
+    → outcome_at k ws (row_at k row) ≡ decided) (word : outcome_from new ≡ decided) (pos : 0 < new) where
+  pub ended_knows : KnowsOutcome w row decided
   ended_knows =
       let i : ℕ = word_at k (row_at k row) (k.colours + 1) in
       let n : ℕ = if found == 0 then new else found in
-      let both : (n ≢ 0) × (outcome_from n ≡ kept) = dite (ℕ_discrete found 0)
+      let both : (n ≢ 0) × (outcome_from n ≡ decided) = dite (ℕ_discrete found 0)
       (λ e. let is_new : n ≡ new = if_yes found 0 new found e in ((λ z. (omega arith)), ap outcome_from is_new ∙ word))
       (λ ne. let is_found : n ≡ found = if_no found 0 new found ne in
       let ws : List ℕ = told.0 in

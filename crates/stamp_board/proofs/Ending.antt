@@ -23,7 +23,7 @@ use Rattle.stamp_board.specs.declared.seats.ColumnSeat.{ColumnSeat}
 use Rattle.stamp_board.specs.Words.{row_at, word_at, owner_of, mark_from}
 use Rattle.stamp_board.specs.Rows.{IsRow, AreColours, colours_in, mark_in}
 use Rattle.stamp_board.specs.Views.{at}
-use Rattle.stamp_board.specs.Law.{Fits, Lawful, Kept}
+use Rattle.stamp_board.specs.Law.{Fits, Lawful, IsLawfulState}
 use Rattle.stamp_board.specs.Seats.{AreClientsOf, AreColumnsOf, seen, column_seen}
 use Rattle.stamp_board.specs.Closing.{Closes, rows_begun, all_begun}
 use Rattle.stamp_board.specs.Inside.{IsIn, Gathered}
@@ -74,11 +74,11 @@ ok_also (Err e) P Q f h = tt
 
 -- what the rule says of the last words
 pub last_words : (key k : Size) → key ≡ k → (id : ℕ) (v : View) (ws : List ℕ) (xs : List Node)
-    → Final (Seen (Kept key) id v) ws xs → Lawful k ws × Fits k ws v
+    → Final (Seen (IsLawfulState key) id v) ws xs → Lawful k ws × Fits k ws v
 last_words key k same id v ws xs f =
-    let kept = f.1.0 in
+    let holds = f.1.0 in
     subst (λ (z : Size × List ℕ). Lawful z.0 z.1 × Fits z.0 z.1 v) (λ i. (same i, f.2 i))
-    (kept.lawful, fits key f.0 kept id v f.1.1)
+    (holds.lawful, fits key f.0 holds id v f.1.1)
 
 pub same_seats : (k : Size) (v : View) {ss ss' : List Seat} {cs cs' : List ColumnSeat} → ss ≡ ss' → cs ≡ cs'
     → Gathered k ss cs v → Gathered k ss' cs' v

@@ -14,7 +14,7 @@ use Rattle.stamp_board.specs.declared.view.Size.{Size}
 use Rattle.stamp_board.specs.declared.view.View.{View}
 use Rattle.stamp_board.specs.Words.{mark_from}
 use Rattle.stamp_board.specs.Views.{Has}
-use Rattle.stamp_board.specs.Law.{Fits, heard, IsSet, AreSet, IsKept}
+use Rattle.stamp_board.specs.Law.{Fits, heard, IsSet, AreSet, IsDecided}
 use Rattle.stamp_board.proofs.Knowing.{if_yes, if_no, heard_cases, heard_some}
 
 pub fits_heard : (k : Size) (ws : List ℕ) (v : View) (i n : ℕ) → Fits k ws v → get_or ws i 0 ≡ n
@@ -85,28 +85,28 @@ or_no : (a b : Bool) → (a || b) ≡ false → a ≡ false
 or_no true b e = e
 or_no false b e = refl
 
-kept_final : (xs : List Mark) → AreSet xs → 0 < length xs → list_any is_stamp_end_fence xs ≡ false
-    → list_any is_memory_fence xs ≡ false → IsKept (Final (greatest (map number_of xs)))
-kept_final [] h more e f = absurd (omega arith)
-kept_final (x ∷ xs) h more e f =
+decided_final : (xs : List Mark) → AreSet xs → 0 < length xs → list_any is_stamp_end_fence xs ≡ false
+    → list_any is_memory_fence xs ≡ false → IsDecided (Final (greatest (map number_of xs)))
+decided_final [] h more e f = absurd (omega arith)
+decided_final (x ∷ xs) h more e f =
     let a = some_number x h.0 (or_no (is_stamp_end_fence x) (list_any is_stamp_end_fence xs) e)
     (or_no (is_memory_fence x) (list_any is_memory_fence xs) f) in
     let b = greatest_below (x ∷ xs) h in (omega arith, b)
 
 -- the outcome of marks none of which is missing is never open, and its number keeps the bounds
-pub outcome_kept : (xs : List Mark) → AreSet xs → 0 < length xs → IsKept (outcome_of xs)
-outcome_kept xs h more =
+pub outcome_decided : (xs : List Mark) → AreSet xs → 0 < length xs → IsDecided (outcome_of xs)
+outcome_decided xs h more =
     let here : list_any is_missing xs ≡ false = all_present xs h in
     let gone : (b c : Bool) → list_any is_stamp_end_fence xs ≡ b → list_any is_memory_fence xs ≡ c
-    → IsKept (if b then Gone StampEnd else (if c then Gone Memory else Final (greatest (map number_of xs))))
+    → IsDecided (if b then Gone StampEnd else (if c then Gone Memory else Final (greatest (map number_of xs))))
     = λ b c. elim b as (λ (z : Bool). list_any is_stamp_end_fence xs ≡ z → list_any is_memory_fence xs ≡ c
-    → IsKept (if z then Gone StampEnd else (if c then Gone Memory else Final (greatest (map number_of xs))))) [
+    → IsDecided (if z then Gone StampEnd else (if c then Gone Memory else Final (greatest (map number_of xs))))) [
       | true ↦ λ _ _. tt
       | false ↦ λ e. elim c as (λ (z : Bool). list_any is_memory_fence xs ≡ z
-          → IsKept (if z then Gone Memory else Final (greatest (map number_of xs))))
-          [ true ↦ λ _. tt | false ↦ λ f. kept_final xs h more e f ]
+          → IsDecided (if z then Gone Memory else Final (greatest (map number_of xs))))
+          [ true ↦ λ _. tt | false ↦ λ f. decided_final xs h more e f ]
     ] in
-    subst IsKept (ap (λ (b : Bool). if b then Open else
+    subst IsDecided (ap (λ (b : Bool). if b then Open else
     (if list_any is_stamp_end_fence xs then Gone StampEnd else
     (if list_any is_memory_fence xs then Gone Memory else Final (greatest (map number_of xs))))) (sym here))
     (gone (list_any is_stamp_end_fence xs) (list_any is_memory_fence xs) refl refl)

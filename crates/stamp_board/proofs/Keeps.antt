@@ -22,7 +22,7 @@ use Rattle.stamp_board.specs.declared.view.View.{View}
 use Rattle.stamp_board.specs.Words.{width, words_of, word_at, row_at, owner_of, outcome_from}
 use Rattle.stamp_board.specs.Rows.{AreColours, outcome_at}
 use Rattle.stamp_board.specs.Views.{Has, at, told}
-use Rattle.stamp_board.specs.Law.{Plays, Fits, IsNewTo, Lawful, Sits, Kept, Told, heard, wrote, with_node, looked}
+use Rattle.stamp_board.specs.Law.{Plays, Fits, IsNewTo, Lawful, Sits, IsLawfulState, Told, heard, wrote, with_node, looked}
 use Rattle.stamp_board.specs.Law.{marked, ended, began, Turns, lowest, others, both, merged, spent, newcomer}
 use Rattle.stamp_board.specs.Law.{came}
 use Rattle.stamp_board.proofs.Colours.{has_bit, not_empty}
@@ -119,40 +119,40 @@ apart_fork vs id v left right here apart to_left to_right never =
 
 module _ (k : Size) where
   -- what the rule tells of one seat
-  pub fits : (s : St) (kept : Kept k s) (id : ℕ) (v : View) → get_elem? s.views id ≡ some v → Fits k s.words v
-  fits s kept id v at = let sits = kept.sits id v at in record {
+  pub fits : (s : St) (holds : IsLawfulState k s) (id : ℕ) (v : View) → get_elem? s.views id ≡ some v → Fits k s.words v
+  fits s holds id v at = let sits = holds.sits id v at in record {
     known = sits.known;
-    begun = λ r x h. kept.named r x (sits.begun r x h);
+    begun = λ r x h. holds.named r x (sits.begun r x h);
     same = λ r x y h h'. some-injective x y (sym (sits.begun r x h) ∙ sits.begun r y h');
-    owned = λ r x h. kept.owned r x (sits.begun r x h);
-    ids = λ r q x y h h'. kept.ids r q x y (sits.begun r x h) (sits.begun q y h');
+    owned = λ r x h. holds.owned r x (sits.begun r x h);
+    ids = λ r q x y h h'. holds.ids r q x y (sits.begun r x h) (sits.begun q y h');
     mine = sits.mine;
     own = sits.own;
   }
 
-  pub tells : (s : St) (kept : Kept k s) (id : ℕ) (v : View) (i : ℕ) → v.size ≡ k → get_elem? s.views id ≡ some v
+  pub tells : (s : St) (holds : IsLawfulState k s) (id : ℕ) (v : View) (i : ℕ) → v.size ≡ k → get_elem? s.views id ≡ some v
       → Told v i (get_or s.words i 0)
-  tells s kept id v i is at = (
+  tells s holds id v i is at = (
     s.words,
-    subst (λ (z : Size). Lawful z s.words) (sym is) kept.lawful,
+    subst (λ (z : Size). Lawful z s.words) (sym is) holds.lawful,
     subst
-        (λ (z : Size). Fits z s.words v) (sym is) (fits s kept id v at),
+        (λ (z : Size). Fits z s.words v) (sym is) (fits s holds id v at),
     refl,
   )
 
   -- a seat's view changes, and no word
-  pub reseat : (s : St) (kept : Kept k s) (id : ℕ) (v w : View) → get_elem? s.views id ≡ some v
-      → Sits k s.words kept.nodes w → ((a : ℕ) → Plays w a → Plays v a) → Kept k (with_views s (set s.views id w))
-  reseat s kept id v w here sits parts = record {
-    long = kept.long;
-    lawful = kept.lawful;
-    nodes = kept.nodes;
-    named = kept.named;
-    owned = kept.owned;
-    ids = kept.ids;
-    sits = λ j u e. ⊎_elim (λ (t : (j ≡ id) × (w ≡ u)). subst (λ (z : View). Sits k s.words kept.nodes z) t.1 sits)
-        (λ (t : (j ≢ id) × (get_elem? s.views j ≡ some u)). kept.sits j u t.1) (at_set s.views id j w u e);
-    apart = apart_set s.views id v w here kept.apart parts;
+  pub reseat : (s : St) (holds : IsLawfulState k s) (id : ℕ) (v w : View) → get_elem? s.views id ≡ some v
+      → Sits k s.words holds.nodes w → ((a : ℕ) → Plays w a → Plays v a) → IsLawfulState k (with_views s (set s.views id w))
+  reseat s holds id v w here sits parts = record {
+    long = holds.long;
+    lawful = holds.lawful;
+    nodes = holds.nodes;
+    named = holds.named;
+    owned = holds.owned;
+    ids = holds.ids;
+    sits = λ j u e. ⊎_elim (λ (t : (j ≡ id) × (w ≡ u)). subst (λ (z : View). Sits k s.words holds.nodes z) t.1 sits)
+        (λ (t : (j ≢ id) × (get_elem? s.views j ≡ some u)). holds.sits j u t.1) (at_set s.views id j w u e);
+    apart = apart_set s.views id v w here holds.apart parts;
   }
 
   sits_heard : (ws : List ℕ) (nodes : ℕ → Option Node) (v : View) (i n : ℕ) → get_or ws i 0 ≡ n → Sits k ws nodes v
@@ -168,29 +168,29 @@ module _ (k : Size) where
   heard_parts : (v : View) (i n a : ℕ) → Plays (heard v i n) a → Plays v a
   heard_parts v i n a = heard_cases (λ (z : View). Plays z a → Plays v a) v i n (λ _ p. p) (λ _ p. p)
 
-  load_kept : (s : St) (kept : Kept k s) (id : ℕ) (v : View) (i : ℕ) → get_elem? s.views id ≡ some v
-      → Kept k record {
+  load_holds : (s : St) (holds : IsLawfulState k s) (id : ℕ) (v : View) (i : ℕ) → get_elem? s.views id ≡ some v
+      → IsLawfulState k record {
         words = set s.words i (get_or s.words i 0);
         homes = s.homes;
         views = set s.views id
             (heard v i (get_or s.words i 0));
       }
-  load_kept s kept id v i here =
+  load_holds s holds id v i here =
       let n : ℕ = get_or s.words i 0 in
-      subst (λ (ws : List ℕ). Kept k record { words = ws; homes = s.homes; views = set s.views id (heard v i n) })
+      subst (λ (ws : List ℕ). IsLawfulState k record { words = ws; homes = s.homes; views = set s.views id (heard v i n) })
       (sym (set-get_or s.words i 0))
-      (reseat s kept id v (heard v i n) here (sits_heard s.words kept.nodes v i n refl (kept.sits id v here))
+      (reseat s holds id v (heard v i n) here (sits_heard s.words holds.nodes v i n refl (holds.sits id v here))
       (heard_parts v i n))
 
   pub loads : (slots id : ℕ) (me : Me Node View) (i : ℕ) → me.0.size ≡ k
-      → Allows (Kept k) slots id me i (λ n. n) (Turns looked (step slots i 0 0 none) me)
-  loads slots id me i is s kept home here small = (
+      → Allows (IsLawfulState k) slots id me i (λ n. n) (Turns looked (step slots i 0 0 none) me)
+  loads slots id me i is s holds home here small = (
     heard me.0 i (get_or s.words i 0),
     keeps,
     tt,
-    load_kept s kept id
+    load_holds s holds id
         me.0 i here,
-    (refl, tells s kept id me.0 i is here),
+    (refl, tells s holds id me.0 i is here),
   )
 
   -- another seat's view, where a word changes that was 0 and is not that seat's
@@ -209,10 +209,10 @@ module _ (k : Size) where
   }
 
   -- a word that was 0 is set, by the seat whose word it is, or by any seat where it is nobody's
-  pub kept_set : (s : St) (kept : Kept k s) (id : ℕ) (v w : View) (i n : ℕ) (nodes' : ℕ → Option Node)
+  pub holds_set : (s : St) (holds : IsLawfulState k s) (id : ℕ) (v w : View) (i n : ℕ) (nodes' : ℕ → Option Node)
       → get_elem? s.views id ≡ some v → get_or s.words i 0 ≡ 0
       → Lawful k (set s.words i n)
-      → ((r : ℕ) (x : Node) → kept.nodes r ≡ some x → nodes' r ≡ some x)
+      → ((r : ℕ) (x : Node) → holds.nodes r ≡ some x → nodes' r ≡ some x)
       → ((r : ℕ) (x : Node) → nodes' r ≡ some x
       → (0 < x.colours.0) × (get_or (set s.words i n) (word_at k r 0) 0 ≡ x.colours.0))
       → ((r : ℕ) (x : Node) → nodes' r ≡ some x → x.id.client ≡ r / k.rows)
@@ -220,9 +220,9 @@ module _ (k : Size) where
       → Sits k (set s.words i n) nodes' w
       → (owner_of k i ≡ 0) ⊎ Plays v (owner_of k i)
       → ((a : ℕ) → Plays w a → Plays v a)
-      → Kept k record { words = set s.words i n; homes = s.homes; views = set s.views id w }
-  kept_set s kept id v w i n nodes' here free law more named owned ids sits whose parts = record {
-    long = length-set s.words i n ∙ kept.long;
+      → IsLawfulState k record { words = set s.words i n; homes = s.homes; views = set s.views id w }
+  holds_set s holds id v w i n nodes' here free law more named owned ids sits whose parts = record {
+    long = length-set s.words i n ∙ holds.long;
     lawful = law;
     nodes = nodes';
     named = named;
@@ -232,10 +232,10 @@ module _ (k : Size) where
         sits)
         (λ (t : (j ≢ id) × (get_elem? s.views j ≡ some u)). let not : ¬ (Plays u (owner_of k i)) = λ p. ⊎_elim
         (λ (z : owner_of k i ≡ 0). let pos : 0 < owner_of k i = p.0 in
-        omega arith) (λ (q : Plays v (owner_of k i)). t.0 (kept.apart j id u v (owner_of k i) t.1 here p q))
+        omega arith) (λ (q : Plays v (owner_of k i)). t.0 (holds.apart j id u v (owner_of k i) t.1 here p q))
         whose in
-        sits_else s.words kept.nodes nodes' u i n free more not (kept.sits j u t.1)) (at_set s.views id j w u e);
-    apart = apart_set s.views id v w here kept.apart parts;
+        sits_else s.words holds.nodes nodes' u i n free more not (holds.sits j u t.1)) (at_set s.views id j w u e);
+    apart = apart_set s.views id v w here holds.apart parts;
   }
 
   -- the words stay lawful where a word of the row r that was 0 is set
@@ -342,30 +342,30 @@ module _ (k : Size) where
   exchanges : (slots id : ℕ) (me : Me Node View) (i n : ℕ) (x : Option Node) (f : Step Node → View → ℕ → View)
       → me.0.size ≡ k
       → ((m : ℕ) → m ≢ 0 → f (step slots i 0 n x) me.0 m ≡ heard me.0 i m)
-      → ((s : St) → Kept k s → get_elem? s.views id ≡ some me.0 → get_or s.words i 0 ≡ 0
-      → Kept k record {
+      → ((s : St) → IsLawfulState k s → get_elem? s.views id ≡ some me.0 → get_or s.words i 0 ≡ 0
+      → IsLawfulState k record {
         words = set s.words i n;
         homes = s.homes;
         views = set s.views id
             (f (step slots i 0 n x) me.0 0);
       })
-      → Allows (Kept k) slots id me i (λ m. either (eqb m 0) n m) (Turns f (step slots i 0 n x) me)
-  exchanges slots id me i n x f is miss hit s kept home here small =
+      → Allows (IsLawfulState k) slots id me i (λ m. either (eqb m 0) n m) (Turns f (step slots i 0 n x) me)
+  exchanges slots id me i n x f is miss hit s holds home here small =
       let m : ℕ = get_or s.words i 0 in let w : View = f (step slots i 0 n x) me.0 m in (
         w,
         keeps,
         tt,
-        exchanged m 0 n (λ z. Kept k record { words = set s.words i z; homes = s.homes; views = set s.views id w })
-            (λ free. subst (λ (z : ℕ). Kept k record {
+        exchanged m 0 n (λ z. IsLawfulState k record { words = set s.words i z; homes = s.homes; views = set s.views id w })
+            (λ free. subst (λ (z : ℕ). IsLawfulState k record {
               words = set s.words i n;
               homes = s.homes;
               views = set s.views
                   id (f (step slots i 0 n x) me.0 z);
-            }) (sym free) (hit s kept here free))
-            (λ ne. subst (λ (z : View). Kept k record
+            }) (sym free) (hit s holds here free))
+            (λ ne. subst (λ (z : View). IsLawfulState k record
             { words = set s.words i m; homes = s.homes; views = set s.views id z }) (sym (miss m ne))
-            (load_kept s kept id me.0 i here)),
-        (refl, tells s kept id me.0 i is here),
+            (load_holds s holds id me.0 i here)),
+        (refl, tells s holds id me.0 i is here),
       )
 
   no_owner : (r : ℕ) → owner_of k (word_at k r (k.colours + 1)) ≡ 0
@@ -373,10 +373,10 @@ module _ (k : Size) where
       ∙ if_no (k.colours + 1) 0 _ _ (λ z. omega arith)
       ∙ ap (λ (b : Bool). if b then k.clients + (k.colours + 1) else 0) (lt-leb (k.colours + 1) k.colours (omega arith))
 
-  named_else : (s : St) (kept : Kept k s) (r p n : ℕ) → p < width k → p ≢ 0 → (q : ℕ) (x : Node)
-      → kept.nodes q ≡ some x
+  named_else : (s : St) (holds : IsLawfulState k s) (r p n : ℕ) → p < width k → p ≢ 0 → (q : ℕ) (x : Node)
+      → holds.nodes q ≡ some x
       → (0 < x.colours.0) × (get_or (set s.words (word_at k r p) n) (word_at k q 0) 0 ≡ x.colours.0)
-  named_else s kept r p n part not_first q x e = let t = kept.named q x e in (
+  named_else s holds r p n part not_first q x e = let t = holds.named q x e in (
     t.0,
     get_or-set_other s.words (word_at k r p) (word_at k q 0) n 0
         (λ d. not_first (sym (same_part k q 0 r p (omega arith) part d))) ∙ t.1,
@@ -386,27 +386,27 @@ module _ (k : Size) where
   pub marks : (slots id : ℕ) (me : Me Node View) (r c n : ℕ) (x : Node) → me.0.size ≡ k
       → word_at k r (1 + c) < words_of k → c < k.colours → Plays me.0 (owner_of k (word_at k r (1 + c)))
       → Has me.0.begun r x → has x.colours c ≡ true → 0 < n → n < 2 ^ 62 + 2 → k.colours ≤ 64
-      → Allows (Kept k) slots id me (word_at k r (1 + c)) (λ m. either (eqb m 0) n m)
+      → Allows (IsLawfulState k) slots id me (word_at k r (1 + c)) (λ m. either (eqb m 0) n m)
       (Turns marked (step slots (word_at k r (1 + c)) 0 n none) me)
   marks slots id me r c n x is inside colour plays knows bit pos small few =
-      exchanges slots id me (word_at k r (1 + c)) n none marked is (λ m ne. if_no m 0 _ _ ne) (λ s kept here free.
+      exchanges slots id me (word_at k r (1 + c)) n none marked is (λ m ne. if_no m 0 _ _ ne) (λ s holds here free.
       let i : ℕ = word_at k r (1 + c) in
       let part : 1 + c < width k = omega arith in
-      let long : length s.words ≡ words_of k = kept.long in
+      let long : length s.words ≡ words_of k = holds.long in
       let within : i < length s.words = omega arith in
-      let begun = kept.named r x ((kept.sits id me.0 here).begun r x knows) in
+      let begun = holds.named r x ((holds.sits id me.0 here).begun r x knows) in
       let bit_now : has_bit (get_or s.words (word_at k r 0) 0) c ≡ true = subst (λ (z : ℕ). has_bit z c ≡ true)
       (sym begun.1) bit in
       let nonzero : get_or s.words (word_at k r 0) 0 ≢ 0 = λ z. let p = begun.0 in let e = begun.1 in omega arith in
-      let undone = open_if_missing k s.words r c few (kept.lawful.colours r nonzero).within bit_now free in
-      kept_set s kept id me.0 (wrote me.0 i n) i n kept.nodes here free
-      (law_set s.words r (1 + c) n within part kept.lawful small (λ z. absurd (omega arith))
+      let undone = open_if_missing k s.words r c few (holds.lawful.colours r nonzero).within bit_now free in
+      holds_set s holds id me.0 (wrote me.0 i n) i n holds.nodes here free
+      (law_set s.words r (1 + c) n within part holds.lawful small (λ z. absurd (omega arith))
       (λ z. absurd (omega arith)) (λ _. undone))
       (λ _ _ e. e)
-      (named_else s kept r (1 + c) n part (λ z. omega arith))
-      kept.owned
-      kept.ids
-      (sits_wrote s.words kept.nodes kept.nodes me.0 i n within free pos (λ _ _ e. e) plays (kept.sits id me.0 here))
+      (named_else s holds r (1 + c) n part (λ z. omega arith))
+      holds.owned
+      holds.ids
+      (sits_wrote s.words holds.nodes holds.nodes me.0 i n within free pos (λ _ _ e. e) plays (holds.sits id me.0 here))
       (inr plays)
       (λ _ p. p))
 
@@ -414,116 +414,116 @@ module _ (k : Size) where
   pub ends : (slots id : ℕ) (me : Me Node View) (r n : ℕ) → me.0.size ≡ k → word_at k r (k.colours + 1) < words_of k
       → 0 < n → n < 2 ^ 62 + 2
       → ((ws : List ℕ) → Lawful k ws → Fits k ws me.0 → outcome_from n ≡ outcome_at k ws r)
-      → Allows (Kept k) slots id me (word_at k r (k.colours + 1)) (λ m. either (eqb m 0) n m)
+      → Allows (IsLawfulState k) slots id me (word_at k r (k.colours + 1)) (λ m. either (eqb m 0) n m)
       (Turns ended (step slots (word_at k r (k.colours + 1)) 0 n none) me)
   ends slots id me r n is inside pos small known =
       exchanges slots id me (word_at k r (k.colours + 1)) n none ended is
-      (λ m ne. ap (heard me.0 (word_at k r (k.colours + 1))) (if_no m 0 n m ne)) (λ s kept here free.
+      (λ m ne. ap (heard me.0 (word_at k r (k.colours + 1))) (if_no m 0 n m ne)) (λ s holds here free.
       let p : ℕ = k.colours + 1 in
       let i : ℕ = word_at k r p in
       let part : p < width k = omega arith in
-      let long : length s.words ≡ words_of k = kept.long in
+      let long : length s.words ≡ words_of k = holds.long in
       let within : i < length s.words = omega arith in
       let nobody : owner_of k i ≡ 0 = no_owner r in
-      subst (λ (z : View). Kept k record { words = set s.words i n; homes = s.homes; views = set s.views id z })
+      subst (λ (z : View). IsLawfulState k record { words = set s.words i n; homes = s.homes; views = set s.views id z })
       (sym (heard_some me.0 i n (λ z. omega arith)))
-      (kept_set s kept id me.0 record me.0 { known = (i, n) ∷ me.0.known } i n kept.nodes here free
-      (law_set s.words r p n within part kept.lawful small (λ z. absurd (omega arith))
-      (λ _. known s.words kept.lawful (fits s kept id me.0 here)) (λ ne. absurd (ne refl)))
+      (holds_set s holds id me.0 record me.0 { known = (i, n) ∷ me.0.known } i n holds.nodes here free
+      (law_set s.words r p n within part holds.lawful small (λ z. absurd (omega arith))
+      (λ _. known s.words holds.lawful (fits s holds id me.0 here)) (λ ne. absurd (ne refl)))
       (λ _ _ e. e)
-      (named_else s kept r p n part (λ z. omega arith))
-      kept.owned
-      kept.ids
-      (sits_ended s.words kept.nodes me.0 i n within free pos nobody (kept.sits id me.0 here))
+      (named_else s holds r p n part (λ z. omega arith))
+      holds.owned
+      holds.ids
+      (sits_ended s.words holds.nodes me.0 i n within free pos nobody (holds.sits id me.0 here))
       (inl nobody)
       (λ _ p. p)))
 
   -- no row is begun for a node with the id, where each row that the seat has begun is known as begun for another
-  no_other : (s : St) (kept : Kept k s) (id : ℕ) (v : View) (r : ℕ) (x : Node) → get_elem? s.views id ≡ some v
+  no_other : (s : St) (holds : IsLawfulState k s) (id : ℕ) (v : View) (r : ℕ) (x : Node) → get_elem? s.views id ≡ some v
       → v.size ≡ k → Plays v (owner_of k (word_at k r 0)) → x.id.client ≡ r / k.rows → IsNewTo v x.id.client x.id
-      → (q : ℕ) (y : Node) → kept.nodes q ≡ some y → x.id ≡ y.id → ⊥
-  no_other s kept id v r x here is plays client new q y e same =
+      → (q : ℕ) (y : Node) → holds.nodes q ≡ some y → x.id ≡ y.id → ⊥
+  no_other s holds id v r x here is plays client new q y e same =
       let part : 0 < width k = omega arith in
-      let of_client : q / k.rows ≡ x.id.client = sym (kept.owned q y e) ∙ ap (λ (z : Id). z.client) (sym same) in
+      let of_client : q / k.rows ≡ x.id.client = sym (holds.owned q y e) ∙ ap (λ (z : Id). z.client) (sym same) in
       let owner : owner_of k (word_at k r 0) ≡ owner_of k (word_at k q 0) =
       owner_of_word k r 0 part ∙ ap (λ (z : ℕ). 1 + z) (sym client ∙ sym of_client) ∙ sym (owner_of_word k q 0 part) in
-      let sits = kept.sits id v here in
+      let sits = holds.sits id v here in
       let mine : at v.mine (word_at k q 0) ≡ get_or s.words (word_at k q 0) 0 =
       sits.mine (word_at k q 0) (subst (Plays v) owner plays) in
-      let named = kept.named q y e in
+      let named = holds.named q y e in
       let full = named.0 in
       let word = named.1 in
       let known = new q (ap (λ (z : Size). q / z.rows) is ∙ of_client)
       (subst (λ (z : Size). at v.mine (word_at z q 0) ≢ 0) (sym is) (λ z. omega (arith, mine, full, word, z))) in
       known.2 (ap (λ (z : Node). z.id) (some-injective known.0 y (sym (sits.begun q known.0 known.1) ∙ e)) ∙ sym same)
 
-  ids_more : (s : St) (kept : Kept k s) (id : ℕ) (v : View) (r : ℕ) (x : Node) → get_elem? s.views id ≡ some v
+  ids_more : (s : St) (holds : IsLawfulState k s) (id : ℕ) (v : View) (r : ℕ) (x : Node) → get_elem? s.views id ≡ some v
       → v.size ≡ k → Plays v (owner_of k (word_at k r 0)) → x.id.client ≡ r / k.rows → IsNewTo v x.id.client x.id
-      → (p q : ℕ) (y z : Node) → (if p == r then some x else kept.nodes p) ≡ some y
-      → (if q == r then some x else kept.nodes q) ≡ some z → y.id ≡ z.id → p ≡ q
-  ids_more s kept id v r x here is plays client new p q y z ey ez same =
-      let other = no_other s kept id v r x here is plays client new in
-      let now : (n : ℕ) (w : Node) → n ≡ r → (if n == r then some x else kept.nodes n) ≡ some w → x.id ≡ w.id =
-      λ n w d e. ap (λ (u : Node). u.id) (some-injective x w (sym (if_yes n r (some x) (kept.nodes n) d) ∙ e)) in
-      let old : (n : ℕ) (w : Node) → n ≢ r → (if n == r then some x else kept.nodes n) ≡ some w → kept.nodes n ≡ some w =
-      λ n w ne e. sym (if_no n r (some x) (kept.nodes n) ne) ∙ e in
+      → (p q : ℕ) (y z : Node) → (if p == r then some x else holds.nodes p) ≡ some y
+      → (if q == r then some x else holds.nodes q) ≡ some z → y.id ≡ z.id → p ≡ q
+  ids_more s holds id v r x here is plays client new p q y z ey ez same =
+      let other = no_other s holds id v r x here is plays client new in
+      let now : (n : ℕ) (w : Node) → n ≡ r → (if n == r then some x else holds.nodes n) ≡ some w → x.id ≡ w.id =
+      λ n w d e. ap (λ (u : Node). u.id) (some-injective x w (sym (if_yes n r (some x) (holds.nodes n) d) ∙ e)) in
+      let old : (n : ℕ) (w : Node) → n ≢ r → (if n == r then some x else holds.nodes n) ≡ some w → holds.nodes n ≡ some w =
+      λ n w ne e. sym (if_no n r (some x) (holds.nodes n) ne) ∙ e in
       dite (ℕ_discrete p r)
       (λ d. dite (ℕ_discrete q r) (λ d'. d ∙ sym d')
       (λ ne. absurd (other q z (old q z ne ez) (now p y d ey ∙ same))))
       (λ ne. dite (ℕ_discrete q r)
       (λ d'. absurd (other p y (old p y ne ey) (now q z d' ez ∙ sym same)))
-      (λ ne'. kept.ids p q y z (old p y ne ey) (old q z ne' ez) same))
+      (λ ne'. holds.ids p q y z (old p y ne ey) (old q z ne' ez) same))
 
   -- word 0 of a row is set, by the seat of the row's client, which has not set it before
   pub begins : (slots id : ℕ) (me : Me Node View) (r : ℕ) (x : Node) → me.0.size ≡ k → word_at k r 0 < words_of k
       → Plays me.0 (owner_of k (word_at k r 0))
       → x.colours.0 < 2 ^ 62 + 2 → AreColours k x.colours
       → x.id.client ≡ r / k.rows → IsNewTo me.0 x.id.client x.id
-      → Allows (Kept k) slots id me (word_at k r 0) (λ m. either (eqb m 0) x.colours.0 m)
+      → Allows (IsLawfulState k) slots id me (word_at k r 0) (λ m. either (eqb m 0) x.colours.0 m)
       (Turns began (step slots (word_at k r 0) 0 x.colours.0 (some x)) me)
   begins slots id me r x is inside plays small spans client new =
       let n : ℕ = x.colours.0 in
       let many = spans.many in
       let filled : n ≢ 0 = not_empty x.colours (omega arith) in
       let pos : 0 < n = omega arith in
-      exchanges slots id me (word_at k r 0) n (some x) began is (λ m ne. if_no m 0 _ _ ne) (λ s kept here free.
+      exchanges slots id me (word_at k r 0) n (some x) began is (λ m ne. if_no m 0 _ _ ne) (λ s holds here free.
       let i : ℕ = word_at k r 0 in
       let part : 0 < width k = omega arith in
-      let long : length s.words ≡ words_of k = kept.long in
+      let long : length s.words ≡ words_of k = holds.long in
       let within : i < length s.words = omega arith in
-      let nodes' : ℕ → Option Node = λ q. if q == r then some x else kept.nodes q in
-      let more : (q : ℕ) (y : Node) → kept.nodes q ≡ some y → nodes' q ≡ some y
-      = λ q y e. let ne : q ≢ r = λ d. let t = kept.named q y e in
+      let nodes' : ℕ → Option Node = λ q. if q == r then some x else holds.nodes q in
+      let more : (q : ℕ) (y : Node) → holds.nodes q ≡ some y → nodes' q ≡ some y
+      = λ q y e. let ne : q ≢ r = λ d. let t = holds.named q y e in
       let z : get_or s.words (word_at k q 0) 0 ≡ 0 = subst (λ (z : ℕ). get_or s.words (word_at k z 0) 0 ≡ 0)
       (sym d) free in let u : 0 < y.colours.0 = t.0 in
       let w : get_or s.words (word_at k q 0) 0 ≡ y.colours.0 = t.1 in omega arith in
-      if_no q r (some x) (kept.nodes q) ne ∙ e in
-      let seen = sits_wrote s.words kept.nodes nodes' me.0 i n within free pos more plays (kept.sits id me.0 here) in
+      if_no q r (some x) (holds.nodes q) ne ∙ e in
+      let seen = sits_wrote s.words holds.nodes nodes' me.0 i n within free pos more plays (holds.sits id me.0 here) in
       let row : i / width me.0.size ≡ r = ap (λ (z : Size). i / width z) is ∙ row_of_word k r 0 part in
-      subst (λ (z : ℕ). Kept k record {
+      subst (λ (z : ℕ). IsLawfulState k record {
         words = set s.words i n;
         homes = s.homes;
         views = set s.views id record
             (wrote me.0 i n) { begun = (z, x) ∷ me.0.begun };
       }) (sym row)
-      (kept_set s kept id me.0 record (wrote me.0 i n) { begun = (r, x) ∷ me.0.begun } i n nodes' here free
-      (law_set s.words r 0 n within part kept.lawful small (λ _. spans) (λ z. absurd (omega arith))
+      (holds_set s holds id me.0 record (wrote me.0 i n) { begun = (r, x) ∷ me.0.begun } i n nodes' here free
+      (law_set s.words r 0 n within part holds.lawful small (λ _. spans) (λ z. absurd (omega arith))
       (λ _. open_if_unbegun k s.words r free))
       more
       (λ q y e. dite (ℕ_discrete q r)
-      (λ d. let same : x ≡ y = some-injective x y (sym (if_yes q r (some x) (kept.nodes q) d) ∙ e) in
+      (λ d. let same : x ≡ y = some-injective x y (sym (if_yes q r (some x) (holds.nodes q) d) ∙ e) in
       subst (λ (z : Node). (0 < z.colours.0) × (get_or (set s.words i n) (word_at k q 0) 0 ≡ z.colours.0)) same
       (pos, ap (λ (z : ℕ). get_or (set s.words i n) (word_at k z 0) 0) d ∙ get_or-set_same s.words i n 0 within))
-      (λ ne. let t = kept.named q y (sym (if_no q r (some x) (kept.nodes q) ne) ∙ e) in
+      (λ ne. let t = holds.named q y (sym (if_no q r (some x) (holds.nodes q) ne) ∙ e) in
       (t.0, get_or-set_other s.words i (word_at k q 0) n 0 (λ d. ne (same_row k q 0 r 0 part part d)) ∙ t.1)))
       (λ q y e. dite (ℕ_discrete q r)
-      (λ d. let same : x ≡ y = some-injective x y (sym (if_yes q r (some x) (kept.nodes q) d) ∙ e) in
+      (λ d. let same : x ≡ y = some-injective x y (sym (if_yes q r (some x) (holds.nodes q) d) ∙ e) in
       ap (λ (z : Node). z.id.client) (sym same) ∙ client ∙ ap (λ (z : ℕ). z / k.rows) (sym d))
-      (λ ne. kept.owned q y (sym (if_no q r (some x) (kept.nodes q) ne) ∙ e)))
-      (ids_more s kept id me.0 r x here is plays client new)
+      (λ ne. holds.owned q y (sym (if_no q r (some x) (holds.nodes q) ne) ∙ e)))
+      (ids_more s holds id me.0 r x here is plays client new)
       record {
         known = seen.known;
-        begun = λ q y h. ⊎_elim (λ (t : (r ≡ q) × (x ≡ y)). if_yes q r (some x) (kept.nodes q) (sym t.0)
+        begun = λ q y h. ⊎_elim (λ (t : (r ≡ q) × (x ≡ y)). if_yes q r (some x) (holds.nodes q) (sym t.0)
             ∙ ap some t.1) (λ (t : Has me.0.begun q y). seen.begun q y t) h;
         mine = seen.mine;
         own = seen.own;
@@ -531,33 +531,33 @@ module _ (k : Size) where
       (inr plays)
       (λ _ p. p)))
 
-  fork : (s : St) (kept : Kept k s) (id : ℕ) (v left right : View) → get_elem? s.views id ≡ some v
-      → Sits k s.words kept.nodes left → Sits k s.words kept.nodes right
+  fork : (s : St) (holds : IsLawfulState k s) (id : ℕ) (v left right : View) → get_elem? s.views id ≡ some v
+      → Sits k s.words holds.nodes left → Sits k s.words holds.nodes right
       → ((a : ℕ) → Plays left a → Plays v a) → ((a : ℕ) → Plays right a → Plays v a)
       → ((a : ℕ) → Plays left a → Plays right a → ⊥)
-      → Kept k (with_views s (set s.views id left ++ right ∷ []))
-  fork s kept id v left right here sits_left sits_right to_left to_right never = record {
-    long = kept.long;
-    lawful = kept.lawful;
-    nodes = kept.nodes;
-    named = kept.named;
-    owned = kept.owned;
-    ids = kept.ids;
+      → IsLawfulState k (with_views s (set s.views id left ++ right ∷ []))
+  fork s holds id v left right here sits_left sits_right to_left to_right never = record {
+    long = holds.long;
+    lawful = holds.lawful;
+    nodes = holds.nodes;
+    named = holds.named;
+    owned = holds.owned;
+    ids = holds.ids;
     sits = λ j u e. ⊎_elim
         (λ (t : get_elem? (set s.views id left) j ≡ some u). ⊎_elim
-        (λ (q : (j ≡ id) × (left ≡ u)). subst (λ (z : View). Sits k s.words kept.nodes z) q.1 sits_left)
-        (λ (q : (j ≢ id) × (get_elem? s.views j ≡ some u)). kept.sits j u q.1) (at_set s.views id j left u t))
-        (λ (t : (j ≡ length (set s.views id left)) × (right ≡ u)). subst (λ (z : View). Sits k s.words kept.nodes z)
+        (λ (q : (j ≡ id) × (left ≡ u)). subst (λ (z : View). Sits k s.words holds.nodes z) q.1 sits_left)
+        (λ (q : (j ≢ id) × (get_elem? s.views j ≡ some u)). holds.sits j u q.1) (at_set s.views id j left u t))
+        (λ (t : (j ≡ length (set s.views id left)) × (right ≡ u)). subst (λ (z : View). Sits k s.words holds.nodes z)
         t.1 sits_right)
         (at_end (set s.views id left) right u j e);
-    apart = apart_fork s.views id v left right here kept.apart to_left to_right never;
+    apart = apart_fork s.views id v left right here holds.apart to_left to_right never;
   }
 
   no_part : (v : View) (a : ℕ) → v.high ≡ 0 → Plays v a → ⊥
   no_part v a e p = let q : a < v.high = p.2 in omega arith
 
-  pub splits : (id : ℕ) (v : View) → Splits (Kept k) id v v (told v)
-  splits id v s kept here = let sits = kept.sits id v here in fork s kept id v v (told v) here sits
+  pub splits : (id : ℕ) (v : View) → Splits (IsLawfulState k) id v v (told v)
+  splits id v s holds here = let sits = holds.sits id v here in fork s holds id v v (told v) here sits
       record {
         known = sits.known;
         begun = sits.begun;
@@ -566,14 +566,14 @@ module _ (k : Size) where
       }
       (λ a p. p) (λ a p. absurd (no_part (told v) a refl p)) (λ a p q. no_part (told v) a refl q)
 
-  pub deals : (id : ℕ) (v : View) → v.low < v.high → v.mine ≡ [] → Splits (Kept k) id v (others v) (lowest v)
-  deals id v more fresh s kept here = let sits = kept.sits id v here in
+  pub deals : (id : ℕ) (v : View) → v.low < v.high → v.mine ≡ [] → Splits (IsLawfulState k) id v (others v) (lowest v)
+  deals id v more fresh s holds here = let sits = holds.sits id v here in
       let empty : (i : ℕ) → at v.mine i ≡ 0 = λ i. ap (λ (z : List (ℕ × ℕ)). at z i) fresh in
       let up : (a : ℕ) → Plays (others v) a → Plays v a = λ a p. let x : v.low + 1 ≤ a = p.1 in
       (p.0, omega arith, p.2) in
       let down : (a : ℕ) → Plays (lowest v) a → Plays v a = λ a p. let x : a < v.low + 1 = p.2 in
       (p.0, p.1, omega arith) in
-      fork s kept id v (others v) (lowest v) here
+      fork s holds id v (others v) (lowest v) here
       record {
         known = sits.known;
         begun = sits.begun;
@@ -604,11 +604,11 @@ module _ (k : Size) where
   elsewhere vs id other u w apart there = ⊎_elim (λ (t : (other ≡ id) × (u ≡ w)). absurd (apart t.0))
       (λ (t : (other ≢ id) × (get_elem? vs other ≡ some w)). t.1) (at_set vs id other u w there)
 
-  pub joins : (id : ℕ) (v : View) (other : ℕ) (w : View) → Joins (Kept k) id v other w (both v w) spent
-  joins id v other w s kept here apart there =
-      let sits = kept.sits id v here in
-      let sits' = kept.sits other w (elsewhere s.views id other (both v w) w apart there) in
-      let one = reseat s kept id v (both v w) here record {
+  pub joins : (id : ℕ) (v : View) (other : ℕ) (w : View) → Joins (IsLawfulState k) id v other w (both v w) spent
+  joins id v other w s holds here apart there =
+      let sits = holds.sits id v here in
+      let sits' = holds.sits other w (elsewhere s.views id other (both v w) w apart there) in
+      let one = reseat s holds id v (both v w) here record {
         known = λ i n h. ⊎_elim (λ t. sits.known i n t) (λ t. sits'.known i n t) (Has-append v.known w.known i n h);
         begun = λ r x h. ⊎_elim (λ t. sits.begun r x t) (λ t. sits'.begun r x t) (Has-append v.begun w.begun r x h);
         mine = sits.mine;
@@ -618,21 +618,21 @@ module _ (k : Size) where
       (λ a p. absurd (no_part spent a refl p))
 
   pub gathers : (id : ℕ) (v : View) (other : ℕ) (w : View) → v.high ≡ w.low → v.low ≤ v.high → w.low ≤ w.high
-      → Joins (Kept k) id v other w (merged v w) spent
-  gathers id v other w next up up' s kept here apart there =
+      → Joins (IsLawfulState k) id v other w (merged v w) spent
+  gathers id v other w next up up' s holds here apart there =
       let there' = elsewhere s.views id other (merged v w) w apart there in
-      let sits = kept.sits id v here in
-      let sits' = kept.sits other w there' in
+      let sits = holds.sits id v here in
+      let sits' = holds.sits other w there' in
       let parts : (a : ℕ) → Plays (merged v w) a → Plays v a ⊎ Plays w a
       = λ a p. let q : a < w.high = p.2 in let l : v.low ≤ a = p.1 in
       dite (dec_le (w.low) a) (λ le. inr (p.0, le, q)) (λ gt. inl (p.0, l, omega arith)) in
       let only : (i : ℕ) → Plays v (owner_of k i) → at w.mine i ≡ 0
       = λ i p. dite (ℕ_discrete (at w.mine i) 0) (λ z. z)
-      (λ ne. absurd (apart (kept.apart other id w v (owner_of k i) there' here (sits'.own i ne) p))) in
+      (λ ne. absurd (apart (holds.apart other id w v (owner_of k i) there' here (sits'.own i ne) p))) in
       let only' : (i : ℕ) → Plays w (owner_of k i) → at v.mine i ≡ 0
       = λ i p. dite (ℕ_discrete (at v.mine i) 0) (λ z. z)
-      (λ ne. absurd (apart (kept.apart other id w v (owner_of k i) there' here p (sits.own i ne)))) in
-      let now : Sits k s.words kept.nodes (merged v w) = record {
+      (λ ne. absurd (apart (holds.apart other id w v (owner_of k i) there' here p (sits.own i ne)))) in
+      let now : Sits k s.words holds.nodes (merged v w) = record {
         known = λ i n h. ⊎_elim (λ t. sits.known i n t) (λ t. sits'.known i n t) (Has-append v.known w.known i n h);
         begun = λ r x h. ⊎_elim (λ t. sits.begun r x t) (λ t. sits'.begun r x t) (Has-append v.begun w.begun r x h);
         mine = λ i p. let sum : at (v.mine ++ w.mine) i ≡ at v.mine i + at w.mine i = at-append v.mine w.mine i in
@@ -649,21 +649,21 @@ module _ (k : Size) where
             (λ one. let p = sits.own i one in let h : owner_of k i < v.high = p.2 in (p.0, p.1, omega arith));
       } in
       record {
-        long = kept.long;
-        lawful = kept.lawful;
-        nodes = kept.nodes;
-        named = kept.named;
-        owned = kept.owned;
-        ids = kept.ids;
+        long = holds.long;
+        lawful = holds.lawful;
+        nodes = holds.nodes;
+        named = holds.named;
+        owned = holds.owned;
+        ids = holds.ids;
         sits = λ j u e. ⊎_elim
-            (λ (t : (j ≡ other) × (spent ≡ u)). subst (λ (z : View). Sits k s.words kept.nodes z) t.1
-            (sits_spent s.words kept.nodes))
+            (λ (t : (j ≡ other) × (spent ≡ u)). subst (λ (z : View). Sits k s.words holds.nodes z) t.1
+            (sits_spent s.words holds.nodes))
             (λ (t : (j ≢ other) × (get_elem? (set s.views id (merged v w)) j ≡ some u)). ⊎_elim
-            (λ (q : (j ≡ id) × (merged v w ≡ u)). subst (λ (z : View). Sits k s.words kept.nodes z) q.1 now)
-            (λ (q : (j ≢ id) × (get_elem? s.views j ≡ some u)). kept.sits j u q.1)
+            (λ (q : (j ≡ id) × (merged v w ≡ u)). subst (λ (z : View). Sits k s.words holds.nodes z) q.1 now)
+            (λ (q : (j ≢ id) × (get_elem? s.views j ≡ some u)). holds.sits j u q.1)
             (at_set s.views id j (merged v w) u t.1))
             (at_set (set s.views id (merged v w)) other j spent u e);
-        apart = apart_merge s.views id other v w here there' kept.apart parts;
+        apart = apart_merge s.views id other v w here there' holds.apart parts;
       }
 
   -- the same, as the calls have them
@@ -671,24 +671,24 @@ module _ (k : Size) where
     pub sets_mark : (i r c n : ℕ) (x : Node) → i ≡ word_at k r (1 + c) → i < words_of k → c < k.colours
         → me.0.low ≡ 1 + k.clients + c → me.0.high ≡ me.0.low + 1
         → Has me.0.begun r x → has x.colours c ≡ true → 0 < n → n < 2 ^ 62 + 2 → k.colours ≤ 64
-        → Allows (Kept key) slots id me i (λ m. either (eqb m 0) n m) (Turns marked (step slots i 0 n none) me)
+        → Allows (IsLawfulState key) slots id me i (λ m. either (eqb m 0) n m) (Turns marked (step slots i 0 n none) me)
     sets_mark i r c n x e inside colour low high knows bit pos small few =
         let plays : Plays me.0 (owner_of k (word_at k r (1 + c))) = subst (Plays me.0)
         (sym (owner_of_mark k r c colour)) (omega arith, omega arith, omega arith) in
-        subst (λ (z : Size). Allows (Kept z) slots id me i (λ m. either (eqb m 0) n m)
+        subst (λ (z : Size). Allows (IsLawfulState z) slots id me i (λ m. either (eqb m 0) n m)
         (Turns marked (step slots i 0 n none) me)) (sym same)
-        (subst (λ (z : ℕ). Allows (Kept k) slots id me z (λ m. either (eqb m 0) n m)
+        (subst (λ (z : ℕ). Allows (IsLawfulState k) slots id me z (λ m. either (eqb m 0) n m)
         (Turns marked (step slots z 0 n none) me)) (sym e)
         (marks slots id me r c n x is (subst (λ (z : ℕ). z < words_of k) e inside) colour plays knows bit pos small
         few))
 
     pub ends_at : (i r n : ℕ) → i ≡ word_at k r (k.colours + 1) → i < words_of k → 0 < n → n < 2 ^ 62 + 2
         → ((ws : List ℕ) → Lawful k ws → Fits k ws me.0 → outcome_from n ≡ outcome_at k ws r)
-        → Allows (Kept key) slots id me i (λ m. either (eqb m 0) n m) (Turns ended (step slots i 0 n none) me)
+        → Allows (IsLawfulState key) slots id me i (λ m. either (eqb m 0) n m) (Turns ended (step slots i 0 n none) me)
     ends_at i r n e inside pos small known =
-        subst (λ (z : Size). Allows (Kept z) slots id me i (λ m. either (eqb m 0) n m)
+        subst (λ (z : Size). Allows (IsLawfulState z) slots id me i (λ m. either (eqb m 0) n m)
         (Turns ended (step slots i 0 n none) me)) (sym same)
-        (subst (λ (z : ℕ). Allows (Kept k) slots id me z (λ m. either (eqb m 0) n m)
+        (subst (λ (z : ℕ). Allows (IsLawfulState k) slots id me z (λ m. either (eqb m 0) n m)
         (Turns ended (step slots z 0 n none) me)) (sym e)
         (ends slots id me r n is (subst (λ (z : ℕ). z < words_of k) e inside) pos small known))
 
@@ -696,15 +696,15 @@ module _ (k : Size) where
         → r.number < k.rows → me.0.low ≡ 1 + r.client → me.0.high ≡ me.0.low + 1
         → n ≡ x.colours.0 → n < 2 ^ 62 + 2 → AreColours k x.colours
         → x.id.client ≡ r.client → IsNewTo me.0 r.client x.id
-        → Allows (Kept key) slots id me i (λ m. either (eqb m 0) n m) (Turns began (step slots i 0 n (some x)) me)
+        → Allows (IsLawfulState key) slots id me i (λ m. either (eqb m 0) n m) (Turns began (step slots i 0 n (some x)) me)
     begins_at i n r x e inside row low high bits small spans client new =
         let plays : Plays me.0 (owner_of k (word_at k (row_at k r) 0)) = subst (Plays me.0)
         (sym (owner_of_row k r row)) (omega arith, omega arith, omega arith) in
-        let P : ℕ → Type 0 = λ z. Allows (Kept k) slots id me i (λ m. either (eqb m 0) z m)
+        let P : ℕ → Type 0 = λ z. Allows (IsLawfulState k) slots id me i (λ m. either (eqb m 0) z m)
         (Turns began (step slots i 0 z (some x)) me) in
-        let Q : ℕ → Type 0 = λ z. Allows (Kept k) slots id me z (λ m. either (eqb m 0) x.colours.0 m)
+        let Q : ℕ → Type 0 = λ z. Allows (IsLawfulState k) slots id me z (λ m. either (eqb m 0) x.colours.0 m)
         (Turns began (step slots z 0 x.colours.0 (some x)) me) in
-        subst (λ (z : Size). Allows (Kept z) slots id me i (λ m. either (eqb m 0) n m)
+        subst (λ (z : Size). Allows (IsLawfulState z) slots id me i (λ m. either (eqb m 0) n m)
         (Turns began (step slots i 0 n (some x)) me)) (sym same)
         (subst P (sym bits) (subst Q (sym e)
         (begins slots id me (row_at k r) x is (subst (λ (z : ℕ). z < words_of k) e inside) plays
@@ -722,20 +722,20 @@ module _ (k : Size) where
       ∙ ap (λ (z : ℕ). with_node (wrote me.0 (word_at k r 0) z) r (some x)) bits
 
   pub comes : (slots i : ℕ) (size : Size) (high : ℕ)
-      → Enters (Kept k) slots i (λ n w. came (newcomer size high, []) (w, []))
-  comes slots i size high s kept home small =
+      → Enters (IsLawfulState k) slots i (λ n w. came (newcomer size high, []) (w, []))
+  comes slots i size high s holds home small =
       let w : View = record (newcomer size high) { low = high } in
       let never : (a : ℕ) → Plays w a → ⊥ = λ a p. let x : high ≤ a = p.1 in let y : a < high = p.2 in omega arith in (
         w,
         record {
-          long = kept.long;
-          lawful = kept.lawful;
-          nodes = kept.nodes;
-          named = kept.named;
-          owned = kept.owned;
-          ids = kept.ids;
-          sits = λ j u e. ⊎_elim (λ (t : get_elem? s.views j ≡ some u). kept.sits j u t)
-              (λ (t : (j ≡ length s.views) × (w ≡ u)). subst (λ (z : View). Sits k s.words kept.nodes z) t.1
+          long = holds.long;
+          lawful = holds.lawful;
+          nodes = holds.nodes;
+          named = holds.named;
+          owned = holds.owned;
+          ids = holds.ids;
+          sits = λ j u e. ⊎_elim (λ (t : get_elem? s.views j ≡ some u). holds.sits j u t)
+              (λ (t : (j ≡ length s.views) × (w ≡ u)). subst (λ (z : View). Sits k s.words holds.nodes z) t.1
               record {
                 known = λ i n h. absurd h;
                 begun = λ r x h. absurd h;
@@ -745,7 +745,7 @@ module _ (k : Size) where
               }) (at_end s.views w u j e);
           apart = λ i j u u' a e e' p p'. ⊎_elim
               (λ (t : get_elem? s.views i ≡ some u). ⊎_elim
-              (λ (t' : get_elem? s.views j ≡ some u'). kept.apart i j u u' a t t' p p')
+              (λ (t' : get_elem? s.views j ≡ some u'). holds.apart i j u u' a t t' p p')
               (λ (t' : (j ≡ length s.views) × (w ≡ u')). absurd
               (never a (subst (λ (z : View). Plays z a) (sym t'.1) p'))) (at_end s.views w u' j e'))
               (λ (t : (i ≡ length s.views) × (w ≡ u)). absurd
@@ -759,7 +759,7 @@ zeros zero i = refl
 zeros (suc n) zero = refl
 zeros (suc n) (suc i) = zeros n i
 
-pub opens : (k : Size) (n high : ℕ) → n ≡ words_of k → Kept k (opening (replicate n 0) [] (newcomer k high))
+pub opens : (k : Size) (n high : ℕ) → n ≡ words_of k → IsLawfulState k (opening (replicate n 0) [] (newcomer k high))
 opens k n high is =
     let blank : (i : ℕ) → get_or (replicate n 0) i 0 ≡ 0 = zeros n in
     let alone : (id : ℕ) (v : View) → get_elem? (newcomer k high ∷ []) id ≡ some v → (id ≡ 0) × (newcomer k high ≡ v)

@@ -43,8 +43,8 @@ module _ (k : Size) (v w : View) (row : Row) (c n found : ℕ) (is : v.size ≡ 
   abbrev set_view : found ≡ 0 → w ≡ wrote v place n
   set_view e = turns ∙ if_yes found 0 _ _ e ∙ ap (λ (z : Size). wrote v (word_at z (row_at z row) (1 + c)) n) (sym is)
 
-  kept_view : found ≢ 0 → w ≡ heard v place found
-  kept_view ne = turns ∙ if_no found 0 _ _ ne
+  found_view : found ≢ 0 → w ≡ heard v place found
+  found_view ne = turns ∙ if_no found 0 _ _ ne
       ∙ ap (λ (z : Size). heard v (word_at z (row_at z row) (1 + c)) found) (sym is)
 
   pub was : own_mark v row c ≡ mark_from found
@@ -72,17 +72,17 @@ module _ (k : Size) (v w : View) (row : Row) (c n found : ℕ) (is : v.size ≡ 
       ap (λ (z : View). own_mark z other c) (set_view e) ∙ ap mark_from (at_else v.mine place n there apart)
 
   pub all_stay : found ≢ 0 → (other : Row) → own_mark w other c ≡ own_mark v other c
-  all_stay ne other = same_own v w (ap (λ (z : View). z.mine) (kept_view ne)
-      ∙ heard_mine v place found) (ap (λ (z : View). z.size) (kept_view ne) ∙ heard_size v place found) other c
+  all_stay ne other = same_own v w (ap (λ (z : View). z.mine) (found_view ne)
+      ∙ heard_mine v place found) (ap (λ (z : View). z.size) (found_view ne) ∙ heard_size v place found) other c
 
   pub knows_own : KnowsMark w row c (own_mark w row c)
   knows_own = dite (ℕ_discrete found 0)
       (λ e. (n, subst (λ (z : View). KnowsWord z row (1 + c) n) (sym (set_view e)) (inl (refl, refl)), sym (set_now e)))
       (λ ne. (
         found,
-        (let size = ap (λ (z : View). z.size) (kept_view ne) ∙ heard_size v place found in
+        (let size = ap (λ (z : View). z.size) (found_view ne) ∙ heard_size v place found in
             subst (λ (z : Size). Has w.known (word_at z (row_at z row) (1 + c)) found) (sym size)
-            (subst (λ (z : View). Has z.known place found) (sym (kept_view ne)) (heard_knows v place found ne))),
+            (subst (λ (z : View). Has z.known place found) (sym (found_view ne)) (heard_knows v place found ne))),
         sym (all_stay ne row ∙ was),
       ))
 

@@ -13,7 +13,7 @@ use Rattle.stamp_board.specs.declared.view.Size.{Size}
 use Rattle.stamp_board.specs.declared.view.View.{View}
 use Rattle.stamp_board.specs.Words.{row_at, word_at, mark_from, outcome_from}
 use Rattle.stamp_board.specs.Views.{MayBe}
-use Rattle.stamp_board.specs.Law.{Fits, Lawful, Told, heard, IsSet, IsKept}
+use Rattle.stamp_board.specs.Law.{Fits, Lawful, Told, heard, IsSet, IsDecided}
 use Rattle.stamp_board.proofs.Knowing.{if_yes, if_no, heard_size}
 use Rattle.stamp_board.proofs.Fitting.{mark_from-good}
 use Rattle.stamp_board.proofs.Places.{client_of_row, one_row}
@@ -24,10 +24,10 @@ set_is_mark marks.None h = tt
 set_is_mark (marks.Number s) h = h
 set_is_mark (marks.Fenced why) h = tt
 
-pub kept_is_outcome : (o : Outcome) → IsKept o → IsOutcome o
-kept_is_outcome Open h = tt
-kept_is_outcome (Gone why) h = tt
-kept_is_outcome (Final f) h = h
+pub decided_is_outcome : (o : Outcome) → IsDecided o → IsOutcome o
+decided_is_outcome Open h = tt
+decided_is_outcome (Gone why) h = tt
+decided_is_outcome (Final f) h = h
 
 pub mark_from-stamp : (n : ℕ) → n < 2 ^ 62 + 2 → IsMark (mark_from n)
 mark_from-stamp n small = dite (ℕ_discrete n 0) (λ z. subst (λ (y : ℕ). IsMark (mark_from y)) (sym z) tt)
@@ -54,7 +54,7 @@ own ws v law f = let k : Size = v.size in record {
   colours = λ row ne. law.colours (row_at k row) ne;
   stamps = λ row c. mark_from-stamp (get_or ws (word_at k (row_at k row) (1 + c)) 0)
       (law.small (word_at k (row_at k row) (1 + c)));
-  kept = λ row ne. law.finals (row_at k row) (λ z. ne (ap outcome_from z));
+  decided = λ row ne. law.finals (row_at k row) (λ z. ne (ap outcome_from z));
 }
 
 pub may_be : (k : Size) (ws : List ℕ) (v : View) → v.size ≡ k → Lawful k ws → Fits k ws v → MayBe k ws v

@@ -7,7 +7,7 @@ use Rattle.stamp_board.specs.declared.view.View.{View}
 use Rattle.stamp_board.specs.declared.seats.Seat.{Seat}
 use Rattle.stamp_board.specs.declared.seats.ColumnSeat.{ColumnSeat}
 use Rattle.stamp_board.specs.declared.rows.ClosedRow.{ClosedRow}
-use Rattle.stamp_board.specs.Rows.{IsBegun, mark_in, marks_in, kept_in}
+use Rattle.stamp_board.specs.Rows.{IsBegun, mark_in, marks_in, decided_in}
 use Rattle.stamp_board.specs.Views.{Learns, MayBe}
 use Rattle.stamp_board.specs.Seats.{seen, column_seen, set_mark}
 
@@ -20,7 +20,7 @@ abbrev pub all_begun : List Seat → List Row
 all_begun ss = flat_map rows_begun ss
 
 abbrev pub closed_row : Size → List ℕ → Row → ClosedRow
-closed_row k ws row = record { row = row; marks = marks_in k ws row; last = kept_in k ws row }
+closed_row k ws row = record { row = row; marks = marks_in k ws row; last = decided_in k ws row }
 
 -- The board is lawful and agrees with v, all that any of the seats knew. A colour's mark is what that colour's seat had
 -- set, and a client's rows are begun exactly below what its seat had used.

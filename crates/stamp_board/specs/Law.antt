@@ -29,11 +29,11 @@ abbrev pub AreSet : List Mark → Type 0
 AreSet [] = Unit {0}
 AreSet (m ∷ ms) = IsSet m × AreSet ms
 
--- an outcome that is kept
-abbrev pub IsKept : Outcome → Type 0
-IsKept Open = ⊥
-IsKept (Gone why) = Unit {0}
-IsKept (Final f) = IsStamp f
+-- an outcome with which a row is decided
+abbrev pub IsDecided : Outcome → Type 0
+IsDecided Open = ⊥
+IsDecided (Gone why) = Unit {0}
+IsDecided (Final f) = IsStamp f
 
 -- only a seat that plays the part a sets the words of a
 abbrev pub Plays : View → ℕ → Type 0
@@ -68,7 +68,7 @@ pub record Sits (k : Size) (ws : List ℕ) (nodes : ℕ → Option Node) (v : Vi
 
 -- there is a node for each begun row, which is of the row's client and has an id of its own; and no two seats play one
 -- part
-pub record Kept (k : Size) (s : State Node View) : Type 0 where
+pub record IsLawfulState (k : Size) (s : State Node View) : Type 0 where
   pub long : length s.words ≡ words_of k
   pub lawful : Lawful k s.words
   pub nodes : ℕ → Option Node

@@ -9,7 +9,7 @@ use Rattle.log_node.specs.declared.marks.Outcome.{Outcome}
 use Rattle.log_node.specs.declared.marks.Outcome.TheVariants.{Open}
 use Rattle.log_node.specs.Outcomes.{outcome_of}
 use Rattle.stamp_board.specs.declared.view.Size.{Size}
-use Rattle.stamp_board.specs.Words.{row_at, word_at, row_word, mark_word, kept_word, mark_from, outcome_from}
+use Rattle.stamp_board.specs.Words.{row_at, word_at, row_word, mark_word, final_word, mark_from, outcome_from}
 
 -- at most 16 clients, 16 colours and 4,096 rows of each client, and one of each at least
 abbrev pub IsSize : Size → Type 0
@@ -38,9 +38,9 @@ mark_in k ws row c = mark_from (slice_index ws (mark_word k row c))
 abbrev pub marks_in : Size → List ℕ → Row → List ColourMark
 marks_in k ws row = map (λ c. record { colour = c; mark = mark_in k ws row c }) (members (colours_in k ws row))
 
--- the outcome that was kept for the row; Open where none was
-abbrev pub kept_in : Size → List ℕ → Row → Outcome
-kept_in k ws row = outcome_from (slice_index ws (kept_word k row))
+-- the outcome with which the row was decided; Open where it was not
+abbrev pub decided_in : Size → List ℕ → Row → Outcome
+decided_in k ws row = outcome_from (slice_index ws (final_word k row))
 
 -- the marks of a set of colours, in the row with this number
 abbrev pub marks_at : Size → List ℕ → ℕ → Colours → List Mark

@@ -10,7 +10,7 @@ use Rattle.log_node.specs.Marks.{IsMark}
 use Rattle.stamp_board.specs.declared.view.Size.{Size}
 use Rattle.stamp_board.specs.declared.view.View.{View}
 use Rattle.stamp_board.specs.Words.{row_at, word_at, mark_word, mark_from, outcome_from}
-use Rattle.stamp_board.specs.Rows.{AreColours, IsRow, IsBegun, colours_in, mark_in, kept_in, outcome_in}
+use Rattle.stamp_board.specs.Rows.{AreColours, IsRow, IsBegun, colours_in, mark_in, decided_in, outcome_in}
 
 -- the list has the pair of i and x
 abbrev pub Has : {X : Type 0} → List (ℕ × X) → ℕ → X → Type 0
@@ -34,7 +34,7 @@ KnowsWord v row p n = Has v.known (word_at v.size (row_at v.size row) p) n
 abbrev pub KnowsMark : View → Row → ℕ → Mark → Type 0
 KnowsMark v row c m = (n : ℕ) × KnowsWord v row (1 + c) n × (mark_from n ≡ m)
 
--- the seat knows that the outcome o was kept for the row, for good
+-- the seat knows that the row was decided with the outcome o, for good
 abbrev pub KnowsOutcome : View → Row → Outcome → Type 0
 KnowsOutcome v row o = (n : ℕ) × KnowsWord v row (v.size.colours + 1) n × (outcome_from n ≡ o)
 
@@ -79,7 +79,7 @@ told v = record v { low = 0; high = 0; mine = [] }
 
 -- The board may have these words: they break no rule of boards, and agree with all that the seat knows.
 -- What is known of a row, a mark or an outcome is what stands, a row has one node, which is of its client, and no two
--- rows have nodes with one id. A begun row has two colours or more of the board's, marks have stamps, and a kept outcome
+-- rows have nodes with one id. A begun row has two colours or more of the board's, marks have stamps, and a decided one
 -- is the outcome of its row's marks.
 pub record MayBe (k : Size) (ws : List ℕ) (v : View) : Type 0 where
   pub begun : (row : Row) (x : Node) → KnowsBegun v row x → IsBegun k ws row × (colours_in k ws row ≡ x.colours)
@@ -88,10 +88,10 @@ pub record MayBe (k : Size) (ws : List ℕ) (v : View) : Type 0 where
   pub ids : (row other : Row) (x y : Node) → IsRow k row → IsRow k other
       → KnowsBegun v row x → KnowsBegun v other y → x.id ≡ y.id → row ≡ other
   pub marks : (row : Row) (c : ℕ) (m : Mark) → KnowsMark v row c m → mark_in k ws row c ≡ m
-  pub outcomes : (row : Row) (o : Outcome) → KnowsOutcome v row o → kept_in k ws row ≡ o
+  pub outcomes : (row : Row) (o : Outcome) → KnowsOutcome v row o → decided_in k ws row ≡ o
   pub colours : (row : Row) → IsBegun k ws row → AreColours k (colours_in k ws row)
   pub stamps : (row : Row) (c : ℕ) → IsMark (mark_in k ws row c)
-  pub kept : (row : Row) → kept_in k ws row ≢ Open → kept_in k ws row ≡ outcome_in k ws row
+  pub decided : (row : Row) → decided_in k ws row ≢ Open → decided_in k ws row ≡ outcome_in k ws row
 
 -- P holds of some board that may be, by all that the seat knows
 abbrev pub Possibly : Size → View → (List ℕ → Type 0) → Type 0

@@ -8,7 +8,7 @@ use Rattle.log_node.specs.declared.marks.Outcome.{Outcome}
 use Rattle.log_node.specs.declared.marks.Outcome.TheVariants.{Open, Gone, Final}
 use Rattle.stamp_board.specs.declared.view.Size.{Size}
 
--- A row has its set of colours, then a mark for each colour of the board, then its kept outcome.
+-- A row has its set of colours, then a mark for each colour of the board, then the outcome with which it was decided.
 abbrev pub width : Size → ℕ
 width k = k.colours + 2
 
@@ -22,7 +22,7 @@ words_of k = rows_of k * width k
 abbrev pub row_at : Size → Row → ℕ
 row_at k r = r.client * k.rows + r.number
 
--- the word of the part p of the row r: 0 the colours, 1 + c the mark of the colour c, colours + 1 the kept outcome
+-- the word of the part p of the row r: 0 the colours, 1 + c the mark of the colour c, colours + 1 the outcome
 abbrev pub word_at : Size → ℕ → ℕ → ℕ
 word_at k r p = r * width k + p
 
@@ -32,8 +32,8 @@ row_word k row = word_at k (row_at k row) 0
 abbrev pub mark_word : Size → Row → ℕ → ℕ
 mark_word k row c = word_at k (row_at k row) (1 + c)
 
-abbrev pub kept_word : Size → Row → ℕ
-kept_word k row = word_at k (row_at k row) (k.colours + 1)
+abbrev pub final_word : Size → Row → ℕ
+final_word k row = word_at k (row_at k row) (k.colours + 1)
 
 -- whose a word is: 0 nobody's, 1 + i the client i's, 1 + clients + c the colour c's
 abbrev pub owner_in : Size → ℕ → ℕ → ℕ

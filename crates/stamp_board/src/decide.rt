@@ -1,11 +1,11 @@
-// The outcome of a row, kept in its final word.
+// The outcome of a row, in its final word.
 ghost use Rattle.std.specs.Prelude.{◌≡◌, ◌≢◌, ℕ, ◌+◌, ◌^◌, ◌<◌, ◌≤◌, List, length, take};
 ghost use Rattle.log_node.specs.Outcomes.{outcome_of};
 ghost use Rattle.log_node.specs.Marks.{IsOutcome};
 ghost use Rattle.stamp_board.specs.Words.{outcome_from};
 ghost use Rattle.stamp_board.specs.Rows.{IsRow, outcome_in};
 ghost use Rattle.stamp_board.specs.Views.{Grows, KnowsAll, KnowsOutcome, Possibly, Surely};
-ghost use Rattle.stamp_board.specs.Law.{AlwaysIn, AreSet, IsKept, OnceIn};
+ghost use Rattle.stamp_board.specs.Law.{AlwaysIn, AreSet, IsDecided, OnceIn};
 ghost use Rattle.stamp_board.specs.Seats.{IsSeatOf, IsLater, seen};
 ghost use Rattle.stamp_board.specs.Inside.{IsOf, Stays};
 
@@ -19,12 +19,12 @@ use skeen_core::outcome;
 // A mark for every colour that there may be.
 const MARKS: usize = MAX_COLOURS as usize;
 
-fn word_of_outcome(kept: Outcome) -> u64
-    requires { IsKept kept }
-    ensures word { outcome_from result ≡ kept }
+fn word_of_outcome(decided: Outcome) -> u64
+    requires { IsDecided decided }
+    ensures word { outcome_from result ≡ decided }
     ensures small { (0 < result) × (result < 2 ^ 62 + 2) }
 {
-    match kept {
+    match decided {
         Outcome::Open => unreachable!(),
         Outcome::Gone(Why::Memory) => 1,
         Outcome::Gone(Why::StampEnd) => 2,
@@ -68,7 +68,7 @@ impl Board {
         count
     }
 
-    /// The outcome of the row's marks, which is kept from then on unless it is open: it is open where the row is not
+    /// The outcome of the row's marks, which stands from then on unless it is open: it is open where the row is not
     /// begun, or a mark that this call looked for was missing.
     pub fn decide(&self, seat: &mut Seat, row: Row) -> Outcome
         requires seat { IsSeatOf self.now seat.old }
@@ -88,9 +88,9 @@ impl Board {
         if count == 0 {
             return Outcome::Open;
         }
-        let kept = outcome(&marks[..count]);
-        let new = word_of_outcome(kept);
+        let decided = outcome(&marks[..count]);
+        let new = word_of_outcome(decided);
         self.set_final(&mut seat.inner, row, new);
-        kept
+        decided
     }
 }

@@ -1,7 +1,7 @@
 // The rule, and the kinds of step.
 ghost use Rattle.std.specs.Prelude.{◌+◌};
 ghost use Rattle.stamp_board.specs.Views.{told};
-ghost use Rattle.stamp_board.specs.Law.{Kept, Turns, looked, marked, ended, began};
+ghost use Rattle.stamp_board.specs.Law.{IsLawfulState, Turns, looked, marked, ended, began};
 ghost use Rattle.stamp_board.specs.Law.{lowest, others, both, merged, spent, newcomer, came};
 
 use crate::view::{Size, View};
@@ -12,7 +12,7 @@ use log_node::Node;
 pub struct Law;
 
 impl TableRule<Node, View, Size> for Law {
-    ghost holds = { Kept };
+    ghost holds = { IsLawfulState };
 
     ghost first = { λ k. newcomer k (1 + k.clients + k.colours) };
 }

@@ -1,7 +1,7 @@
 // What stands in a row: loads of one word.
 ghost use Rattle.std.specs.Prelude.{◌≡◌, ◌≢◌, ◌<◌};
 ghost use Rattle.log_node.specs.Marks.{IsMark, IsOutcome};
-ghost use Rattle.stamp_board.specs.Rows.{IsRow, mark_in, kept_in};
+ghost use Rattle.stamp_board.specs.Rows.{IsRow, mark_in, decided_in};
 ghost use Rattle.stamp_board.specs.Views.{KnowsMark, KnowsOutcome, Possibly};
 ghost use Rattle.stamp_board.specs.Seats.{IsSeatOf, IsColumnOf, IsLater, IsLaterColumn, SetsNone};
 ghost use Rattle.stamp_board.specs.Seats.{seen, column_seen, set_mark};
@@ -27,12 +27,12 @@ impl Board {
         mark_of(self.load(&mut seat.inner, word))
     }
 
-    /// The outcome that is kept for the row, as the board has it. An outcome that the seat knew is the answer.
+    /// The outcome that the row was decided with, as the board has it. An outcome that the seat knew is the answer.
     pub fn last(&self, seat: &mut Seat, row: Row) -> Outcome
         requires seat { IsSeatOf self.now seat.old }
         requires row { IsRow self.now.size row }
         ensures seat { IsLater seat.old seat.new }
-        ensures value { Possibly self.now.size (seen seat.new) (λ ws. kept_in self.now.size ws row ≡ result) }
+        ensures value { Possibly self.now.size (seen seat.new) (λ ws. decided_in self.now.size ws row ≡ result) }
         ensures known { result ≢ Outcome.Open → KnowsOutcome (seen seat.new) row result }
         ensures before { (o : Outcome) → KnowsOutcome (seen seat.old) row o → result ≡ o }
         ensures stamp { IsOutcome result }

@@ -1,7 +1,7 @@
 // Rows as a board closes with them.
 use log_node::{ListOf, Marks, Outcome, Row};
 
-/// A begun row: the mark of each of its colours, the smallest colour first, and the outcome that was kept for it.
+/// A begun row: the mark of each of its colours, the smallest colour first, and the outcome that it was decided with.
 #[derive(Drop)]
 pub struct ClosedRow {
     pub row: Row,

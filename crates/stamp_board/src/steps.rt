@@ -1,7 +1,7 @@
 // The kinds of step, each with what it does to a seat's view.
 ghost use Rattle.std.specs.Prelude.{◌≡◌, ◌+◌, ◌^◌, ◌<◌};
 ghost use Rattle.stamp_board.specs.Words.{words_of, row_at, outcome_from};
-ghost use Rattle.stamp_board.specs.Words.{row_word, mark_word, kept_word};
+ghost use Rattle.stamp_board.specs.Words.{row_word, mark_word, final_word};
 ghost use Rattle.stamp_board.specs.Rows.{AreColours, IsRow, outcome_in};
 ghost use Rattle.stamp_board.specs.Law.{AlwaysIn, HasColour, IsNewTo, PlaysOne, Told};
 ghost use Rattle.stamp_board.specs.Law.{after_begin, after_final, after_mark, heard};
@@ -52,8 +52,8 @@ impl Board {
         requires outcome { let k = self.now.size in
             AlwaysIn k seat.old.me.0 (λ ws. outcome_from new ≡ outcome_in k ws row) }
         ensures seat { Stays seat.old seat.new }
-        ensures view { seat.new.me.0 ≡ after_final seat.old.me.0 (kept_word self.now.size row) new result }
-        ensures told { Told seat.old.me.0 (kept_word self.now.size row) result }
+        ensures view { seat.new.me.0 ≡ after_final seat.old.me.0 (final_word self.now.size row) new result }
+        ensures told { Told seat.old.me.0 (final_word self.now.size row) result }
     {
         let word = self.word(row, self.size.colours + 1);
         self.table

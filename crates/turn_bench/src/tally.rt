@@ -3,7 +3,7 @@ ghost use Rattle.std.specs.Prelude.{◌≡◌, true, false, []};
 ghost use Rattle.turn_bench.specs.Tallies.{Stands, Gains};
 
 use std::marker::Model;
-use turn_cell::Kept;
+use turn_cell::HasHistory;
 
 /// How many entries were made, and the number of the pass that made the last one.
 #[derive(Drop)]
@@ -13,7 +13,7 @@ pub struct Tally<P> {
     pub last: Option<u8>,
 }
 
-impl<P> Kept for Tally<P> {
+impl<P> HasHistory for Tally<P> {
     type Entry = u8;
 
     type Tag = ();

@@ -3,7 +3,7 @@
 
 mod cell;
 mod closing;
-mod kept;
+mod history;
 mod pass;
 mod rule;
 mod sleepers;
@@ -13,7 +13,7 @@ mod turn;
 mod view;
 
 pub use cell::Cell;
-pub use kept::Kept;
+pub use history::HasHistory;
 pub use pass::{Pass, Passes};
 pub use turn::Turn;
 pub use view::{Maker, Stage, View};

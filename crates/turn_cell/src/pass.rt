@@ -4,7 +4,7 @@ ghost use Rattle.turn_cell.specs.Histories.{IsLonger, with_own};
 ghost use Rattle.turn_cell.specs.Cells.{seen, own, met, IsSameView, Covers, IsAccounted, cell_tag, IsReady, AreNewPasses};
 
 use crate::cell::Cell;
-use crate::kept::Kept;
+use crate::history::HasHistory;
 use crate::rule::{Compare, Deal, FREE, Meet, TURN, Tell};
 use crate::sleepers::Sleepers;
 use crate::view::View;
@@ -14,12 +14,12 @@ use std::alloc::{AllocError, Global};
 use std::snapshot::Snapshot;
 
 /// What one caller knows of a cell. It has no bytes.
-pub type Pass<V> = Seat<Option<Box<V>>, View<<V as Kept>::Entry, <V as Kept>::Tag>>;
+pub type Pass<V> = Seat<Option<Box<V>>, View<<V as HasHistory>::Entry, <V as HasHistory>::Tag>>;
 
 /// Passes, by number.
 pub type Passes<V> = ListOf<Pass<V>>;
 
-impl<V: Kept> Cell<V> {
+impl<V: HasHistory> Cell<V> {
     /// A cell with this value and no history yet, and a pass for each number below `makers`. Where there is no memory
     /// for it, the value is dropped.
     pub fn open(alloc: Global, value: V, makers: u8) -> Result<(Cell<V>, Passes<V>), AllocError>

@@ -2,7 +2,7 @@
 ghost use Rattle.turn_cell.specs.Steps.{Takes, Counts, Raises, Frees, Parts, Compares, giver_after, numbered, told};
 ghost use Rattle.turn_cell.specs.Steps.{joined, spent};
 
-use crate::kept::Kept;
+use crate::history::HasHistory;
 use crate::view::View;
 use atomic_table::{Join, Play, Split, TableRule};
 use std::snapshot::Snapshot;
@@ -24,7 +24,7 @@ pub(crate) const HELD: u64 = 1;
 /// a beginning of that history.
 pub struct InTurn;
 
-impl<V: Kept> TableRule<Option<Box<V>>, View<V::Entry, V::Tag>, Snapshot<V>> for InTurn {
+impl<V: HasHistory> TableRule<Option<Box<V>>, View<V::Entry, V::Tag>, Snapshot<V>> for InTurn {
     ghost use Rattle.turn_cell.specs.Rule.{Turns, first_view};
 
     ghost holds = { λ opening. Turns (λ b. V.stands b.value) V.by (λ b. V.tag b.value) (V.tag opening.value) };
@@ -35,7 +35,7 @@ impl<V: Kept> TableRule<Option<Box<V>>, View<V::Entry, V::Tag>, Snapshot<V>> for
 /// Sets the turn word from free to held, which takes the value out of the slot.
 pub(crate) struct Take;
 
-impl<V: Kept> Play<Option<Box<V>>, View<V::Entry, V::Tag>> for Take {
+impl<V: HasHistory> Play<Option<Box<V>>, View<V::Entry, V::Tag>> for Take {
     ghost then = { Takes (λ b. V.stands b.value) V.by (λ b. V.tag b.value) };
 }
 
@@ -49,7 +49,7 @@ impl<S, E, T> Play<Option<S>, View<E, T>> for Count {
 /// Raises the counting word, for the newest entry of the value that lies in the slot.
 pub(crate) struct Raise;
 
-impl<V: Kept> Play<Option<Box<V>>, View<V::Entry, V::Tag>> for Raise {
+impl<V: HasHistory> Play<Option<Box<V>>, View<V::Entry, V::Tag>> for Raise {
     ghost then = { Raises (λ b. V.newest b.value) };
 }
 
@@ -70,7 +70,7 @@ impl<S, E, T> Play<Option<S>, View<E, T>> for Part {
 /// Loads a word, and finds which of what was seen and what was heard is longer.
 pub(crate) struct Compare;
 
-impl<V: Kept> Play<Option<Box<V>>, View<V::Entry, V::Tag>> for Compare {
+impl<V: HasHistory> Play<Option<Box<V>>, View<V::Entry, V::Tag>> for Compare {
     ghost then = { Compares V.by };
 }
 

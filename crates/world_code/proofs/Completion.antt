@@ -17,8 +17,8 @@ use Rattle.world_laws.specs.Completing.{mark_steps, settle_steps, complete_steps
 use Rattle.world_laws.specs.Laws.{CanComplete, Completes, StandsAsDecided}
 use Rattle.world_code.specs.declared.completing.Taken.{Taken}
 use Rattle.world_code.specs.Completed.{is_done, steps_done, AreTaken, IsPartCompleted, IsCompleted}
-use Rattle.world_code.proofs.Taking.{taken_join, take-all}
-use Rattle.world_code.proofs.Marked.{Stays, run_stays, taken_stays}
+use Rattle.world_code.proofs.AllowedSteps.{taken_join, take-all}
+use Rattle.world_code.proofs.AllMarks.{Stays, run_stays, taken_stays}
 
 -- the parts of a completing, taken one after another
 module _ (w w1 w2 w3 : World) (by : ℕ) (row : Row) (limit : ℕ) (b : is_begun w row ≡ true) (t t2 t3 : Taken)

@@ -11,33 +11,33 @@ use Rattle.world_laws.specs.Worlds.{no_row, row_of, is_begun, is_member, may_mar
 use Rattle.world_code.specs.WorldView.{WorldView, client_at, world_of, IsWhole}
 use Rattle.world_code.proofs.Sets.{member_is}
 
-module _ (kept : WorldView) (w : IsWhole kept) (row : Row) (colour : ℕ) (node : Node)
-    (begun : is_begun (world_of kept) row ≡ true)
-    (node_is : slice_get (client_at kept row.client).begun row.number ≡ Some node) where
-  pub its_node : (row_of (world_of kept) row).node ≡ node
-  its_node = get_or_from_slice_get (client_at kept row.client).begun row.number node no_row.node node_is
+module _ (code : WorldView) (w : IsWhole code) (row : Row) (colour : ℕ) (node : Node)
+    (begun : is_begun (world_of code) row ≡ true)
+    (node_is : slice_get (client_at code row.client).begun row.number ≡ Some node) where
+  pub its_node : (row_of (world_of code) row).node ≡ node
+  its_node = get_or_from_slice_get (client_at code row.client).begun row.number node no_row.node node_is
 
   abbrev missing : Bool
-  missing = is_missing ((row_of (world_of kept) row).marks colour)
+  missing = is_missing ((row_of (world_of code) row).marks colour)
 
-  member_false : is_member node.colours colour ≡ false → false ≡ may_mark (world_of kept) row colour
+  member_false : is_member node.colours colour ≡ false → false ≡ may_mark (world_of code) row colour
   member_false f =
-      both (is_begun (world_of kept) row) (is_member (row_of (world_of kept) row).node.colours colour) missing begun
+      both (is_begun (world_of code) row) (is_member (row_of (world_of code) row).node.colours colour) missing begun
       (ap (λ (n : Node). is_member n.colours colour) its_node ∙ f) where
         both : (x y z : Bool) → x ≡ true → y ≡ false → false ≡ (x && (y && z))
         both x y z s t = rw (s, t) refl
 
-  pub no_colour : kept.shape.colours ≤ colour → false ≡ may_mark (world_of kept) row colour
+  pub no_colour : code.shape.colours ≤ colour → false ≡ may_mark (world_of code) row colour
   no_colour le = member_false (false_from_ne_true (is_member node.colours colour) (λ t.
       let lt = (w.begun row.client row.number node node_is).within colour t in
       let x : ⊥ = omega (arith, lt, le) in x))
 
-  pub not_has : colour < 64 → has node.colours colour ≡ false → false ≡ may_mark (world_of kept) row colour
+  pub not_has : colour < 64 → has node.colours colour ≡ false → false ≡ may_mark (world_of code) row colour
   not_has lt f = member_false (member_is node.colours colour lt ∙ f)
 
-  pub by_mark : colour < 64 → has node.colours colour ≡ true → missing ≡ may_mark (world_of kept) row colour
+  pub by_mark : colour < 64 → has node.colours colour ≡ true → missing ≡ may_mark (world_of code) row colour
   by_mark lt t =
-      both (is_begun (world_of kept) row) (is_member (row_of (world_of kept) row).node.colours colour) missing begun
+      both (is_begun (world_of code) row) (is_member (row_of (world_of code) row).node.colours colour) missing begun
       (ap (λ (n : Node). is_member n.colours colour) its_node ∙ (member_is node.colours colour lt ∙ t)) where
         both : (x y z : Bool) → x ≡ true → y ≡ true → z ≡ (x && (y && z))
         both x y z s t = rw (s, t) refl

@@ -52,7 +52,7 @@ event_at (ats.Event place) = Some place
 event_at (ats.Look events) = None
 
 -- the outcome, if one is told
-abbrev pub kept_outcome : Outcome → Option Outcome
-kept_outcome Open = None
-kept_outcome (Gone why) = Some (Gone why)
-kept_outcome (Final stamp) = Some (Final stamp)
+abbrev pub decided_outcome : Outcome → Option Outcome
+decided_outcome Open = None
+decided_outcome (Gone why) = Some (Gone why)
+decided_outcome (Final stamp) = Some (Final stamp)

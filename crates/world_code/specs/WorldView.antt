@@ -1,4 +1,4 @@
--- What code keeps of a world, and the world that it means.
+-- A world in code, and the world that it means.
 use Rattle.std.specs.Prelude.{◌≡◌, ℕ, ◌<◌, ◌≤◌, List, [], length, map, true, Some, slice_get, slice_index}
 use Rattle.std.specs.Prelude.{slice_index_or, slice_set}
 use Rattle.std.specs.List.{All, AllByRecursion, range_with_len}
@@ -34,7 +34,7 @@ column_in columns colour = slice_index_or columns colour no_column
 
 -- the client of a number
 abbrev pub client_at : WorldView → ℕ → ClientView
-client_at kept client = slice_index_or kept.clients client fresh_client
+client_at code client = slice_index_or code.clients client fresh_client
 
 -- the column of a region and a colour
 abbrev pub column_at : List (List ColumnState) → ℕ → ℕ → ColumnState
@@ -59,18 +59,18 @@ row_in begun rows number = record {
 
 -- the world that is meant
 abbrev pub world_of : WorldView → World
-world_of kept = record {
-  shape = kept.shape;
-  clients = λ client. client_of (client_at kept client);
-  rows = λ client number. row_in (client_at kept client).begun (rows_of kept.board client) number;
-  histories = λ region colour. (column_at kept.columns region colour).journal;
-  nodes = λ client. (client_at kept client).nodes;
+world_of code = record {
+  shape = code.shape;
+  clients = λ client. client_of (client_at code client);
+  rows = λ client number. row_in (client_at code client).begun (rows_of code.board client) number;
+  histories = λ region colour. (column_at code.columns region colour).journal;
+  nodes = λ client. (client_at code client).nodes;
 }
 
 -- with memory for one node more of a client
 abbrev pub with_client_room : WorldView → ℕ → WorldView
-with_client_room kept client =
-    record kept { clients = slice_set kept.clients client (with_spare (client_at kept client)) }
+with_client_room code client =
+    record code { clients = slice_set code.clients client (with_spare (client_at code client)) }
 
 -- the column is that of a region and a colour
 pub record IsPlaced (column : ColumnState) (region colour regions : ℕ) : Type 0 where
@@ -101,21 +101,21 @@ pub record HasAppended (clients : List ClientView) (column : ColumnState) : Type
   pub copies : (region : ℕ) → AllByRecursion (λ i. IsAppended clients i.head.key.id i.node) (copy_of column region)
 
 -- all clients, rows and columns of the shape are there, and steps have made the world
-pub record IsWhole (kept : WorldView) : Type 0 where
-  pub few_regions : kept.shape.regions ≤ 4
-  pub few_colours : kept.shape.colours ≤ 16
-  pub homes : All (λ home. home < kept.shape.regions) kept.shape.homes
-  pub regions : length kept.columns ≡ kept.shape.regions
-  pub wide : All (λ columns. length columns ≡ kept.shape.colours) kept.columns
-  pub placed : (region colour : ℕ) → region < kept.shape.regions → colour < kept.shape.colours
-      → IsPlaced (column_at kept.columns region colour) region colour kept.shape.regions
-  pub clients : length kept.clients ≡ length kept.shape.homes
-  pub colours : All (λ c. length c.played ≡ 16) kept.clients
-  pub board_colours : kept.board.colours ≡ kept.shape.colours
-  pub board_rows : kept.board.rows ≡ kept.shape.rows
-  pub board_clients : length kept.board.begun ≡ length kept.shape.homes
-  pub rows : (client : ℕ) → AreRows (client_at kept client).begun (rows_of kept.board client)
-  pub begun : (client number : ℕ) (node : Node) → slice_get (client_at kept client).begun number ≡ Some node
-      → IsRowNode (slice_index kept.shape.homes client) client number kept.shape.colours node
-  pub appended : (region colour : ℕ) → HasAppended kept.clients (column_at kept.columns region colour)
-  pub reached : IsReached (world_of kept)
+pub record IsWhole (code : WorldView) : Type 0 where
+  pub few_regions : code.shape.regions ≤ 4
+  pub few_colours : code.shape.colours ≤ 16
+  pub homes : All (λ home. home < code.shape.regions) code.shape.homes
+  pub regions : length code.columns ≡ code.shape.regions
+  pub wide : All (λ columns. length columns ≡ code.shape.colours) code.columns
+  pub placed : (region colour : ℕ) → region < code.shape.regions → colour < code.shape.colours
+      → IsPlaced (column_at code.columns region colour) region colour code.shape.regions
+  pub clients : length code.clients ≡ length code.shape.homes
+  pub colours : All (λ c. length c.played ≡ 16) code.clients
+  pub board_colours : code.board.colours ≡ code.shape.colours
+  pub board_rows : code.board.rows ≡ code.shape.rows
+  pub board_clients : length code.board.begun ≡ length code.shape.homes
+  pub rows : (client : ℕ) → AreRows (client_at code client).begun (rows_of code.board client)
+  pub begun : (client number : ℕ) (node : Node) → slice_get (client_at code client).begun number ≡ Some node
+      → IsRowNode (slice_index code.shape.homes client) client number code.shape.colours node
+  pub appended : (region colour : ℕ) → HasAppended code.clients (column_at code.columns region colour)
+  pub reached : IsReached (world_of code)

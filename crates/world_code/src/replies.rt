@@ -1,7 +1,7 @@
 // What the calls of a world answer, each in a type of its own, and the replies of its steps that these are.
 ghost use Rattle.std.specs.Prelude.{◌≡◌};
 ghost use Rattle.world_code.specs.Replies.{placed_reply, place_reply, begun_reply, marked_reply, decided_reply};
-ghost use Rattle.world_code.specs.Replies.{played_reply, number_of, event_at, kept_outcome};
+ghost use Rattle.world_code.specs.Replies.{played_reply, number_of, event_at, decided_outcome};
 
 use log_node::{At, Counts, Id, Mark, Outcome, Row};
 use world_laws::Reply;
@@ -101,8 +101,8 @@ pub(crate) fn event_at(at: At) -> Option<u64>
 }
 
 /// The outcome, if one is told.
-pub(crate) fn kept_outcome(outcome: Outcome) -> Option<Outcome>
-    ensures { result ≡ kept_outcome outcome }
+pub(crate) fn decided_outcome(outcome: Outcome) -> Option<Outcome>
+    ensures { result ≡ decided_outcome outcome }
 {
     match outcome {
         Outcome::Open => None,

@@ -9,7 +9,7 @@ ghost use Rattle.skeen_core.specs.Queues.{is_decided};
 ghost use Rattle.world_code.specs.WorldView.{world_of, client_at};
 ghost use Rattle.world_code.specs.Replies.{placed_reply, place_reply, marked_reply, decided_reply};
 
-use crate::replies::{Placed, event_at, kept_outcome};
+use crate::replies::{Placed, decided_outcome, event_at};
 use crate::world::World;
 use column::ColumnFault;
 use log_node::{Colours, Id, MAX_COLOURS, MAX_STAMP, Mark, Node, Outcome, Row, Why};
@@ -234,7 +234,7 @@ impl World {
     {
         is_lawful();
         let outcome = self.board.decide(row.client, row);
-        kept_outcome(outcome)
+        decided_outcome(outcome)
     }
 
     /// The colour's column settles the row's node with the outcome that the row keeps, where the node is open there.

@@ -17,7 +17,7 @@ use Rattle.log_node.specs.Outcomes.{outcome_of}
 use Rattle.col_core.specs.declared.Event.TheVariants as events
 use Rattle.col_core.specs.declared.Event.{Event}
 use Rattle.col_core.specs.declared.Entry.{Entry}
-use Rattle.col_core.specs.Rows.{BegunRow, FitsRow, FitsRows, IsMarkOf, IsKept, Proposes}
+use Rattle.col_core.specs.Rows.{BegunRow, FitsRow, FitsRows, IsMarkOf, FitsMarks, Proposes}
 use Rattle.col_core.proofs.CallerLemmas.{choice, if_true, same_id-refl, same_id-true, In, Status, Alone, Waits}
 use Rattle.col_core.proofs.CallerLemmas.{Settled, status, after_event, IsLawfulPast, IsLawfulNext}
 use Rattle.world_laws.specs.Worlds.{World, RowState, home_of, marks_of}
@@ -63,12 +63,12 @@ mark_is w h t a k lt c (marks.Fenced Memory) e = λ s p. let x = proposed_mark w
 mark_is w h t a k lt c (marks.Fenced StampEnd) e =
     (λ s p. let x = proposed_mark w h t a k lt c s p in cc, (t.rows a k lt).at_end c e)
 
-kept_is : (all : List Mark) (last o : Outcome) → last ≡ o → ((last ≡ Open) ⊎ (last ≡ outcome_of all)) → IsKept all o
-kept_is all last Open e k = tt
-kept_is all last (Gone why) e (inl k) = absurd (let x : ⊥ = cc in x)
-kept_is all last (Gone why) e (inr k) = sym k ∙ e
-kept_is all last (Final f) e (inl k) = absurd (let x : ⊥ = cc in x)
-kept_is all last (Final f) e (inr k) = sym k ∙ e
+fits_is : (all : List Mark) (last o : Outcome) → last ≡ o → ((last ≡ Open) ⊎ (last ≡ outcome_of all)) → FitsMarks all o
+fits_is all last Open e k = tt
+fits_is all last (Gone why) e (inl k) = absurd (let x : ⊥ = cc in x)
+fits_is all last (Gone why) e (inr k) = sym k ∙ e
+fits_is all last (Final f) e (inl k) = absurd (let x : ⊥ = cc in x)
+fits_is all last (Final f) e (inr k) = sym k ∙ e
 
 -- A single's id is that of no row
 
@@ -180,22 +180,22 @@ have_lawful_rows w h t region = record {
       subst (λ (s : BegunRow). All
       (λ (m : ColourMark). IsMarkOf (w.histories region m.colour) s.node m.mark) s.marks) x.1.is
       (row_marks w h t region x.0 x.1.number x.1.begun x.1.home));
-  kept = all_in (λ (r : BegunRow). IsKept (map (λ (m : ColourMark). m.mark) r.marks) r.last) rows
+  outcomes = all_in (λ (r : BegunRow). FitsMarks (map (λ (m : ColourMark). m.mark) r.marks) r.last) rows
       (λ r i. let x = of_region w region r i in
-      subst (λ (s : BegunRow). IsKept (map (λ (m : ColourMark). m.mark) s.marks) s.last) x.1.is
-      (kept_row x.0 x.1.number x.1.begun));
+      subst (λ (s : BegunRow). FitsMarks (map (λ (m : ColourMark). m.mark) s.marks) s.last) x.1.is
+      (fits_row x.0 x.1.number x.1.begun));
   events = λ colour lt. all_in (λ (e : Entry). FitsRows rows colour e.event) (w.histories region colour)
       (λ e i. event_fits w h t region colour e i e.event refl);
 } where
   rows : List BegunRow
   rows = rows_of_region w region
 
-  kept_row : (a n : ℕ) → n < (w.clients a).used
-      → IsKept (map (λ (m : ColourMark). m.mark) (row_in w a n).marks) (row_in w a n).last
-  kept_row a n lt =
-      subst (λ (ms : List Mark). IsKept ms (w.rows a n).last)
+  fits_row : (a n : ℕ) → n < (w.clients a).used
+      → FitsMarks (map (λ (m : ColourMark). m.mark) (row_in w a n).marks) (row_in w a n).last
+  fits_row a n lt =
+      subst (λ (ms : List Mark). FitsMarks ms (w.rows a n).last)
       (sym (marks_are (w.rows a n) (members (w.rows a n).node.colours)))
-      (kept_is (marks_of (w.rows a n)) (w.rows a n).last (w.rows a n).last refl (h.rows a n lt).kept)
+      (fits_is (marks_of (w.rows a n)) (w.rows a n).last (w.rows a n).last refl (h.rows a n lt).kept)
 
 pub have_lawful_histories : (w : World) → Held w → HaveLawfulHistories w
 have_lawful_histories w h = h.lawful

@@ -43,7 +43,7 @@ abbrev pub complete_steps : World → ℕ → Row → (ℕ → Bool) → List St
 complete_steps w by row found =
     mark_steps w by row found (colours_of w row) ++ Decide row ∷ settle_steps by row (colours_of w row)
 
--- The append is complete: its outcome is kept, and its node is final under that number in all its columns, or has an
+-- The append is complete: it is decided, and its node is final under that number in all its columns, or has an
 -- entry in none.
 abbrev pub StandsAsDecided : World → Row → Outcome → Type 0
 StandsAsDecided w row Open = ⊥

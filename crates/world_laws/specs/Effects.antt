@@ -84,15 +84,15 @@ after_propose w by row colour =
     with_last (with_mark w row colour (marks.Number (proposed_stamp w row colour))) (home_of w row.client) colour
     (proposed_entry w by row colour)
 
--- the outcome of the marks is kept
+-- the row is decided with the outcome of its marks
 abbrev pub after_decide : World → Row → World
 after_decide w row = with_row w row (record (row_of w row) { last = outcome_of (marks_of (row_of w row)) })
 
--- the event that settles a row's node with the outcome that is kept
+-- the event that settles a row's node with the row's outcome
 abbrev pub settled_entry : World → ℕ → Row → Entry
 settled_entry w by row = record { by = by; event = events.Settle (row_of w row).node.id (row_of w row).last; stamp = 0 }
 
--- the node is settled in its column with the outcome that is kept
+-- the node is settled in its column with the row's outcome
 abbrev pub after_settle : World → ℕ → Row → ℕ → World
 after_settle w by row colour = with_last w (home_of w row.client) colour (settled_entry w by row)
 

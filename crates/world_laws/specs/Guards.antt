@@ -33,12 +33,12 @@ abbrev pub may_fence : World → Row → ℕ → Why → Bool
 may_fence w row colour Memory = may_mark w row colour
 may_fence w row colour StampEnd = may_mark w row colour && is_row_at_end w row colour
 
--- no mark is missing, and no outcome is kept
+-- no mark is missing, and the row is not decided
 abbrev pub may_decide : World → Row → Bool
 may_decide w row =
     is_begun w row && (not (is_decided (row_of w row).last) && is_decided (outcome_of (marks_of (row_of w row))))
 
--- an outcome is kept, and the node is open in the colour's column
+-- the row is decided, and the node is open in the colour's column
 abbrev pub may_settle : World → Row → ℕ → Bool
 may_settle w row colour =
     is_begun w row

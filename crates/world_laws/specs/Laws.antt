@@ -77,7 +77,7 @@ EachLineGrows w = (region colour n : ℕ)
 abbrev pub LogGrows : World → Type 0
 LogGrows w = (more : List Step) → IsLater (log_of w) (log_of (run_steps w more))
 
--- a row keeps its node, each mark that it has, and the outcome that it keeps
+-- a row keeps its node, each mark that it has, and its outcome once it is decided
 pub record RowGrows (old new : RowState) : Type 0 where
   pub node : new.node ≡ old.node
   pub marks : (colour : ℕ) → old.marks colour ≢ marks.None → new.marks colour ≡ old.marks colour

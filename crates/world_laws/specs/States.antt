@@ -30,7 +30,7 @@ pub record ClientState : Type 0 where
   -- for each colour the cut of its last play
   pub played : ℕ → Counts
 
--- a begun row: its node, a mark for each colour, and the outcome that it keeps, Open where it keeps none
+-- a begun row: its node, a mark for each colour, and its outcome, Open until it is decided
 pub record RowState : Type 0 where
   pub node : Node
   pub marks : ℕ → Mark

@@ -92,7 +92,7 @@ pub enum Reply {
     Event { place: u64, stamp: u64 },
     /// The mark that was set.
     Marked(Mark),
-    /// The outcome that is kept.
+    /// The outcome with which the row is decided.
     Decided(Outcome),
     /// The cut up to which the client has played.
     Played { cut: Counts },

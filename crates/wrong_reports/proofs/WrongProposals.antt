@@ -15,12 +15,12 @@ use Rattle.log_node.specs.declared.marks.Why.TheVariants.{Memory}
 use Rattle.log_node.specs.declared.marks.Outcome.TheVariants.{Open, Final}
 use Rattle.col_core.specs.declared.Event.TheVariants.{Propose}
 use Rattle.col_core.specs.declared.Entry.{Entry}
-use Rattle.col_core.specs.Rows.{BegunRow, AreLawfulRows, FitsRow, FitsRows, IsMarkOf, IsKept, node_wants}
+use Rattle.col_core.specs.Rows.{BegunRow, AreLawfulRows, FitsRow, FitsRows, IsMarkOf, FitsMarks, node_wants}
 use Rattle.col_core.specs.Log.{places_of}
 use Rattle.col_core.specs.Keeping.{Kept, nothing_kept}
 use Rattle.script_text.specs.declared.script.What.TheVariants.{Append}
 use Rattle.lawful_run.specs.Callers.{caller_of, node_of}
-use Rattle.lawful_run.specs.Appends.{IsStepOf}
+use Rattle.col_core.specs.Ids.{IsStepOf}
 use Rattle.lawful_run.specs.Stops.{IsStepWithin}
 use Rattle.lawful_run.specs.Refusals.{FindsNoMemory, nothing, gone, gave, hidden}
 use Rattle.lawful_run.specs.Lawful.{LawfulRun}
@@ -188,8 +188,8 @@ fenced_too run =
 pub without_fence : IsUnlawful gone_without_a_fence
 without_fence run =
     let one = one_row 0 (run.log.rows 0) _ run.begun.all in
-    let k = at_row (λ (r : BegunRow). IsKept (map (λ (m : ColourMark). m.mark) r.marks) r.last) one
-    (run.begun.lawful 0 (lit< tt)).kept in
+    let k = at_row (λ (r : BegunRow). FitsMarks (map (λ (m : ColourMark). m.mark) r.marks) r.last) one
+    (run.begun.lawful 0 (lit< tt)).outcomes in
     cc (k)
 
 -- what may have been done without memory

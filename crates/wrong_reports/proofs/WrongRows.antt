@@ -10,7 +10,7 @@ use Rattle.log_node.specs.declared.marks.Mark.TheVariants as marks
 use Rattle.log_node.specs.declared.marks.Outcome.TheVariants.{Open, Final}
 use Rattle.col_core.specs.declared.Event.TheVariants.{Propose, Settle}
 use Rattle.col_core.specs.declared.Entry.{Entry}
-use Rattle.col_core.specs.Rows.{BegunRow, AreLawfulRows, FitsRow, FitsRows, IsMarkOf, IsKept}
+use Rattle.col_core.specs.Rows.{BegunRow, AreLawfulRows, FitsRow, FitsRows, IsMarkOf, FitsMarks}
 use Rattle.report_text.specs.declared.report.RowReport.{RowReport}
 use Rattle.lawful_run.specs.Lawful.{LawfulRun}
 use Rattle.wrong_reports.specs.Cases.{Case, IsUnlawful, a, b, e, w, x, y, id, together}
@@ -113,8 +113,8 @@ without_mark run =
 
 pub other_outcome : IsUnlawful an_outcome_of_other_marks
 other_outcome run = let k =
-    at_row (λ (r : BegunRow). IsKept (map (λ (m : ColourMark). m.mark) r.marks) r.last) (one _ run)
-    (lawful _ run).kept in cc (k)
+    at_row (λ (r : BegunRow). FitsMarks (map (λ (m : ColourMark). m.mark) r.marks) r.last) (one _ run)
+    (lawful _ run).outcomes in cc (k)
 
 -- no row of these settles so
 pub unlike_outcome : IsUnlawful a_settling_unlike_the_outcome

@@ -48,7 +48,7 @@ end-requires-clause-value g c =
     let e = told_carry c.args.by c.args.region (held_of x.column c.args.region) (new_items x.column c.args.region c.args.given.now) in
     may_move cell c.args.by q t.turn.0 x y e stands refl (nat_lt 0 c.in-Ok.count)
     (λ yes. c.in-Ok.ensures.carried (ltb-true 0 c.in-Ok.count yes))
-    (λ none. c.in-Ok.ensures.kept (none_of c.in-Ok.count none))
+    (λ none. c.in-Ok.ensures.look (none_of c.in-Ok.count none))
 
 pub returns-in-Ok-clause-pass : goal.returns-in-Ok-clause-pass
 returns-in-Ok-clause-pass g c =
@@ -72,7 +72,7 @@ returns-in-Ok-clause-ok g c =
     c.requires.other c.in-Ok.ensures.count
     (moved_at cell c.args.by p q r c.end.result t.turn.0 t.more x y e stands refl c.end.ensures.look c.end.ensures.event
     (nat_lt 0 c.in-Ok.count) (λ yes. c.in-Ok.ensures.carried (ltb-true 0 c.in-Ok.count yes))
-    (λ none. c.in-Ok.ensures.kept (none_of c.in-Ok.count none)))
+    (λ none. c.in-Ok.ensures.look (none_of c.in-Ok.count none)))
 
 pub end-requires-in-Err-clause-value : goal.end-requires-in-Err-clause-value
 end-requires-in-Err-clause-value g c =

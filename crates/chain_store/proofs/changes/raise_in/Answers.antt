@@ -30,7 +30,7 @@ end-requires-clause-value g c =
     let is = tagged z x (tag_in cell) c.deref_mut.ensures.value t.tag in
     let e = told_event c.args.by (Raise c.args.to) in
     may_move cell c.args.by q t.turn.0 x y e stands refl c.in-Ok._event
-    c.in-Ok.ensures.raised c.in-Ok.ensures.kept
+    c.in-Ok.ensures.raised c.in-Ok.ensures.look
 
 pub returns-in-Ok-clause-pass : goal.returns-in-Ok-clause-pass
 returns-in-Ok-clause-pass g c =
@@ -53,7 +53,7 @@ returns-in-Ok-clause-ok g c =
     raises_at c.args.by c.args.to p r c.end.result (seen q) c.in-Ok._event
     (c.in-Ok.ensures.event ∙ ap (λ l. nat_lt (clock l) c.args.to) stands.0.same)
     (moved_at cell c.args.by p q r c.end.result t.turn.0 t.more x y e stands refl c.end.ensures.look c.end.ensures.event
-    c.in-Ok._event c.in-Ok.ensures.raised c.in-Ok.ensures.kept)
+    c.in-Ok._event c.in-Ok.ensures.raised c.in-Ok.ensures.look)
 
 pub end-requires-in-Err-clause-value : goal.end-requires-in-Err-clause-value
 end-requires-in-Err-clause-value g c =

@@ -1,6 +1,6 @@
 use Rattle.std.proofs.Common.{[], length, refl, sym, ap, ◌∙◌, arith}
 use Rattle.script_text.specs.Pieces.{lines_of}
-use Rattle.script_text.specs.Kept.{known_of, known_with}
+use Rattle.script_text.specs.Known.{known_of, known_with}
 use Rattle.script_text.proofs.KnownLaws.{lawful_start}
 use Rattle.script_text.proofs.LineLaws.{said_with, known_said}
 use Rattle.script_text.proofs.ScriptLaws.{some_bytes, no_bytes, script_long, too_many, stops_at, next_lawful, next_same, ends_with}

@@ -2,7 +2,7 @@ use Rattle.std.proofs.Common.{◌≡◌, ◌≤◌, ◌+◌, ℕ, List, [], leng
 use Rattle.script_text.specs.declared.item.Item.{Item}
 use Rattle.script_text.specs.declared.known.Known.{Known}
 use Rattle.script_text.specs.Pieces.{lines_of}
-use Rattle.script_text.specs.Kept.{known_of}
+use Rattle.script_text.specs.Known.{known_of}
 use Rattle.script_text.specs.LineReadings.{lines_at}
 use Rattle.script_text.proofs.KnownLaws.{IsLawful}
 use Rattle.script_text.proofs.reading.script.Given as goal

@@ -3,7 +3,7 @@ use Rattle.std.specs.Prelude.{◌-◌, max}
 use Rattle.std.proofs.lemmas.List.{take_all}
 use Rattle.log_node.specs.Seen.{PlacedNode}
 use Rattle.log_node.specs.Outcomes.{greatest}
-use Rattle.world_code.proofs.Playing.{greatest_more, clipped}
+use Rattle.world_code.proofs.GreatestStamps.{greatest_more, clipped}
 use Rattle.world_code.proofs.unplayed.greatest_item.Goals as goal
 
 pub loop-item-preserved : goal.loop-item-preserved

@@ -3,7 +3,7 @@ use Rattle.std.specs.Prelude.{◌-◌}
 use Rattle.std.proofs.lemmas.List.{take_all}
 use Rattle.log_node.specs.declared.ids.Key.{Key}
 use Rattle.log_node.specs.Outcomes.{greatest}
-use Rattle.world_code.proofs.Playing.{greatest_more, clipped}
+use Rattle.world_code.proofs.GreatestStamps.{greatest_more, clipped}
 use Rattle.world_code.proofs.unplayed.greatest_key.Goals as goal
 
 pub loop-key-preserved : goal.loop-key-preserved

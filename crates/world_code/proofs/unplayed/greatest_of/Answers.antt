@@ -5,7 +5,7 @@ use Rattle.log_node.specs.declared.ids.Key.{Key}
 use Rattle.log_node.specs.Seen.{PlacedNode}
 use Rattle.log_node.specs.Vectors.{at}
 use Rattle.log_node.specs.Outcomes.{greatest}
-use Rattle.world_code.proofs.Playing.{own_stamps, other_stamps}
+use Rattle.world_code.proofs.GreatestStamps.{own_stamps, other_stamps}
 use Rattle.world_code.proofs.unplayed.greatest_of.Goals as goal
 
 pub returns-then-region-own : goal.returns-then-region-own

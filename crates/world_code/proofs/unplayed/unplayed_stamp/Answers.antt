@@ -1,6 +1,6 @@
 use Rattle.std.proofs.Common.{◌∙◌, ℕ, ap, max}
 use Rattle.column.specs.Columns.{chains_of, cut_of}
-use Rattle.world_code.proofs.Playing.{between_all}
+use Rattle.world_code.proofs.GreatestStamps.{between_all}
 use Rattle.world_code.proofs.unplayed.unplayed_stamp.Goals as goal
 
 pub returns : goal.returns

@@ -2,7 +2,7 @@ use Rattle.std.proofs.Common.{List, refl, subst}
 use Rattle.chain_store.specs.declared.hold.Hold.{Hold}
 use Rattle.chain_store.specs.Passes.{ColumnCell}
 use Rattle.chain_store.specs.Holds.{HasPasses}
-use Rattle.chain_store.proofs.Notes.{hold_kept, made_heard}
+use Rattle.chain_store.proofs.Notes.{hold_stays, made_heard}
 use Rattle.chain_store.proofs.region.Region.hear.Goals as goal
 
 pub returns-clause-hold : goal.returns-clause-hold
@@ -10,7 +10,7 @@ returns-clause-hold c =
     let h = c.args.hold.now in
     let g : Hold = record { passes = c.meet_all.new.passes; seat = c.hear.new.seat; next = h.next } in
     let o = c.meet_all.ensures in
-    hold_kept c.args.self.now h g c.requires.hold o.number
+    hold_stays c.args.self.now h g c.requires.hold o.number
     (subst (λ (cells : List ColumnCell). HasPasses cells h.passes.number g.passes.items.items) c.deref.ensures.value o.passes)
     (made_heard h g c.args.note.passes.items o.number o.heard) refl c.hear.ensures.seat
 

@@ -3,7 +3,7 @@ use Rattle.chain_store.specs.declared.hold.Hold.{Hold}
 use Rattle.chain_store.specs.Passes.{ColumnCell}
 use Rattle.chain_store.specs.Holds.{HasPasses}
 use Rattle.chain_store.proofs.Holding.{same_seat}
-use Rattle.chain_store.proofs.Notes.{hold_kept, made_alike}
+use Rattle.chain_store.proofs.Notes.{hold_stays, made_alike}
 use Rattle.chain_store.proofs.region.Region.tell.Goals as goal
 
 pub returns-in_err-passes-clause-hold : goal.returns-in_err-passes-clause-hold
@@ -11,7 +11,7 @@ returns-in_err-passes-clause-hold c =
     let h = c.args.hold.now in
     let g : Hold = record { passes = c.split_all.new.passes; seat = h.seat; next = h.next } in
     let o = c.split_all.ensures in
-    hold_kept c.args.self.now h g c.requires o.number
+    hold_stays c.args.self.now h g c.requires o.number
     (subst (λ (cells : List ColumnCell). HasPasses cells h.passes.number g.passes.items.items) c.deref.ensures.value o.passes)
     (made_alike h g o.number o.same) refl (same_seat h.seat)
 
@@ -20,6 +20,6 @@ returns-clause-hold c =
     let h = c.args.hold.now in
     let g : Hold = record { passes = c.split_all.new.passes; seat = c.tell-seat.new.seat; next = h.next } in
     let o = c.split_all.ensures in
-    hold_kept c.args.self.now h g c.requires o.number
+    hold_stays c.args.self.now h g c.requires o.number
     (subst (λ (cells : List ColumnCell). HasPasses cells h.passes.number g.passes.items.items) c.deref.ensures.value o.passes)
     (made_alike h g o.number o.same) refl c.tell-seat.ensures.seat.0

@@ -14,8 +14,8 @@ returns-in-Ok-clause-carried c some =
     c.in-Ok.ensures.column (omega (arith, c.agrees.ensures.copies.of_each, c.agrees.ensures.few_regions, c.requires.region))
     (new_heads column c.args.region c.args.given.now c.requires.heads)).0 (lt-ltb 0 c.in-Ok.count some)
 
-pub returns-in-Ok-clause-kept : goal.returns-in-Ok-clause-kept
-returns-in-Ok-clause-kept c none =
+pub returns-in-Ok-clause-look : goal.returns-in-Ok-clause-look
+returns-in-Ok-clause-look c none =
     let column = c.args.self.now.column in
     (carry_gains column c.carry.new.self c.args.self.now.seat c.args.by
     (subst (λ (l : List Entry). length l < 18446744073709551616) c.journal-few.ensures c.journal-few.type_inv.0)

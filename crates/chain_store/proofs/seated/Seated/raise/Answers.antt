@@ -9,8 +9,8 @@ returns-in-Ok-clause-raised c =
     (subst (λ (l : List Entry). length l < 18446744073709551616) c.journal-few.ensures c.journal-few.type_inv.0)
     c.requires.maker c.args.to c.clock.result c.clock.ensures c.in-Ok.ensures.column c.requires.to).0
 
-pub returns-in-Ok-clause-kept : goal.returns-in-Ok-clause-kept
-returns-in-Ok-clause-kept c =
+pub returns-in-Ok-clause-look : goal.returns-in-Ok-clause-look
+returns-in-Ok-clause-look c =
     (raise_gains c.args.self.now.column c.raise.new.self c.args.self.now.seat c.args.by
     (subst (λ (l : List Entry). length l < 18446744073709551616) c.journal-few.ensures c.journal-few.type_inv.0)
     c.requires.maker c.args.to c.clock.result c.clock.ensures c.in-Ok.ensures.column c.requires.to).1

@@ -3,7 +3,7 @@ use Rattle.std.proofs.lemmas.List.{get_or_read}
 use Rattle.object_form.specs.Readings.{form_of}
 use Rattle.object_fold.specs.declared.causal_map.LatestWrite.{LatestWrite}
 use Rattle.object_fold.specs.Pasts.{past_chain, at_once, past_of}
-use Rattle.object_fold.specs.CausalStates.{IsCausalMap, kept_at, change_by, kept_with}
+use Rattle.object_fold.specs.CausalStates.{IsCausalMap, latest_at, change_by, latest_with}
 use Rattle.object_fold.proofs.PastLemmas.{own_position}
 use Rattle.object_fold.proofs.CausalLemmas.{one_more_node, both_ok}
 use Rattle.object_fold.proofs.causal_map.CausalMap.feed.Goals as goal
@@ -22,8 +22,8 @@ returns-clause-ok c = λ played node region needs text next stands.
     rw (region, position, needs) (sym (c.past_of-past.ensures ∙ ap (past_of old.pasts) c.at_once.ensures)) in
     let change_is : c.in_ok-change.change ≡ change_by entries node.region node.position (past_of old.pasts (at_once node.region node.position node.needs)) (form_of node.text) =
     rw (past_is, region, position, text) (c.in_ok-change.ensures ∙ ap (change_by entries c.args.region c.len-position.result taken) c.in_ok-form.ensures.form) in
-    let Q : List ℕ → Type 0 = λ key. kept_at new.latest.entries key ≡ kept_with entries c.in_ok-change.change key in
+    let Q : List ℕ → Type 0 = λ key. latest_at new.latest.entries key ≡ latest_with entries c.in_ok-change.change key in
     both_ok c.take.result (new.pasts ≡ set old.pasts c.args.region (past_chain old.pasts c.args.region ++ taken ∷ [])) Q (IsCausalMap new (played ++ node ∷ []))
     c.take.ensures.pasts c.take.ensures.latest
     (λ pasts each. one_more_node old new played node stands next (rw (past_is, region) pasts)
-    (λ key. each key ∙ ap (λ (ch : Option (List ℕ × List LatestWrite)). kept_with entries ch key) change_is))
+    (λ key. each key ∙ ap (λ (ch : Option (List ℕ × List LatestWrite)). latest_with entries ch key) change_is))

@@ -10,18 +10,18 @@ use Rattle.turn_cell.proofs.cell.Cell.open.Goals as goal
 
 pub new-requires-2 : goal.new-requires-2
 new-requires-2 g c =
-    let t = g.V.Kept.tag c.of-opening.result.value in
+    let t = g.V.HasHistory.tag c.of-opening.result.value in
     let x = c.in_ok-boxed.boxed in
     let is : c.push.new.self.items ≡ Some x ∷ [] =
     c.in_ok-push.ensures.items ∙ ap (λ l. l ++ Some x ∷ []) c.new-slots.ensures.items in
     let same : c.args.value ≡ x.value = sym c.in_ok-boxed.ensures.ok in
     subst (λ (xs : List (Option (Box g.row.V.Denot))).
-    Turns (λ (b : Box g.row.V.Denot). g.V.Kept.stands b.value) g.V.Kept.by (λ b. g.V.Kept.tag b.value) t
+    Turns (λ (b : Box g.row.V.Denot). g.V.HasHistory.stands b.value) g.V.HasHistory.by (λ b. g.V.HasHistory.tag b.value) t
     (opening (0 ∷ 0 ∷ []) xs (first_view t)))
     (sym is)
-    (opens (λ (b : Box g.row.V.Denot). g.V.Kept.stands b.value) g.V.Kept.by (λ b. g.V.Kept.tag b.value) t x
-    (ap g.V.Kept.tag (sym same ∙ sym c.of-opening.ensures))
-    (subst (λ y. g.V.Kept.stands y []) same c.requires.value))
+    (opens (λ (b : Box g.row.V.Denot). g.V.HasHistory.stands b.value) g.V.HasHistory.by (λ b. g.V.HasHistory.tag b.value) t x
+    (ap g.V.HasHistory.tag (sym same ∙ sym c.of-opening.ensures))
+    (subst (λ y. g.V.HasHistory.stands y []) same c.requires.value))
 
 pub loop-init : goal.loop-init
 loop-init g c =
@@ -30,7 +30,7 @@ loop-init g c =
     c.in_ok-push.ensures.items ∙ ap (λ l. l ++ Some c.in_ok-boxed.boxed ∷ []) c.new-slots.ensures.items in record {
       sized = (ok.0, ok.1 ∙ ap length is);
       key = ap (λ k. k.value) ok.5 ∙ c.of-opening.ensures;
-      dealer = (ok.2, ok.4 ∙ ap (λ v. (first_view (g.V.Kept.tag v), [])) c.of-opening.ensures);
+      dealer = (ok.2, ok.4 ∙ ap (λ v. (first_view (g.V.HasHistory.tag v), [])) c.of-opening.ensures);
       count = ap length c.new-passes.ensures;
       each = none_yet _ _ _ c.new-passes.ensures;
     }
@@ -58,7 +58,7 @@ returns-clause-passes g c =
       i.count ∙ n,
       λ k p at.
           let r = i.each k p at in
-          let tag = ap (λ m. m.0.tag) r.1 ∙ ap (λ v. Some (g.V.Kept.tag v)) (sym i.key) in (
+          let tag = ap (λ m. m.0.tag) r.1 ∙ ap (λ v. Some (g.V.HasHistory.tag v)) (sym i.key) in (
             ((r.0, tag), ap (λ m. m.0.stage) r.1, ap (λ m. m.1) r.1),
             ap (λ m. m.0.seen) r.1,
             ap (λ m. m.0.own) r.1,

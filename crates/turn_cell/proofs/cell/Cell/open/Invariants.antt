@@ -8,7 +8,7 @@ invariant-loop g l = record {
   sized : (l.table.shared.table_id.words ≡ 2) × (l.table.shared.table_id.slots ≡ 1);
   key : l.table.shared.key.value ≡ l.fn.value;
   dealer : (l.dealer.table_id ≡ l.table.shared.table_id)
-      × (l.dealer.me ≡ (giver (g.V.Kept.tag l.fn.value) l.counter, []));
+      × (l.dealer.me ≡ (giver (g.V.HasHistory.tag l.fn.value) l.counter, []));
   count : length l.passes ≡ l.counter;
-  each : EachNew l.table.shared.table_id (g.V.Kept.tag l.fn.value) l.passes;
+  each : EachNew l.table.shared.table_id (g.V.HasHistory.tag l.fn.value) l.passes;
 }

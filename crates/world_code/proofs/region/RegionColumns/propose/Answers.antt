@@ -1,5 +1,5 @@
 use Rattle.column.specs.Columns.{ColumnState, after_propose, with_room}
-use Rattle.world_code.proofs.Placing.{put_there, put_back, on_err}
+use Rattle.world_code.proofs.RaiseSteps.{put_there, put_back, on_err}
 use Rattle.world_code.proofs.region.RegionColumns.propose.Goals as goal
 
 pub returns-clause-ok : goal.returns-clause-ok

@@ -1,5 +1,5 @@
 use Rattle.column.specs.Columns.{ColumnState, after_trim}
-use Rattle.world_code.proofs.Placing.{put_there}
+use Rattle.world_code.proofs.RaiseSteps.{put_there}
 use Rattle.world_code.proofs.region.RegionColumns.trim.Goals as goal
 
 pub returns-clause-ok : goal.returns-clause-ok

@@ -2,7 +2,7 @@ use Rattle.std.proofs.Common.{◌≡◌, true, ap, sym, subst, ◌∙◌}
 use Rattle.world_laws.specs.Worlds.{may_begin, after_begin, home_of}
 use Rattle.world_code.specs.Clients.{next_begun}
 use Rattle.world_code.specs.WorldView.{WorldView, client_at, world_of, IsWhole}
-use Rattle.world_code.proofs.Begins.{may_begin_is, begin_list, begin_world, begin_whole}
+use Rattle.world_code.proofs.BeginSteps.{may_begin_is, begin_list, begin_world, begin_whole}
 use Rattle.world_code.proofs.Views.{view_of}
 use Rattle.world_code.proofs.world.World.add_begin.Goals as goal
 

@@ -5,8 +5,8 @@ use Rattle.world_laws.specs.declared.steps.Step.TheVariants as steps
 use Rattle.world_laws.specs.Worlds.{may_carry, after, reply}
 use Rattle.world_code.specs.Replies.{place_reply}
 use Rattle.world_code.specs.WorldView.{WorldView, column_at, world_of}
-use Rattle.world_code.proofs.Moving.{Moved, CarryCall, put_columns, carry_moved, carry_other, carry_region, carry_reply}
-use Rattle.world_code.proofs.Placing.{put_back, on_err}
+use Rattle.world_code.proofs.MoveCalls.{Moved, CarryCall, put_columns, carry_moved, carry_other, carry_region, carry_reply}
+use Rattle.world_code.proofs.RaiseSteps.{put_back, on_err}
 use Rattle.world_code.proofs.Views.{view_of}
 use Rattle.world_code.proofs.world.World.add_carry.Goals.{After-index_mut, In_ok-at}
 use Rattle.world_code.proofs.world.World.add_carry.Goals as goal

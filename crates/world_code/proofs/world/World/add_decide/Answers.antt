@@ -7,8 +7,8 @@ use Rattle.world_laws.specs.Worlds.{is_begun, row_of, after, reply}
 use Rattle.world_laws.proofs.CallerLemmas.{of_reached}
 use Rattle.world_code.specs.Replies.{decided_reply}
 use Rattle.world_code.specs.WorldView.{WorldView, world_of, IsWhole}
-use Rattle.world_code.proofs.Marking.{Begun, begun_is}
-use Rattle.world_code.proofs.Deciding.{row_is, decided_world, decided_whole, reply_is}
+use Rattle.world_code.proofs.ChangedRows.{Begun, begun_is}
+use Rattle.world_code.proofs.DecideSteps.{row_is, decided_world, decided_whole, reply_is}
 use Rattle.world_code.proofs.Views.{view_of}
 use Rattle.world_code.proofs.world.World.add_decide.Goals.{After-self}
 use Rattle.world_code.proofs.world.World.add_decide.Goals as goal
@@ -41,7 +41,7 @@ returns-clause-world c =
 pub returns-clause-reply : goal.returns-clause-reply
 returns-clause-reply c =
     let at = (goal.at.returns-clause-reply c).After-self in
-    ap decided_reply c.kept_outcome.ensures
+    ap decided_reply c.decided_outcome.ensures
     ∙ (reply_is (view_of c.self.inside) c.self.invariant c.args.row (begun at) (opens at) c.decide-outcome.result
     c.decide-outcome.ensures.outcome
     ∙ ap (λ (k : WorldView). reply (world_of k) (steps.Decide c.args.row)) c.self.view_is)

@@ -5,7 +5,7 @@ use Rattle.skeen_core.specs.Boards.{Board, first_mark}
 use Rattle.world_laws.specs.Worlds.{may_mark, may_fence, with_mark}
 use Rattle.world_laws.proofs.CallerLemmas.{may_mark_is, may_fence_marks}
 use Rattle.world_code.specs.WorldView.{WorldView, world_of, IsWhole}
-use Rattle.world_code.proofs.Proposing.{board_colour, board_row, fence_world, fence_whole}
+use Rattle.world_code.proofs.MarkSteps.{board_colour, board_row, fence_world, fence_whole}
 use Rattle.world_code.proofs.Views.{view_of}
 use Rattle.world_code.proofs.world.World.add_fence.Goals.{After-self}
 use Rattle.world_code.proofs.world.World.add_fence.Goals as goal

@@ -2,7 +2,7 @@ use Rattle.std.proofs.Common.{◌≡◌, true, List, ap, sym, subst, ◌∙◌}
 use Rattle.world_laws.specs.Worlds.{may_play, after_play, home_of}
 use Rattle.world_code.specs.Clients.{ClientView}
 use Rattle.world_code.specs.WorldView.{WorldView, world_of, IsWhole}
-use Rattle.world_code.proofs.Plays.{may_play_is, play_world, play_whole, code_list, code_region, code_base}
+use Rattle.world_code.proofs.PlaySteps.{may_play_is, play_world, play_whole, code_list, code_region, code_base}
 use Rattle.world_code.proofs.Views.{view_of}
 use Rattle.world_code.proofs.world.World.add_play.Goals as goal
 

@@ -3,10 +3,10 @@ use Rattle.std.specs.Prelude.{slice_get}
 use Rattle.column.specs.Columns.{ColumnState}
 use Rattle.world_laws.specs.Worlds.{may_mark, is_row_at_end, after_propose, event_reply, proposed_stamp, home_of}
 use Rattle.world_code.specs.WorldView.{WorldView, client_at, world_of, IsWhole}
-use Rattle.world_code.proofs.Placing.{put_back, on_err}
-use Rattle.world_code.proofs.Proposing.{board_colour, board_row}
+use Rattle.world_code.proofs.RaiseSteps.{put_back, on_err}
+use Rattle.world_code.proofs.MarkSteps.{board_colour, board_row}
 use Rattle.world_code.proofs.ProposeCalls.{ProposeCall, propose_home, call_colour, call_fresh, call_region, call_of_colour}
-use Rattle.world_code.proofs.ProposeCalls.{call_floor, call_row, call_stamp, call_reply, kept_after, whole_after, world_after}
+use Rattle.world_code.proofs.ProposeCalls.{call_floor, call_row, call_stamp, call_reply, code_after, whole_after, world_after}
 use Rattle.world_code.proofs.Views.{view_of}
 use Rattle.world_code.proofs.world.World.add_propose.Goals.{After-index_mut}
 use Rattle.world_code.proofs.world.World.add_propose.Goals as goal
@@ -69,13 +69,13 @@ mark-requires-clause-number c =
 pub invariant_of-self-2 : goal.invariant_of-self-2
 invariant_of-self-2 c =
     let call = read (goal.at.invariant_of-self-2 c).After-index_mut in
-    subst IsWhole (sym (kept_after call c.args.by c.in_ok-placed.ensures.answer c.in_ok-placed.ensures.ok
+    subst IsWhole (sym (code_after call c.args.by c.in_ok-placed.ensures.answer c.in_ok-placed.ensures.ok
     c.mark.ensures.rows)) (whole_after call c.args.by)
 
 pub returns-clause-ok : goal.returns-clause-ok
 returns-clause-ok c =
     let call = read (goal.at.returns-clause-ok c).After-index_mut in
-    ap world_of (kept_after call c.args.by c.in_ok-placed.ensures.answer c.in_ok-placed.ensures.ok c.mark.ensures.rows)
+    ap world_of (code_after call c.args.by c.in_ok-placed.ensures.answer c.in_ok-placed.ensures.ok c.mark.ensures.rows)
     ∙ (world_after call c.args.by
     ∙ ap (λ (k : WorldView). after_propose (world_of k) c.args.by c.args.row c.args.colour) c.self.view_is)
 

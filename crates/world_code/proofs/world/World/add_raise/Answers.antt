@@ -3,8 +3,8 @@ use Rattle.column.specs.Columns as columns
 use Rattle.column.specs.Columns.{ColumnState}
 use Rattle.world_laws.specs.Worlds.{may_raise, after_raise}
 use Rattle.world_code.specs.WorldView.{WorldView, no_column, column_at, world_of, IsWhole}
-use Rattle.world_code.proofs.Changing.{with_column}
-use Rattle.world_code.proofs.Placing.{raised_world, raised_whole, row_there, default_free}
+use Rattle.world_code.proofs.ChangedParts.{with_column}
+use Rattle.world_code.proofs.RaiseSteps.{raised_world, raised_whole, row_there, default_free}
 use Rattle.world_code.proofs.Views.{view_of}
 use Rattle.world_code.proofs.world.World.add_raise.Goals.{In_ok-place}
 use Rattle.world_code.proofs.world.World.add_raise.Goals as goal

@@ -2,7 +2,7 @@ use Rattle.std.proofs.Common.{◌≡◌, ◌<◌, true, List, length, ap, sym, s
 use Rattle.world_laws.specs.Worlds.{may_see, after_seen}
 use Rattle.world_code.specs.Clients.{ClientView}
 use Rattle.world_code.specs.WorldView.{WorldView, world_of, IsWhole}
-use Rattle.world_code.proofs.Seeing.{client_there, seen_world, seen_whole, seen_list}
+use Rattle.world_code.proofs.ClientSteps.{client_there, seen_world, seen_whole, seen_list}
 use Rattle.world_code.proofs.Views.{view_of}
 use Rattle.world_code.proofs.world.World.add_seen.Goals.{After-see}
 use Rattle.world_code.proofs.world.World.add_seen.Goals as goal

@@ -4,7 +4,7 @@ use Rattle.world_laws.specs.Worlds.{is_begun, row_of, home_of, after, reply}
 use Rattle.world_code.specs.Replies.{place_reply}
 use Rattle.world_code.specs.WorldView.{WorldView, world_of}
 use Rattle.world_code.proofs.SettleCalls.{SettleCall, settle_home, call_colour, call_settles, settle_moved, settle_reply}
-use Rattle.world_code.proofs.Moving.{Moved, put_columns}
+use Rattle.world_code.proofs.MoveCalls.{Moved, put_columns}
 use Rattle.world_code.proofs.Views.{view_of}
 use Rattle.world_code.proofs.world.World.add_settle.Goals.{After-index_mut, After-settle-at}
 use Rattle.world_code.proofs.world.World.add_settle.Goals as goal

@@ -4,9 +4,9 @@ use Rattle.world_laws.specs.Worlds.{may_single, after_single, event_reply, singl
 use Rattle.world_code.specs.Clients.{next_single}
 use Rattle.world_code.specs.WorldView.{WorldView, client_at, world_of, IsWhole}
 use Rattle.world_code.specs.declared.replies.Placed.{Placed}
-use Rattle.world_code.proofs.Calling.{SingleCall, call_fresh, call_of_colour, call_floor, kept_after, kept_whole, kept_world}
-use Rattle.world_code.proofs.Calling.{placed_same}
-use Rattle.world_code.proofs.Placing.{put_back, on_err}
+use Rattle.world_code.proofs.SingleCalls.{SingleCall, call_fresh, call_of_colour, call_floor, code_after, code_whole, code_world}
+use Rattle.world_code.proofs.SingleCalls.{placed_same}
+use Rattle.world_code.proofs.RaiseSteps.{put_back, on_err}
 use Rattle.world_code.proofs.Views.{view_of}
 use Rattle.world_code.proofs.world.World.add_single.Goals.{After-index_mut}
 use Rattle.world_code.proofs.world.World.add_single.Goals as goal
@@ -41,15 +41,15 @@ single-requires-clause-floor c = call_floor (read c)
 pub invariant_of-self-2 : goal.invariant_of-self-2
 invariant_of-self-2 c =
     let call = read (goal.at.invariant_of-self-2 c).After-index_mut in
-    subst IsWhole (sym (kept_after call c.in_ok-placed.ensures.ok c.index_mut-2.ensures.value c.requires.shared
-    (ap (λ (p : Placed). p.stamp) c.in_ok-placed.ensures.answer) c.append.ensures)) (kept_whole call)
+    subst IsWhole (sym (code_after call c.in_ok-placed.ensures.ok c.index_mut-2.ensures.value c.requires.shared
+    (ap (λ (p : Placed). p.stamp) c.in_ok-placed.ensures.answer) c.append.ensures)) (code_whole call)
 
 pub returns-clause-ok : goal.returns-clause-ok
 returns-clause-ok c =
     let call = read (goal.at.returns-clause-ok c).After-index_mut in
-    ap world_of (kept_after call c.in_ok-placed.ensures.ok c.index_mut-2.ensures.value c.requires.shared
+    ap world_of (code_after call c.in_ok-placed.ensures.ok c.index_mut-2.ensures.value c.requires.shared
     (ap (λ (p : Placed). p.stamp) c.in_ok-placed.ensures.answer) c.append.ensures)
-    ∙ (kept_world call
+    ∙ (code_world call
     ∙ ap (λ (k : WorldView). after_single (world_of k) c.args.client c.args.colour c.args.node.value.text)
     c.self.view_is)
 

@@ -3,8 +3,8 @@ use Rattle.column.specs.Columns.{ColumnState}
 use Rattle.world_laws.specs.declared.steps.Step.TheVariants as steps
 use Rattle.world_laws.specs.Worlds.{is_column, after}
 use Rattle.world_code.specs.WorldView.{WorldView, world_of}
-use Rattle.world_code.proofs.Moving.{Moved, put_columns, trim_moved, trim_place}
-use Rattle.world_code.proofs.Placing.{put_back, on_err}
+use Rattle.world_code.proofs.MoveCalls.{Moved, put_columns, trim_moved, trim_place}
+use Rattle.world_code.proofs.RaiseSteps.{put_back, on_err}
 use Rattle.world_code.proofs.Views.{view_of}
 use Rattle.world_code.proofs.world.World.add_trim.Goals.{In_ok-place}
 use Rattle.world_code.proofs.world.World.add_trim.Goals as goal

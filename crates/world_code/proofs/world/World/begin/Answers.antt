@@ -3,8 +3,8 @@ use Rattle.std.proofs.lemmas.Bool.{cond-true}
 use Rattle.world_laws.specs.declared.steps.Reply.TheVariants as replies
 use Rattle.world_laws.specs.Worlds.{World, may_begin, after_begin, next_row, next_id}
 use Rattle.world_code.specs.WorldView.{WorldView, client_at, world_of, IsWhole}
-use Rattle.world_code.proofs.Begins.{may_begin_is, in_clients}
-use Rattle.world_code.proofs.Calling.{room_world, room_there}
+use Rattle.world_code.proofs.BeginSteps.{may_begin_is, in_clients}
+use Rattle.world_code.proofs.SingleCalls.{room_world, room_there}
 use Rattle.world_code.proofs.world.World.begin.Goals.{In_ok-client_room}
 use Rattle.world_code.proofs.world.World.begin.Goals as goal
 

@@ -4,7 +4,7 @@ use Rattle.log_node.specs.declared.node.Node.{Node}
 use Rattle.world_laws.specs.Worlds.{may_begin, home_of, next_row}
 use Rattle.world_code.specs.Clients.{ClientView, fresh_client, next_begun}
 use Rattle.world_code.specs.WorldView.{client_at, world_of, IsWhole}
-use Rattle.world_code.proofs.Begins.{may_begin_is, in_clients}
+use Rattle.world_code.proofs.BeginSteps.{may_begin_is, in_clients}
 use Rattle.world_code.proofs.world.World.begin_node.Goals as goal
 
 pub home-home-requires : goal.home-home-requires

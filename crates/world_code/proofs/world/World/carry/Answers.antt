@@ -3,7 +3,7 @@ use Rattle.std.proofs.lemmas.Bool.{and_parts}
 use Rattle.world_laws.specs.Worlds.{are_two_columns}
 use Rattle.world_laws.proofs.CallerLemmas.{may_carry_is}
 use Rattle.world_code.specs.WorldView.{IsWhole, world_of}
-use Rattle.world_code.proofs.Carrying.{base_below, items_here}
+use Rattle.world_code.proofs.MayCarry.{base_below, items_here}
 use Rattle.world_code.proofs.world.World.carry.Goals as goal
 
 pub stretch-requires-clause-base : goal.stretch-requires-clause-base

@@ -1,7 +1,7 @@
 use Rattle.std.proofs.Common.{List, length, ap, sym, subst, arith, ◌<◌}
 use Rattle.world_code.specs.Clients.{ClientView}
 use Rattle.world_code.specs.WorldView.{WorldView, IsWhole}
-use Rattle.world_code.proofs.Calling.{room_list, room_whole}
+use Rattle.world_code.proofs.SingleCalls.{room_list, room_whole}
 use Rattle.world_code.proofs.world.World.client_room.Goals as goal
 
 pub invariant_of-self-2 : goal.invariant_of-self-2

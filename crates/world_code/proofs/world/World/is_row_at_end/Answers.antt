@@ -6,7 +6,7 @@ use Rattle.column.specs.Columns.{ColumnState}
 use Rattle.world_laws.specs.Worlds.{row_history}
 use Rattle.world_code.specs.WorldView.{WorldView, column_at, world_of, IsWhole}
 use Rattle.world_code.proofs.MayMark.{its_node}
-use Rattle.world_code.proofs.Proposing.{client_there, home_there, colour_there, its_row}
+use Rattle.world_code.proofs.MarkSteps.{client_there, home_there, colour_there, its_row}
 use Rattle.world_code.proofs.world.World.is_row_at_end.Goals as goal
 
 pub home-home-requires : goal.home-home-requires

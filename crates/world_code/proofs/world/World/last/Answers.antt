@@ -3,8 +3,8 @@ use Rattle.world_laws.specs.Laws.{IsBounded}
 use Rattle.world_laws.specs.Worlds.{is_begun}
 use Rattle.world_laws.proofs.CallerLemmas.{of_reached}
 use Rattle.world_code.specs.WorldView.{WorldView, world_of}
-use Rattle.world_code.proofs.Marking.{begun_is}
-use Rattle.world_code.proofs.Deciding.{row_is}
+use Rattle.world_code.proofs.ChangedRows.{begun_is}
+use Rattle.world_code.proofs.DecideSteps.{row_is}
 use Rattle.world_code.proofs.world.World.last.Goals as goal
 
 pub last-requires : goal.last-requires

@@ -7,7 +7,7 @@ use Rattle.column.specs.Views.{IsView}
 use Rattle.world_laws.specs.Worlds.{home_of}
 use Rattle.world_code.specs.Clients.{ClientView}
 use Rattle.world_code.specs.WorldView.{IsWhole, world_of, column_at}
-use Rattle.world_code.proofs.Looking.{looked, home_there, played_there}
+use Rattle.world_code.proofs.LooksShown.{looked, home_there, played_there}
 use Rattle.world_code.proofs.world.World.look.Goals as goal
 
 pub played-played-requires : goal.played-played-requires

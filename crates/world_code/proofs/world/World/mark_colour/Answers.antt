@@ -3,7 +3,7 @@ use Rattle.world_laws.specs.Worlds.{after, reply}
 use Rattle.world_code.specs.WorldView.{WorldView, world_of}
 use Rattle.world_laws.specs.declared.steps.Step.TheVariants.{Fence}
 use Rattle.log_node.specs.declared.marks.Why.TheVariants.{Memory}
-use Rattle.world_code.proofs.Marked.{proposed, fenced}
+use Rattle.world_code.proofs.AllMarks.{proposed, fenced}
 use Rattle.world_code.proofs.world.World.mark_colour.Goals as goal
 
 pub returns-in-Ok : goal.returns-in-Ok

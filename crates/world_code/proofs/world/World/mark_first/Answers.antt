@@ -3,8 +3,8 @@ use Rattle.std.specs.Prelude.{◌^◌}
 use Rattle.log_node.specs.declared.ids.Colours.{Colours}
 use Rattle.world_code.specs.WorldView.{world_of}
 use Rattle.world_code.specs.declared.completing.Taken.{Taken}
-use Rattle.world_code.proofs.Marked.{marked_none, marked_stop, marked_skip, marked_more, marked_all, marked_as}
-use Rattle.world_code.proofs.Marked.{taken_stays}
+use Rattle.world_code.proofs.AllMarks.{marked_none, marked_stop, marked_skip, marked_more, marked_all, marked_as}
+use Rattle.world_code.proofs.AllMarks.{taken_stays}
 use Rattle.log_node.specs.declared.node.Node.{Node}
 use Rattle.world_code.proofs.world.World.mark_first.Goals as goal
 use Rattle.world_code.proofs.world.World.mark_first.Goals.{then-taken-gt0+then-lacks_mark, else-taken-gt0}

@@ -1,6 +1,6 @@
 use Rattle.std.proofs.Common.{◌≤◌, ◌+◌}
 use Rattle.world_code.specs.WorldView.{world_of}
-use Rattle.world_code.proofs.Marked.{AreMarked}
+use Rattle.world_code.proofs.AllMarks.{AreMarked}
 use Rattle.world_code.proofs.world.World.mark_first.Given as goal
 
 -- the marks of the colours so far

@@ -4,7 +4,7 @@ use Rattle.std.specs.List.{list_all}
 use Rattle.log_node.specs.Sets.{members}
 use Rattle.world_laws.specs.Worlds.{may_begin}
 use Rattle.world_code.specs.WorldView.{WorldView, world_of}
-use Rattle.world_code.proofs.Begins.{too_few, by_colours}
+use Rattle.world_code.proofs.BeginSteps.{too_few, by_colours}
 use Rattle.world_code.proofs.world.World.may_begin.Goals as goal
 
 pub returns-then-count-lt2 : goal.returns-then-count-lt2

@@ -3,7 +3,7 @@ use Rattle.col_core.specs.History.{line}
 use Rattle.column.specs.Columns.{ColumnState, base_of}
 use Rattle.world_laws.proofs.CallerLemmas.{are_two}
 use Rattle.world_code.specs.WorldView.{IsWhole, world_of}
-use Rattle.world_code.proofs.Carrying.{below_base, there}
+use Rattle.world_code.proofs.MayCarry.{below_base, there}
 use Rattle.world_code.proofs.world.World.may_carry.Goals as goal
 
 pub bounds-base-origin : goal.bounds-base-origin

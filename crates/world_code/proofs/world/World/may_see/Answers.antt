@@ -7,8 +7,8 @@ use Rattle.column.specs.Columns.{ColumnState}
 use Rattle.world_laws.specs.Worlds.{may_see}
 use Rattle.world_code.specs.Clients.{ClientView}
 use Rattle.world_code.specs.WorldView.{WorldView, client_at, world_of}
-use Rattle.world_code.proofs.Placing.{default_free}
-use Rattle.world_code.proofs.Seeing.{home_is, may_see_is}
+use Rattle.world_code.proofs.RaiseSteps.{default_free}
+use Rattle.world_code.proofs.ClientSteps.{home_is, may_see_is}
 use Rattle.world_code.proofs.world.World.may_see.Goals as goal
 
 pub returns-then-floor-to : goal.returns-then-floor-to

@@ -3,7 +3,7 @@ use Rattle.skeen_core.specs.Boards.{Board, empty_board}
 use Rattle.column.specs.Columns.{ColumnState}
 use Rattle.world_code.specs.Clients.{ClientView, fresh_client}
 use Rattle.world_code.specs.WorldView.{WorldView, world_of, IsWhole}
-use Rattle.world_code.proofs.Opening.{fresh_world, fresh_is_opened, fresh_whole}
+use Rattle.world_code.proofs.FirstWorld.{fresh_world, fresh_is_opened, fresh_whole}
 use Rattle.world_code.proofs.world.World.open.Goals as goal
 
 abbrev made : goal.In_ok-board → WorldView

@@ -2,7 +2,7 @@ use Rattle.std.proofs.Common.{subst}
 use Rattle.column.specs.Columns.{ColumnState}
 use Rattle.column.specs.Views.{IsBelow}
 use Rattle.world_code.specs.WorldView.{IsWhole}
-use Rattle.world_code.proofs.Looking.{row_below, no_row_below}
+use Rattle.world_code.proofs.LooksShown.{row_below, no_row_below}
 use Rattle.world_code.proofs.world.World.open_row_below.Goals as goal
 
 pub returns-clause-some : goal.returns-clause-some

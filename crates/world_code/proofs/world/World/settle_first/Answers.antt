@@ -6,8 +6,8 @@ use Rattle.world_code.specs.WorldView.{world_of}
 use Rattle.world_laws.specs.declared.steps.Step.{Step}
 use Rattle.world_code.specs.Completed.{done_count, AreTaken}
 use Rattle.world_code.specs.declared.completing.Taken.{Taken}
-use Rattle.world_code.proofs.Taking.{taken_none, taken_more, taken_as, settles_below, settles_with, settles_without}
-use Rattle.world_code.proofs.Taking.{settles_stop, settles_all}
+use Rattle.world_code.proofs.AllowedSteps.{taken_none, taken_more, taken_as, settles_below, settles_with, settles_without}
+use Rattle.world_code.proofs.AllowedSteps.{settles_stop, settles_all}
 use Rattle.world_code.proofs.world.World.settle_first.Goals as goal
 use Rattle.world_code.proofs.world.World.settle_first.Goals.{then-taken-gt0+then-has, else-taken-gt0}
 use Rattle.world_code.proofs.world.World.settle_first.Goals.{else-taken-gt0-via-then-taken-gt0+else-has}

@@ -4,8 +4,8 @@ use Rattle.log_node.specs.declared.node.Node.{Node}
 use Rattle.world_laws.specs.Worlds.{World, may_single, after_single}
 use Rattle.world_code.specs.Clients.{ClientView}
 use Rattle.world_code.specs.WorldView.{WorldView, client_at, world_of, IsWhole}
-use Rattle.world_code.proofs.Singles.{may_single_is}
-use Rattle.world_code.proofs.Calling.{played_of, room_world, room_there}
+use Rattle.world_code.proofs.SingleSteps.{may_single_is}
+use Rattle.world_code.proofs.SingleCalls.{played_of, room_world, room_there}
 use Rattle.world_code.proofs.world.World.single.Goals.{In-Some}
 use Rattle.world_code.proofs.world.World.single.Goals as goal
 

@@ -18,11 +18,11 @@ use Rattle.world_laws.specs.Worlds.{home_of, home_history, is_client, is_column,
 use Rattle.world_laws.specs.Worlds.{may_single, single_entry, after_single}
 use Rattle.world_code.specs.Clients.{ClientView, fresh_client, with_next_node, next_single}
 use Rattle.world_code.specs.WorldView.{WorldView, column_at, client_at, world_of, IsAppended, IsWhole}
-use Rattle.world_code.proofs.Worlds.{worlds}
-use Rattle.world_code.proofs.Changing.{with_column, clients_changed, nodes_changed, histories_changed, rows_same}
-use Rattle.world_code.proofs.Changing.{columns_placed, clients_set, whole_after, reached_step, columns_appended}
-use Rattle.world_code.proofs.Changing.{clients_appended}
-use Rattle.world_code.proofs.Appended.{appended_entered, is_listed}
+use Rattle.world_code.proofs.EqualWorlds.{worlds}
+use Rattle.world_code.proofs.ChangedParts.{with_column, clients_changed, nodes_changed, histories_changed, rows_same}
+use Rattle.world_code.proofs.ChangedParts.{columns_placed, clients_set, whole_after, reached_step, columns_appended}
+use Rattle.world_code.proofs.ChangedParts.{clients_appended}
+use Rattle.world_code.proofs.AppendedNodes.{appended_entered, is_listed}
 use Rattle.world_laws.proofs.CallerLemmas.{slice_last}
 use Rattle.std.specs.Prelude.{slice_get}
 use Rattle.std.proofs.Common.{get_or-set_same}
@@ -75,94 +75,94 @@ wants_alone c client home colour text lt =
     ∙ cond-true (colour == colour) _ _ (eq-eqb colour colour refl)
 
 -- what a single asks for
-pub record MaySingle (kept : WorldView) (client colour : ℕ) : Type 0 where
-  pub is_client : client < length kept.shape.homes
-  pub in_regions : home_of (world_of kept) client < kept.shape.regions
-  pub in_colours : colour < kept.shape.colours
-  pub not_at_end : is_at_end (home_history (world_of kept) client colour) (client_at kept client).floor ≡ false
+pub record MaySingle (code : WorldView) (client colour : ℕ) : Type 0 where
+  pub is_client : client < length code.shape.homes
+  pub in_regions : home_of (world_of code) client < code.shape.regions
+  pub in_colours : colour < code.shape.colours
+  pub not_at_end : is_at_end (home_history (world_of code) client colour) (client_at code client).floor ≡ false
 
-pub may_single_is : (kept : WorldView) (client colour : ℕ) → may_single (world_of kept) client colour ≡ true
-    → MaySingle kept client colour
-may_single_is kept client colour t =
-    let p = and_parts (is_client (world_of kept) client) _ t in
-    let q = and_parts (is_column (world_of kept) (home_of (world_of kept) client) colour) _ p.1 in
-    let r = and_parts (nat_lt (home_of (world_of kept) client) kept.shape.regions) _ q.0 in
+pub may_single_is : (code : WorldView) (client colour : ℕ) → may_single (world_of code) client colour ≡ true
+    → MaySingle code client colour
+may_single_is code client colour t =
+    let p = and_parts (is_client (world_of code) client) _ t in
+    let q = and_parts (is_column (world_of code) (home_of (world_of code) client) colour) _ p.1 in
+    let r = and_parts (nat_lt (home_of (world_of code) client) code.shape.regions) _ q.0 in
     record {
-      is_client = ltb-true client (length kept.shape.homes) p.0;
-      in_regions = ltb-true (home_of (world_of kept) client) kept.shape.regions r.0;
-      in_colours = ltb-true colour kept.shape.colours r.1;
+      is_client = ltb-true client (length code.shape.homes) p.0;
+      in_regions = ltb-true (home_of (world_of code) client) code.shape.regions r.0;
+      in_colours = ltb-true colour code.shape.colours r.1;
       not_at_end = not-true _ q.1;
     }
 
-module _ (kept : WorldView) (w : IsWhole kept) (client colour : ℕ) (text : List ℕ)
-    (may : MaySingle kept client colour) where
+module _ (code : WorldView) (w : IsWhole code) (client colour : ℕ) (text : List ℕ)
+    (may : MaySingle code client colour) where
   abbrev home : ℕ
-  home = home_of (world_of kept) client
+  home = home_of (world_of code) client
 
   abbrev old : ColumnState
-  old = column_at kept.columns home colour
+  old = column_at code.columns home colour
 
   abbrev node : Node
-  node = next_single (client_at kept client) client home colour text
+  node = next_single (client_at code client) client home colour text
 
   abbrev new_column : ColumnState
   new_column = columns.after_single (with_room old) client node
 
   abbrev new_client : ClientView
-  new_client = with_next_node (client_at kept client) node (stamp_for old node)
+  new_client = with_next_node (client_at code client) node (stamp_for old node)
 
-  abbrev pub new_kept : WorldView
-  new_kept = record kept {
-    clients = set kept.clients client new_client;
-    columns = with_column kept.columns home colour new_column;
+  abbrev pub new_code : WorldView
+  new_code = record code {
+    clients = set code.clients client new_client;
+    columns = with_column code.columns home colour new_column;
   }
 
-  pub client_in : client < length kept.clients
+  pub client_in : client < length code.clients
   client_in = let n = w.clients in let lt = may.is_client in omega (arith, n, lt)
 
-  pub home_in : home < length kept.columns
+  pub home_in : home < length code.columns
   home_in = let n = w.regions in let lt = may.in_regions in omega (arith, n, lt)
 
-  pub colour_in : colour < length (get_or kept.columns home [])
+  pub colour_in : colour < length (get_or code.columns home [])
   colour_in = let n = w.wide home [] home_in in let lt = may.in_colours in omega (arith, n, lt)
 
   small : colour < 16
   small = let n = w.few_colours in let lt = may.in_colours in omega (arith, n, lt)
 
   entry_is : ◌≡◌ {A = List Entry} new_column.journal
-      (home_history (world_of kept) client colour ++ single_entry (world_of kept) client colour ∷ [])
+      (home_history (world_of code) client colour ++ single_entry (world_of code) client colour ∷ [])
   entry_is =
       ap (λ (v : Counts). old.journal
       ++ record { by = client; event = events.Single node.id node.floor v; stamp = stamp_for old node } ∷ [])
       (ap (node_wants node) (w.placed home colour may.in_regions may.in_colours).of_colour
-      ∙ wants_alone (client_at kept client) client home colour text small)
+      ∙ wants_alone (client_at code client) client home colour text small)
 
-  pub single_world : world_of new_kept ≡ after_single (world_of kept) client colour text
+  pub single_world : world_of new_code ≡ after_single (world_of code) client colour text
   single_world =
-      worlds kept.shape (world_of new_kept).histories (after_single (world_of kept) client colour text).histories
-      (clients_changed kept.clients client new_client client_in)
-      (rows_same kept.clients kept.board client new_client client_in refl)
-      (histories_changed kept.columns home colour new_column home_in colour_in _ entry_is)
-      (nodes_changed kept.clients client new_client client_in)
+      worlds code.shape (world_of new_code).histories (after_single (world_of code) client colour text).histories
+      (clients_changed code.clients client new_client client_in)
+      (rows_same code.clients code.board client new_client client_in refl)
+      (histories_changed code.columns home colour new_column home_in colour_in _ entry_is)
+      (nodes_changed code.clients client new_client client_in)
 
-  node_appended : IsAppended (set kept.clients client new_client) node.id node
+  node_appended : IsAppended (set code.clients client new_client) node.id node
   node_appended =
       ap (λ (c : ClientView). slice_get c.nodes node.id.count)
-      (get_or-set_same kept.clients client new_client fresh_client client_in)
-      ∙ (ap (slice_get new_client.nodes) (sym ((is_listed kept w).counts client))
-      ∙ slice_last (client_at kept client).nodes node)
+      (get_or-set_same code.clients client new_client fresh_client client_in)
+      ∙ (ap (slice_get new_client.nodes) (sym ((is_listed code w).counts client))
+      ∙ slice_last (client_at code client).nodes node)
 
-  pub single_whole : may_single (world_of kept) client colour ≡ true → IsWhole new_kept
+  pub single_whole : may_single (world_of code) client colour ≡ true → IsWhole new_code
   single_whole t =
       let p = w.placed home colour may.in_regions may.in_colours in
-      whole_after kept (set kept.clients client new_client) kept.board (with_column kept.columns home colour new_column)
+      whole_after code (set code.clients client new_client) code.board (with_column code.columns home colour new_column)
       w
-      (clients_set kept client new_client w client_in (w.colours client fresh_client client_in) refl)
-      (columns_placed kept home colour new_column w may.in_regions may.in_colours
+      (clients_set code client new_client w client_in (w.colours client fresh_client client_in) refl)
+      (columns_placed code home colour new_column w may.in_regions may.in_colours
       (record { in_region = p.in_region; of_colour = p.of_colour; of_regions = p.of_regions }))
-      (columns_appended kept (set kept.clients client new_client) home colour new_column w may.in_regions may.in_colours
-      (clients_appended kept client new_client (node ∷ []) client_in refl w.appended)
-      (appended_entered (set kept.clients client new_client) old new_column _ node.id true _ refl refl
-      (clients_appended kept client new_client (node ∷ []) client_in refl w.appended home colour) node_appended))
-      (reached_step kept (world_of new_kept) (steps.Single client colour text) w
-      (single_world ∙ sym (cond-true (may_single (world_of kept) client colour) _ _ t)))
+      (columns_appended code (set code.clients client new_client) home colour new_column w may.in_regions may.in_colours
+      (clients_appended code client new_client (node ∷ []) client_in refl w.appended)
+      (appended_entered (set code.clients client new_client) old new_column _ node.id true _ refl refl
+      (clients_appended code client new_client (node ∷ []) client_in refl w.appended home colour) node_appended))
+      (reached_step code (world_of new_code) (steps.Single client colour text) w
+      (single_world ∙ sym (cond-true (may_single (world_of code) client colour) _ _ t)))

@@ -36,8 +36,8 @@ use Rattle.world_laws.proofs.CallerLemmas.{entry_shown, told, Told}
 use Rattle.world_code.specs.Clients.{ClientView, fresh_client}
 use Rattle.world_code.specs.WorldView.{WorldView, world_of, column_at, client_at, IsAppended, IsPlaced, HasAppended, IsWhole}
 use Rattle.world_code.specs.Looks.{AreShown, IsLook, IsFirstBelow, open_below}
-use Rattle.world_code.proofs.Appended.{is_listed}
-use Rattle.world_code.proofs.Calling.{is_held}
+use Rattle.world_code.proofs.AppendedNodes.{is_listed}
+use Rattle.world_code.proofs.SingleCalls.{is_held}
 
 each_get : {A : Type 0} (P : A → Type 0) (xs : List A) (n : ℕ) (x : A) → AllByRecursion P xs → slice_get xs n ≡ Some x
     → P x
@@ -64,51 +64,51 @@ items_appended cs column h region from to items a n i e = elim (cases_eq region 
 
 -- Looks
 
-pub home_there : (kept : WorldView) → IsWhole kept → (client : ℕ) → client < length kept.shape.homes
-    → home_of (world_of kept) client < kept.shape.regions
-home_there kept w client lt = w.homes client 0 lt
+pub home_there : (code : WorldView) → IsWhole code → (client : ℕ) → client < length code.shape.homes
+    → home_of (world_of code) client < code.shape.regions
+home_there code w client lt = w.homes client 0 lt
 
-pub played_there : (kept : WorldView) → IsWhole kept → (client colour : ℕ) → client < length kept.shape.homes
-    → colour < kept.shape.colours → colour < length (client_at kept client).played
-played_there kept w client colour lt in_colours =
-    let there : client < length kept.clients = (let n = w.clients in omega (arith, n, lt)) in
+pub played_there : (code : WorldView) → IsWhole code → (client colour : ℕ) → client < length code.shape.homes
+    → colour < code.shape.colours → colour < length (client_at code client).played
+played_there code w client colour lt in_colours =
+    let there : client < length code.clients = (let n = w.clients in omega (arith, n, lt)) in
     let n = w.colours client fresh_client there in
     let few = w.few_colours in
     omega (arith, n, few, in_colours)
 
-module _ (kept : WorldView) (w : IsWhole kept) (client colour : ℕ)
-    (in_regions : home_of (world_of kept) client < kept.shape.regions) (in_colours : colour < kept.shape.colours) where
+module _ (code : WorldView) (w : IsWhole code) (client colour : ℕ)
+    (in_regions : home_of (world_of code) client < code.shape.regions) (in_colours : colour < code.shape.colours) where
   abbrev home : ℕ
-  home = home_of (world_of kept) client
+  home = home_of (world_of code) client
 
   abbrev column : ColumnState
-  column = column_at kept.columns home colour
+  column = column_at code.columns home colour
 
-  placed : IsPlaced column home colour kept.shape.regions
+  placed : IsPlaced column home colour code.shape.regions
   placed = w.placed home colour in_regions in_colours
 
   items_shown : (region from to : ℕ) (items : List PlacedNode) → AreItems column region from to items
-      → AreShown (world_of kept) client colour region from to items
+      → AreShown (world_of code) client colour region from to items
   items_shown region from to items a = record {
     heads = a.heads
         ∙ ap (λ (r : ℕ). take (to - from) (drop from (chain r (dated r column.journal) region))) placed.in_region;
-    nodes = items_appended kept.clients column (w.appended home colour) region from to items a;
+    nodes = items_appended code.clients column (w.appended home colour) region from to items a;
   }
 
-  pub looked : (view : View) → IsView column (((world_of kept).clients client).played colour) view
-      → IsLook (world_of kept) client colour view
+  pub looked : (view : View) → IsView column (((world_of code).clients client).played colour) view
+      → IsLook (world_of code) client colour view
   looked view v = record {
     region = v.region ∙ placed.in_region;
     of_colour = v.colour ∙ placed.of_colour;
     events = v.events;
     cut = v.cut ∙ ap (λ (r : ℕ). cut r (dated r column.journal)) placed.in_region;
     base = base_is;
-    start = v.start ∙ ap (greater (((world_of kept).clients client).played colour)) (sym v.base);
+    start = v.start ∙ ap (greater (((world_of code).clients client).played colour)) (sym v.base);
     chains = v.chains;
     items = λ region lt. items_shown region (at view.from region) (at view.cut region)
         (get_or view.items region []) (v.items region lt);
   } where
-    base_is : view.base ≡ base home kept.shape.regions (dated home column.journal)
+    base_is : view.base ≡ base home code.shape.regions (dated home column.journal)
     base_is =
         v.base
         ∙ (ap (λ (r : ℕ). base r column.regions (dated r column.journal)) placed.in_region
@@ -200,15 +200,15 @@ begun_some : (b : BegunAppend) (o : Option (Waiting EnteredNode)) → IsBegunAt 
 begun_some b None h = absurd h
 begun_some b (Some s) h = (s, refl, h)
 
-told_of : (kept : WorldView) → IsWhole kept → Told (world_of kept)
-told_of kept w = subst Told w.reached.is (told w.reached.shape w.reached.steps)
+told_of : (code : WorldView) → IsWhole code → Told (world_of code)
+told_of code w = subst Told w.reached.is (told w.reached.shape w.reached.steps)
 
-module _ (kept : WorldView) (w : IsWhole kept) (region colour : ℕ) (key : Key) where
+module _ (code : WorldView) (w : IsWhole code) (region colour : ℕ) (key : Key) where
   abbrev looked_at : ColumnState
-  looked_at = column_at kept.columns region colour
+  looked_at = column_at code.columns region colour
 
   pub none_below : (below : Below) → IsBelow looked_at key below → below.first ≡ None
-      → open_below key ((world_of kept).histories region colour) ≡ []
+      → open_below key ((world_of code).histories region colour) ≡ []
   none_below below b none =
       none_of (is_open_below key) (entries looked_at.journal)
       (is_none (find (is_open_below key) (entries looked_at.journal))
@@ -218,9 +218,9 @@ module _ (kept : WorldView) (w : IsWhole kept) (region colour : ℕ) (key : Key)
         is_none (Some e) h = absurd (let x : ⊥ = cc in x)
 
   pub first_below : (below : Below) (begun : BegunAppend) → IsBelow looked_at key below → below.first ≡ Some begun
-      → IsFirstBelow (world_of kept) region colour key begun.row
+      → IsFirstBelow (world_of code) region colour key begun.row
   first_below below begun b some =
-      let world = world_of kept in
+      let world = world_of code in
       let es = entries looked_at.journal in
       let queue = looked_at.queue in
       let found = some_of (find (is_open_below key) es) begun.id
@@ -229,15 +229,15 @@ module _ (kept : WorldView) (w : IsWhole kept) (region colour : ℕ) (key : Key)
       let rest = first_of (is_open_below key) es e found.1 in
       let i = in_filter (is_open_below key) e es (subst (λ (l : List Standing). In e l) (sym rest.1) (inl refl)) in
       let opens = not-true e.settled (and_parts (not e.settled) _ i.1).0 in
-      let has = open_row world (is_held kept w) region colour e i.0 opens in
+      let has = open_row world (is_held code w) region colour e i.0 opens in
       let s = begun_some begun (find (is_waiting_below key) (waiting_entries queue))
       (subst (λ (o : Option BegunAppend). IsBegunAt o (find (is_waiting_below key) (waiting_entries queue))) some
       b.first) in
       let there = found_get (is_waiting_below key)
-      (λ (x : Waiting EnteredNode). IsAppended kept.clients x.key.id x.thing.node) (waiting_entries queue) s.0
-      (each-drop (λ (x : Waiting EnteredNode). IsAppended kept.clients x.key.id x.thing.node) (kept_count queue)
+      (λ (x : Waiting EnteredNode). IsAppended code.clients x.key.id x.thing.node) (waiting_entries queue) s.0
+      (each-drop (λ (x : Waiting EnteredNode). IsAppended code.clients x.key.id x.thing.node) (kept_count queue)
       queue.stored (w.appended region colour).stored) s.1 in
-      let ids = (is_listed kept w).ids s.0.key.id.client s.0.key.id.count s.0.thing.node there in
+      let ids = (is_listed code w).ids s.0.key.id.client s.0.key.id.count s.0.thing.node there in
       let same_id : s.0.key.id ≡ e.key.id = sym ids ∙ (sym s.2.id ∙ found.2) in
       let stored_node : slice_get (world.nodes e.key.id.client) e.key.id.count ≡ Some s.0.thing.node =
       subst (λ (x : Id). slice_get (world.nodes x.client) x.count ≡ Some s.0.thing.node) same_id there in
@@ -245,10 +245,10 @@ module _ (kept : WorldView) (w : IsWhole kept) (region colour : ℕ) (key : Key)
       let listed_node : slice_get (world.nodes e.key.id.client) e.key.id.count ≡ Some (row_of world has.row).node =
       ap (λ (n : ℕ). slice_get (world.nodes n) e.key.id.count) (sym has.client)
       ∙ (ap (λ (x : Id). slice_get (world.nodes has.row.client) x.count) (sym has.is)
-      ∙ (is_listed kept w).rows has.row.client has.row.number lt) in
+      ∙ (is_listed code w).rows has.row.client has.row.number lt) in
       let same_node : (row_of world has.row).node ≡ s.0.thing.node = same_Some _ _ (sym listed_node ∙ stored_node) in
       let own_row : (row_of world has.row).node.row ≡ Some has.row =
-      ((told_of kept w).rows has.row.client has.row.number lt).row in
+      ((told_of code w).rows has.row.client has.row.number lt).row in
       let same : has.row ≡ begun.row =
       same_Some _ _ (sym own_row ∙ (ap (λ (n : Node). n.row) same_node ∙ s.2.row)) in
       record {
@@ -268,19 +268,19 @@ module _ (kept : WorldView) (w : IsWhole kept) (region colour : ℕ) (key : Key)
   row_in o = option_map (λ (b : BegunAppend). b.row) o
 
   pub row_below : (below : Below) → IsBelow looked_at key below → (answer : Option Row) → answer ≡ row_in below.first
-      → IfSome answer (λ row. IsFirstBelow (world_of kept) region colour key row)
+      → IfSome answer (λ row. IsFirstBelow (world_of code) region colour key row)
   row_below below b answer is = by_first below.first refl where
     by_first : (o : Option BegunAppend) → below.first ≡ o
-        → IfSome answer (λ row. IsFirstBelow (world_of kept) region colour key row)
+        → IfSome answer (λ row. IsFirstBelow (world_of code) region colour key row)
     by_first None e =
-        subst (λ (x : Option Row). IfSome x (λ row. IsFirstBelow (world_of kept) region colour key row))
+        subst (λ (x : Option Row). IfSome x (λ row. IsFirstBelow (world_of code) region colour key row))
         (sym (is ∙ ap row_in e)) tt
     by_first (Some begun) e =
-        subst (λ (x : Option Row). IfSome x (λ row. IsFirstBelow (world_of kept) region colour key row))
+        subst (λ (x : Option Row). IfSome x (λ row. IsFirstBelow (world_of code) region colour key row))
         (sym (is ∙ ap row_in e)) (first_below below begun b e)
 
   pub no_row_below : (below : Below) → IsBelow looked_at key below → (answer : Option Row) → answer ≡ row_in below.first
-      → answer ≡ None → open_below key ((world_of kept).histories region colour) ≡ []
+      → answer ≡ None → open_below key ((world_of code).histories region colour) ≡ []
   no_row_below below b answer is none = none_below below b (by_first below.first (sym is ∙ none)) where
     by_first : (o : Option BegunAppend) → row_in o ≡ None → o ≡ None
     by_first None e = refl

@@ -1,4 +1,4 @@
--- What is kept of the lines so far, which later lines read.
+-- What is known of the lines so far, which later lines read.
 use Rattle.std.specs.Prelude.{◌≤◌, ℕ, List, [], ◌∷◌, ◌++◌, length, Option, Some, None, if◌then◌else◌}
 use Rattle.std.specs.List.{filter_map}
 use Rattle.script_text.specs.declared.script.Command.{Command}

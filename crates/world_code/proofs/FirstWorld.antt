@@ -20,8 +20,8 @@ use Rattle.world_code.specs.Clients.{ClientView, fresh_client}
 use Rattle.world_code.specs.WorldView.{WorldView, no_column, fresh_columns, column_at, client_at, client_of, row_in}
 use Rattle.world_code.specs.WorldView.{world_of}
 use Rattle.world_code.specs.WorldView.{IsPlaced, AreRows, HasAppended, IsWhole}
-use Rattle.world_code.proofs.Appended.{none_carried}
-use Rattle.world_code.proofs.Worlds.{worlds}
+use Rattle.world_code.proofs.AppendedNodes.{none_carried}
+use Rattle.world_code.proofs.EqualWorlds.{worlds}
 
 pub get_replicate : {A : Type 0} (n i : ℕ) (x : A) → get_or (replicate n x) i x ≡ x
 get_replicate zero i x = refl

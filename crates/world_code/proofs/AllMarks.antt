@@ -24,7 +24,7 @@ use Rattle.world_code.specs.declared.completing.Taken.{Taken}
 use Rattle.world_code.specs.Completed.{done_count, AreTaken, IsMarkStep}
 use Rattle.world_code.proofs.Ranges.{range_with, range_without}
 use Rattle.world_code.proofs.Sets.{member_is}
-use Rattle.world_code.proofs.Taking.{taken_none, taken_more, taken_no_more, take-all}
+use Rattle.world_code.proofs.AllowedSteps.{taken_none, taken_more, taken_no_more, take-all}
 
 -- a step of the definition, and its reply, by the bit of its colour alone
 mark_step_same : (w : World) (by : ℕ) (row : Row) (f g : ℕ → Bool) (c : ℕ) → f c ≡ g c

@@ -11,7 +11,7 @@ use Rattle.column.specs.Columns as columns
 use Rattle.world_laws.specs.declared.steps.Step.TheVariants as steps
 use Rattle.world_laws.specs.Worlds.{may_raise, after_raise, is_column}
 use Rattle.world_code.specs.WorldView.{WorldView, column_at, world_of, IsWhole}
-use Rattle.world_code.proofs.Changing.{with_column, column_world, whole_column}
+use Rattle.world_code.proofs.ChangedParts.{with_column, column_world, whole_column}
 
 -- within a list it does not matter what stands outside
 pub default_free : {A : Type 0} (xs : List A) (i : ℕ) (d e : A) → i < length xs → get_or xs i d ≡ get_or xs i e
@@ -43,52 +43,52 @@ on_err (Ok x) P p = tt
 on_err (Err e) P p = p
 
 -- what a raise asks for
-pub record MayRaise (kept : WorldView) (region colour to : ℕ) : Type 0 where
-  pub in_regions : region < kept.shape.regions
-  pub in_colours : colour < kept.shape.colours
-  pub above : clock (column_at kept.columns region colour).journal < to
+pub record MayRaise (code : WorldView) (region colour to : ℕ) : Type 0 where
+  pub in_regions : region < code.shape.regions
+  pub in_colours : colour < code.shape.colours
+  pub above : clock (column_at code.columns region colour).journal < to
   pub within : to ≤ last_stamp
 
-pub may_raise_is : (kept : WorldView) (region colour to : ℕ) → may_raise (world_of kept) region colour to ≡ true
-    → MayRaise kept region colour to
-may_raise_is kept region colour to t =
-    let p = and_parts (is_column (world_of kept) region colour) _ t in
-    let q = and_parts (nat_lt region kept.shape.regions) _ p.0 in
-    let r = and_parts (nat_lt (clock (column_at kept.columns region colour).journal) to) _ p.1 in
+pub may_raise_is : (code : WorldView) (region colour to : ℕ) → may_raise (world_of code) region colour to ≡ true
+    → MayRaise code region colour to
+may_raise_is code region colour to t =
+    let p = and_parts (is_column (world_of code) region colour) _ t in
+    let q = and_parts (nat_lt region code.shape.regions) _ p.0 in
+    let r = and_parts (nat_lt (clock (column_at code.columns region colour).journal) to) _ p.1 in
     record {
-      in_regions = ltb-true region kept.shape.regions q.0;
-      in_colours = ltb-true colour kept.shape.colours q.1;
-      above = ltb-true (clock (column_at kept.columns region colour).journal) to r.0;
+      in_regions = ltb-true region code.shape.regions q.0;
+      in_colours = ltb-true colour code.shape.colours q.1;
+      above = ltb-true (clock (column_at code.columns region colour).journal) to r.0;
       within = leb-true to last_stamp r.1;
     }
 
-module _ (kept : WorldView) (w : IsWhole kept) (by region colour to : ℕ)
-    (may : may_raise (world_of kept) region colour to ≡ true) where
+module _ (code : WorldView) (w : IsWhole code) (by region colour to : ℕ)
+    (may : may_raise (world_of code) region colour to ≡ true) where
   abbrev old : ColumnState
-  old = column_at kept.columns region colour
+  old = column_at code.columns region colour
 
-  m : MayRaise kept region colour to
-  m = may_raise_is kept region colour to may
+  m : MayRaise code region colour to
+  m = may_raise_is code region colour to may
 
-  pub row_there : region < length kept.columns
-  row_there = let n = w.regions in let lt = (may_raise_is kept region colour to may).in_regions in omega (arith, n, lt)
+  pub row_there : region < length code.columns
+  row_there = let n = w.regions in let lt = (may_raise_is code region colour to may).in_regions in omega (arith, n, lt)
 
-  pub colour_there : colour < length (get_or kept.columns region [])
-  colour_there = let n = w.wide region [] row_there in let lt = (may_raise_is kept region colour to may).in_colours in
+  pub colour_there : colour < length (get_or code.columns region [])
+  colour_there = let n = w.wide region [] row_there in let lt = (may_raise_is code region colour to may).in_colours in
       omega (arith, n, lt)
 
   pub raised_world : world_of
-      (record kept { columns = with_column kept.columns region colour (columns.after_raise old by to) })
-      ≡ after_raise (world_of kept) by region colour to
-  raised_world = column_world kept region colour (columns.after_raise old by to)
+      (record code { columns = with_column code.columns region colour (columns.after_raise old by to) })
+      ≡ after_raise (world_of code) by region colour to
+  raised_world = column_world code region colour (columns.after_raise old by to)
       (record { by = by; event = events.Raise to; stamp = 0 }) row_there colour_there refl
 
   pub raised_whole : IsWhole
-      (record kept { columns = with_column kept.columns region colour (columns.after_raise old by to) })
+      (record code { columns = with_column code.columns region colour (columns.after_raise old by to) })
   raised_whole =
       let p = w.placed region colour m.in_regions m.in_colours in
-      whole_column kept region colour (columns.after_raise old by to) (steps.Raise by region colour to) w m.in_regions
+      whole_column code region colour (columns.after_raise old by to) (steps.Raise by region colour to) w m.in_regions
       m.in_colours
       (record { in_region = p.in_region; of_colour = p.of_colour; of_regions = p.of_regions })
       (record { stored = (w.appended region colour).stored; copies = (w.appended region colour).copies })
-      (raised_world ∙ sym (cond-true (may_raise (world_of kept) region colour to) _ _ may))
+      (raised_world ∙ sym (cond-true (may_raise (world_of code) region colour to) _ _ may))

@@ -22,8 +22,8 @@ use Rattle.world_laws.proofs.CallerLemmas.{at_updated, at_updated_at, not_place,
 use Rattle.world_code.specs.Clients.{ClientView, fresh_client}
 use Rattle.world_code.specs.WorldView.{WorldView, no_column, column_at, client_at, client_of, row_in, world_of, IsPlaced}
 use Rattle.world_code.specs.WorldView.{AreRows, IsRowNode, HasAppended, IsWhole}
-use Rattle.world_code.proofs.Worlds.{worlds}
-use Rattle.world_code.proofs.Appended.{still_appended, appended_longer}
+use Rattle.world_code.proofs.EqualWorlds.{worlds}
+use Rattle.world_code.proofs.AppendedNodes.{still_appended, appended_longer}
 
 -- the columns with another one at a place
 abbrev pub with_column : List (List ColumnState) → ℕ → ℕ → ColumnState → List (List ColumnState)
@@ -70,56 +70,56 @@ histories_changed columns region colour column lr lc h is =
     (column_elsewhere columns region colour column lr lc r c (not_place region colour r c other)))))
 
 -- one event more in a column is one in the world
-pub column_world : (kept : WorldView) (region colour : ℕ) (column : ColumnState) (e : Entry)
-    → region < length kept.columns
-    → colour < length (get_or kept.columns region []) → column.journal
-    ≡ (column_at kept.columns region colour).journal ++ e ∷ []
-    → world_of (record kept { columns = with_column kept.columns region colour column })
-    ≡ with_last (world_of kept) region colour e
-column_world kept region colour column e lr lc is =
+pub column_world : (code : WorldView) (region colour : ℕ) (column : ColumnState) (e : Entry)
+    → region < length code.columns
+    → colour < length (get_or code.columns region []) → column.journal
+    ≡ (column_at code.columns region colour).journal ++ e ∷ []
+    → world_of (record code { columns = with_column code.columns region colour column })
+    ≡ with_last (world_of code) region colour e
+column_world code region colour column e lr lc is =
     ap (λ (hs : ℕ → ℕ → List Entry). with_histories hs)
-    (histories_changed kept.columns region colour column lr lc _ is) where
+    (histories_changed code.columns region colour column lr lc _ is) where
       with_histories : (ℕ → ℕ → List Entry) → World
-      with_histories hs = record (world_of kept) { histories = hs }
+      with_histories hs = record (world_of code) { histories = hs }
 
 -- the places of columns stay
-module _ (kept : WorldView) (region colour : ℕ) (column : ColumnState) (w : IsWhole kept)
-    (lr : region < kept.shape.regions)
-    (lc : colour < kept.shape.colours) where
-  in_regions : region < length kept.columns
+module _ (code : WorldView) (region colour : ℕ) (column : ColumnState) (w : IsWhole code)
+    (lr : region < code.shape.regions)
+    (lc : colour < code.shape.colours) where
+  in_regions : region < length code.columns
   in_regions = let n = w.regions in omega (arith, n, lr)
 
-  row_wide : length (get_or kept.columns region []) ≡ kept.shape.colours
+  row_wide : length (get_or code.columns region []) ≡ code.shape.colours
   row_wide = w.wide region [] in_regions
 
-  in_colours : colour < length (get_or kept.columns region [])
+  in_colours : colour < length (get_or code.columns region [])
   in_colours = omega (arith, row_wide, lc)
 
-  pub regions_after : length (with_column kept.columns region colour column) ≡ kept.shape.regions
-  regions_after = length-set kept.columns region (set (get_or kept.columns region []) colour column) ∙ w.regions
+  pub regions_after : length (with_column code.columns region colour column) ≡ code.shape.regions
+  regions_after = length-set code.columns region (set (get_or code.columns region []) colour column) ∙ w.regions
 
-  pub wide_after : All (λ (columns : List ColumnState). length columns ≡ kept.shape.colours)
-      (with_column kept.columns region colour column)
-  wide_after = All-set (λ (columns : List ColumnState). length columns ≡ kept.shape.colours) kept.columns region _
-      (length-set (get_or kept.columns region []) colour column ∙ row_wide) w.wide
+  pub wide_after : All (λ (columns : List ColumnState). length columns ≡ code.shape.colours)
+      (with_column code.columns region colour column)
+  wide_after = All-set (λ (columns : List ColumnState). length columns ≡ code.shape.colours) code.columns region _
+      (length-set (get_or code.columns region []) colour column ∙ row_wide) w.wide
 
-  other : (r c : ℕ) → r < kept.shape.regions → c < kept.shape.colours → (r ≡ region → c ≡ colour → ⊥)
-      → IsPlaced (column_at (with_column kept.columns region colour column) r c) r c kept.shape.regions
+  other : (r c : ℕ) → r < code.shape.regions → c < code.shape.colours → (r ≡ region → c ≡ colour → ⊥)
+      → IsPlaced (column_at (with_column code.columns region colour column) r c) r c code.shape.regions
   other r c in_r in_c ne =
-      subst (λ (x : ColumnState). IsPlaced x r c kept.shape.regions)
-      (sym (column_elsewhere kept.columns region colour column in_regions in_colours r c ne)) (w.placed r c in_r in_c)
+      subst (λ (x : ColumnState). IsPlaced x r c code.shape.regions)
+      (sym (column_elsewhere code.columns region colour column in_regions in_colours r c ne)) (w.placed r c in_r in_c)
 
-  pub placed_after : IsPlaced column region colour kept.shape.regions → (r c : ℕ) → r < kept.shape.regions
-      → c < kept.shape.colours
-      → IsPlaced (column_at (with_column kept.columns region colour column) r c) r c kept.shape.regions
+  pub placed_after : IsPlaced column region colour code.shape.regions → (r c : ℕ) → r < code.shape.regions
+      → c < code.shape.colours
+      → IsPlaced (column_at (with_column code.columns region colour column) r c) r c code.shape.regions
   placed_after is_placed r c in_r in_c =
-      let changed = with_column kept.columns region colour column in
+      let changed = with_column code.columns region colour column in
       elim (cases_eq r region) [
         | inl e ↦ elim (cases_eq c colour) [
-          | inl f ↦ subst (λ (n : ℕ). IsPlaced (column_at changed n c) n c kept.shape.regions) (sym e)
-              (subst (λ (n : ℕ). IsPlaced (column_at changed region n) region n kept.shape.regions) (sym f)
-              (subst (λ (x : ColumnState). IsPlaced x region colour kept.shape.regions)
-              (sym (column_here kept.columns region colour column in_regions in_colours)) is_placed))
+          | inl f ↦ subst (λ (n : ℕ). IsPlaced (column_at changed n c) n c code.shape.regions) (sym e)
+              (subst (λ (n : ℕ). IsPlaced (column_at changed region n) region n code.shape.regions) (sym f)
+              (subst (λ (x : ColumnState). IsPlaced x region colour code.shape.regions)
+              (sym (column_here code.columns region colour column in_regions in_colours)) is_placed))
           | inr ne ↦ other r c in_r in_c (λ _ f. ne f)
         ]
         | inr ne ↦ other r c in_r in_c (λ e _. ne e)
@@ -132,56 +132,56 @@ pub record ArePlaced (shape : Shape) (columns : List (List ColumnState)) : Type 
   pub placed : (region colour : ℕ) → region < shape.regions → colour < shape.colours
       → IsPlaced (column_at columns region colour) region colour shape.regions
 
-pub placed_of : (kept : WorldView) → IsWhole kept → ArePlaced kept.shape kept.columns
-placed_of kept w = record { regions = w.regions; wide = w.wide; placed = w.placed }
+pub placed_of : (code : WorldView) → IsWhole code → ArePlaced code.shape code.columns
+placed_of code w = record { regions = w.regions; wide = w.wide; placed = w.placed }
 
-pub columns_placed : (kept : WorldView) (region colour : ℕ) (column : ColumnState) → IsWhole kept
-    → region < kept.shape.regions → colour < kept.shape.colours → IsPlaced column region colour kept.shape.regions
-    → ArePlaced kept.shape (with_column kept.columns region colour column)
-columns_placed kept region colour column w lr lc is_placed = record {
-  regions = regions_after kept region colour column w lr lc;
-  wide = wide_after kept region colour column w lr lc;
-  placed = placed_after kept region colour column w lr lc is_placed;
+pub columns_placed : (code : WorldView) (region colour : ℕ) (column : ColumnState) → IsWhole code
+    → region < code.shape.regions → colour < code.shape.colours → IsPlaced column region colour code.shape.regions
+    → ArePlaced code.shape (with_column code.columns region colour column)
+columns_placed code region colour column w lr lc is_placed = record {
+  regions = regions_after code region colour column w lr lc;
+  wide = wide_after code region colour column w lr lc;
+  placed = placed_after code region colour column w lr lc is_placed;
 }
 
 -- a client that has more nodes leaves what columns have
-pub clients_appended : (kept : WorldView) (client : ℕ) (c : ClientView) (more : List Node)
-    → client < length kept.clients
-    → c.nodes ≡ (client_at kept client).nodes ++ more
-    → ((r k : ℕ) → HasAppended kept.clients (column_at kept.columns r k)) → (r k : ℕ)
-    → HasAppended (set kept.clients client c) (column_at kept.columns r k)
-clients_appended kept client c more lt is before r k =
-    appended_longer kept.clients (set kept.clients client c) (column_at kept.columns r k)
-    (still_appended kept.clients client c more lt is) (before r k)
+pub clients_appended : (code : WorldView) (client : ℕ) (c : ClientView) (more : List Node)
+    → client < length code.clients
+    → c.nodes ≡ (client_at code client).nodes ++ more
+    → ((r k : ℕ) → HasAppended code.clients (column_at code.columns r k)) → (r k : ℕ)
+    → HasAppended (set code.clients client c) (column_at code.columns r k)
+clients_appended code client c more lt is before r k =
+    appended_longer code.clients (set code.clients client c) (column_at code.columns r k)
+    (still_appended code.clients client c more lt is) (before r k)
 
 -- and so does a column whose nodes are appended
-pub columns_appended : (kept : WorldView) (clients : List ClientView) (region colour : ℕ) (column : ColumnState)
-    → IsWhole kept → region < kept.shape.regions → colour < kept.shape.colours
-    → ((r k : ℕ) → HasAppended clients (column_at kept.columns r k)) → HasAppended clients column → (r k : ℕ)
-    → HasAppended clients (column_at (with_column kept.columns region colour column) r k)
-columns_appended kept clients region colour column w lr lc before new r k =
+pub columns_appended : (code : WorldView) (clients : List ClientView) (region colour : ℕ) (column : ColumnState)
+    → IsWhole code → region < code.shape.regions → colour < code.shape.colours
+    → ((r k : ℕ) → HasAppended clients (column_at code.columns r k)) → HasAppended clients column → (r k : ℕ)
+    → HasAppended clients (column_at (with_column code.columns region colour column) r k)
+columns_appended code clients region colour column w lr lc before new r k =
     elim (cases_eq r region) [
       | inl e ↦ elim (cases_eq k colour) [
         | inl f ↦ subst (λ (n : ℕ). HasAppended clients (column_at changed n k)) (sym e)
             (subst (λ (n : ℕ). HasAppended clients (column_at changed region n)) (sym f)
             (subst (HasAppended clients)
-            (sym (column_here kept.columns region colour column there wide)) new))
+            (sym (column_here code.columns region colour column there wide)) new))
         | inr ne ↦ elsewhere (λ _ f. ne f)
       ]
       | inr ne ↦ elsewhere (λ e _. ne e)
     ] where
       changed : List (List ColumnState)
-      changed = with_column kept.columns region colour column
+      changed = with_column code.columns region colour column
 
-      there : region < length kept.columns
-      there = in_regions kept region colour column w lr lc
+      there : region < length code.columns
+      there = in_regions code region colour column w lr lc
 
-      wide : colour < length (get_or kept.columns region [])
-      wide = in_colours kept region colour column w lr lc
+      wide : colour < length (get_or code.columns region [])
+      wide = in_colours code region colour column w lr lc
 
       elsewhere : (r ≡ region → k ≡ colour → ⊥) → HasAppended clients (column_at changed r k)
       elsewhere ne = subst (HasAppended clients)
-          (sym (column_elsewhere kept.columns region colour column there wide r k ne)) (before r k)
+          (sym (column_elsewhere code.columns region colour column there wide r k ne)) (before r k)
 
 -- all clients and their rows are there
 pub record AreClients (shape : Shape) (clients : List ClientView) (board : Board) : Type 0 where
@@ -195,8 +195,8 @@ pub record AreClients (shape : Shape) (clients : List ClientView) (board : Board
       → slice_get (get_or clients client fresh_client).begun number ≡ Some node
       → IsRowNode (slice_index shape.homes client) client number shape.colours node
 
-pub clients_of : (kept : WorldView) → IsWhole kept → AreClients kept.shape kept.clients kept.board
-clients_of kept w = record {
+pub clients_of : (code : WorldView) → IsWhole code → AreClients code.shape code.clients code.board
+clients_of code w = record {
   all = w.clients;
   colours = w.colours;
   board_colours = w.board_colours;
@@ -206,13 +206,13 @@ clients_of kept w = record {
   begun = w.begun;
 }
 
--- the code keeps the world after a step
-pub whole_after : (kept : WorldView) (clients : List ClientView) (board : Board) (columns : List (List ColumnState))
-    → IsWhole kept → AreClients kept.shape clients board → ArePlaced kept.shape columns
+-- the code means the world after a step
+pub whole_after : (code : WorldView) (clients : List ClientView) (board : Board) (columns : List (List ColumnState))
+    → IsWhole code → AreClients code.shape clients board → ArePlaced code.shape columns
     → ((r c : ℕ) → HasAppended clients (column_at columns r c))
-    → IsReached (world_of (record { shape = kept.shape; clients = clients; board = board; columns = columns }))
-    → IsWhole (record { shape = kept.shape; clients = clients; board = board; columns = columns })
-whole_after kept clients board columns w cs ps appended reached = record {
+    → IsReached (world_of (record { shape = code.shape; clients = clients; board = board; columns = columns }))
+    → IsWhole (record { shape = code.shape; clients = clients; board = board; columns = columns })
+whole_after code clients board columns w cs ps appended reached = record {
   few_regions = w.few_regions;
   few_colours = w.few_colours;
   homes = w.homes;
@@ -230,21 +230,21 @@ whole_after kept clients board columns w cs ps appended reached = record {
   reached = reached;
 }
 
-pub reached_step : (kept : WorldView) (new : World) (step : Step) → IsWhole kept → new ≡ after (world_of kept) step
+pub reached_step : (code : WorldView) (new : World) (step : Step) → IsWhole code → new ≡ after (world_of code) step
     → IsReached new
-reached_step kept new step w is = subst IsReached (sym is) (after_reached (world_of kept) step w.reached)
+reached_step code new step w is = subst IsReached (sym is) (after_reached (world_of code) step w.reached)
 
--- the code keeps the world after a step that changed one column
-pub whole_column : (kept : WorldView) (region colour : ℕ) (column : ColumnState) (step : Step) → IsWhole kept
-    → region < kept.shape.regions → colour < kept.shape.colours → IsPlaced column region colour kept.shape.regions
-    → HasAppended kept.clients column
-    → world_of (record kept { columns = with_column kept.columns region colour column }) ≡ after (world_of kept) step
-    → IsWhole (record kept { columns = with_column kept.columns region colour column })
-whole_column kept region colour column step w lr lc is_placed new step_is =
-    whole_after kept kept.clients kept.board (with_column kept.columns region colour column) w (clients_of kept w)
-    (columns_placed kept region colour column w lr lc is_placed)
-    (columns_appended kept kept.clients region colour column w lr lc w.appended new)
-    (reached_step kept (world_of (record kept { columns = with_column kept.columns region colour column })) step w
+-- the code means the world after a step that changed one column
+pub whole_column : (code : WorldView) (region colour : ℕ) (column : ColumnState) (step : Step) → IsWhole code
+    → region < code.shape.regions → colour < code.shape.colours → IsPlaced column region colour code.shape.regions
+    → HasAppended code.clients column
+    → world_of (record code { columns = with_column code.columns region colour column }) ≡ after (world_of code) step
+    → IsWhole (record code { columns = with_column code.columns region colour column })
+whole_column code region colour column step w lr lc is_placed new step_is =
+    whole_after code code.clients code.board (with_column code.columns region colour column) w (clients_of code w)
+    (columns_placed code region colour column w lr lc is_placed)
+    (columns_appended code code.clients region colour column w lr lc w.appended new)
+    (reached_step code (world_of (record code { columns = with_column code.columns region colour column })) step w
     step_is)
 
 pub differs : (n m : ℕ) → (n == m) ≡ false → n ≢ m
@@ -302,60 +302,60 @@ rows_same cs board client c lt same =
     (field_same (λ (x : ClientView). x.begun) cs client c lt same a)))
 
 -- one client's change is one in the world
-pub client_world : (kept : WorldView) (client : ℕ) (c : ClientView) → client < length kept.clients
-    → c.nodes ≡ (client_at kept client).nodes → c.begun ≡ (client_at kept client).begun
-    → world_of (record kept { clients = set kept.clients client c }) ≡ with_client (world_of kept) client (client_of c)
-client_world kept client c lt same begun =
-    worlds kept.shape (world_of kept).histories (world_of kept).histories
-    (clients_changed kept.clients client c lt) (rows_same kept.clients kept.board client c lt begun) refl
-    (nodes_same kept.clients client c lt same)
+pub client_world : (code : WorldView) (client : ℕ) (c : ClientView) → client < length code.clients
+    → c.nodes ≡ (client_at code client).nodes → c.begun ≡ (client_at code client).begun
+    → world_of (record code { clients = set code.clients client c }) ≡ with_client (world_of code) client (client_of c)
+client_world code client c lt same begun =
+    worlds code.shape (world_of code).histories (world_of code).histories
+    (clients_changed code.clients client c lt) (rows_same code.clients code.board client c lt begun) refl
+    (nodes_same code.clients client c lt same)
 
 -- one that the world does not show changes nothing there
-pub client_shown : (kept : WorldView) (client : ℕ) (c : ClientView) → client < length kept.clients
-    → c.nodes ≡ (client_at kept client).nodes → c.begun ≡ (client_at kept client).begun
-    → client_of c ≡ client_of (client_at kept client)
-    → world_of (record kept { clients = set kept.clients client c }) ≡ world_of kept
-client_shown kept client c lt same begun shown =
-    worlds kept.shape (world_of kept).histories (world_of kept).histories
-    (fun_ext (field_same client_of kept.clients client c lt shown))
-    (rows_same kept.clients kept.board client c lt begun) refl
-    (nodes_same kept.clients client c lt same)
+pub client_shown : (code : WorldView) (client : ℕ) (c : ClientView) → client < length code.clients
+    → c.nodes ≡ (client_at code client).nodes → c.begun ≡ (client_at code client).begun
+    → client_of c ≡ client_of (client_at code client)
+    → world_of (record code { clients = set code.clients client c }) ≡ world_of code
+client_shown code client c lt same begun shown =
+    worlds code.shape (world_of code).histories (world_of code).histories
+    (fun_ext (field_same client_of code.clients client c lt shown))
+    (rows_same code.clients code.board client c lt begun) refl
+    (nodes_same code.clients client c lt same)
 
 -- all clients are there, with one that has begun as many rows
-pub clients_set : (kept : WorldView) (client : ℕ) (c : ClientView) → IsWhole kept → client < length kept.clients
-    → length c.played ≡ 16 → c.begun ≡ (client_at kept client).begun
-    → AreClients kept.shape (set kept.clients client c) kept.board
-clients_set kept client c w lt all_colours begun = record {
-  all = length-set kept.clients client c ∙ w.clients;
-  colours = All-set (λ (x : ClientView). length x.played ≡ 16) kept.clients client c all_colours w.colours;
+pub clients_set : (code : WorldView) (client : ℕ) (c : ClientView) → IsWhole code → client < length code.clients
+    → length c.played ≡ 16 → c.begun ≡ (client_at code client).begun
+    → AreClients code.shape (set code.clients client c) code.board
+clients_set code client c w lt all_colours begun = record {
+  all = length-set code.clients client c ∙ w.clients;
+  colours = All-set (λ (x : ClientView). length x.played ≡ 16) code.clients client c all_colours w.colours;
   board_colours = w.board_colours;
   board_rows = w.board_rows;
   board_clients = w.board_clients;
-  rows = λ a. subst (λ (b : List Node). AreRows b (rows_of kept.board a))
-      (sym (field_same (λ (x : ClientView). x.begun) kept.clients client c lt begun a)) (w.rows a);
+  rows = λ a. subst (λ (b : List Node). AreRows b (rows_of code.board a))
+      (sym (field_same (λ (x : ClientView). x.begun) code.clients client c lt begun a)) (w.rows a);
   begun = λ a n node e. w.begun a n node
       (ap (λ (b : List Node). slice_get b n)
-      (sym (field_same (λ (x : ClientView). x.begun) kept.clients client c lt begun a)) ∙ e);
+      (sym (field_same (λ (x : ClientView). x.begun) code.clients client c lt begun a)) ∙ e);
 }
 
--- the code keeps the world after a step that changed one client
-pub whole_client : (kept : WorldView) (client : ℕ) (c : ClientView) (step : Step) → IsWhole kept
-    → client < length kept.clients → length c.played ≡ 16 → c.begun ≡ (client_at kept client).begun
-    → c.nodes ≡ (client_at kept client).nodes
-    → world_of (record kept { clients = set kept.clients client c }) ≡ after (world_of kept) step
-    → IsWhole (record kept { clients = set kept.clients client c })
-whole_client kept client c step w lt all_colours begun nodes step_is =
-    whole_after kept (set kept.clients client c) kept.board kept.columns w
-    (clients_set kept client c w lt all_colours begun) (placed_of kept w)
-    (clients_appended kept client c [] lt (nodes ∙ sym (append-nil (client_at kept client).nodes)) w.appended)
-    (reached_step kept (world_of (record kept { clients = set kept.clients client c })) step w step_is)
+-- the code means the world after a step that changed one client
+pub whole_client : (code : WorldView) (client : ℕ) (c : ClientView) (step : Step) → IsWhole code
+    → client < length code.clients → length c.played ≡ 16 → c.begun ≡ (client_at code client).begun
+    → c.nodes ≡ (client_at code client).nodes
+    → world_of (record code { clients = set code.clients client c }) ≡ after (world_of code) step
+    → IsWhole (record code { clients = set code.clients client c })
+whole_client code client c step w lt all_colours begun nodes step_is =
+    whole_after code (set code.clients client c) code.board code.columns w
+    (clients_set code client c w lt all_colours begun) (placed_of code w)
+    (clients_appended code client c [] lt (nodes ∙ sym (append-nil (client_at code client).nodes)) w.appended)
+    (reached_step code (world_of (record code { clients = set code.clients client c })) step w step_is)
 
-pub whole_same : (kept : WorldView) (client : ℕ) (c : ClientView) → IsWhole kept → client < length kept.clients
-    → length c.played ≡ 16 → c.begun ≡ (client_at kept client).begun → c.nodes ≡ (client_at kept client).nodes
-    → world_of (record kept { clients = set kept.clients client c }) ≡ world_of kept
-    → IsWhole (record kept { clients = set kept.clients client c })
-whole_same kept client c w lt all_colours begun nodes same =
-    whole_after kept (set kept.clients client c) kept.board kept.columns w
-    (clients_set kept client c w lt all_colours begun) (placed_of kept w)
-    (clients_appended kept client c [] lt (nodes ∙ sym (append-nil (client_at kept client).nodes)) w.appended)
+pub whole_same : (code : WorldView) (client : ℕ) (c : ClientView) → IsWhole code → client < length code.clients
+    → length c.played ≡ 16 → c.begun ≡ (client_at code client).begun → c.nodes ≡ (client_at code client).nodes
+    → world_of (record code { clients = set code.clients client c }) ≡ world_of code
+    → IsWhole (record code { clients = set code.clients client c })
+whole_same code client c w lt all_colours begun nodes same =
+    whole_after code (set code.clients client c) code.board code.columns w
+    (clients_set code client c w lt all_colours begun) (placed_of code w)
+    (clients_appended code client c [] lt (nodes ∙ sym (append-nil (client_at code client).nodes)) w.appended)
     (subst IsReached (sym same) w.reached)

@@ -24,12 +24,12 @@ use Rattle.world_laws.proofs.CallerLemmas.{at_updated_at, not_place, slice_last}
 use Rattle.col_core.specs.Keeping.{updated, updated_at}
 use Rattle.world_code.specs.Clients.{ClientView, fresh_client, with_next_row, next_begun}
 use Rattle.world_code.specs.WorldView.{WorldView, client_at, client_of, row_in, world_of, AreRows, IsRowNode, IsWhole}
-use Rattle.world_code.proofs.Worlds.{worlds}
-use Rattle.world_code.proofs.Opening.{get_replicate}
-use Rattle.world_code.proofs.Changing.{clients_appended}
-use Rattle.world_code.proofs.Changing.{clients_changed, nodes_changed, rows_by, AreClients, placed_of, whole_after}
-use Rattle.world_code.proofs.Changing.{reached_step}
-use Rattle.world_code.proofs.Placing.{default_free}
+use Rattle.world_code.proofs.EqualWorlds.{worlds}
+use Rattle.world_code.proofs.FirstWorld.{get_replicate}
+use Rattle.world_code.proofs.ChangedParts.{clients_appended}
+use Rattle.world_code.proofs.ChangedParts.{clients_changed, nodes_changed, rows_by, AreClients, placed_of, whole_after}
+use Rattle.world_code.proofs.ChangedParts.{reached_step}
+use Rattle.world_code.proofs.RaiseSteps.{default_free}
 use Rattle.world_code.proofs.Sets.{all_pass}
 
 -- A list with one more item: what stands at its end, and elsewhere
@@ -99,34 +99,34 @@ row_elsewhere begun rows node row n same ne =
     (slice_other rows row n (λ e. ne (e ∙ same)))
 
 -- what a row asks for
-pub record MayBegin (kept : WorldView) (client : ℕ) (colours : Colours) : Type 0 where
-  pub is_client : client < length kept.shape.homes
-  pub has_row : length (client_at kept client).begun < kept.shape.rows
-  pub all : list_all (is_column (world_of kept) (home_of (world_of kept) client)) (members colours) ≡ true
+pub record MayBegin (code : WorldView) (client : ℕ) (colours : Colours) : Type 0 where
+  pub is_client : client < length code.shape.homes
+  pub has_row : length (client_at code client).begun < code.shape.rows
+  pub all : list_all (is_column (world_of code) (home_of (world_of code) client)) (members colours) ≡ true
 
-pub may_begin_is : (kept : WorldView) (client : ℕ) (colours : Colours) → may_begin (world_of kept) client colours ≡ true
-    → MayBegin kept client colours
-may_begin_is kept client colours t =
-    let w = world_of kept in
+pub may_begin_is : (code : WorldView) (client : ℕ) (colours : Colours) → may_begin (world_of code) client colours ≡ true
+    → MayBegin code client colours
+may_begin_is code client colours t =
+    let w = world_of code in
     let p = and_parts (is_client w client) _ t in
-    let q = and_parts (nat_lt (length (client_at kept client).begun) kept.shape.rows) _ p.1 in
+    let q = and_parts (nat_lt (length (client_at code client).begun) code.shape.rows) _ p.1 in
     let r = and_parts (nat_lt 1 (length (members colours))) _ q.1 in
     record {
-      is_client = ltb-true client (length kept.shape.homes) p.0;
-      has_row = ltb-true (length (client_at kept client).begun) kept.shape.rows q.0;
+      is_client = ltb-true client (length code.shape.homes) p.0;
+      has_row = ltb-true (length (client_at code client).begun) code.shape.rows q.0;
       all = r.1;
     }
 
-module _ (kept : WorldView) (w : IsWhole kept) (client : ℕ) (colours : Colours) (text : List ℕ)
-    (may : MayBegin kept client colours) where
+module _ (code : WorldView) (w : IsWhole code) (client : ℕ) (colours : Colours) (text : List ℕ)
+    (may : MayBegin code client colours) where
   abbrev home : ℕ
-  home = home_of (world_of kept) client
+  home = home_of (world_of code) client
 
   abbrev old : ClientView
-  old = client_at kept client
+  old = client_at code client
 
   abbrev rows : List BoardRow
-  rows = rows_of kept.board client
+  rows = rows_of code.board client
 
   abbrev pub its_node : Node
   its_node = next_begun old client home colours text
@@ -135,59 +135,59 @@ module _ (kept : WorldView) (w : IsWhole kept) (client : ℕ) (colours : Colours
   new_client = with_next_row old its_node
 
   abbrev new_board : Board
-  new_board = with_begun kept.board client (fresh_row_of its_node)
+  new_board = with_begun code.board client (fresh_row_of its_node)
 
-  abbrev pub new_kept : WorldView
-  new_kept = record kept { clients = set kept.clients client new_client; board = new_board }
+  abbrev pub new_code : WorldView
+  new_code = record code { clients = set code.clients client new_client; board = new_board }
 
-  pub in_clients : client < length kept.clients
+  pub in_clients : client < length code.clients
   in_clients = let n = w.clients in let lt = may.is_client in omega (arith, n, lt)
 
-  pub in_board : client < length kept.board.begun
+  pub in_board : client < length code.board.begun
   in_board = let n = w.board_clients in let lt = may.is_client in omega (arith, n, lt)
 
   rows_used : length rows ≡ length old.begun
   rows_used = (w.rows client).used
 
-  begun_is : (get_or (set kept.clients client new_client) client fresh_client).begun ≡ old.begun ++ its_node ∷ []
-  begun_is = ap (λ (c : ClientView). c.begun) (get_or-set_same kept.clients client new_client fresh_client in_clients)
+  begun_is : (get_or (set code.clients client new_client) client fresh_client).begun ≡ old.begun ++ its_node ∷ []
+  begun_is = ap (λ (c : ClientView). c.begun) (get_or-set_same code.clients client new_client fresh_client in_clients)
 
   rows_are : rows_of new_board client ≡ rows ++ fresh_row_of its_node ∷ []
-  rows_are = get_or-set_same kept.board.begun client (rows ++ fresh_row_of its_node ∷ []) [] in_board
+  rows_are = get_or-set_same code.board.begun client (rows ++ fresh_row_of its_node ∷ []) [] in_board
 
   begun_other : (a : ℕ) → a ≢ client
-      → (get_or (set kept.clients client new_client) a fresh_client).begun ≡ (client_at kept a).begun
+      → (get_or (set code.clients client new_client) a fresh_client).begun ≡ (client_at code a).begun
   begun_other a ne =
-      ap (λ (c : ClientView). c.begun) (get_or-set_other kept.clients client a new_client fresh_client ne)
+      ap (λ (c : ClientView). c.begun) (get_or-set_other code.clients client a new_client fresh_client ne)
 
-  rows_other : (a : ℕ) → a ≢ client → rows_of new_board a ≡ rows_of kept.board a
-  rows_other a ne = get_or-set_other kept.board.begun client a (rows ++ fresh_row_of its_node ∷ []) [] ne
+  rows_other : (a : ℕ) → a ≢ client → rows_of new_board a ≡ rows_of code.board a
+  rows_other a ne = get_or-set_other code.board.begun client a (rows ++ fresh_row_of its_node ∷ []) [] ne
 
-  begun_rows : ◌≡◌ {A = ℕ → ℕ → RowState} (rows_by (set kept.clients client new_client) new_board)
-      (updated_at (rows_by kept.clients kept.board) client (length old.begun) (new_row its_node))
+  begun_rows : ◌≡◌ {A = ℕ → ℕ → RowState} (rows_by (set code.clients client new_client) new_board)
+      (updated_at (rows_by code.clients code.board) client (length old.begun) (new_row its_node))
   begun_rows =
       fun_ext (λ a. fun_ext (λ n.
-      at_updated_at (λ (v : RowState). rows_by (set kept.clients client new_client) new_board a n ≡ v)
-      (rows_by kept.clients kept.board) client (length old.begun) (new_row its_node) a n
+      at_updated_at (λ (v : RowState). rows_by (set code.clients client new_client) new_board a n ≡ v)
+      (rows_by code.clients code.board) client (length old.begun) (new_row its_node) a n
       (λ ea en.
-      ap (λ (k : ℕ). rows_by (set kept.clients client new_client) new_board k n) ea
-      ∙ (ap (λ (k : ℕ). rows_by (set kept.clients client new_client) new_board client k) en
+      ap (λ (k : ℕ). rows_by (set code.clients client new_client) new_board k n) ea
+      ∙ (ap (λ (k : ℕ). rows_by (set code.clients client new_client) new_board client k) en
       ∙ (ap (λ (b : List Node). row_in b (rows_of new_board client) (length old.begun)) begun_is
       ∙ (ap (λ (rs : List BoardRow). row_in (old.begun ++ its_node ∷ []) rs (length old.begun)) rows_are
       ∙ row_here old.begun rows its_node rows_used))))
       (λ other. elsewhere a n (not_place client (length old.begun) a n other)))) where
         elsewhere : (a n : ℕ) → (a ≡ client → n ≡ length old.begun → ⊥)
-            → rows_by (set kept.clients client new_client) new_board a n ≡ rows_by kept.clients kept.board a n
+            → rows_by (set code.clients client new_client) new_board a n ≡ rows_by code.clients code.board a n
         elsewhere a n ne = elim (cases_eq a client) [
           | inl e ↦
-              ap (λ (k : ℕ). rows_by (set kept.clients client new_client) new_board k n) e
+              ap (λ (k : ℕ). rows_by (set code.clients client new_client) new_board k n) e
               ∙ (ap (λ (b : List Node). row_in b (rows_of new_board client) n) begun_is
               ∙ (ap (λ (rs : List BoardRow). row_in (old.begun ++ its_node ∷ []) rs n) rows_are
               ∙ (row_elsewhere old.begun rows its_node (fresh_row_of its_node) n rows_used (ne e)
-              ∙ ap (λ (k : ℕ). rows_by kept.clients kept.board k n) (sym e))))
+              ∙ ap (λ (k : ℕ). rows_by code.clients code.board k n) (sym e))))
           | inr f ↦
               ap (λ (b : List Node). row_in b (rows_of new_board a) n) (begun_other a f)
-              ∙ ap (λ (rs : List BoardRow). row_in (client_at kept a).begun rs n) (rows_other a f)
+              ∙ ap (λ (rs : List BoardRow). row_in (client_at code a).begun rs n) (rows_other a f)
         ]
 
   client_is : client_of new_client
@@ -196,12 +196,12 @@ module _ (kept : WorldView) (w : IsWhole kept) (client : ℕ) (colours : Colours
       (let n = length-append old.begun (its_node ∷ []) in
       let e : length (old.begun ++ its_node ∷ []) ≡ length old.begun + 1 = omega (arith, n) in e)
 
-  pub begin_world : world_of new_kept ≡ after_begin (world_of kept) client colours text
+  pub begin_world : world_of new_code ≡ after_begin (world_of code) client colours text
   begin_world =
-      worlds kept.shape (world_of kept).histories (world_of kept).histories
-      (clients_changed kept.clients client new_client in_clients
-      ∙ ap (λ (s : ClientState). updated (world_of kept).clients client s) client_is)
-      begun_rows refl (nodes_changed kept.clients client new_client in_clients)
+      worlds code.shape (world_of code).histories (world_of code).histories
+      (clients_changed code.clients client new_client in_clients
+      ∙ ap (λ (s : ClientState). updated (world_of code).clients client s) client_is)
+      begun_rows refl (nodes_changed code.clients client new_client in_clients)
 
   -- the rows are those of the nodes
   own_rows : AreRows (old.begun ++ its_node ∷ []) (rows ++ fresh_row_of its_node ∷ [])
@@ -233,71 +233,71 @@ module _ (kept : WorldView) (w : IsWhole kept) (client : ℕ) (colours : Colours
     marks_are n r (inr e) = ap (λ (x : BoardRow). length x.marks) (sym e.1)
 
   own_node : (n : ℕ) (node : Node) → slice_get (old.begun ++ its_node ∷ []) n ≡ Some node
-      → IsRowNode home client n kept.shape.colours node
+      → IsRowNode home client n code.shape.colours node
   own_node n node e = turn (pushed old.begun its_node n node e) where
-    within : (colour : ℕ) → is_member colours colour ≡ true → colour < kept.shape.colours
+    within : (colour : ℕ) → is_member colours colour ≡ true → colour < code.shape.colours
     within colour m =
-        let p = all_pass (is_column (world_of kept) home) (members colours) colour may.all m in
-        ltb-true colour kept.shape.colours (and_parts (nat_lt home kept.shape.regions) _ p).1
+        let p = all_pass (is_column (world_of code) home) (members colours) colour may.all m in
+        ltb-true colour code.shape.colours (and_parts (nat_lt home code.shape.regions) _ p).1
 
     turn : (slice_get old.begun n ≡ Some node) ⊎ ((n ≡ length old.begun) × (its_node ≡ node))
-        → IsRowNode home client n kept.shape.colours node
+        → IsRowNode home client n code.shape.colours node
     turn (inl f) = w.begun client n node f
     turn (inr f) =
-        subst (λ (x : Node). IsRowNode home client n kept.shape.colours x) f.1
-        (subst (λ (k : ℕ). IsRowNode home client k kept.shape.colours its_node) (sym f.0)
+        subst (λ (x : Node). IsRowNode home client n code.shape.colours x) f.1
+        (subst (λ (k : ℕ). IsRowNode home client k code.shape.colours its_node) (sym f.0)
         (record { in_region = refl; row = refl; within = within }))
 
-  begin_clients : AreClients kept.shape (set kept.clients client new_client) new_board
+  begin_clients : AreClients code.shape (set code.clients client new_client) new_board
   begin_clients = record {
-    all = length-set kept.clients client new_client ∙ w.clients;
-    colours = All-set (λ (x : ClientView). length x.played ≡ 16) kept.clients client new_client
+    all = length-set code.clients client new_client ∙ w.clients;
+    colours = All-set (λ (x : ClientView). length x.played ≡ 16) code.clients client new_client
         (w.colours client fresh_client in_clients) w.colours;
     board_colours = w.board_colours;
     board_rows = w.board_rows;
-    board_clients = length-set kept.board.begun client (rows ++ fresh_row_of its_node ∷ []) ∙ w.board_clients;
+    board_clients = length-set code.board.begun client (rows ++ fresh_row_of its_node ∷ []) ∙ w.board_clients;
     rows = λ a. elim (cases_eq a client) [
-      | inl e ↦ subst (λ (k : ℕ). AreRows (get_or (set kept.clients client new_client) k fresh_client).begun
+      | inl e ↦ subst (λ (k : ℕ). AreRows (get_or (set code.clients client new_client) k fresh_client).begun
           (rows_of new_board k)) (sym e)
           (subst (λ (b : List Node). AreRows b (rows_of new_board client)) (sym begun_is)
           (subst (λ (rs : List BoardRow). AreRows (old.begun ++ its_node ∷ []) rs) (sym rows_are) own_rows))
       | inr f ↦ subst (λ (b : List Node). AreRows b (rows_of new_board a)) (sym (begun_other a f))
-          (subst (λ (rs : List BoardRow). AreRows (client_at kept a).begun rs) (sym (rows_other a f)) (w.rows a))
+          (subst (λ (rs : List BoardRow). AreRows (client_at code a).begun rs) (sym (rows_other a f)) (w.rows a))
     ];
     begun = λ a n node e. elim (cases_eq a client) [
-      | inl f ↦ subst (λ (k : ℕ). IsRowNode (slice_index kept.shape.homes k) k n kept.shape.colours node) (sym f)
+      | inl f ↦ subst (λ (k : ℕ). IsRowNode (slice_index code.shape.homes k) k n code.shape.colours node) (sym f)
           (own_node n node
           (ap (λ (b : List Node). slice_get b n) (sym begun_is)
-          ∙ (ap (λ (k : ℕ). slice_get (get_or (set kept.clients client new_client) k fresh_client).begun n) (sym f)
+          ∙ (ap (λ (k : ℕ). slice_get (get_or (set code.clients client new_client) k fresh_client).begun n) (sym f)
           ∙ e)))
       | inr f ↦ w.begun a n node (ap (λ (b : List Node). slice_get b n) (sym (begun_other a f)) ∙ e)
     ];
   }
 
-  pub begin_whole : may_begin (world_of kept) client colours ≡ true → IsWhole new_kept
+  pub begin_whole : may_begin (world_of code) client colours ≡ true → IsWhole new_code
   begin_whole t =
-      whole_after kept (set kept.clients client new_client) new_board kept.columns w begin_clients (placed_of kept w)
-      (clients_appended kept client new_client (its_node ∷ []) in_clients refl w.appended)
-      (reached_step kept (world_of new_kept) (steps.Begin client colours text) w
-      (begin_world ∙ sym (cond-true (may_begin (world_of kept) client colours) _ _ t)))
+      whole_after code (set code.clients client new_client) new_board code.columns w begin_clients (placed_of code w)
+      (clients_appended code client new_client (its_node ∷ []) in_clients refl w.appended)
+      (reached_step code (world_of new_code) (steps.Begin client colours text) w
+      (begin_world ∙ sym (cond-true (may_begin (world_of code) client colours) _ _ t)))
 
   -- as the code changes the clients and the board
-  pub begin_list : (before after : ClientView) (board : Board) (node : Node) → before ≡ get_or kept.clients client
+  pub begin_list : (before after : ClientView) (board : Board) (node : Node) → before ≡ get_or code.clients client
       before
-      → after ≡ with_next_row before node → board ≡ with_begun kept.board client (fresh_row_of node) → node ≡ its_node
-      → ◌≡◌ {A = WorldView} (record kept { clients = set kept.clients client after; board = board }) new_kept
+      → after ≡ with_next_row before node → board ≡ with_begun code.board client (fresh_row_of node) → node ≡ its_node
+      → ◌≡◌ {A = WorldView} (record code { clients = set code.clients client after; board = board }) new_code
   begin_list before after board node before_is after_is board_is node_is =
       ap (λ (x : ClientView). let k : WorldView =
-      record kept { clients = set kept.clients client x; board = board } in k)
+      record code { clients = set code.clients client x; board = board } in k)
       (after_is
       ∙ (ap (λ (x : ClientView). with_next_row x node)
-      (before_is ∙ default_free kept.clients client before fresh_client in_clients)
+      (before_is ∙ default_free code.clients client before fresh_client in_clients)
       ∙ ap (λ (x : Node). with_next_row old x) node_is))
-      ∙ ap (λ (b : Board). let k : WorldView = record kept {
-        clients = set kept.clients client new_client;
+      ∙ ap (λ (b : Board). let k : WorldView = record code {
+        clients = set code.clients client new_client;
         board = b;
       } in k)
-      (board_is ∙ ap (λ (x : Node). with_begun kept.board client (fresh_row_of x)) node_is)
+      (board_is ∙ ap (λ (x : Node). with_begun code.board client (fresh_row_of x)) node_is)
 
 -- The guard, test by test
 
@@ -311,49 +311,49 @@ lead a b t = rw t refl
 stop : (a b : Bool) → a ≡ false → false ≡ (a && b)
 stop a b f = rw f refl
 
-module _ (kept : WorldView) (w : IsWhole kept) (client : ℕ) (colours : Colours) where
+module _ (code : WorldView) (w : IsWhole code) (client : ℕ) (colours : Colours) where
   abbrev used_rows : Bool
-  used_rows = nat_lt (length (client_at kept client).begun) kept.shape.rows
+  used_rows = nat_lt (length (client_at code client).begun) code.shape.rows
 
   abbrev all_colours : Bool
-  all_colours = list_all (is_column (world_of kept) (home_of (world_of kept) client)) (members colours)
+  all_colours = list_all (is_column (world_of code) (home_of (world_of code) client)) (members colours)
 
-  pub no_client : length kept.shape.homes ≤ client → false ≡ may_begin (world_of kept) client colours
-  no_client le = stop (is_client (world_of kept) client) _ (lt_false client (length kept.shape.homes) le)
+  pub no_client : length code.shape.homes ≤ client → false ≡ may_begin (world_of code) client colours
+  no_client le = stop (is_client (world_of code) client) _ (lt_false client (length code.shape.homes) le)
 
-  is_one : client < length kept.shape.homes → is_client (world_of kept) client ≡ true
-  is_one lt = lt-ltb client (length kept.shape.homes) lt
+  is_one : client < length code.shape.homes → is_client (world_of code) client ≡ true
+  is_one lt = lt-ltb client (length code.shape.homes) lt
 
-  pub no_row_left : client < length kept.shape.homes → length (rows_of kept.board client) ≡ kept.board.rows
-      → false ≡ may_begin (world_of kept) client colours
+  pub no_row_left : client < length code.shape.homes → length (rows_of code.board client) ≡ code.board.rows
+      → false ≡ may_begin (world_of code) client colours
   no_row_left lt full =
       let same = (w.rows client).used in
       let limit = w.board_rows in
       stop used_rows (nat_lt 1 (length (members colours)) && all_colours)
-      (lt_false (length (client_at kept client).begun) kept.shape.rows (omega (arith, same, limit, full)))
-      ∙ sym (lead (is_client (world_of kept) client) _ (is_one lt))
+      (lt_false (length (client_at code client).begun) code.shape.rows (omega (arith, same, limit, full)))
+      ∙ sym (lead (is_client (world_of code) client) _ (is_one lt))
 
-  row_left : length (rows_of kept.board client) < kept.board.rows → used_rows ≡ true
+  row_left : length (rows_of code.board client) < code.board.rows → used_rows ≡ true
   row_left lt =
       let same = (w.rows client).used in
       let limit = w.board_rows in
-      lt-ltb (length (client_at kept client).begun) kept.shape.rows (omega (arith, same, limit, lt))
+      lt-ltb (length (client_at code client).begun) code.shape.rows (omega (arith, same, limit, lt))
 
-  pub too_few : client < length kept.shape.homes → length (rows_of kept.board client) < kept.board.rows
-      → length (members colours) < 2 → false ≡ may_begin (world_of kept) client colours
+  pub too_few : client < length code.shape.homes → length (rows_of code.board client) < code.board.rows
+      → length (members colours) < 2 → false ≡ may_begin (world_of code) client colours
   too_few there left few =
       stop (nat_lt 1 (length (members colours))) all_colours (lt_false 1 (length (members colours))
       (omega (arith, few)))
       ∙ (sym (lead used_rows (nat_lt 1 (length (members colours)) && all_colours) (row_left left))
-      ∙ sym (lead (is_client (world_of kept) client) _ (is_one there)))
+      ∙ sym (lead (is_client (world_of code) client) _ (is_one there)))
 
-  pub by_colours : client < length kept.shape.homes → length (rows_of kept.board client) < kept.board.rows
+  pub by_colours : client < length code.shape.homes → length (rows_of code.board client) < code.board.rows
       → 2 ≤ length (members colours)
-      → list_all (λ c. nat_lt c kept.shape.colours) (members colours) ≡ may_begin (world_of kept) client colours
+      → list_all (λ c. nat_lt c code.shape.colours) (members colours) ≡ may_begin (world_of code) client colours
   by_colours there left several =
-      ap (λ (b : Bool). list_all (λ c. b && nat_lt c kept.shape.colours) (members colours))
-      (sym (lt-ltb (home_of (world_of kept) client) kept.shape.regions (w.homes client 0 there)))
+      ap (λ (b : Bool). list_all (λ c. b && nat_lt c code.shape.colours) (members colours))
+      (sym (lt-ltb (home_of (world_of code) client) code.shape.regions (w.homes client 0 there)))
       ∙ (sym (lead (nat_lt 1 (length (members colours))) all_colours
       (lt-ltb 1 (length (members colours)) (omega (arith, several))))
       ∙ (sym (lead used_rows (nat_lt 1 (length (members colours)) && all_colours) (row_left left))
-      ∙ sym (lead (is_client (world_of kept) client) _ (is_one there))))
+      ∙ sym (lead (is_client (world_of code) client) _ (is_one there))))

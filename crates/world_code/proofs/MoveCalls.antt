@@ -25,37 +25,37 @@ use Rattle.world_laws.proofs.CallerLemmas.{AreTwo, MayGive, MayCarry, may_give_i
 use Rattle.world_laws.proofs.CallerLemmas.{lacking_length}
 use Rattle.world_code.specs.WorldView.{WorldView, no_column, column_at, world_of, IsPlaced, HasAppended, IsWhole}
 use Rattle.world_code.specs.Replies.{place_reply, event_at}
-use Rattle.world_code.proofs.Appended.{IsSent, appended_carried, appended_trimmed}
-use Rattle.world_code.proofs.Calling.{is_held}
-use Rattle.world_code.proofs.Changing.{with_column, column_world, whole_column}
-use Rattle.world_code.proofs.Looking.{items_appended}
-use Rattle.world_code.proofs.Placing.{default_free}
+use Rattle.world_code.proofs.AppendedNodes.{IsSent, appended_carried, appended_trimmed}
+use Rattle.world_code.proofs.SingleCalls.{is_held}
+use Rattle.world_code.proofs.ChangedParts.{with_column, column_world, whole_column}
+use Rattle.world_code.proofs.LooksShown.{items_appended}
+use Rattle.world_code.proofs.RaiseSteps.{default_free}
 
 -- the world with one column changed as the code changes it
 abbrev pub put_columns : WorldView → ℕ → List ColumnState → WorldView
-put_columns kept region new = record kept { columns = set kept.columns region new }
+put_columns code region new = record code { columns = set code.columns region new }
 
-pub record Moved (kept : WorldView) (step : Step) (now : WorldView) : Type 0 where
-  pub world : world_of now ≡ after (world_of kept) step
+pub record Moved (code : WorldView) (step : Step) (now : WorldView) : Type 0 where
+  pub world : world_of now ≡ after (world_of code) step
   pub whole : IsWhole now
 
-module _ (kept : WorldView) (w : IsWhole kept) (region colour : ℕ) (in_regions : region < kept.shape.regions)
-    (in_colours : colour < kept.shape.colours) where
+module _ (code : WorldView) (w : IsWhole code) (region colour : ℕ) (in_regions : region < code.shape.regions)
+    (in_colours : colour < code.shape.colours) where
   abbrev pub old : ColumnState
-  old = column_at kept.columns region colour
+  old = column_at code.columns region colour
 
-  pub row_in : region < length kept.columns
+  pub row_in : region < length code.columns
   row_in = let n = w.regions in omega (arith, n, in_regions)
 
-  colour_in : colour < length (get_or kept.columns region [])
+  colour_in : colour < length (get_or code.columns region [])
   colour_in = let n = w.wide region [] row_in in omega (arith, n, in_colours)
 
-  pub places : IsPlaced old region colour kept.shape.regions
+  pub places : IsPlaced old region colour code.shape.regions
   places = w.placed region colour in_regions in_colours
 
-  module _ (row : List ColumnState) (row_is : row ≡ get_or kept.columns region row) where
-    row_same : row ≡ get_or kept.columns region []
-    row_same = row_is ∙ default_free kept.columns region row [] row_in
+  module _ (row : List ColumnState) (row_is : row ≡ get_or code.columns region row) where
+    row_same : row ≡ get_or code.columns region []
+    row_same = row_is ∙ default_free code.columns region row [] row_in
 
     pub column_same : get_or row colour no_column ≡ old
     column_same = ap (λ (l : List ColumnState). get_or l colour no_column) row_same
@@ -64,46 +64,46 @@ module _ (kept : WorldView) (w : IsWhole kept) (region colour : ℕ) (in_regions
     call_in = let n = ap length row_same in let lt = colour_in in omega (arith, n, lt)
 
     pub moved : (f : ColumnState → ColumnState) (e : Entry) (step : Step) (new : List ColumnState)
-        → new ≡ set row colour (f (get_or row colour no_column)) → IsPlaced (f old) region colour kept.shape.regions
-        → HasAppended kept.clients (f old) → (f old).journal ≡ old.journal ++ e ∷ []
-        → with_last (world_of kept) region colour e ≡ after (world_of kept) step
-        → Moved kept step (put_columns kept region new)
+        → new ≡ set row colour (f (get_or row colour no_column)) → IsPlaced (f old) region colour code.shape.regions
+        → HasAppended code.clients (f old) → (f old).journal ≡ old.journal ++ e ∷ []
+        → with_last (world_of code) region colour e ≡ after (world_of code) step
+        → Moved code step (put_columns code region new)
     moved f e step new new_is is_placed appended journal is =
-        let columns_are : set kept.columns region new ≡ with_column kept.columns region colour (f old) =
-        ap (set kept.columns region)
+        let columns_are : set code.columns region new ≡ with_column code.columns region colour (f old) =
+        ap (set code.columns region)
         (new_is ∙ ap (λ (l : List ColumnState). set l colour (f (get_or l colour no_column))) row_same) in
-        let world = column_world kept region colour (f old) e row_in colour_in journal ∙ is in
-        subst (λ (cs : List (List ColumnState)). Moved kept step (record kept { columns = cs })) (sym columns_are)
+        let world = column_world code region colour (f old) e row_in colour_in journal ∙ is in
+        subst (λ (cs : List (List ColumnState)). Moved code step (record code { columns = cs })) (sym columns_are)
         (record {
           world = world;
-          whole = whole_column kept region colour (f old) step w in_regions in_colours is_placed appended world;
+          whole = whole_column code region colour (f old) step w in_regions in_colours is_placed appended world;
         })
 
 -- Give
 
 -- A column is called for a give, which may be done, with what the code has read: the columns of the origin.
-pub record GiveCall (kept : WorldView) (origin region colour from : ℕ) (cs : List ColumnState) : Type 0 where
-  pub whole : IsWhole kept
-  pub guard : may_give (world_of kept) origin region colour from ≡ true
-  pub columns_are : cs ≡ get_or kept.columns origin cs
+pub record GiveCall (code : WorldView) (origin region colour from : ℕ) (cs : List ColumnState) : Type 0 where
+  pub whole : IsWhole code
+  pub guard : may_give (world_of code) origin region colour from ≡ true
+  pub columns_are : cs ≡ get_or code.columns origin cs
 
-module _ {kept : WorldView} {origin region colour from : ℕ} {cs : List ColumnState}
-    (call : GiveCall kept origin region colour from cs) where
-  asks : MayGive (world_of kept) origin region colour from
-  asks = may_give_is (world_of kept) origin region colour from call.guard
+module _ {code : WorldView} {origin region colour from : ℕ} {cs : List ColumnState}
+    (call : GiveCall code origin region colour from cs) where
+  asks : MayGive (world_of code) origin region colour from
+  asks = may_give_is (world_of code) origin region colour from call.guard
 
-  two : AreTwo (world_of kept) origin region colour
+  two : AreTwo (world_of code) origin region colour
   two = asks.two
 
-  its_place : IsPlaced (column_at kept.columns origin colour) origin colour kept.shape.regions
-  its_place = places kept call.whole origin colour two.origin_is two.colour_is
+  its_place : IsPlaced (column_at code.columns origin colour) origin colour code.shape.regions
+  its_place = places code call.whole origin colour two.origin_is two.colour_is
 
-  same_giver : get_or cs colour no_column ≡ column_at kept.columns origin colour
-  same_giver = column_same kept call.whole origin colour two.origin_is two.colour_is cs call.columns_are
+  same_giver : get_or cs colour no_column ≡ column_at code.columns origin colour
+  same_giver = column_same code call.whole origin colour two.origin_is two.colour_is cs call.columns_are
 
-  from_is : min from (length (line (column_at kept.columns origin colour).journal)) ≡ from
+  from_is : min from (length (line (column_at code.columns origin colour).journal)) ≡ from
   from_is =
-      let a = held_within (world_of kept) (is_held kept call.whole) origin region colour two in
+      let a = held_within (world_of code) (is_held code call.whole) origin region colour two in
       let b = asks.holds in
       omega (arith, a, b)
 
@@ -116,47 +116,47 @@ module _ {kept : WorldView} {origin region colour from : ℕ} {cs : List ColumnS
       let lt = two.region_is in
       omega (arith, n, lt)
 
-  pub give_place : length (get_or cs colour no_column).journal ≡ length ((world_of kept).histories origin colour)
+  pub give_place : length (get_or cs colour no_column).journal ≡ length ((world_of code).histories origin colour)
   give_place = ap (λ (q : ColumnState). length q.journal) same_giver
 
   pub given_moved : (by : ℕ) {new : List ColumnState}
       → new ≡ set cs colour (columns.after_give (get_or cs colour no_column) by region from)
-      → Moved kept (steps.Give by origin region colour from) (put_columns kept origin new)
+      → Moved code (steps.Give by origin region colour from) (put_columns code origin new)
   given_moved by {new} new_is =
       let p = its_place in
-      let q = column_at kept.columns origin colour in
+      let q = column_at code.columns origin colour in
       let appended = call.whole.appended origin colour in
-      moved kept call.whole origin colour two.origin_is two.colour_is cs call.columns_are
+      moved code call.whole origin colour two.origin_is two.colour_is cs call.columns_are
       (λ (c : ColumnState). columns.after_give c by region from)
       (record { by = by; event = events.Give region from; stamp = 0 }) (steps.Give by origin region colour from) new
       new_is
       (record { in_region = p.in_region; of_colour = p.of_colour; of_regions = p.of_regions })
       (record { stored = appended.stored; copies = appended.copies })
       (ap (λ (n : ℕ). q.journal ++ record { by = by; event = events.Give region n; stamp = 0 } ∷ []) from_is)
-      (sym (cond-true (may_give (world_of kept) origin region colour from) _ _ call.guard))
+      (sym (cond-true (may_give (world_of code) origin region colour from) _ _ call.guard))
 
 -- Trim
 
-pub is_column_of : (kept : WorldView) (region colour : ℕ) → is_column (world_of kept) region colour ≡ true
-    → (region < kept.shape.regions) × (colour < kept.shape.colours)
-is_column_of kept region colour ok =
-    let p = and_parts (nat_lt region kept.shape.regions) _ ok in
-    (ltb-true region kept.shape.regions p.0, ltb-true colour kept.shape.colours p.1)
+pub is_column_of : (code : WorldView) (region colour : ℕ) → is_column (world_of code) region colour ≡ true
+    → (region < code.shape.regions) × (colour < code.shape.colours)
+is_column_of code region colour ok =
+    let p = and_parts (nat_lt region code.shape.regions) _ ok in
+    (ltb-true region code.shape.regions p.0, ltb-true colour code.shape.colours p.1)
 
-pub trim_moved : (kept : WorldView) (w : IsWhole kept) (by region colour : ℕ) (counts : Counts)
-    → is_column (world_of kept) region colour ≡ true → (row : List ColumnState) → row ≡ get_or kept.columns region row
+pub trim_moved : (code : WorldView) (w : IsWhole code) (by region colour : ℕ) (counts : Counts)
+    → is_column (world_of code) region colour ≡ true → (row : List ColumnState) → row ≡ get_or code.columns region row
     → (new : List ColumnState) → new ≡ set row colour (columns.after_trim (get_or row colour no_column) by counts)
-    → Moved kept (steps.Trim by region colour counts) (put_columns kept region new)
-trim_moved kept w by region colour counts ok row row_is new new_is =
-    let there = is_column_of kept region colour ok in
-    let p = places kept w region colour there.0 there.1 in
-    let q = column_at kept.columns region colour in
-    moved kept w region colour there.0 there.1 row row_is
+    → Moved code (steps.Trim by region colour counts) (put_columns code region new)
+trim_moved code w by region colour counts ok row row_is new new_is =
+    let there = is_column_of code region colour ok in
+    let p = places code w region colour there.0 there.1 in
+    let q = column_at code.columns region colour in
+    moved code w region colour there.0 there.1 row row_is
     (λ (c : ColumnState). columns.after_trim c by counts)
     (record { by = by; event = events.Trim counts; stamp = 0 }) (steps.Trim by region colour counts) new new_is
     (record { in_region = p.in_region; of_colour = p.of_colour; of_regions = p.of_regions })
-    (appended_trimmed kept.clients q by counts (w.appended region colour)) refl
-    (sym (cond-true (is_column (world_of kept) region colour) _ _ ok))
+    (appended_trimmed code.clients q by counts (w.appended region colour)) refl
+    (sym (cond-true (is_column (world_of code) region colour) _ _ ok))
 
 -- Carry
 
@@ -226,37 +226,37 @@ each_rest P (suc n) [] h = tt
 each_rest P (suc n) (x ∷ xs) h = each_rest P n xs h.1
 
 -- A column is called for a carry, which may be done, with what the code has read: the stretch and the region's columns.
-pub record CarryCall (kept : WorldView) (origin region colour count : ℕ) (given : Given) (cs : List ColumnState) : Type 0
+pub record CarryCall (code : WorldView) (origin region colour count : ℕ) (given : Given) (cs : List ColumnState) : Type 0
   where
-    pub whole : IsWhole kept
-    pub guard : may_carry (world_of kept) origin region colour given.start count ≡ true
-    pub items : AreItems (column_at kept.columns origin colour) origin given.start (given.start + count) given.items
-    pub columns_are : cs ≡ get_or kept.columns region cs
+    pub whole : IsWhole code
+    pub guard : may_carry (world_of code) origin region colour given.start count ≡ true
+    pub items : AreItems (column_at code.columns origin colour) origin given.start (given.start + count) given.items
+    pub columns_are : cs ≡ get_or code.columns region cs
 
-module _ {kept : WorldView} {origin region colour count : ℕ} {given : Given} {cs : List ColumnState}
-    (call : CarryCall kept origin region colour count given cs) where
-  abbrev w : IsWhole kept
+module _ {code : WorldView} {origin region colour count : ℕ} {given : Given} {cs : List ColumnState}
+    (call : CarryCall code origin region colour count given cs) where
+  abbrev w : IsWhole code
   w = call.whole
 
   abbrev giving : ColumnState
-  giving = column_at kept.columns origin colour
+  giving = column_at code.columns origin colour
 
   abbrev taking : ColumnState
-  taking = column_at kept.columns region colour
+  taking = column_at code.columns region colour
 
-  pub carry_asks : MayCarry (world_of kept) origin region colour given.start count
-  carry_asks = may_carry_is (world_of kept) origin region colour given.start count call.guard
+  pub carry_asks : MayCarry (world_of code) origin region colour given.start count
+  carry_asks = may_carry_is (world_of code) origin region colour given.start count call.guard
 
-  both : AreTwo (world_of kept) origin region colour
+  both : AreTwo (world_of code) origin region colour
   both = carry_asks.two
 
-  giving_placed : IsPlaced giving origin colour kept.shape.regions
-  giving_placed = places kept w origin colour both.origin_is both.colour_is
+  giving_placed : IsPlaced giving origin colour code.shape.regions
+  giving_placed = places code w origin colour both.origin_is both.colour_is
 
-  taking_placed : IsPlaced taking region colour kept.shape.regions
-  taking_placed = places kept w region colour both.region_is both.colour_is
+  taking_placed : IsPlaced taking region colour code.shape.regions
+  taking_placed = places code w region colour both.region_is both.colour_is
 
-  held_same : columns.held_of taking origin ≡ held_of (world_of kept) origin region colour
+  held_same : columns.held_of taking origin ≡ held_of (world_of code) origin region colour
   held_same = ap (λ (r : ℕ). length (chain r (dated r taking.journal) origin)) taking_placed.in_region
 
   heads_are : map (λ (i : PlacedNode). i.head) given.items
@@ -269,7 +269,7 @@ module _ {kept : WorldView} {origin region colour count : ℕ} {given : Given} {
       giving_placed.in_region
 
   abbrev held : ℕ
-  held = held_of (world_of kept) origin region colour
+  held = held_of (world_of code) origin region colour
 
   -- what is new of it
   new_is : new_items taking origin given ≡ drop (held - given.start) given.items
@@ -280,7 +280,7 @@ module _ {kept : WorldView} {origin region colour count : ℕ} {given : Given} {
       ∙ ap (λ (n : ℕ). drop (n - given.start) given.items) held_same
 
   new_heads : map (λ (i : PlacedNode). i.head) (new_items taking origin given)
-      ≡ heads_lacking (world_of kept) origin region colour (given.start + count)
+      ≡ heads_lacking (world_of code) origin region colour (given.start + count)
   new_heads =
       ap (map (λ (i : PlacedNode). i.head)) new_is
       ∙ (map_drop (λ (i : PlacedNode). i.head) (held - given.start) given.items
@@ -291,12 +291,12 @@ module _ {kept : WorldView} {origin region colour count : ℕ} {given : Given} {
   new_some =
       let a = length_map (λ (i : PlacedNode). i.head) (new_items taking origin given) in
       let b = ap (length {A = Head}) new_heads in
-      let c = lacking_length (world_of kept) origin region colour given.start count carry_asks in
+      let c = lacking_length (world_of code) origin region colour given.start count carry_asks in
       let d = carry_asks.ends in
       omega (arith, a, b, c, d)
 
   same_taker : get_or cs colour no_column ≡ taking
-  same_taker = column_same kept w region colour both.region_is both.colour_is cs call.columns_are
+  same_taker = column_same code w region colour both.region_is both.colour_is cs call.columns_are
 
   pub carry_other : origin ≢ (get_or cs colour no_column).region
   carry_other e = both.differ (e ∙ (ap (λ (q : ColumnState). q.region) same_taker ∙ taking_placed.in_region))
@@ -312,28 +312,28 @@ module _ {kept : WorldView} {origin region colour count : ℕ} {given : Given} {
       else ats.Look (length q.journal)
 
   pub carry_reply : (by : ℕ) {at : At} → at ≡ answer_of (get_or cs colour no_column)
-      → place_reply (event_at at) ≡ reply (world_of kept) (steps.Carry by origin region colour given.start count)
+      → place_reply (event_at at) ≡ reply (world_of code) (steps.Carry by origin region colour given.start count)
   carry_reply by is =
       ap (λ (a : At). place_reply (event_at a))
       (is ∙ (ap answer_of same_taker
       ∙ cond-true (nat_lt 0 (length (new_items taking origin given))) _ _ (lt-ltb 0 _ new_some)))
-      ∙ sym (cond-true (may_carry (world_of kept) origin region colour given.start count) _ _ call.guard)
+      ∙ sym (cond-true (may_carry (world_of code) origin region colour given.start count) _ _ call.guard)
 
   pub carry_moved : (by : ℕ) {new : List ColumnState}
       → new ≡ set cs colour (columns.after_carry (get_or cs colour no_column) by origin given)
-      → Moved kept (steps.Carry by origin region colour given.start count) (put_columns kept region new)
+      → Moved code (steps.Carry by origin region colour given.start count) (put_columns code region new)
   carry_moved by {new} is =
-      moved kept w region colour both.region_is both.colour_is cs call.columns_are
+      moved code w region colour both.region_is both.colour_is cs call.columns_are
       (λ (c : ColumnState). columns.after_carry c by origin given)
-      (carried_entry (world_of kept) by origin region colour (given.start + count))
+      (carried_entry (world_of code) by origin region colour (given.start + count))
       (steps.Carry by origin region colour given.start count) new is
-      (with_items_placed taking by origin (new_items taking origin given) region colour kept.shape.regions
+      (with_items_placed taking by origin (new_items taking origin given) region colour code.shape.regions
       taking_placed)
-      (appended_carried kept.clients taking by origin (new_items taking origin given) (w.appended region colour)
-      (subst (AllByRecursion (IsSent kept.clients)) (sym new_is)
-      (each_rest (IsSent kept.clients) (held - given.start) given.items
-      (each_of (IsSent kept.clients) given.items
-      (items_appended kept.clients giving (w.appended origin colour) origin given.start (given.start + count)
+      (appended_carried code.clients taking by origin (new_items taking origin given) (w.appended region colour)
+      (subst (AllByRecursion (IsSent code.clients)) (sym new_is)
+      (each_rest (IsSent code.clients) (held - given.start) given.items
+      (each_of (IsSent code.clients) given.items
+      (items_appended code.clients giving (w.appended origin colour) origin given.start (given.start + count)
       given.items
       call.items)))))
       (with_items_journal taking by origin (new_items taking origin given) new_some
@@ -345,12 +345,12 @@ module _ {kept : WorldView} {origin region colour count : ℕ} {given : Given} {
       } ∷ []) held_same
       ∙ ap (λ (l : List Head). taking.journal ++ record { by = by; event = events.Carry origin held l; stamp = 0 } ∷ [])
       new_heads))
-      (sym (cond-true (may_carry (world_of kept) origin region colour given.start count) _ _ call.guard))
+      (sym (cond-true (may_carry (world_of code) origin region colour given.start count) _ _ call.guard))
 
 -- a trim's place
-pub trim_place : (kept : WorldView) → IsWhole kept → (region colour : ℕ) → is_column (world_of kept) region colour ≡ true
-    → (cs : List ColumnState) → cs ≡ get_or kept.columns region cs
-    → length (get_or cs colour no_column).journal ≡ length ((world_of kept).histories region colour)
-trim_place kept w region colour ok cs is =
-    let there = is_column_of kept region colour ok in
-    ap (λ (q : ColumnState). length q.journal) (column_same kept w region colour there.0 there.1 cs is)
+pub trim_place : (code : WorldView) → IsWhole code → (region colour : ℕ) → is_column (world_of code) region colour ≡ true
+    → (cs : List ColumnState) → cs ≡ get_or code.columns region cs
+    → length (get_or cs colour no_column).journal ≡ length ((world_of code).histories region colour)
+trim_place code w region colour ok cs is =
+    let there = is_column_of code region colour ok in
+    ap (λ (q : ColumnState). length q.journal) (column_same code w region colour there.0 there.1 cs is)

@@ -29,8 +29,8 @@ use Rattle.world_laws.proofs.CallerLemmas.{Listed, listed}
 use Rattle.world_code.specs.Clients.{ClientView, fresh_client}
 use Rattle.world_code.specs.WorldView.{WorldView, world_of, IsAppended, HasAppended, IsWhole}
 
-pub is_listed : (kept : WorldView) → IsWhole kept → Listed (world_of kept)
-is_listed kept w = subst Listed w.reached.is (listed w.reached.shape w.reached.steps)
+pub is_listed : (code : WorldView) → IsWhole code → Listed (world_of code)
+is_listed code w = subst Listed w.reached.is (listed w.reached.shape w.reached.steps)
 
 -- an item whose node was appended
 abbrev pub IsSent : List ClientView → PlacedNode → Type 0
@@ -159,10 +159,10 @@ pub none_carried : (cs : List ClientView) (k : ℕ)
 none_carried cs = of_four (AllByRecursion (IsSent cs)) (λ _. []) (λ r. tt) tt
 
 -- a row's node is listed
-pub row_appended : (kept : WorldView) (w : IsWhole kept) (row : Row)
-    → row.number < ((world_of kept).clients row.client).used
-    → (row_of (world_of kept) row).node.id.client ≡ row.client
-    → IsAppended kept.clients (row_of (world_of kept) row).node.id (row_of (world_of kept) row).node
-row_appended kept w row lt client =
-    ap (λ (k : ℕ). slice_get ((world_of kept).nodes k) (row_of (world_of kept) row).node.id.count) client
-    ∙ (is_listed kept w).rows row.client row.number lt
+pub row_appended : (code : WorldView) (w : IsWhole code) (row : Row)
+    → row.number < ((world_of code).clients row.client).used
+    → (row_of (world_of code) row).node.id.client ≡ row.client
+    → IsAppended code.clients (row_of (world_of code) row).node.id (row_of (world_of code) row).node
+row_appended code w row lt client =
+    ap (λ (k : ℕ). slice_get ((world_of code).nodes k) (row_of (world_of code) row).node.id.count) client
+    ∙ (is_listed code w).rows row.client row.number lt

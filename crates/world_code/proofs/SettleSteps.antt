@@ -27,11 +27,11 @@ use Rattle.world_laws.proofs.CallerLemmas.{Held, has_colour, final_is, number_wi
 use Rattle.world_laws.proofs.CallerLemmas.{lawful_past_in, may_settle_open, row_agrees, may_settle_is, mark-at_home}
 use Rattle.world_code.specs.WorldView.{WorldView, no_column, column_at, client_at, world_of, IsPlaced, HasAppended}
 use Rattle.world_code.specs.WorldView.{IsWhole}
-use Rattle.world_code.proofs.Appended.{appended_settled}
-use Rattle.world_code.proofs.Changing.{with_column, column_world, whole_column}
-use Rattle.world_code.proofs.Calling.{is_held}
-use Rattle.world_code.proofs.Marking.{Begun}
-use Rattle.world_code.proofs.Proposing.{home_there, columns_there, its_columns}
+use Rattle.world_code.proofs.AppendedNodes.{appended_settled}
+use Rattle.world_code.proofs.ChangedParts.{with_column, column_world, whole_column}
+use Rattle.world_code.proofs.SingleCalls.{is_held}
+use Rattle.world_code.proofs.ChangedRows.{Begun}
+use Rattle.world_code.proofs.MarkSteps.{home_there, columns_there, its_columns}
 
 -- an outcome of the row's marks settles the number of each of its colours
 settles_within : (w : World) (h : Held w) (row : Row) (colour s : ℕ) (last : Outcome)
@@ -42,16 +42,16 @@ settles_within w h row colour s (Gone why) begun el ne em = tt
 settles_within w h row colour s (Final f) begun el ne em =
     let so = h.rows row.client row.number begun in
     let cs = members (row_of w row).node.colours in
-    let fin = final_is (marks_of (row_of w row)) f (kept_final so.kept) in
+    let fin = final_is (marks_of (row_of w row)) f (decided_final so.kept) in
     let has : has_colour cs colour ≡ true = by_test (has_colour cs colour ≡ true) (has_colour cs colour) (λ t. t)
     (λ other. let z = so.in_set colour other in absurd (let x : ⊥ = cc in x)) in
     let a = number_within (row_of w row).marks cs colour s has em in
     let b = greatest_within (row_of w row).marks cs last_stamp so.numbers in
     (subst (λ (x : ℕ). s ≤ x) fin.3 a, subst (λ (x : ℕ). x ≤ last_stamp) fin.3 b) where
-      kept_final : (((row_of w row).last ≡ Open) ⊎ ((row_of w row).last ≡ outcome_of (marks_of (row_of w row))))
+      decided_final : (((row_of w row).last ≡ Open) ⊎ ((row_of w row).last ≡ outcome_of (marks_of (row_of w row))))
           → outcome_of (marks_of (row_of w row)) ≡ Final f
-      kept_final (inl k) = absurd (let x : ⊥ = cc in x)
-      kept_final (inr k) = sym k ∙ sym el
+      decided_final (inl k) = absurd (let x : ⊥ = cc in x)
+      decided_final (inr k) = sym k ∙ sym el
 
 -- a found entry passes
 found_passes : {A : Type 0} (p : A → Bool) (xs : List A) (x : A) → find p xs ≡ Some x → list_any p xs ≡ true
@@ -68,34 +68,34 @@ settling_of (Final f) id es h = h refl
 some_and : {A : Type 0} (P : A → Type 0) (o : Option A) (x : A) → o ≡ Some x → IsSomeAnd o P → P x
 some_and {A} P o x e h = subst (λ (y : Option A). IsSomeAnd y P) e h
 
-module _ (kept : WorldView) (w : IsWhole kept) (row : Row) (b : Begun kept row) (colour : ℕ)
-    (in_colours : colour < kept.shape.colours) where
+module _ (code : WorldView) (w : IsWhole code) (row : Row) (b : Begun code row) (colour : ℕ)
+    (in_colours : colour < code.shape.colours) where
   abbrev home : ℕ
-  home = home_of (world_of kept) row.client
+  home = home_of (world_of code) row.client
 
   abbrev id : Id
-  id = (row_of (world_of kept) row).node.id
+  id = (row_of (world_of code) row).node.id
 
   abbrev last : Outcome
-  last = (row_of (world_of kept) row).last
+  last = (row_of (world_of code) row).last
 
   abbrev old : ColumnState
-  old = column_at kept.columns home colour
+  old = column_at code.columns home colour
 
-  pub in_columns : colour < length (get_or kept.columns home [])
-  in_columns = let n = its_columns kept w row b in omega (arith, n, in_colours)
+  pub in_columns : colour < length (get_or code.columns home [])
+  in_columns = let n = its_columns code w row b in omega (arith, n, in_colours)
 
   may_true : is_decided last ≡ true → has_open id (entries old.journal) ≡ true
-      → may_settle (world_of kept) row colour ≡ true
+      → may_settle (world_of code) row colour ≡ true
   may_true decided opens =
-      and_from (is_begun (world_of kept) row) _ (lt-ltb row.number (length (client_at kept row.client).begun) b.used)
+      and_from (is_begun (world_of code) row) _ (lt-ltb row.number (length (client_at code row.client).begun) b.used)
       (and_from (is_decided last) _ decided opens)
 
   -- what the column asks for
   pub its_settling : MaySettle id last (entries old.journal) last_stamp
   its_settling = settling_of last id (entries old.journal) (λ decided e is.
-      let v = world_of kept in
-      let h = is_held kept w in
+      let v = world_of code in
+      let h = is_held code w in
       let ok = may_true decided (found_passes (is_open_id id) (entries old.journal) e is) in
       let s = may_settle_is v h row colour ok in
       let old_agrees = row_agrees v h row.client row.number b.used home colour in
@@ -109,9 +109,9 @@ module _ (kept : WorldView) (w : IsWhole kept) (row : Row) (b : Begun kept row) 
   abbrev pub settles : Bool
   settles = has_open id (entries old.journal) && is_decided last
 
-  pub settles_is : settles ≡ may_settle (world_of kept) row colour
-  settles_is = swapped (is_begun (world_of kept) row) (has_open id (entries old.journal)) (is_decided last)
-      (lt-ltb row.number (length (client_at kept row.client).begun) b.used) where
+  pub settles_is : settles ≡ may_settle (world_of code) row colour
+  settles_is = swapped (is_begun (world_of code) row) (has_open id (entries old.journal)) (is_decided last)
+      (lt-ltb row.number (length (client_at code row.client).begun) b.used) where
         swapped : (x y z : Bool) → x ≡ true → (y && z) ≡ (x && (z && y))
         swapped x true true e = rw e refl
         swapped x true false e = rw e refl
@@ -123,38 +123,38 @@ module _ (kept : WorldView) (w : IsWhole kept) (row : Row) (b : Begun kept row) 
 
   -- the columns after the call
   abbrev pub settled_columns : ℕ → List (List ColumnState)
-  settled_columns by = with_column kept.columns home colour (if settles then settled by else old)
+  settled_columns by = with_column code.columns home colour (if settles then settled by else old)
 
-  settle_world : (by : ℕ) → world_of (record kept { columns = with_column kept.columns home colour (settled by) })
-      ≡ after_settle (world_of kept) by row colour
-  settle_world by = column_world kept home colour (settled by) (settled_entry (world_of kept) by row)
-      (columns_there kept w row b) in_columns refl
+  settle_world : (by : ℕ) → world_of (record code { columns = with_column code.columns home colour (settled by) })
+      ≡ after_settle (world_of code) by row colour
+  settle_world by = column_world code home colour (settled by) (settled_entry (world_of code) by row)
+      (columns_there code w row b) in_columns refl
 
-  unchanged : with_column kept.columns home colour old ≡ kept.columns
+  unchanged : with_column code.columns home colour old ≡ code.columns
   unchanged =
-      ap (λ (l : List ColumnState). set kept.columns home l)
-      (set-get_or (get_or kept.columns home []) colour no_column)
-      ∙ set-get_or kept.columns home []
+      ap (λ (l : List ColumnState). set code.columns home l)
+      (set-get_or (get_or code.columns home []) colour no_column)
+      ∙ set-get_or code.columns home []
 
-  pub settled_world : (by : ℕ) → world_of (record kept { columns = settled_columns by })
-      ≡ after (world_of kept) (steps.Settle by row colour)
+  pub settled_world : (by : ℕ) → world_of (record code { columns = settled_columns by })
+      ≡ after (world_of code) (steps.Settle by row colour)
   settled_world by = by_test _ settles
-      (λ t. ap (λ (q : ColumnState). world_of (record kept { columns = with_column kept.columns home colour q }))
+      (λ t. ap (λ (q : ColumnState). world_of (record code { columns = with_column code.columns home colour q }))
       (cond-true settles (settled by) old t)
       ∙ (settle_world by
-      ∙ sym (cond-true (may_settle (world_of kept) row colour) _ _ (sym settles_is ∙ t))))
-      (λ f. ap (λ (q : ColumnState). world_of (record kept { columns = with_column kept.columns home colour q }))
+      ∙ sym (cond-true (may_settle (world_of code) row colour) _ _ (sym settles_is ∙ t))))
+      (λ f. ap (λ (q : ColumnState). world_of (record code { columns = with_column code.columns home colour q }))
       (cond-false settles (settled by) old f)
-      ∙ (ap (λ (cs : List (List ColumnState)). world_of (record kept { columns = cs })) unchanged
-      ∙ sym (cond-false (may_settle (world_of kept) row colour) _ _ (sym settles_is ∙ f))))
+      ∙ (ap (λ (cs : List (List ColumnState)). world_of (record code { columns = cs })) unchanged
+      ∙ sym (cond-false (may_settle (world_of code) row colour) _ _ (sym settles_is ∙ f))))
 
-  pub settled_whole : (by : ℕ) → IsWhole (record kept { columns = settled_columns by })
+  pub settled_whole : (by : ℕ) → IsWhole (record code { columns = settled_columns by })
   settled_whole by =
-      let p = w.placed home colour (home_there kept w row b) in_colours in
-      whole_column kept home colour (if settles then settled by else old) (steps.Settle by row colour) w
-      (home_there kept w row b) in_colours
-      (choice (λ (q : ColumnState). IsPlaced q home colour kept.shape.regions) settles (settled by) old
+      let p = w.placed home colour (home_there code w row b) in_colours in
+      whole_column code home colour (if settles then settled by else old) (steps.Settle by row colour) w
+      (home_there code w row b) in_colours
+      (choice (λ (q : ColumnState). IsPlaced q home colour code.shape.regions) settles (settled by) old
       (λ _. record { in_region = p.in_region; of_colour = p.of_colour; of_regions = p.of_regions }) (λ _. p))
-      (choice (HasAppended kept.clients) settles (settled by) old
-      (λ _. appended_settled kept.clients old by id last (w.appended home colour)) (λ _. w.appended home colour))
+      (choice (HasAppended code.clients) settles (settled by) old
+      (λ _. appended_settled code.clients old by id last (w.appended home colour)) (λ _. w.appended home colour))
       (settled_world by)
