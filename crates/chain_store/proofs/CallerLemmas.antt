@@ -3,3 +3,4 @@ pub use Rattle.chain_store.proofs.Entering.{fresh, single_entered, entered_below
 pub use Rattle.chain_store.proofs.Begun.{begun_later}
 pub use Rattle.chain_store.proofs.Passing.{made_with}
 pub use Rattle.chain_store.proofs.Resting.{lawful_seen}
+pub use Rattle.chain_store.proofs.Stamps.{given_stamped, gives_stamped, own_stamped}
