@@ -9,3 +9,4 @@ mod Trims
 mod Pulling
 mod Truly
 mod OwnNodes
+mod Ends
