@@ -10,3 +10,4 @@ mod Pulling
 mod Truly
 mod OwnNodes
 mod Ends
+mod TrulyPulled

@@ -1,6 +1,7 @@
 -- Items of lists by place, and how many of them pass a test.
 use Rattle.std.proofs.Common.{◌≡◌, ℕ, zero, suc, ◌+◌, ◌<◌, ◌≤◌, List, [], ◌∷◌, ◌++◌, length, map, take, drop, Some, None, slice_get, Bool, true, false, cond, refl, ap, sym, subst, ◌∙◌, inl, inr, ◌⊎◌, arith}
 use Rattle.std.specs.List.{filter}
+use Rattle.std.proofs.lemmas.Option.{same_Some}
 
 module _ {A : Type 0} where
   -- an item that is there
@@ -8,6 +9,10 @@ module _ {A : Type 0} where
   got [] n lt = absurd (let f : ⊥ = omega (arith, lt) in f)
   got (x ∷ xs) zero lt = (x, refl)
   got (x ∷ xs) (suc n) lt = got xs n (omega (arith, lt))
+
+  -- there is one at a place
+  pub same_items : (xs : List A) (n : ℕ) (x y : A) → slice_get xs n ≡ Some x → slice_get xs n ≡ Some y → x ≡ y
+  same_items xs n x y e f = same_Some x y (sym e ∙ f)
 
   pub got_last : (xs : List A) (x : A) → slice_get (xs ++ x ∷ []) (length xs) ≡ Some x
   got_last [] x = refl
