@@ -11,3 +11,4 @@ mod Truly
 mod OwnNodes
 mod Ends
 mod TrulyPulled
+mod EndsLog
