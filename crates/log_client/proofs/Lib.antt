@@ -12,3 +12,4 @@ mod OwnNodes
 mod Ends
 mod TrulyPulled
 mod EndsLog
+mod EndsRows
