@@ -13,3 +13,4 @@ mod Ends
 mod TrulyPulled
 mod EndsLog
 mod EndsRows
+mod Endings
