@@ -1,0 +1,16 @@
+mod Lists
+mod Seeing
+mod Fitting
+mod Once
+mod Steps
+mod Alone
+mod Playing
+mod Trims
+mod Pulling
+mod Truly
+mod OwnNodes
+mod Ends
+mod TrulyPulled
+mod EndsLog
+mod EndsRows
+mod Endings

@@ -1,0 +1,3 @@
+pub mod Fits
+pub mod Ending
+pub mod Closing
