@@ -148,8 +148,9 @@ fn is_stopped(stopped: &[u8], client: u8) -> bool
     stopped.iter().any(|c| *c == client)
 }
 
+/// The client whose command a line is, by its name.
 #[tactic(auto, unfolding(crate::specs::CommandReadings::caller_at))]
-fn caller(known: &Known, name: &[u8]) -> Result<u8, Fault>
+pub fn caller(known: &Known, name: &[u8]) -> Result<u8, Fault>
     requires { IsSmall known.now }
     ensures { Gives result (caller_at known.now name.now) }
 {

@@ -31,8 +31,8 @@ pub type Fields<'a> = SmallVec<&'a [u8], PLACES>;
 // As many fields as a command has at most, and one more.
 const PLACES: usize = 8;
 
-// How many bytes at the front are visible, where the first that is not is near.
-fn short_front(bytes: &[u8]) -> usize
+/// How many bytes at the front are visible, where the first that is not is near.
+pub fn short_front(bytes: &[u8]) -> usize
     ensures within { result ≤ length bytes.now }
     ensures front { (k : ℕ) → k < result → is_between 33 126 (slice_index_or bytes.now k 0) ≡ true }
     ensures stop { result < length bytes.now → is_between 33 126 (slice_index_or bytes.now result 0) ≡ false }
