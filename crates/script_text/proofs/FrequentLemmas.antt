@@ -1,5 +1,5 @@
--- Appends and syncs, cut at their first spaces, are read as their lines are.
-use Rattle.std.proofs.Common.{◌≡◌, ℕ, zero, suc, ◌+◌, ◌<◌, ◌≤◌, ◌++◌, ◌&&◌, true, false, eqb, leb, List, [], ◌∷◌, length, get_or, Option, Some, None, Result, Ok, Err, codes, refl, sym, ap, ◌∙◌, arith}
+-- Appends, syncs, pulls and trims, cut at their first spaces, are read as their lines are.
+use Rattle.std.proofs.Common.{◌≡◌, ℕ, zero, suc, ◌<◌, ◌++◌, true, false, eqb, List, [], ◌∷◌, length, get_or, Option, Some, None, Result, Ok, Err, codes, refl, ◌∙◌, arith}
 use Rattle.std.specs.List.{list_all}
 use Rattle.std.proofs.lemmas.Bool.{and_parts, ne_eqb}
 use Rattle.std.specs.declared.alloc.AllocError.{AllocError}
@@ -9,18 +9,17 @@ use Rattle.log_node.specs.declared.ids.Colours.{Colours}
 use Rattle.script_text.specs.declared.script.What.{What}
 use Rattle.script_text.specs.declared.script.What.TheVariants as whats
 use Rattle.script_text.specs.declared.script.Reason.TheVariants as reasons
-use Rattle.script_text.specs.declared.script.Word.TheVariants as words
 use Rattle.script_text.specs.declared.item.Item.TheVariants as items
 use Rattle.script_text.specs.declared.known.Known.{Known}
 use Rattle.script_text.specs.Pieces.{fields_of, names_in, is_ascii_line, is_between, is_text}
 use Rattle.script_text.specs.Items.{is_begun}
 use Rattle.script_text.specs.Grammar.{is_passed_over}
 use Rattle.script_text.specs.Readings.{with_one, with_two, colours_set_at, number_at, text_at}
-use Rattle.script_text.specs.CommandReadings.{append_at, sync_at, asked_at, worded_at, caller_at, command_at}
+use Rattle.script_text.specs.CommandReadings.{append_at, sync_at, trim_at, pull_at, asked_at, worded_at, caller_at, command_at}
 use Rattle.script_text.specs.LineReadings.{IsFull, IsAsked, item_at, full_item_at, said_at, line_at}
 use Rattle.script_text.proofs.PieceLemmas.{IsVisibleFront, cut_whole}
 use Rattle.script_text.proofs.FullLaws.{is_empty, text_full}
-use Rattle.script_text.proofs.DirectLaws.{append_is, sync_is}
+use Rattle.script_text.proofs.DirectLaws.{append_is, sync_is, trim_is, pull_is}
 
 -- ---- fields
 
@@ -62,7 +61,22 @@ sync_read known field colour front read =
     let whole = cut_whole field front in
     rw (whole.0, read) refl
 
-pub append_asked : (known : Known) (args : List ℕ) (what : What) → IsFull args → with_two (append_at known) (fields_of args) ≡ Ok what
+pub trim_read : (known : Known) (field : List ℕ) (colour : ℕ) → IsVisibleFront field (length field)
+    → number_at reasons.UnknownColour known.script.colours field ≡ Ok colour → with_one (trim_at known) (fields_of field) ≡ Ok (whats.Trim colour)
+unfolding trim_at
+trim_read known field colour front read =
+    let whole = cut_whole field front in
+    rw (whole.0, read) refl
+
+pub pull_read : (known : Known) (args name field : List ℕ) (region colour : ℕ) → fields_of args ≡ name ∷ fields_of field → IsVisibleFront field (length field)
+    → number_at reasons.UnknownRegion known.script.regions name ≡ Ok region → number_at reasons.UnknownColour known.script.colours field ≡ Ok colour
+    → with_two (pull_at known) (fields_of args) ≡ Ok (whats.Pull region colour)
+unfolding pull_at
+pull_read known args name field region colour fields front there read =
+    let whole = cut_whole field front in
+    rw (fields, whole.0, there, read) refl
+
+append_asked : (known : Known) (args : List ℕ) (what : What) → IsFull args → with_two (append_at known) (fields_of args) ≡ Ok what
     → IsAsked known (97 ∷ 112 ∷ 112 ∷ 101 ∷ 110 ∷ 100 ∷ 32 ∷ args) what
 unfolding asked_at worded_at
 append_asked known args what full read = record {
@@ -70,12 +84,28 @@ append_asked known args what full read = record {
   asks = λ client. append_is known client (fields_of args) ∙ read;
 }
 
-pub sync_asked : (known : Known) (field : List ℕ) (what : What) → IsFull field → with_one (sync_at known) (fields_of field) ≡ Ok what
+sync_asked : (known : Known) (field : List ℕ) (what : What) → IsFull field → with_one (sync_at known) (fields_of field) ≡ Ok what
     → IsAsked known (115 ∷ 121 ∷ 110 ∷ 99 ∷ 32 ∷ field) what
 unfolding asked_at worded_at
 sync_asked known field what full read = record {
   whole = record { ascii = full.ascii; full = full.full };
   asks = λ client. sync_is known client (fields_of field) ∙ read;
+}
+
+trim_asked : (known : Known) (field : List ℕ) (what : What) → IsFull field → with_one (trim_at known) (fields_of field) ≡ Ok what
+    → IsAsked known (116 ∷ 114 ∷ 105 ∷ 109 ∷ 32 ∷ field) what
+unfolding asked_at worded_at
+trim_asked known field what full read = record {
+  whole = record { ascii = full.ascii; full = full.full };
+  asks = λ client. trim_is known client (fields_of field) ∙ read;
+}
+
+pull_asked : (known : Known) (args : List ℕ) (what : What) → IsFull args → with_two (pull_at known) (fields_of args) ≡ Ok what
+    → IsAsked known (112 ∷ 117 ∷ 108 ∷ 108 ∷ 32 ∷ args) what
+unfolding asked_at worded_at
+pull_asked known args what full read = record {
+  whole = record { ascii = full.ascii; full = full.full };
+  asks = λ client. pull_is known client (fields_of args) ∙ read;
 }
 
 pub found_append : (known : Known) (bytes args : List ℕ) (found : Result (Option What) AllocError) → bytes ≡ codes "append " ++ args
@@ -90,6 +120,18 @@ pub found_sync : (known : Known) (bytes field : List ℕ) (found : Option What) 
     → IfSome found (λ what. IsAsked known bytes what)
 found_sync known bytes field (Some what) cut full read = rw cut (sync_asked known field what full read)
 found_sync known bytes field None cut full read = tt
+
+pub found_trim : (known : Known) (bytes field : List ℕ) (found : Option What) → bytes ≡ codes "trim " ++ field
+    → IfSome found (λ what. IsFull field) → IfSome found (λ what. with_one (trim_at known) (fields_of field) ≡ Ok what)
+    → IfSome found (λ what. IsAsked known bytes what)
+found_trim known bytes field (Some what) cut full read = rw cut (trim_asked known field what full read)
+found_trim known bytes field None cut full read = tt
+
+pub found_pull : (known : Known) (bytes args : List ℕ) (found : Option What) → bytes ≡ codes "pull " ++ args
+    → IfSome found (λ what. IsFull args) → IfSome found (λ what. with_two (pull_at known) (fields_of args) ≡ Ok what)
+    → IfSome found (λ what. IsAsked known bytes what)
+found_pull known bytes args (Some what) cut full read = rw cut (pull_asked known args what full read)
+found_pull known bytes args None cut full read = tt
 
 -- ---- the line
 

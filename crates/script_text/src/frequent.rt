@@ -1,11 +1,12 @@
-// Appends and syncs, which are most of a script, read with no list of their fields. What is not found here is for `line_of`.
+// Appends, syncs, pulls and trims, which are most of a script, read with no list of their fields. What is not found here
+// is for `line_of`.
 ghost use Rattle.std.specs.Prelude.{◌≡◌, ◌≤◌, ◌<◌, ◌∷◌, ◌++◌, codes, Ok, Some, IfOk, IfSome, length};
 ghost use Rattle.script_text.specs.declared.item.Item.TheVariants.{Asks};
 ghost use Rattle.script_text.specs.Pieces.{fields_of, is_ascii_line};
 ghost use Rattle.script_text.specs.Items.{is_begun};
 ghost use Rattle.script_text.specs.Known.{IsSmall, IsPlain};
 ghost use Rattle.script_text.specs.Readings.{with_one, with_two};
-ghost use Rattle.script_text.specs.CommandReadings.{append_at, sync_at};
+ghost use Rattle.script_text.specs.CommandReadings.{append_at, pull_at, sync_at, trim_at};
 ghost use Rattle.script_text.specs.LineReadings.{IsFull, IsAsked, line_at};
 
 use crate::command::caller;
@@ -75,6 +76,48 @@ fn sync(known: &Known, field: &[u8]) -> Option<What>
     }
 }
 
+// What a trim asks for, by the bytes behind its word.
+#[inline(always)]
+fn trim(known: &Known, field: &[u8]) -> Option<What>
+    requires { IsSmall known.now }
+    ensures full { IfSome result (λ what. IsFull field.now) }
+    ensures what { IfSome result (λ what. with_one (trim_at known.now) (fields_of field.now) ≡ Ok what) }
+    ensures plain { IfSome result IsPlain }
+{
+    let end = short_front(field);
+    if end == 0 || end < field.len() {
+        return None;
+    }
+    match known.colour_at(field) {
+        Ok(colour) => Some(What::Trim { colour }),
+        Err(_) => None,
+    }
+}
+
+// What a pull asks for, by the bytes behind its word.
+#[inline(always)]
+fn pull(known: &Known, args: &[u8]) -> Option<What>
+    requires { IsSmall known.now }
+    ensures full { IfSome result (λ what. IsFull args.now) }
+    ensures what { IfSome result (λ what. with_two (pull_at known.now) (fields_of args.now) ≡ Ok what) }
+    ensures plain { IfSome result IsPlain }
+{
+    let Some((name, field)) = first_field(args) else {
+        return None;
+    };
+    let end = short_front(field);
+    if end == 0 || end < field.len() {
+        return None;
+    }
+    let Ok(region) = known.region_at(name) else {
+        return None;
+    };
+    match known.colour_at(field) {
+        Ok(colour) => Some(What::Pull { region, colour }),
+        Err(_) => None,
+    }
+}
+
 // The bytes behind the word of an append.
 #[inline(always)]
 fn after_append(bytes: &[u8]) -> Option<&[u8]>
@@ -97,7 +140,44 @@ fn after_sync(bytes: &[u8]) -> Option<&[u8]>
     }
 }
 
-// What an append or a sync asks for, by the bytes behind its client's name.
+// The bytes behind the word of a pull.
+#[inline(always)]
+fn after_pull(bytes: &[u8]) -> Option<&[u8]>
+    ensures { IfSome result (λ args. bytes.now ≡ codes "pull " ++ args.now) }
+{
+    match bytes {
+        [b'p', b'u', b'l', b'l', b' ', args @ ..] => Some(args),
+        _ => None,
+    }
+}
+
+// The bytes behind the word of a trim.
+#[inline(always)]
+fn after_trim(bytes: &[u8]) -> Option<&[u8]>
+    ensures { IfSome result (λ field. bytes.now ≡ codes "trim " ++ field.now) }
+{
+    match bytes {
+        [b't', b'r', b'i', b'm', b' ', field @ ..] => Some(field),
+        _ => None,
+    }
+}
+
+// What a pull or a trim asks for, by the bytes behind its client's name.
+fn moved(known: &Known, bytes: &[u8]) -> Option<What>
+    requires { IsSmall known.now }
+    ensures asked { IfSome result (λ what. IsAsked known.now bytes.now what) }
+    ensures plain { IfSome result IsPlain }
+{
+    if let Some(args) = after_pull(bytes) {
+        return pull(known, args);
+    }
+    match after_trim(bytes) {
+        Some(field) => trim(known, field),
+        None => None,
+    }
+}
+
+// What such a command asks for, by the bytes behind its client's name.
 #[inline(always)]
 fn asked(alloc: Global, known: &Known, bytes: &[u8]) -> Result<Option<What>, AllocError>
     requires { IsSmall known.now }
@@ -109,7 +189,7 @@ fn asked(alloc: Global, known: &Known, bytes: &[u8]) -> Result<Option<What>, All
     }
     match after_sync(bytes) {
         Some(field) => Ok(sync(known, field)),
-        None => Ok(None),
+        None => Ok(moved(known, bytes)),
     }
 }
 
@@ -121,7 +201,7 @@ fn is_begun(stage: Stage) -> bool
     matches!(stage, Stage::Commands)
 }
 
-/// The command of a line that is an append or a sync and has no fault.
+/// The command of a line that is an append, a sync, a pull or a trim and has no fault.
 #[inline(always)]
 pub fn frequent(
     alloc: Global,
