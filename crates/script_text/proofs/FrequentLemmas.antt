@@ -1,17 +1,20 @@
 -- Appends, syncs, pulls and trims, cut at their first spaces, are read as their lines are.
-use Rattle.std.proofs.Common.{◌≡◌, ℕ, zero, suc, ◌<◌, ◌++◌, true, false, eqb, List, [], ◌∷◌, length, get_or, Option, Some, None, Result, Ok, Err, codes, refl, ◌∙◌, arith}
+use Rattle.std.proofs.Common.{◌≡◌, ◌≢◌, ℕ, zero, suc, ◌<◌, ◌++◌, true, false, eqb, List, [], ◌∷◌, length, get_or, Option, Some, None, Result, Ok, Err, refl, ◌∙◌, arith}
 use Rattle.std.specs.List.{list_all}
 use Rattle.std.proofs.lemmas.Bool.{and_parts, ne_eqb}
 use Rattle.std.specs.declared.alloc.AllocError.{AllocError}
-use Rattle.std.specs.Option.{IfSome}
+use Rattle.std.specs.Borrow.{Bor}
+use Rattle.std.specs.Option.{IfSome, MatchOption}
 use Rattle.std.specs.Result.{IfOk}
 use Rattle.log_node.specs.declared.ids.Colours.{Colours}
 use Rattle.script_text.specs.declared.script.What.{What}
 use Rattle.script_text.specs.declared.script.What.TheVariants as whats
 use Rattle.script_text.specs.declared.script.Reason.TheVariants as reasons
+use Rattle.script_text.specs.declared.script.Word.TheVariants as words
 use Rattle.script_text.specs.declared.item.Item.TheVariants as items
 use Rattle.script_text.specs.declared.known.Known.{Known}
 use Rattle.script_text.specs.Pieces.{fields_of, names_in, is_ascii_line, is_between, is_text}
+use Rattle.script_text.specs.Words.{word_text}
 use Rattle.script_text.specs.Items.{is_begun}
 use Rattle.script_text.specs.Grammar.{is_passed_over}
 use Rattle.script_text.specs.Readings.{with_one, with_two, colours_set_at, number_at, text_at}
@@ -44,6 +47,13 @@ first_full bytes first rest fields ascii some full = record {
 
 pub append_full : (args cols text : List ℕ) → fields_of args ≡ cols ∷ fields_of text → is_ascii_line args ≡ is_ascii_line text → 0 < length cols → is_text text ≡ true → IsFull args
 append_full args cols text fields ascii some h = first_full args cols text fields ascii some (last_full text (text_front text h) (text_full text h))
+
+-- ---- the word
+
+pub stripped : (bytes word : List ℕ) (found : Option (Bor (List ℕ))) → MatchOption found ((rest : List ℕ) → bytes ≢ word ++ rest) (λ x. bytes ≡ word ++ x.now)
+    → IfSome found (λ rest. bytes ≡ word ++ rest.now)
+stripped bytes word (Some x) m = m
+stripped bytes word None m = tt
 
 -- ---- what is asked for
 
@@ -108,26 +118,26 @@ pull_asked known args what full read = record {
   asks = λ client. pull_is known client (fields_of args) ∙ read;
 }
 
-pub found_append : (known : Known) (bytes args : List ℕ) (found : Result (Option What) AllocError) → bytes ≡ codes "append " ++ args
+pub found_append : (known : Known) (bytes args : List ℕ) (found : Result (Option What) AllocError) → bytes ≡ word_text words.Append ++ 32 ∷ args
     → IfOk found (λ f. IfSome f (λ what. IsFull args)) → IfOk found (λ f. IfSome f (λ what. with_two (append_at known) (fields_of args) ≡ Ok what))
     → IfOk found (λ f. IfSome f (λ what. IsAsked known bytes what))
 found_append known bytes args (Ok (Some what)) cut full read = rw cut (append_asked known args what full read)
 found_append known bytes args (Ok None) cut full read = tt
 found_append known bytes args (Err e) cut full read = tt
 
-pub found_sync : (known : Known) (bytes field : List ℕ) (found : Option What) → bytes ≡ codes "sync " ++ field
+pub found_sync : (known : Known) (bytes field : List ℕ) (found : Option What) → bytes ≡ word_text words.Sync ++ 32 ∷ field
     → IfSome found (λ what. IsFull field) → IfSome found (λ what. with_one (sync_at known) (fields_of field) ≡ Ok what)
     → IfSome found (λ what. IsAsked known bytes what)
 found_sync known bytes field (Some what) cut full read = rw cut (sync_asked known field what full read)
 found_sync known bytes field None cut full read = tt
 
-pub found_trim : (known : Known) (bytes field : List ℕ) (found : Option What) → bytes ≡ codes "trim " ++ field
+pub found_trim : (known : Known) (bytes field : List ℕ) (found : Option What) → bytes ≡ word_text words.Trim ++ 32 ∷ field
     → IfSome found (λ what. IsFull field) → IfSome found (λ what. with_one (trim_at known) (fields_of field) ≡ Ok what)
     → IfSome found (λ what. IsAsked known bytes what)
 found_trim known bytes field (Some what) cut full read = rw cut (trim_asked known field what full read)
 found_trim known bytes field None cut full read = tt
 
-pub found_pull : (known : Known) (bytes args : List ℕ) (found : Option What) → bytes ≡ codes "pull " ++ args
+pub found_pull : (known : Known) (bytes args : List ℕ) (found : Option What) → bytes ≡ word_text words.Pull ++ 32 ∷ args
     → IfSome found (λ what. IsFull args) → IfSome found (λ what. with_two (pull_at known) (fields_of args) ≡ Ok what)
     → IfSome found (λ what. IsAsked known bytes what)
 found_pull known bytes args (Some what) cut full read = rw cut (pull_asked known args what full read)

@@ -1,8 +1,9 @@
 // Appends, syncs, pulls and trims, which are most of a script, read with no list of their fields. What is not found here
 // is for `line_of`.
-ghost use Rattle.std.specs.Prelude.{◌≡◌, ◌≤◌, ◌<◌, ◌∷◌, ◌++◌, codes, Ok, Some, IfOk, IfSome, length};
+ghost use Rattle.std.specs.Prelude.{◌≡◌, ◌≤◌, ◌<◌, ◌∷◌, ◌++◌, Ok, Some, IfOk, IfSome, length};
 ghost use Rattle.script_text.specs.declared.item.Item.TheVariants.{Asks};
 ghost use Rattle.script_text.specs.Pieces.{fields_of, is_ascii_line};
+ghost use Rattle.script_text.specs.Words.{word_text};
 ghost use Rattle.script_text.specs.Items.{is_begun};
 ghost use Rattle.script_text.specs.Known.{IsSmall, IsPlain};
 ghost use Rattle.script_text.specs.Readings.{with_one, with_two};
@@ -15,7 +16,7 @@ use crate::known::Known;
 use crate::line::is_passed_over;
 use crate::names::colour_set;
 use crate::pieces::{behind, is_text, short_front};
-use crate::script::{Command, What};
+use crate::script::{Command, What, Word};
 use log_node::Text;
 use std::alloc::{AllocError, Global};
 
@@ -118,46 +119,21 @@ fn pull(known: &Known, args: &[u8]) -> Option<What>
     }
 }
 
-// The bytes behind the word of an append.
+// The bytes behind a word.
 #[inline(always)]
-fn after_append(bytes: &[u8]) -> Option<&[u8]>
-    ensures { IfSome result (λ args. bytes.now ≡ codes "append " ++ args.now) }
+fn behind_word(word: Word, bytes: &[u8]) -> Option<&[u8]>
+    ensures { IfSome result (λ rest. bytes.now ≡ word_text word ++ rest.now) }
 {
-    match bytes {
-        [b'a', b'p', b'p', b'e', b'n', b'd', b' ', args @ ..] => Some(args),
-        _ => None,
-    }
+    bytes.strip_prefix(word.as_bytes())
 }
 
-// The bytes behind the word of a sync.
+// The bytes behind a word and its space.
 #[inline(always)]
-fn after_sync(bytes: &[u8]) -> Option<&[u8]>
-    ensures { IfSome result (λ field. bytes.now ≡ codes "sync " ++ field.now) }
+fn after(word: Word, bytes: &[u8]) -> Option<&[u8]>
+    ensures { IfSome result (λ args. bytes.now ≡ word_text word ++ 32 ∷ args.now) }
 {
-    match bytes {
-        [b's', b'y', b'n', b'c', b' ', field @ ..] => Some(field),
-        _ => None,
-    }
-}
-
-// The bytes behind the word of a pull.
-#[inline(always)]
-fn after_pull(bytes: &[u8]) -> Option<&[u8]>
-    ensures { IfSome result (λ args. bytes.now ≡ codes "pull " ++ args.now) }
-{
-    match bytes {
-        [b'p', b'u', b'l', b'l', b' ', args @ ..] => Some(args),
-        _ => None,
-    }
-}
-
-// The bytes behind the word of a trim.
-#[inline(always)]
-fn after_trim(bytes: &[u8]) -> Option<&[u8]>
-    ensures { IfSome result (λ field. bytes.now ≡ codes "trim " ++ field.now) }
-{
-    match bytes {
-        [b't', b'r', b'i', b'm', b' ', field @ ..] => Some(field),
+    match behind_word(word, bytes) {
+        Some([b' ', args @ ..]) => Some(args),
         _ => None,
     }
 }
@@ -168,10 +144,10 @@ fn moved(known: &Known, bytes: &[u8]) -> Option<What>
     ensures asked { IfSome result (λ what. IsAsked known.now bytes.now what) }
     ensures plain { IfSome result IsPlain }
 {
-    if let Some(args) = after_pull(bytes) {
+    if let Some(args) = after(Word::Pull, bytes) {
         return pull(known, args);
     }
-    match after_trim(bytes) {
+    match after(Word::Trim, bytes) {
         Some(field) => trim(known, field),
         None => None,
     }
@@ -184,10 +160,10 @@ fn asked(alloc: Global, known: &Known, bytes: &[u8]) -> Result<Option<What>, All
     ensures asked { IfOk result (λ found. IfSome found (λ what. IsAsked known.now bytes.now what)) }
     ensures plain { IfOk result (λ found. IfSome found IsPlain) }
 {
-    if let Some(args) = after_append(bytes) {
+    if let Some(args) = after(Word::Append, bytes) {
         return append(alloc, known, args);
     }
-    match after_sync(bytes) {
+    match after(Word::Sync, bytes) {
         Some(field) => Ok(sync(known, field)),
         None => Ok(moved(known, bytes)),
     }
