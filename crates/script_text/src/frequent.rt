@@ -15,7 +15,7 @@ use crate::item::Stage;
 use crate::known::Known;
 use crate::line::is_passed_over;
 use crate::names::colour_set;
-use crate::pieces::{behind, is_text, short_front};
+use crate::pieces::{behind, is_text, visible_front};
 use crate::script::{Command, What, Word};
 use log_node::Text;
 use std::alloc::{AllocError, Global};
@@ -27,7 +27,7 @@ fn first_field(bytes: &[u8]) -> Option<(&[u8], &[u8])>
     ensures ascii { IfSome result (λ cut. is_ascii_line bytes.now ≡ is_ascii_line cut.1.now) }
     ensures full { IfSome result (λ cut. 0 < length cut.0.now) }
 {
-    let end = short_front(bytes);
+    let end = visible_front(bytes);
     if end == 0 || end >= bytes.len() {
         return None;
     }
@@ -67,7 +67,7 @@ fn sync(known: &Known, field: &[u8]) -> Option<What>
     ensures what { IfSome result (λ what. with_one (sync_at known.now) (fields_of field.now) ≡ Ok what) }
     ensures plain { IfSome result IsPlain }
 {
-    let end = short_front(field);
+    let end = visible_front(field);
     if end == 0 || end < field.len() {
         return None;
     }
@@ -85,7 +85,7 @@ fn trim(known: &Known, field: &[u8]) -> Option<What>
     ensures what { IfSome result (λ what. with_one (trim_at known.now) (fields_of field.now) ≡ Ok what) }
     ensures plain { IfSome result IsPlain }
 {
-    let end = short_front(field);
+    let end = visible_front(field);
     if end == 0 || end < field.len() {
         return None;
     }
@@ -106,7 +106,7 @@ fn pull(known: &Known, args: &[u8]) -> Option<What>
     let Some((name, field)) = first_field(args) else {
         return None;
     };
-    let end = short_front(field);
+    let end = visible_front(field);
     if end == 0 || end < field.len() {
         return None;
     }

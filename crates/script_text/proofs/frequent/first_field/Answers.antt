@@ -5,15 +5,15 @@ use Rattle.script_text.proofs.frequent.first_field.Goals as goal
 pub returns-clause-fields : goal.returns-clause-fields
 returns-clause-fields c =
     let bs = c.args.bytes.now in
-    let i = c.short_front-end.result in
+    let i = c.visible_front-end.result in
     let lt : i < length bs = omega (arith, c.if-end-bytes.false) in
     let here : get_or bs i 0 ≡ 32 = omega (arith, c.if-bytes-end-ne32.false) in
-    rw c.behind.ensures (cut_at bs i lt c.short_front-end.ensures.front here).0
+    rw c.behind.ensures (cut_at bs i lt c.visible_front-end.ensures.front here).0
 
 pub returns-clause-ascii : goal.returns-clause-ascii
 returns-clause-ascii c =
     let bs = c.args.bytes.now in
-    let i = c.short_front-end.result in
+    let i = c.visible_front-end.result in
     let lt : i < length bs = omega (arith, c.if-end-bytes.false) in
     let here : get_or bs i 0 ≡ 32 = omega (arith, c.if-bytes-end-ne32.false) in
-    rw c.behind.ensures (cut_at bs i lt c.short_front-end.ensures.front here).1
+    rw c.behind.ensures (cut_at bs i lt c.visible_front-end.ensures.front here).1

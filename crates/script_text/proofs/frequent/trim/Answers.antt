@@ -6,11 +6,11 @@ use Rattle.script_text.proofs.frequent.trim.Goals as goal
 pub returns-in-Ok-clause-full : goal.returns-in-Ok-clause-full
 returns-in-Ok-clause-full c =
     let field = c.args.field.now in
-    let whole : c.short_front-end.result ≡ length field = omega (arith, c.short_front-end.ensures.within, c.if-end-field.false) in
-    last_full field (rw whole at c.short_front-end.ensures.front) (ne_eqb (length field) 0 (λ e. absurd (omega (arith, e, whole, c.if-end-eq0.false))))
+    let whole : c.visible_front-end.result ≡ length field = omega (arith, c.visible_front-end.ensures.within, c.if-end-field.false) in
+    last_full field (rw whole at c.visible_front-end.ensures.front) (ne_eqb (length field) 0 (λ e. absurd (omega (arith, e, whole, c.if-end-eq0.false))))
 
 pub returns-in-Ok-clause-what : goal.returns-in-Ok-clause-what
 returns-in-Ok-clause-what c =
     let field = c.args.field.now in
-    let whole : c.short_front-end.result ≡ length field = omega (arith, c.short_front-end.ensures.within, c.if-end-field.false) in
-    trim_read c.args.known.now field c.in-Ok.colour (rw whole at c.short_front-end.ensures.front) c.in-Ok.ensures
+    let whole : c.visible_front-end.result ≡ length field = omega (arith, c.visible_front-end.ensures.within, c.if-end-field.false) in
+    trim_read c.args.known.now field c.in-Ok.colour (rw whole at c.visible_front-end.ensures.front) c.in-Ok.ensures
