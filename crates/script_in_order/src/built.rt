@@ -13,13 +13,24 @@ fn has_colours(count: usize, colours: Colours) -> bool
     count <= colours.count()
 }
 
+// Whether a set has a colour: its first is found sooner than all are counted.
+fn has_one(colours: Colours) -> bool
+    ensures { result ≡ has_colours 1 colours }
+{
+    let _bits = colours.0;
+    match colours.first() {
+        Some(_) => true,
+        None => false,
+    }
+}
+
 /// Whether a command is one of those that are done: an append to any number of colours, a stop of an append to several,
 /// a sync, a pull and a trim.
 pub fn is_built(what: &What) -> bool
     ensures { result ≡ is_built what.now }
 {
     match what {
-        What::Append { colours, .. } => has_colours(1, *colours),
+        What::Append { colours, .. } => has_one(*colours),
         What::Stop { colours, .. } => has_colours(2, *colours),
         What::Sync { .. } => true,
         What::Scan { .. } => false,
