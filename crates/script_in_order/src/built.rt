@@ -25,7 +25,7 @@ fn has_one(colours: Colours) -> bool
 }
 
 /// Whether a command is one of those that are done: an append to any number of colours, a stop of an append to several,
-/// a sync, a pull and a trim.
+/// a sync, a pull, a trim, and what appends for an object: a put, a deletion, several puts at once and an enqueue.
 pub fn is_built(what: &What) -> bool
     ensures { result ≡ is_built what.now }
 {
@@ -36,14 +36,14 @@ pub fn is_built(what: &What) -> bool
         What::Scan { .. } => false,
         What::Pull { .. } => true,
         What::Trim { .. } => true,
-        What::Put { .. } => false,
+        What::Put { .. } => true,
         What::Get { .. } => false,
-        What::Del { .. } => false,
-        What::PutAll { .. } => false,
+        What::Del { .. } => true,
+        What::PutAll { .. } => true,
         What::GetAll { .. } => false,
         What::Read { .. } => false,
         What::Commit { .. } => false,
-        What::Enq { .. } => false,
+        What::Enq { .. } => true,
         What::Deq { .. } => false,
     }
 }
