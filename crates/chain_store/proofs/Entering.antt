@@ -236,6 +236,11 @@ module _ (column new : ColumnState) (t : Told) (node : Node) (brought : t.nodes 
           has.0,
           ap (λ (cs : List (List PlacedNode)). slice_get (slice_index_or cs region []) has.0) (sym h.copies) ∙ has.1,
         ));
+    stamped = λ region item has.
+        g.stamped region item (
+          has.0,
+          ap (λ (cs : List (List PlacedNode)). slice_get (slice_index_or cs region []) has.0) (sym h.copies) ∙ has.1,
+        );
   } where
     brought_there : (e : Event) (nodes : List Node) → Brings column.region column.colour e nodes
         → Brings new.region new.colour e nodes

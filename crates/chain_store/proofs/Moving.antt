@@ -6,6 +6,7 @@ use Rattle.std.specs.Option.{option_map}
 use Rattle.std.proofs.lemmas.Bool.{cases_eq, ltb-true, ltb-false}
 use Rattle.std.proofs.lemmas.List.{get_or-set_same, get_or-set_other}
 use Rattle.std.proofs.lemmas.Option.{slice_get_within, slice_get-map, get_or_from_slice_get}
+use Rattle.log_node.specs.declared.limits.TheConstants.{MAX_STAMP}
 use Rattle.log_node.specs.declared.ids.Id.{Id}
 use Rattle.log_node.specs.declared.ids.Key.{Key}
 use Rattle.log_node.specs.declared.ids.Row.{Row}
@@ -79,7 +80,8 @@ pub record HasMoved (column new : ColumnState) (t : Told) : Type 0 where
   pub newest : newest_nodes new t.entry.event ≡ t.nodes
   pub stored : (key : Key) (node : Node) → HasStored new key node → HasStored column key node
   pub carried : (region : ℕ) (item : PlacedNode) → HasCarried new region item
-      → HasCarried column region item ⊎ (Contains t.nodes item.node × (item.node.id ≡ item.head.key.id))
+      → HasCarried column region item
+      ⊎ (Contains t.nodes item.node × (item.node.id ≡ item.head.key.id) × (item.head.key.stamp ≤ MAX_STAMP))
 
 module _ (column new : ColumnState) (t : Told) (h : HasMoved column new t) where
   pub moved_newest : newest_in new ≡ Some t
@@ -119,6 +121,10 @@ module _ (column new : ColumnState) (t : Told) (h : HasMoved column new t) where
         brought = new.0;
         of_id = new.1;
       }
+    ];
+    stamped = λ region item has. elim (h.carried region item has) [
+      | inl old ↦ g.stamped region item old
+      | inr new ↦ new.2
     ];
   } where
     brought_there : (e : Event) (nodes : List Node) → Brings column.region column.colour e nodes
@@ -213,7 +219,11 @@ carries column new by region (first ∷ rest) is some within heads = record {
               | inl old ↦
                   inl (subst (λ (r : ℕ). HasCarried column r item) (sym same) (g.0, old))
               | inr new ↦
-                  inr (contained (λ (i : PlacedNode). i.node) items new.0 item new.1, heads new.0 item new.1)
+                  inr (
+                    contained (λ (i : PlacedNode). i.node) items new.0 item new.1,
+                    (heads new.0 item new.1).0,
+                    (heads new.0 item new.1).1,
+                  )
             ]
         | inr differ ↦
             inl (
@@ -242,7 +252,7 @@ pub ids_of_heads : (items : List PlacedNode) → OfTheirHeads items
     ≡ map (λ (h : Head). h.key.id) (map (λ (i : PlacedNode). i.head) items)
 ids_of_heads [] heads = refl
 ids_of_heads (i ∷ is) heads =
-    ap (λ (x : Id). x ∷ map (λ (n : Node). n.id) (map (λ (j : PlacedNode). j.node) is)) (heads 0 i refl)
+    ap (λ (x : Id). x ∷ map (λ (n : Node). n.id) (map (λ (j : PlacedNode). j.node) is)) (heads 0 i refl).0
     ∙ ap (λ (l : List Id). i.head.key.id ∷ l) (ids_of_heads is (λ n j at. heads (suc n) j at))
 
 -- What a column beside its seat gains, or that it stays, by its parts.

@@ -97,6 +97,7 @@ shows_history s t log from view stands is v =
         | inr other ↦
             stands.0.carried region i ((v.items region lt).carried other n i e)
       ];
+      stamped = λ region n i lt other e. stands.0.stamped region i ((v.items region lt).carried other n i e);
     }) where
       map_long : (l : List Told) → length (entries_in l) ≡ length l
       map_long [] = refl
