@@ -14,3 +14,4 @@ mod TrulyPulled
 mod EndsLog
 mod EndsRows
 mod Endings
+mod EndsClients

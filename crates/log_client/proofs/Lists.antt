@@ -1,5 +1,5 @@
 -- Items of lists by place, and how many of them pass a test.
-use Rattle.std.proofs.Common.{◌≡◌, ℕ, zero, suc, ◌+◌, ◌<◌, ◌≤◌, List, [], ◌∷◌, ◌++◌, length, map, take, drop, Some, None, slice_get, Bool, true, false, cond, refl, ap, sym, subst, ◌∙◌, inl, inr, ◌⊎◌, arith}
+use Rattle.std.proofs.Common.{◌≡◌, ◌≢◌, ℕ, zero, suc, ◌+◌, ◌<◌, ◌≤◌, List, [], ◌∷◌, ◌++◌, length, map, set, take, drop, Some, None, slice_get, Bool, true, false, cond, refl, ap, sym, subst, ◌∙◌, inl, inr, ◌⊎◌, arith}
 use Rattle.std.specs.List.{filter}
 use Rattle.std.proofs.lemmas.Option.{same_Some}
 use mathlib.Core.List.{IsPrefix}
@@ -18,6 +18,19 @@ module _ {A : Type 0} where
   pub got_last : (xs : List A) (x : A) → slice_get (xs ++ x ∷ []) (length xs) ≡ Some x
   got_last [] x = refl
   got_last (y ∷ xs) x = got_last xs x
+
+  -- an item that was set, and the others
+  pub set_here : (xs : List A) (i : ℕ) (x y : A) → slice_get xs i ≡ Some y → slice_get (set xs i x) i ≡ Some x
+  set_here [] i x y e = absurd cc
+  set_here (z ∷ xs) zero x y e = refl
+  set_here (z ∷ xs) (suc i) x y e = set_here xs i x y e
+
+  pub set_there : (xs : List A) (i k : ℕ) (x : A) → k ≢ i → slice_get (set xs i x) k ≡ slice_get xs k
+  set_there [] i k x n = refl
+  set_there (y ∷ xs) zero zero x n = absurd (n refl)
+  set_there (y ∷ xs) zero (suc k) x n = refl
+  set_there (y ∷ xs) (suc i) zero x n = refl
+  set_there (y ∷ xs) (suc i) (suc k) x n = set_there xs i k x (λ e. n (ap suc e))
 
   -- an item behind the beginning
   pub got_behind : (xs more : List A) (n : ℕ) (x : A) → length xs ≤ n → slice_get (xs ++ more) n ≡ Some x
