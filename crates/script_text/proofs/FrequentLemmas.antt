@@ -19,7 +19,7 @@ use Rattle.script_text.specs.Items.{is_begun}
 use Rattle.script_text.specs.Grammar.{is_passed_over}
 use Rattle.script_text.specs.Readings.{with_one, with_two, colours_set_at, number_at, text_at}
 use Rattle.script_text.specs.CommandReadings.{append_at, sync_at, trim_at, pull_at, asked_at, worded_at, caller_at, command_at}
-use Rattle.script_text.specs.LineReadings.{IsFull, IsAsked, item_at, full_item_at, said_at, line_at}
+use Rattle.script_text.specs.LineReadings.{IsWellCut, IsAsked, item_at, full_item_at, said_at, line_at}
 use Rattle.script_text.proofs.PieceLemmas.{IsVisibleFront, cut_whole}
 use Rattle.script_text.proofs.FullLaws.{is_empty, text_full}
 use Rattle.script_text.proofs.DirectLaws.{append_is, sync_is, trim_is, pull_is}
@@ -31,7 +31,7 @@ visible_at [] k h lt = absurd (omega arith)
 visible_at (b ∷ bs) zero h lt = (and_parts (is_between 33 126 b) (list_all (is_between 33 126) bs) h).0
 visible_at (b ∷ bs) (suc k) h lt = visible_at bs k (and_parts (is_between 33 126 b) (list_all (is_between 33 126) bs) h).1 (omega arith)
 
-pub last_full : (bs : List ℕ) → IsVisibleFront bs (length bs) → is_empty bs ≡ false → IsFull bs
+pub last_full : (bs : List ℕ) → IsVisibleFront bs (length bs) → is_empty bs ≡ false → IsWellCut bs
 last_full bs front some =
     let whole = cut_whole bs front in
     record { ascii = whole.1; full = rw (whole.0, some) refl }
@@ -39,13 +39,13 @@ last_full bs front some =
 text_front : (text : List ℕ) → is_text text ≡ true → IsVisibleFront text (length text)
 text_front text h k lt = visible_at text k (and_parts (is_between 1 200 (length text)) (list_all (is_between 33 126) text) h).1 lt
 
-pub first_full : (bytes first rest : List ℕ) → fields_of bytes ≡ first ∷ fields_of rest → is_ascii_line bytes ≡ is_ascii_line rest → 0 < length first → IsFull rest → IsFull bytes
+pub first_full : (bytes first rest : List ℕ) → fields_of bytes ≡ first ∷ fields_of rest → is_ascii_line bytes ≡ is_ascii_line rest → 0 < length first → IsWellCut rest → IsWellCut bytes
 first_full bytes first rest fields ascii some full = record {
   ascii = ascii ∙ full.ascii;
   full = rw (fields, ne_eqb (length first) 0 (λ e. absurd (omega (arith, some, e))), full.full) refl;
 }
 
-pub append_full : (args cols text : List ℕ) → fields_of args ≡ cols ∷ fields_of text → is_ascii_line args ≡ is_ascii_line text → 0 < length cols → is_text text ≡ true → IsFull args
+pub append_full : (args cols text : List ℕ) → fields_of args ≡ cols ∷ fields_of text → is_ascii_line args ≡ is_ascii_line text → 0 < length cols → is_text text ≡ true → IsWellCut args
 append_full args cols text fields ascii some h = first_full args cols text fields ascii some (last_full text (text_front text h) (text_full text h))
 
 -- ---- the word
@@ -86,7 +86,7 @@ pull_read known args name field region colour fields front there read =
     let whole = cut_whole field front in
     rw (fields, whole.0, there, read) refl
 
-append_asked : (known : Known) (args : List ℕ) (what : What) → IsFull args → with_two (append_at known) (fields_of args) ≡ Ok what
+append_asked : (known : Known) (args : List ℕ) (what : What) → IsWellCut args → with_two (append_at known) (fields_of args) ≡ Ok what
     → IsAsked known (97 ∷ 112 ∷ 112 ∷ 101 ∷ 110 ∷ 100 ∷ 32 ∷ args) what
 unfolding asked_at worded_at
 append_asked known args what full read = record {
@@ -94,7 +94,7 @@ append_asked known args what full read = record {
   asks = λ client. append_is known client (fields_of args) ∙ read;
 }
 
-sync_asked : (known : Known) (field : List ℕ) (what : What) → IsFull field → with_one (sync_at known) (fields_of field) ≡ Ok what
+sync_asked : (known : Known) (field : List ℕ) (what : What) → IsWellCut field → with_one (sync_at known) (fields_of field) ≡ Ok what
     → IsAsked known (115 ∷ 121 ∷ 110 ∷ 99 ∷ 32 ∷ field) what
 unfolding asked_at worded_at
 sync_asked known field what full read = record {
@@ -102,7 +102,7 @@ sync_asked known field what full read = record {
   asks = λ client. sync_is known client (fields_of field) ∙ read;
 }
 
-trim_asked : (known : Known) (field : List ℕ) (what : What) → IsFull field → with_one (trim_at known) (fields_of field) ≡ Ok what
+trim_asked : (known : Known) (field : List ℕ) (what : What) → IsWellCut field → with_one (trim_at known) (fields_of field) ≡ Ok what
     → IsAsked known (116 ∷ 114 ∷ 105 ∷ 109 ∷ 32 ∷ field) what
 unfolding asked_at worded_at
 trim_asked known field what full read = record {
@@ -110,7 +110,7 @@ trim_asked known field what full read = record {
   asks = λ client. trim_is known client (fields_of field) ∙ read;
 }
 
-pull_asked : (known : Known) (args : List ℕ) (what : What) → IsFull args → with_two (pull_at known) (fields_of args) ≡ Ok what
+pull_asked : (known : Known) (args : List ℕ) (what : What) → IsWellCut args → with_two (pull_at known) (fields_of args) ≡ Ok what
     → IsAsked known (112 ∷ 117 ∷ 108 ∷ 108 ∷ 32 ∷ args) what
 unfolding asked_at worded_at
 pull_asked known args what full read = record {
@@ -119,26 +119,26 @@ pull_asked known args what full read = record {
 }
 
 pub found_append : (known : Known) (bytes args : List ℕ) (found : Result (Option What) AllocError) → bytes ≡ word_text words.Append ++ 32 ∷ args
-    → IfOk found (λ f. IfSome f (λ what. IsFull args)) → IfOk found (λ f. IfSome f (λ what. with_two (append_at known) (fields_of args) ≡ Ok what))
+    → IfOk found (λ f. IfSome f (λ what. IsWellCut args)) → IfOk found (λ f. IfSome f (λ what. with_two (append_at known) (fields_of args) ≡ Ok what))
     → IfOk found (λ f. IfSome f (λ what. IsAsked known bytes what))
 found_append known bytes args (Ok (Some what)) cut full read = rw cut (append_asked known args what full read)
 found_append known bytes args (Ok None) cut full read = tt
 found_append known bytes args (Err e) cut full read = tt
 
 pub found_sync : (known : Known) (bytes field : List ℕ) (found : Option What) → bytes ≡ word_text words.Sync ++ 32 ∷ field
-    → IfSome found (λ what. IsFull field) → IfSome found (λ what. with_one (sync_at known) (fields_of field) ≡ Ok what)
+    → IfSome found (λ what. IsWellCut field) → IfSome found (λ what. with_one (sync_at known) (fields_of field) ≡ Ok what)
     → IfSome found (λ what. IsAsked known bytes what)
 found_sync known bytes field (Some what) cut full read = rw cut (sync_asked known field what full read)
 found_sync known bytes field None cut full read = tt
 
 pub found_trim : (known : Known) (bytes field : List ℕ) (found : Option What) → bytes ≡ word_text words.Trim ++ 32 ∷ field
-    → IfSome found (λ what. IsFull field) → IfSome found (λ what. with_one (trim_at known) (fields_of field) ≡ Ok what)
+    → IfSome found (λ what. IsWellCut field) → IfSome found (λ what. with_one (trim_at known) (fields_of field) ≡ Ok what)
     → IfSome found (λ what. IsAsked known bytes what)
 found_trim known bytes field (Some what) cut full read = rw cut (trim_asked known field what full read)
 found_trim known bytes field None cut full read = tt
 
 pub found_pull : (known : Known) (bytes args : List ℕ) (found : Option What) → bytes ≡ word_text words.Pull ++ 32 ∷ args
-    → IfSome found (λ what. IsFull args) → IfSome found (λ what. with_two (pull_at known) (fields_of args) ≡ Ok what)
+    → IfSome found (λ what. IsWellCut args) → IfSome found (λ what. with_two (pull_at known) (fields_of args) ≡ Ok what)
     → IfSome found (λ what. IsAsked known bytes what)
 found_pull known bytes args (Some what) cut full read = rw cut (pull_asked known args what full read)
 found_pull known bytes args None cut full read = tt

@@ -39,13 +39,13 @@ said_at known number line =
     if is_passed_over (number, line) then Ok None else full_item_at known number (fields_of line) >>= λ item. Ok (Some item)
 
 -- bytes that a line may have, with no empty field among them
-pub record IsFull (bytes : List ℕ) : Type 0 where
+pub record IsWellCut (bytes : List ℕ) : Type 0 where
   pub ascii : is_ascii_line bytes ≡ true
   pub full : list_any (λ (field : List ℕ). length field == 0) (fields_of bytes) ≡ false
 
 -- these bytes, behind a client's name, ask for this
 pub record IsAsked (known : Known) (bytes : List ℕ) (what : What) : Type 0 where
-  pub whole : IsFull bytes
+  pub whole : IsWellCut bytes
   pub asks : (client : ℕ) → asked_at known client (fields_of bytes) ≡ Ok what
 
 unfoldable pub line_at : Known → ℕ → List ℕ → Result (Option Item) Reason

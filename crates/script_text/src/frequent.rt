@@ -8,7 +8,7 @@ ghost use Rattle.script_text.specs.Items.{is_begun};
 ghost use Rattle.script_text.specs.Known.{IsSmall, IsPlain};
 ghost use Rattle.script_text.specs.Readings.{with_one, with_two};
 ghost use Rattle.script_text.specs.CommandReadings.{append_at, pull_at, sync_at, trim_at};
-ghost use Rattle.script_text.specs.LineReadings.{IsFull, IsAsked, line_at};
+ghost use Rattle.script_text.specs.LineReadings.{IsWellCut, IsAsked, line_at};
 
 use crate::command::caller;
 use crate::item::Stage;
@@ -41,7 +41,7 @@ fn first_field(bytes: &[u8]) -> Option<(&[u8], &[u8])>
 #[inline(always)]
 fn append(alloc: Global, known: &Known, args: &[u8]) -> Result<Option<What>, AllocError>
     requires { IsSmall known.now }
-    ensures full { IfOk result (λ found. IfSome found (λ what. IsFull args.now)) }
+    ensures full { IfOk result (λ found. IfSome found (λ what. IsWellCut args.now)) }
     ensures what { IfOk result (λ found. IfSome found (λ what.
         with_two (append_at known.now) (fields_of args.now) ≡ Ok what)) }
     ensures plain { IfOk result (λ found. IfSome found IsPlain) }
@@ -63,7 +63,7 @@ fn append(alloc: Global, known: &Known, args: &[u8]) -> Result<Option<What>, All
 #[inline(always)]
 fn sync(known: &Known, field: &[u8]) -> Option<What>
     requires { IsSmall known.now }
-    ensures full { IfSome result (λ what. IsFull field.now) }
+    ensures full { IfSome result (λ what. IsWellCut field.now) }
     ensures what { IfSome result (λ what. with_one (sync_at known.now) (fields_of field.now) ≡ Ok what) }
     ensures plain { IfSome result IsPlain }
 {
@@ -81,7 +81,7 @@ fn sync(known: &Known, field: &[u8]) -> Option<What>
 #[inline(always)]
 fn trim(known: &Known, field: &[u8]) -> Option<What>
     requires { IsSmall known.now }
-    ensures full { IfSome result (λ what. IsFull field.now) }
+    ensures full { IfSome result (λ what. IsWellCut field.now) }
     ensures what { IfSome result (λ what. with_one (trim_at known.now) (fields_of field.now) ≡ Ok what) }
     ensures plain { IfSome result IsPlain }
 {
@@ -99,7 +99,7 @@ fn trim(known: &Known, field: &[u8]) -> Option<What>
 #[inline(always)]
 fn pull(known: &Known, args: &[u8]) -> Option<What>
     requires { IsSmall known.now }
-    ensures full { IfSome result (λ what. IsFull args.now) }
+    ensures full { IfSome result (λ what. IsWellCut args.now) }
     ensures what { IfSome result (λ what. with_two (pull_at known.now) (fields_of args.now) ≡ Ok what) }
     ensures plain { IfSome result IsPlain }
 {

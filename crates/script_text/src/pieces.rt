@@ -166,6 +166,7 @@ fn is_same(field: &[u8], name: &[u8]) -> bool
 }
 
 /// The number of a name among these.
+#[inline(always)]
 pub fn number_of(names: &[Text], name: &[u8]) -> Option<u8>
     requires { length names.now ≤ 256 }
     ensures { result ≡ number_of names.now name.now }
