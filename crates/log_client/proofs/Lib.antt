@@ -1,0 +1,2 @@
+mod Greatest
+pub mod CallerLemmas
