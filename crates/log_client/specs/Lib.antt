@@ -1,6 +1,7 @@
 pub mod Regions
 pub mod Fits
 pub mod Ending
+pub mod Closing
 pub mod Clients
 pub mod Inside
 pub mod Calls
