@@ -10,4 +10,11 @@ mod Pulling
 mod Truly
 mod OwnNodes
 mod Greatest
+mod Shown
+mod Plays
+mod AtHome
+mod Staying
+mod Looked
+mod SyncReplies
+mod SyncCalls
 pub mod CallerLemmas

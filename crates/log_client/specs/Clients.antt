@@ -108,23 +108,24 @@ pub record AreRows (number : ℕ) (home : Hold) (rows : List Node) : Type 0 wher
   pub many : length rows ≡ home.seat.used
   pub begun : (j : ℕ) (x : Node) → slice_get rows j ≡ Some x → KnowsBegun (view_of home) (row_of number j) x
 
--- The client rests beside the store: it has a hold of each region, all its own; it has used so many ids as it counts, by
--- singles and rows of its region alone; and what it has played was played of what it has seen.
+-- What the client has by its hold of its region: its next id is that which it counts, and so its count stays below 2 ^ 63;
+-- its rows are those that it has begun; and what it has played was played of what it has seen.
+pub record IsHome (c : Client) (home : Hold) : Type 0 where
+  pub next : home.next ≤ c.count
+  pub counted : c.count ≤ c.floor + home.seat.used
+  pub rows : AreRows c.number home (rows_of c)
+  pub tracks : (colour : ℕ) (track : Track) → slice_get (tracks_of c) colour ≡ Some track
+      → IsTrack c.region colour (seen_in home colour) track
+
+-- The client rests beside the store: it has a hold of each region, all its own, and begins rows in its region alone.
 pub record IsClient (s : Store) (c : Client) : Type 0 where
   pub holds : AreHoldsIn s.regions (holds_of c)
   pub numbers : (n : ℕ) (h : Hold) → slice_get (holds_of c) n ≡ Some h → h.passes.number ≡ c.number
-  -- it begins rows in its region alone
   pub away : (n : ℕ) (h : Hold) → slice_get (holds_of c) n ≡ Some h → n ≢ c.region → h.seat.used ≡ 0
-  pub home : Hold
-  pub at_home : slice_get (holds_of c) c.region ≡ Some home
-  pub next : home.next ≤ c.count
-  -- so its count stays below 2 ^ 63
-  pub counted : c.count ≤ c.floor + home.seat.used
+  pub region : c.region < length s.regions
+  pub home : (h : Hold) → slice_get (holds_of c) c.region ≡ Some h → IsHome c h
   pub floored : c.floor ≤ MAX_STAMP
-  pub rows : AreRows c.number home (rows_of c)
   pub colours : length (tracks_of c) ≡ s.size.colours
-  pub tracks : (colour : ℕ) (track : Track) → slice_get (tracks_of c) colour ≡ Some track
-      → IsTrack c.region colour (seen_in home colour) track
   -- the nodes that it appended, by count
   pub nodes : List Node
   pub nodes_count : length nodes ≡ c.count
