@@ -17,4 +17,5 @@ mod Staying
 mod Looked
 mod SyncReplies
 mod SyncCalls
+mod TrimReplies
 pub mod CallerLemmas

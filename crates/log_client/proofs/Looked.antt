@@ -1,12 +1,16 @@
 -- Calls at home by which nothing is made: what the client keeps stays.
-use Rattle.std.proofs.Common.{◌≡◌, ◌≢◌, ◌⊎◌, inl, inr, ℕ, ◌+◌, ◌<◌, ◌≤◌, List, [], ◌++◌, length, map, Option, Some, None, refl, ap, sym, subst, ◌∙◌, arith}
+use Rattle.std.proofs.Common.{◌≡◌, ◌≢◌, ◌⊎◌, inl, inr, ℕ, ◌+◌, ◌<◌, ◌≤◌, List, [], ◌++◌, length, map, Option, Some, None, refl, ap, sym, subst, ◌∙◌, arith, append-nil}
+use Rattle.std.proofs.lemmas.List.Elements.{All-contains}
+use Rattle.std.specs.List.{All}
 use Rattle.std.specs.Prelude.{slice_get}
 use Rattle.std.proofs.lemmas.Bool.{cases_eq}
 use Rattle.std.proofs.lemmas.Option.{same_Some}
 use Rattle.log_node.specs.declared.ids.Counts.{Counts}
 use Rattle.log_node.specs.declared.limits.TheConstants.{MAX_STAMP}
 use Rattle.log_node.specs.declared.node.Node.{Node}
+use Rattle.log_node.specs.declared.ids.Id.{Id}
 use Rattle.col_core.specs.declared.Event.{Event}
+use Rattle.col_core.specs.declared.Event.TheVariants.{Single, Propose, Settle, Raise, Give, Carry, Trim}
 use Rattle.col_core.specs.declared.Entry.{Entry}
 use Rattle.col_core.specs.Computed.{dated}
 use Rattle.col_core.specs.Legal.{IsColumnHistory}
@@ -20,7 +24,8 @@ use Rattle.chain_store.specs.declared.region.Region.{Region}
 use Rattle.chain_store.specs.Histories.{entries_in, maker}
 use Rattle.chain_store.specs.Holds.{IsHold, SameBut, SeesMoreIn, seen_in, made_in, turned_in, entries_seen, view_of}
 use Rattle.append_core.specs.Going.{GoesOn}
-use Rattle.append_core.proofs.CallerLemmas.{goes_same, looks_on}
+use Rattle.append_core.specs.Standing.{IsSingleOf}
+use Rattle.append_core.proofs.CallerLemmas.{goes_same, goes_weaken}
 use Rattle.lawful_run.specs.Callers.{Caller}
 use Rattle.client_law.specs.Knowing.{SeesOn}
 use Rattle.client_law.specs.Making.{MakesNone}
@@ -30,13 +35,15 @@ use Rattle.log_client.specs.declared.store.Store.{Store}
 use Rattle.log_client.specs.declared.client.Client.{Client}
 use Rattle.log_client.specs.declared.track.Track.{Track}
 use Rattle.log_client.specs.Fits.{HasGoneOn, HaveGoneOn, seen_by}
-use Rattle.log_client.specs.Ending.{IsNoMove, AreHoldsIn, PullsTruly}
+use Rattle.log_client.specs.Ending.{IsNoMove, AreHoldsIn, HasOwnNodes, PullsTruly}
 use Rattle.log_client.specs.Clients.{holds_of, seen_of, rows_of, tracks_of, starts_of, caller_of, IsClient, IsHome, IsTrack, AreRows, Keeps, Finished, AllClosed}
 use Rattle.log_client.specs.Calls.{DidNothing}
+use Rattle.col_core.proofs.CallerLemmas.{contains_in, slice_in}
+use Rattle.log_client.proofs.Lists.{got_split}
 use Rattle.log_client.proofs.Seeing.{are_lawful, seen_there}
 use Rattle.log_client.proofs.Steps.{made_nothing}
-use Rattle.log_client.proofs.Truly.{pulls_truly_stays}
-use Rattle.log_client.proofs.AtHome.{ChangesHome, home_after, as_many, by_hold, holds_after, sees_after, client_after, own_stays, are_regions}
+use Rattle.log_client.proofs.Truly.{WasMade, pulls_truly_stays}
+use Rattle.log_client.proofs.AtHome.{ChangesHome, home_after, as_many, by_hold, holds_after, sees_after, client_after, own_after, are_regions}
 use Rattle.log_client.proofs.Staying.{track_longer, rows_longer, all_closed_longer}
 
 -- a hold that looked at one colour's column made nothing
@@ -49,6 +56,44 @@ made_looked k g h but sees c = elim (cases_eq c k) [
       ap (λ (n : ℕ). made_by maker n (turned_in h c)) but.number
       ∙ ap (made_by maker g.passes.number) (but.others c ne)
 ]
+
+-- an event that enters no node as final, and moves none between regions
+abbrev pub IsPlain : Event → Type 0
+IsPlain (Single id floor wants) = ⊥
+IsPlain (Propose id floor wants) = Unit {0}
+IsPlain (Settle id outcome) = Unit {0}
+IsPlain (Raise to) = Unit {0}
+IsPlain (Give region from) = ⊥
+IsPlain (Carry region start heads) = ⊥
+IsPlain (Trim counts) = Unit {0}
+
+plain_moves : (e : Event) → IsPlain e → IsNoMove e
+plain_moves (Single id floor wants) p = absurd p
+plain_moves (Propose id floor wants) p = tt
+plain_moves (Settle id outcome) p = tt
+plain_moves (Raise to) p = tt
+plain_moves (Give region from) p = absurd p
+plain_moves (Carry region start heads) p = absurd p
+plain_moves (Trim counts) p = tt
+
+plain_single : (id : Id) (e : Event) → IsPlain e → IsSingleOf id e → ⊥
+plain_single id (Single other floor wants) p q = p
+plain_single id (Propose other floor wants) p q = q
+plain_single id (Settle other outcome) p q = q
+plain_single id (Raise to) p q = q
+plain_single id (Give region from) p q = q
+plain_single id (Carry region start heads) p q = q
+plain_single id (Trim counts) p q = q
+
+-- an entry that a hold made which goes on, it had made, or is one of those made since
+pub made_since : (Made : ℕ → Event → Type 0) (g h : Hold) (k n : ℕ) (t : Told) → GoesOn Made g h
+    → slice_get (made_in h k) n ≡ Some t → WasMade g k t ⊎ Made k t.entry.event
+made_since Made g h k n t goes at = elim (got_split (made_in g k) (goes.made k).0 n t
+    (ap (λ (l : List Told). slice_get l n) (sym (goes.made k).1) ∙ at)) [
+      | inl old ↦ inl (n, old)
+      | inr new ↦ inr (All-contains (λ (u : Told). Made k u.entry.event) (goes.made k).0 t (goes.made k).2
+          (contains_in (goes.made k).0 t (slice_in (goes.made k).0 new.0 t new.1)))
+    ]
 
 -- AT HOME
 
@@ -141,13 +186,28 @@ module _ (s : Store) (c d : Client) (r : Region) (g h : Hold) (is : IsClient s c
       pub did_nothing : DidNothing s c d
       did_nothing objects kept finished keeps = (kept, keeps_stay objects kept keeps, λ rest fits. refl)
 
-  -- a client that looked, and keeps what it had
-  pub client_looked : ((k : ℕ) → made_in h k ≡ made_in g k) → GoesOn (λ c e. IsNoMove e) g h → h.seat.used ≡ g.seat.used
+  -- the nodes that it appended are those that it had
+  pub own_plain : GoesOn (λ c e. IsPlain e) g h → h.seat.used ≡ g.seat.used → HasOwnNodes d.number (holds_of d) is.nodes
+  own_plain goes used =
+      subst (HasOwnNodes d.number (holds_of d)) (append-nil is.nodes)
+      (own_after s c d r g h is ch [] (λ n x at. is.own_nodes.ids n x
+      (ap (λ (l : List Node). slice_get l n) (sym (append-nil is.nodes)) ∙ at))
+      (record {
+        on = ch.on;
+        singles = λ k n t x at nodes single. elim (made_since (λ c e. IsPlain e) g h k n t goes at) [
+          | inl old ↦ inl old
+          | inr new ↦ absurd (plain_single x.id t.entry.event new single)
+        ];
+        rows = λ j lt. inl (omega (arith, lt, used));
+      }))
+
+  -- a client whose hold went on by plain events, and keeps what it had
+  pub client_looked : GoesOn (λ c e. IsPlain e) g h → h.seat.used ≡ g.seat.used
       → h.next ≡ g.next → c.floor ≤ d.floor → d.floor ≤ MAX_STAMP → d.count ≡ c.count → rows_of d ≡ rows_of c
       → length (tracks_of d) ≡ length (tracks_of c)
       → ((k : ℕ) (track : Track) → slice_get (tracks_of d) k ≡ Some track → IsTrack d.region k (seen_in h k) track)
       → IsClient s d
-  client_looked made goes used next floor floored count rows long tracks =
+  client_looked goes used next floor floored count rows long tracks =
       let before = is.home g ch.before in
       let low = before.next in
       let counted = before.counted in
@@ -158,5 +218,12 @@ module _ (s : Store) (c d : Client) (r : Region) (g h : Hold) (is : IsClient s c
         rows = rows_stay rows used;
         tracks = tracks;
       })
-      floored (long ∙ is.colours) is.nodes (is.nodes_count ∙ sym count) (own_stays s c d r g h is ch made used)
-      (pulls_stay goes)
+      floored (long ∙ is.colours) is.nodes (is.nodes_count ∙ sym count) (own_plain goes used)
+      (pulls_stay (goes_weaken (λ c e. IsPlain e) g h (λ c e. IsNoMove e) (λ c e p. plain_moves e p) goes))
+
+  -- its tracks stay
+  pub tracks_stay : tracks_of d ≡ tracks_of c
+      → (k : ℕ) (track : Track) → slice_get (tracks_of d) k ≡ Some track → IsTrack d.region k (seen_in h k) track
+  tracks_stay same k track at =
+      subst (λ (n : ℕ). IsTrack n k (seen_in h k) track) (sym ch.region)
+      (track_stays k track ((is.home g ch.before).tracks k track (ap (λ (l : List Track). slice_get l k) (sym same) ∙ at)))

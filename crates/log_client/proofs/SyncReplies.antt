@@ -39,7 +39,6 @@ use Rattle.log_client.specs.declared.answers.Synced.{Synced}
 use Rattle.log_client.specs.declared.faults.SyncFault.{SyncFault}
 use Rattle.log_client.specs.declared.faults.SyncFault.TheVariants as sync_faults
 use Rattle.log_client.specs.Fits.{Fits, HaveGoneOn}
-use Rattle.log_client.specs.Ending.{IsNoMove}
 use Rattle.log_client.specs.Clients.{holds_of, seen_of, rows_of, tracks_of, starts_of, played_of, counts_in, nodes_in, caller_of, Plays, HasPlayed, played_then, IsClient, IsTrack, Keeps, Finished}
 use Rattle.log_client.specs.Inside.{PlaysOn, IsRefusedOn, dated_seen}
 use Rattle.log_client.specs.Calls.{IsExplained, DidNothing, SyncsAs, SyncRefused, AnswersSync, nodes_played}
@@ -48,7 +47,7 @@ use Rattle.log_client.proofs.Alone.{seen_long}
 use Rattle.log_client.proofs.Playing.{plays_there}
 use Rattle.log_client.proofs.AtHome.{ChangesHome, set_there, set_elsewhere, set_long, home_after, sees_after, are_regions}
 use Rattle.log_client.proofs.Staying.{played_longer}
-use Rattle.log_client.proofs.Looked.{made_looked, lawful_after, track_stays, finished_stays, caller_is, kept_before, makes_none, client_looked, keeps_stay, did_nothing}
+use Rattle.log_client.proofs.Looked.{IsPlain, made_looked, lawful_after, track_stays, finished_stays, caller_is, kept_before, makes_none, client_looked, keeps_stay, did_nothing}
 
 dropped : {A : Type 0} (xs ys : List A) → drop (length xs) (xs ++ ys) ≡ ys
 dropped [] ys = refl
@@ -77,8 +76,8 @@ module _ (s : Store) (c d : Client) (r : Region) (g h : Hold) (old : Track) (is 
   used : h.seat.used ≡ g.seat.used
   used = ap (λ q. q.used) seat
 
-  goes : GoesOn (λ m e. IsNoMove e) g h
-  goes = looks_on (λ m e. IsNoMove e) k g h but sees
+  goes : GoesOn (λ m e. IsPlain e) g h
+  goes = looks_on (λ m e. IsPlain e) k g h but sees
 
   own : r.number ≡ d.region
   own = (are_regions s c.region r ch.there).0 ∙ sym ch.region
@@ -110,7 +109,7 @@ module _ (s : Store) (c d : Client) (r : Region) (g h : Hold) (old : Track) (is 
     pub refused_client : IsClient s d
     refused_client =
         let floored = is.floored in
-        client_looked s c d r g h is ch made goes used next (omega (arith, floor)) (omega (arith, floor, floored)) count rows
+        client_looked s c d r g h is ch goes used next (omega (arith, floor)) (omega (arith, floor, floored)) count rows
         (ap length tracks)
         (λ m track at. subst (λ (n : ℕ). IsTrack n m (seen_in h m) track) (sym ch.region)
         (track_stays s c d r g h is ch m track
@@ -177,7 +176,7 @@ module _ (s : Store) (c d : Client) (r : Region) (g h : Hold) (old : Track) (is 
     synced_client =
         let floored = is.floored in
         let in_range = p.in_range in
-        client_looked s c d r g h is ch made goes used next (omega (arith, floor)) (omega (arith, floor, floored, in_range))
+        client_looked s c d r g h is ch goes used next (omega (arith, floor)) (omega (arith, floor, floored, in_range))
         count rows (ap length tracks ∙ set_long (tracks_of c) k new)
         (λ m track at. elim (cases_eq m k) [
           | inl same ↦
