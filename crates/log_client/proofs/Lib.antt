@@ -18,4 +18,6 @@ mod Looked
 mod SyncReplies
 mod SyncCalls
 mod TrimReplies
+mod Everywhere
+mod TellingAll
 pub mod CallerLemmas
