@@ -12,7 +12,7 @@ use Rattle.chain_store.specs.Histories.{maker}
 use Rattle.turn_cell.specs.Histories.{made_by}
 use Rattle.chain_store.specs.Telling.{IsHoldNote, KnowsSame, Tells, Hears}
 use Rattle.append_core.proofs.CallerLemmas.{later_same}
-use Rattle.log_client.proofs.Lists.{got_end}
+use Rattle.log_client.proofs.Lists.{got, got_end}
 use Rattle.log_client.specs.Fits.{HasGoneOn}
 use Rattle.log_client.specs.Ending.{AreHoldsIn}
 use Rattle.log_client.specs.Notes.{AreNotes, TellsAll, KnowSame, HearAll}
@@ -125,3 +125,16 @@ heard_set gs hs notes i h k note at_h at_m early now before n g l m le a b d = e
       subst (Hears g m) is_k (subst (λ (z : HoldNote). Hears g z k) is_m (subst (λ (z : Hold). Hears z note k) is_g now)))
   | inr ne ↦ before n g l m (omega (arith, le, ne)) a b (sym (set_elsewhere hs i k n ne) ∙ d)
 ]
+
+-- all holds that told go along, and all that heard
+pub told_all : (gs hs : List Hold) → KnowSame gs hs → (n : ℕ) (g h : Hold) → slice_get gs n ≡ Some g
+    → slice_get hs n ≡ Some h → GoesAlong g h
+told_all gs hs same n g h a b = told_along g h (same n g h a b)
+
+pub heard_all : (rs : List Region) (gs : List Hold) (notes : List HoldNote) (hs : List Hold) → length hs ≡ length rs
+    → length notes ≡ length rs → HearAll gs notes hs → (n : ℕ) (g h : Hold) → slice_get gs n ≡ Some g
+    → slice_get hs n ≡ Some h → GoesAlong g h
+heard_all rs gs notes hs many count heard n g h a b =
+    let lt = slice_get_within hs n h b in
+    let m = got notes n (omega (arith, lt, many, count)) in
+    heard_along g h m.0 (heard n g h m.0 a m.1 b)
