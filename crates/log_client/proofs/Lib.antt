@@ -20,4 +20,5 @@ mod SyncCalls
 mod TrimReplies
 mod Everywhere
 mod TellingAll
+mod Dealing
 pub mod CallerLemmas
