@@ -25,7 +25,7 @@ use Rattle.chain_store.specs.Holds.{entries_seen, seen_in}
 use Rattle.append_core.specs.declared.stood.Stood.{Stood}
 use Rattle.append_core.specs.Standing.{IsSingleOf}
 use Rattle.append_core.specs.Standing.{StandsAlone as HoldStands}
-use Rattle.append_core.specs.Going.{HelpsOpen}
+use Rattle.append_core.specs.Helping.{HelpsOpen}
 use Rattle.lawful_run.specs.Callers.{Caller}
 use Rattle.client_law.specs.Knowing.{Seen, Rest, SeesOn}
 use Rattle.client_law.specs.Making.{is_own_step, own_steps, MakesOnly}

@@ -21,4 +21,10 @@ mod TrimReplies
 mod Everywhere
 mod TellingAll
 mod Dealing
+mod Ends
+mod TrulyPulled
+mod EndsLog
+mod EndsRows
+mod Endings
+mod EndsClients
 pub mod CallerLemmas

@@ -1,6 +1,8 @@
 -- Items of lists by place, and how many of them pass a test.
-use Rattle.std.proofs.Common.{◌≡◌, ℕ, zero, suc, ◌+◌, ◌<◌, ◌≤◌, List, [], ◌∷◌, ◌++◌, length, map, take, drop, Some, None, slice_get, Bool, true, false, cond, refl, ap, sym, subst, ◌∙◌, inl, inr, ◌⊎◌, arith}
+use Rattle.std.proofs.Common.{◌≡◌, ◌≢◌, ℕ, zero, suc, ◌+◌, ◌<◌, ◌≤◌, List, [], ◌∷◌, ◌++◌, length, map, set, take, drop, Some, None, slice_get, Bool, true, false, cond, refl, ap, sym, subst, ◌∙◌, inl, inr, ◌⊎◌, arith}
 use Rattle.std.specs.List.{filter}
+use Rattle.std.proofs.lemmas.Option.{same_Some}
+use mathlib.Core.List.{IsPrefix}
 
 module _ {A : Type 0} where
   -- an item that is there
@@ -9,9 +11,26 @@ module _ {A : Type 0} where
   got (x ∷ xs) zero lt = (x, refl)
   got (x ∷ xs) (suc n) lt = got xs n (omega (arith, lt))
 
+  -- there is one at a place
+  pub same_items : (xs : List A) (n : ℕ) (x y : A) → slice_get xs n ≡ Some x → slice_get xs n ≡ Some y → x ≡ y
+  same_items xs n x y e f = same_Some x y (sym e ∙ f)
+
   pub got_last : (xs : List A) (x : A) → slice_get (xs ++ x ∷ []) (length xs) ≡ Some x
   got_last [] x = refl
   got_last (y ∷ xs) x = got_last xs x
+
+  -- an item that was set, and the others
+  pub set_here : (xs : List A) (i : ℕ) (x y : A) → slice_get xs i ≡ Some y → slice_get (set xs i x) i ≡ Some x
+  set_here [] i x y e = absurd cc
+  set_here (z ∷ xs) zero x y e = refl
+  set_here (z ∷ xs) (suc i) x y e = set_here xs i x y e
+
+  pub set_there : (xs : List A) (i k : ℕ) (x : A) → k ≢ i → slice_get (set xs i x) k ≡ slice_get xs k
+  set_there [] i k x n = refl
+  set_there (y ∷ xs) zero zero x n = absurd (n refl)
+  set_there (y ∷ xs) zero (suc k) x n = refl
+  set_there (y ∷ xs) (suc i) zero x n = refl
+  set_there (y ∷ xs) (suc i) (suc k) x n = set_there xs i k x (λ e. n (ap suc e))
 
   -- an item behind the beginning
   pub got_behind : (xs more : List A) (n : ℕ) (x : A) → length xs ≤ n → slice_get (xs ++ more) n ≡ Some x
@@ -54,6 +73,22 @@ module _ {A : Type 0} where
   got_taken (suc k) [] n x lt e = absurd (let f : ⊥ = cc in f)
   got_taken (suc k) (y ∷ xs) zero x lt e = e
   got_taken (suc k) (y ∷ xs) (suc n) x lt e = got_taken k xs n x (omega (arith, lt)) e
+
+  pub got_dropped : (k : ℕ) (xs : List A) (n : ℕ) → slice_get (drop k xs) n ≡ slice_get xs (k + n)
+  got_dropped zero xs n = let e : n ≡ 0 + n = omega arith in ap (slice_get xs) e
+  got_dropped (suc k) [] n = refl
+  got_dropped (suc k) (x ∷ xs) n =
+      let e : suc (k + n) ≡ suc k + n = omega arith in got_dropped k xs n ∙ ap (slice_get (x ∷ xs)) e
+
+  -- a list whose items stand at the same places of another begins it
+  pub prefix_by : (xs ys : List A) → ((n : ℕ) (y : A) → slice_get ys n ≡ Some y → slice_get xs n ≡ Some y) → IsPrefix ys xs
+  prefix_by xs [] each = (xs, refl)
+  prefix_by [] (y ∷ ys) each = absurd (let e = each 0 y refl in let f : ⊥ = cc in f)
+  prefix_by (x ∷ xs) (y ∷ ys) each =
+      let e = each 0 y refl in
+      let same : x ≡ y = same_Some x y e in
+      let r = prefix_by xs ys (λ n z at. each (suc n) z at) in
+      (r.0, (λ i. sym same i ∷ r.1 i))
 
   -- none passes, or just one
   pub none_pass : (test : A → Bool) (xs : List A)

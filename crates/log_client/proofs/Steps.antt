@@ -20,8 +20,9 @@ use Rattle.chain_store.specs.Histories.{entries_in, maker}
 use Rattle.chain_store.specs.Passes.{MakesOne}
 use Rattle.chain_store.specs.Holds.{entries_seen, made_in, seen_in}
 use Rattle.chain_store.proofs.CallerLemmas.{made_with}
-use Rattle.append_core.specs.Going.{GoesOn}
-use Rattle.append_core.proofs.CallerLemmas.{entries_split, prefix_with}
+use Rattle.chain_store.specs.Going.{GoesOn}
+use Rattle.append_core.proofs.CallerLemmas.{entries_split}
+use Rattle.chain_store.proofs.CallerLemmas.{prefix_with}
 use Rattle.lawful_run.specs.Callers.{Caller}
 use Rattle.client_law.specs.Knowing.{Seen, SeesOn}
 use Rattle.client_law.specs.Making.{made_of, is_own_step, own_steps, MakesNone, MakesOnly, MakesAtHome}

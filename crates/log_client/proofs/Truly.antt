@@ -13,7 +13,7 @@ use Rattle.chain_store.specs.declared.hold.Hold.{Hold}
 use Rattle.chain_store.specs.declared.region.Region.{Region}
 use Rattle.chain_store.specs.Regions.{tag_at}
 use Rattle.chain_store.specs.Holds.{IsHold, made_in, seen_in}
-use Rattle.append_core.specs.Going.{GoesOn}
+use Rattle.chain_store.specs.Going.{GoesOn}
 use Rattle.region_pull.specs.Origins.{IsOfOrigin, IsHeldFor, OfOrigin, AsksForHeld}
 use Rattle.region_pull.proofs.CallerLemmas.{origin_stays, held_stays}
 use Rattle.log_client.specs.Ending.{IsNoMove, AreHoldsIn, ArePair, PullsTruly}

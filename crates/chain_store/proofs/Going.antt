@@ -20,8 +20,9 @@ use Rattle.chain_store.specs.declared.region.Region.{Region}
 use Rattle.chain_store.specs.Histories.{maker}
 use Rattle.chain_store.specs.Holds.{KnowsAppend, SameBut, SeesMoreIn, MakesOneIn, history_seen, turned_in, seen_in}
 use Rattle.chain_store.specs.Holds.{made_in, view_of}
-use Rattle.chain_store.proofs.CallerLemmas.{begun_later, made_with}
-use Rattle.append_core.specs.Going.{GoesOn}
+use Rattle.chain_store.proofs.Begun.{begun_later}
+use Rattle.chain_store.proofs.Passing.{made_with}
+use Rattle.chain_store.specs.Going.{GoesOn}
 
 -- beginnings of lists
 
