@@ -9,9 +9,22 @@ mod Trims
 mod Pulling
 mod Truly
 mod OwnNodes
+mod Greatest
+mod Shown
+mod Plays
+mod AtHome
+mod Staying
+mod Looked
+mod SyncReplies
+mod SyncCalls
+mod TrimReplies
+mod Everywhere
+mod TellingAll
+mod Dealing
 mod Ends
 mod TrulyPulled
 mod EndsLog
 mod EndsRows
 mod Endings
 mod EndsClients
+pub mod CallerLemmas

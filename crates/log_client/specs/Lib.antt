@@ -1,3 +1,9 @@
+pub mod Regions
 pub mod Fits
 pub mod Ending
 pub mod Closing
+pub mod Clients
+pub mod Inside
+pub mod Calls
+pub mod Notes
+pub mod Opening
