@@ -15,3 +15,6 @@ mod EndsLog
 mod EndsRows
 mod Endings
 mod EndsClients
+mod Greatest
+mod Handing
+pub mod CallerLemmas
