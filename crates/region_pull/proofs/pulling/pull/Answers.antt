@@ -1,10 +1,9 @@
 use Rattle.std.proofs.Common.{ℕ, [], ◌∷◌, ◌++◌, refl, subst}
 use Rattle.chain_store.specs.Regions.{tag_at}
 use Rattle.chain_store.specs.Holds.{CarriesIn, seen_in}
-use Rattle.chain_store.proofs.CallerLemmas.{given_stamped}
+use Rattle.chain_store.proofs.CallerLemmas.{given_stamped, lawful_seen}
 use Rattle.region_pull.specs.Pulls.{before_gave}
 use Rattle.region_pull.proofs.Lists.{taken_prefix}
-use Rattle.region_pull.proofs.Seen.{lawful_seen}
 use Rattle.region_pull.proofs.Steps.{carried_goes, pulled, carry_refused, carry_refused_goes, origin_kept, origin_pulled, held_asked}
 use Rattle.region_pull.proofs.pulling.pull.Goals as goal
 
