@@ -6,14 +6,13 @@ use Rattle.std.proofs.lemmas.List.{length-map}
 use Rattle.std.proofs.lemmas.Option.{slice_get_within}
 use Rattle.chain_store.specs.declared.hold.Hold.{Hold}
 use Rattle.chain_store.specs.declared.region.Region.{Region}
-use Rattle.chain_store.specs.declared.closed.ClosedRegion.{ClosedRegion}
 use Rattle.chain_store.specs.Holds.{IsHold}
-use Rattle.chain_store.specs.Closing.{AreHoldsOf, Closed}
+use Rattle.chain_store.specs.Closing.{AreHoldsOf}
 use Rattle.lawful_run.proofs.CallerLemmas.{get-append}
 use Rattle.log_client.specs.declared.closed.Leaving.{Leaving}
-use Rattle.log_client.specs.Closing.{AreHoldsAt, HasEnded}
+use Rattle.log_client.specs.Closing.{AreHoldsAt}
 use Rattle.log_client.specs.Leaving.{left_of, HaveOneMore, Gave, Gathered, Leaves, AreLeaving}
-use Rattle.log_client.proofs.Lists.{got, got_last, set_here, set_there, unmapped}
+use Rattle.log_client.proofs.Lists.{got, got_last, same_items, set_here, set_there, unmapped}
 
 -- one client more gave its last hold
 pub gathered_one : (old now : List Leaving) (ps qs : List Hold) (i : ℕ) (c d : Leaving) (p : Hold)
@@ -139,25 +138,19 @@ are_at old m ps of = (
       subst (λ (l : List Hold). slice_get l m ≡ Some k) c.2 (of.each u c.0 k c.1 kat),
 )
 
--- the regions from the number n on have ended, and then those from m on
-pub ended_more : (rs : List Region) (clients : List (List Hold)) (m n : ℕ) (r : Region) (e : ClosedRegion)
-    (ends next : List ClosedRegion)
-    → n ≡ m + 1 → next ≡ e ∷ ends → slice_get rs m ≡ Some r → HasEnded clients m r e
-    → ((k : ℕ) (d : Region) (t : ClosedRegion) → slice_get rs (n + k) ≡ Some d → slice_get ends k ≡ Some t
-    → HasEnded clients (n + k) d t)
-    → (k : ℕ) (d : Region) (t : ClosedRegion) → slice_get rs (m + k) ≡ Some d → slice_get next k ≡ Some t
-    → HasEnded clients (m + k) d t
-ended_more rs clients m n r e ends next more is here good rest k d t at nat =
-    by k at (sym (ap (λ l. slice_get l k) is) ∙ nat) where
-      by : (k : ℕ) → slice_get rs (m + k) ≡ Some d → slice_get (e ∷ ends) k ≡ Some t → HasEnded clients (m + k) d t
+-- what holds of the items from the place n on, beside those of a list, holds of them from m on with one more before these
+pub more_behind : {A B : Type 0} (P : ℕ → A → B → Type 0) (xs : List A) (m n : ℕ) (a : A) (b : B) (bs next : List B)
+    → n ≡ m + 1 → next ≡ b ∷ bs → slice_get xs m ≡ Some a → P m a b
+    → ((k : ℕ) (d : A) (t : B) → slice_get xs (n + k) ≡ Some d → slice_get bs k ≡ Some t → P (n + k) d t)
+    → (k : ℕ) (d : A) (t : B) → slice_get xs (m + k) ≡ Some d → slice_get next k ≡ Some t → P (m + k) d t
+more_behind {A} {B} P xs m n a b bs next more is here good rest k d t at nat =
+    by k at (sym (ap (λ (l : List B). slice_get l k) is) ∙ nat) where
+      by : (k : ℕ) → slice_get xs (m + k) ≡ Some d → slice_get (b ∷ bs) k ≡ Some t → P (m + k) d t
       by zero at tat =
           let z : m + 0 ≡ m = omega arith in
-          let two : Some r ≡ Some d = sym here ∙ ap (slice_get rs) (sym z) ∙ at in
-          let same : r ≡ d = cc two in
-          let one : e ≡ t = cc tat in
-          subst (λ (i : ℕ). HasEnded clients i d t) (sym z)
-          (subst (λ (y : ClosedRegion). HasEnded clients m d y) one
-          (subst (λ (y : Region). HasEnded clients m y e) same good))
+          let same : a ≡ d = same_items xs m a d here (ap (slice_get xs) (sym z) ∙ at) in
+          let one : b ≡ t = same_items (b ∷ bs) 0 b t refl tat in
+          subst (λ (i : ℕ). P i d t) (sym z) (subst (λ (y : B). P m d y) one (subst (λ (y : A). P m y b) same good))
       by (suc k) at tat =
           let z : n + k ≡ m + suc k = omega (arith, more) in
-          subst (λ (i : ℕ). HasEnded clients i d t) z (rest k d t (ap (slice_get rs) z ∙ at) tat)
+          subst (λ (i : ℕ). P i d t) z (rest k d t (ap (slice_get xs) z ∙ at) tat)

@@ -17,4 +17,5 @@ mod Endings
 mod EndsClients
 mod Greatest
 mod Handing
+mod ClosesStore
 pub mod CallerLemmas

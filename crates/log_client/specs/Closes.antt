@@ -1,7 +1,6 @@
 -- What a store ends with, for each of its clients.
 use Rattle.std.specs.Prelude.{◌≡◌, ℕ, List, length, map, Some, slice_get}
 use Rattle.std.specs.List.{Contains, filter}
-use Rattle.std.specs.declared.sync.Arc.{Arc}
 use Rattle.log_node.specs.declared.node.Node.{Node}
 use Rattle.col_core.specs.Keeping.{Kept}
 use Rattle.col_core.specs.Log.{Log, places_of}

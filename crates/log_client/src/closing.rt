@@ -5,8 +5,8 @@ ghost use Rattle.log_client.specs.Leaving.{left_of, HaveOneMore, Gathered, AreLe
 ghost use Rattle.log_client.specs.Clients.{holds_of};
 ghost use Rattle.log_client.specs.Closes.{AreClients, Closes};
 
-use crate::closed::{Closed, Leaving, RowNodes};
 use crate::client::Client;
+use crate::closed::{Closed, Leaving, RowNodes};
 use crate::opening::Clients;
 use crate::store::Store;
 use chain_store::{ClosedRegion, Hold, Region};
