@@ -16,6 +16,7 @@ mod EndsRows
 mod Endings
 mod EndsClients
 mod Greatest
+mod OwnMore
 mod Handing
 mod ClosesStore
 pub mod CallerLemmas
