@@ -19,4 +19,14 @@ mod Greatest
 mod OwnMore
 mod Handing
 mod ClosesStore
+mod Shown
+mod Plays
+mod AtHome
+mod Staying
+mod Looked
+mod SyncReplies
+mod SyncCalls
+mod TrimReplies
+mod Everywhere
+mod TellingAll
 pub mod CallerLemmas
