@@ -166,11 +166,15 @@ module _ (s : Store) (c d : Client) (r : Region) (g h : Hold) (is : IsClient s c
         | inl same ↦
             (let is_h : h ≡ l = same_Some h l (sym home_after ∙ (ap (slice_get (holds_of d)) (sym same) ∙ at)) in
             (g, ap (slice_get (holds_of c)) same ∙ ch.before, subst (Brings c.number (is.nodes ++ more) g) is_h brings))
-        | inr ne ↦ (l, sym (others_after n ne) ∙ at, record {
-          on = gone_same l;
-          singles = λ k m t x made nodes single. inl (m, made);
-          rows = λ j lt. inl lt;
-        })
+        | inr ne ↦ (
+          l,
+          sym (others_after n ne) ∙ at,
+          record {
+            on = gone_same l;
+            singles = λ k m t x made nodes single. inl (m, made);
+            rows = λ j lt. inl lt;
+          },
+        )
       ]))
 
   -- where it brought none

@@ -1,12 +1,19 @@
 -- What a store ends with, for each of its clients.
 use Rattle.std.proofs.Common.{◌≡◌, ◌≢◌, ℕ, ◌+◌, ◌<◌, ◌≤◌, List, [], ◌∷◌, length, map, Option, Some, None, slice_get, refl, ap, sym, subst, ◌∙◌, inl, inr, ◌⊎◌, arith}
 use Rattle.std.specs.List.{Contains, filter}
-use Rattle.std.proofs.lemmas.Bool.{cases_lt}
+use Rattle.std.proofs.lemmas.Bool.{cases_eq, cases_lt}
 use Rattle.std.proofs.lemmas.List.{length-map}
 use Rattle.std.proofs.lemmas.List.Elements.{All-contains}
 use Rattle.std.proofs.lemmas.Option.{slice_get_within}
 use Rattle.log_node.specs.declared.ids.Id.{Id}
+use Rattle.log_node.specs.declared.ids.Row.{Row}
 use Rattle.log_node.specs.declared.node.Node.{Node}
+use Rattle.log_node.specs.Standings.{open_entry}
+use mathlib.Core.List.{IsPrefix}
+use Rattle.col_core.specs.declared.Entry.{Entry}
+use Rattle.col_core.specs.History.{entries}
+use Rattle.stamp_board.specs.declared.seats.Seat.{Seat}
+use Rattle.chain_store.proofs.CallerLemmas.{row_place}
 use Rattle.col_core.specs.Keeping.{Kept}
 use Rattle.col_core.specs.Log.{Log, places_of}
 use Rattle.col_core.specs.Rows.{BegunRow, FitsRow, is_of}
@@ -27,12 +34,14 @@ use Rattle.log_client.specs.declared.closed.Closed.{Closed}
 use Rattle.log_client.specs.declared.closed.Leaving.{Leaving}
 use Rattle.log_client.specs.Ending.{AreRegions, AreHoldsIn, PullsTruly, HasOwnNodes}
 use Rattle.log_client.specs.Closing.{AreHoldsAt, HaveEnded, EndsRegion, EndsStore, EndsClient}
-use Rattle.log_client.specs.Clients.{IsClient, Keeps, caller_of, holds_of, rows_of, seen_of}
+use Rattle.log_client.specs.Clients.{IsClient, Keeps, Finished, caller_of, holds_of, rows_of, seen_of}
 use Rattle.log_client.specs.Leaving.{left_of, Leaves, AreLeaving}
 use Rattle.log_client.specs.Closes.{AreClients, EndsFor, Closes}
 use Rattle.log_client.proofs.Lists.{got, mapped, same_items, unmapped}
 use Rattle.log_client.proofs.Endings.{store_ends}
-use Rattle.log_client.proofs.EndsClients.{own_row_nodes, steps_same}
+use Rattle.log_client.proofs.EndsClients.{own_row_known, own_row_nodes, steps_same}
+use Rattle.log_client.proofs.LeftOpen.{no_row_open, open_nowhere}
+use Rattle.log_client.proofs.Seeing.{seen_there}
 
 -- clients whose holds these are leave the regions of the store
 pub all_leave : (s : Store) (clients : List Client) (ls : List Leaving) → AreClients s clients
@@ -119,18 +128,17 @@ module _ (s : Store) (clients : List Client) (all : AreClients s clients) (ends 
     client : EndsClient log n (holds_of c)
     client = store.each_client n (holds_of c) (mapped holds_of clients n c at)
 
-    -- its region, and its hold of it
-    home : (ks : List Hold) × (r : Region) × (e : ClosedRegion) × (h : Hold)
-        × AreHoldsAt (map holds_of clients) c.region ks
-        × EndsRegion log (length s.regions) s.size.colours c.region ks e
-        × (slice_get s.regions c.region ≡ Some r) × (slice_get ks n ≡ Some h) × (slice_get (holds_of c) c.region ≡ Some h)
+    -- a region, and its hold of it
+    region_at : (m : ℕ) → m < length s.regions → (ks : List Hold) × (r : Region) × (e : ClosedRegion) × (h : Hold)
+        × AreHoldsAt (map holds_of clients) m ks
+        × EndsRegion log (length s.regions) s.size.colours m ks e
+        × (slice_get s.regions m ≡ Some r) × (slice_get ks n ≡ Some h) × (slice_get (holds_of c) m ≡ Some h)
         × ((u : ℕ) (k : Hold) → slice_get ks u ≡ Some k → IsHold r k × (k.passes.number ≡ u))
-    home =
-        let lt = rests.region in
+    region_at m lt =
         let many = ended.0 in
-        let r = got s.regions c.region lt in
-        let e = got ends c.region (omega (arith, lt, many)) in
-        let k = store.ends_with c.region e.0 e.1 in
+        let r = got s.regions m lt in
+        let e = got ends m (omega (arith, lt, many)) in
+        let k = store.ends_with m e.0 e.1 in
         let count = k.1.0 in
         let within = slice_get_within clients n c at in
         let all_holds = length-map clients holds_of in
@@ -146,8 +154,8 @@ module _ (s : Store) (clients : List Client) (all : AreClients s clients) (ends 
           k.1.1 n (holds_of c) h.0 (mapped holds_of clients n c at) h.1,
           λ u j there. of_hold k.0 r.0 k.1 r.1 u j there,
         ) where
-          of_hold : (ks : List Hold) (r : Region) → AreHoldsAt (map holds_of clients) c.region ks
-              → slice_get s.regions c.region ≡ Some r → (u : ℕ) (j : Hold) → slice_get ks u ≡ Some j
+          of_hold : (ks : List Hold) (r : Region) → AreHoldsAt (map holds_of clients) m ks
+              → slice_get s.regions m ≡ Some r → (u : ℕ) (j : Hold) → slice_get ks u ≡ Some j
               → IsHold r j × (j.passes.number ≡ u)
           of_hold ks r are_at r_at u j there =
               let lt = slice_get_within ks u j there in
@@ -156,7 +164,64 @@ module _ (s : Store) (clients : List Client) (all : AreClients s clients) (ends 
               let d = got clients u (omega (arith, lt, count, all_holds)) in
               let is = all.1 u d.0 d.1 in
               let had = are_at.1 u (holds_of d.0) j (mapped holds_of clients u d.0 d.1) there in
-              (is.0.holds.1 c.region r j r_at had, is.0.numbers c.region j had ∙ is.1)
+              (is.0.holds.1 m r j r_at had, is.0.numbers m j had ∙ is.1)
+
+    -- a row of the client is of its region
+    at_home : (m : ℕ) (b : BegunRow) → m < length s.regions → Contains (log.rows m) b → b.row.client ≡ c.number
+        → m ≡ c.region
+    at_home m b lt there mine = elim (cases_eq m c.region) [
+      | inl is ↦ is
+      | inr ne ↦
+          let x = region_at m lt in
+          let place = in_slice (log.rows m) b (in_contains (log.rows m) b there) in
+          let p = row_place (map (λ (k : Hold). k.seat) x.0) place.0 b.row
+          (ap (λ (l : List Row). slice_get l place.0) (sym x.5.in_order)
+          ∙ mapped (λ (d : BegunRow). d.row) (log.rows m) place.0 b place.1) in
+          let k = unmapped (λ (k : Hold). k.seat) x.0 p.place p.seat p.there in
+          let is = x.9 p.place k.0 k.1 in
+          let here : p.place ≡ n =
+          sym is.1 ∙ (sym is.0.number ∙ (ap (λ (z : Seat). z.client) k.2 ∙ (sym p.mine ∙ (mine ∙ number)))) in
+          let same : k.0 ≡ x.3 = same_items x.0 n k.0 x.3 (ap (slice_get x.0) (sym here) ∙ k.1) x.7 in
+          let seat = ap (λ (z : Seat). z.used) (sym k.2 ∙ ap (λ (z : Hold). z.seat) same) in
+          let used = p.used in
+          let none = rests.away m x.3 x.8 ne in
+          absurd (let f : ⊥ = omega (arith, seat, used, none) in f)
+    ]
+
+    home : (ks : List Hold) × (r : Region) × (e : ClosedRegion) × (h : Hold)
+        × AreHoldsAt (map holds_of clients) c.region ks
+        × EndsRegion log (length s.regions) s.size.colours c.region ks e
+        × (slice_get s.regions c.region ≡ Some r) × (slice_get ks n ≡ Some h) × (slice_get (holds_of c) c.region ≡ Some h)
+        × ((u : ℕ) (k : Hold) → slice_get ks u ≡ Some k → IsHold r k × (k.passes.number ≡ u))
+    home = region_at c.region rests.region
+
+    -- none of its ids is left open at home, where it has finished, and none elsewhere
+    closed_at_home : Finished c → (colour : ℕ) (id : Id) → colour < s.size.colours → id.client ≡ n
+        → open_entry id (entries (log.histories c.region colour)) ≡ None
+    closed_at_home done colour id lt mine =
+        let m = home in
+        let is = rests.home m.3 m.8 in
+        open_nowhere c.region (length s.regions) s.size.colours n (log.histories c.region) (log.rows c.region) m.3 (rows_of c)
+        m.5.lawful_rows (m.9 n m.3 m.7).1
+        (λ j b there. own_row_known c.region s.size.colours n (log.histories c.region) (log.rows c.region) m.0 m.1 m.3
+        (rows_of c) m.5.lawful_rows m.5.in_order m.9 m.7 is.rows.many
+        (λ i x got. subst (λ (u : ℕ). KnowsBegun (view_of m.3) (row_of u i) x) number (is.rows.begun i x got))
+        (client.fits c.region m.3 m.8).begun j b there)
+        (done m.3 m.8) colour lt (store.lawful c.region colour)
+        (subst (λ (l : List Entry). IsPrefix l (log.histories c.region colour))
+        (seen_there (holds_of c) c.region m.3 m.8 colour) (client.more c.region colour)) id mine
+
+    closed_in : Finished c → (m colour : ℕ) (id : Id) → m < length s.regions → colour < s.size.colours
+        → id.client ≡ c.number → open_entry id (entries (log.histories m colour)) ≡ None
+    closed_in done m colour id lt in_colours mine = elim (cases_eq m c.region) [
+      | inl is ↦
+          subst (λ (k : ℕ). open_entry id (entries (log.histories k colour)) ≡ None) (sym is)
+          (closed_at_home done colour id in_colours (mine ∙ number))
+      | inr ne ↦
+          no_row_open m (length s.regions) s.size.colours c.number (log.histories m) (log.rows m)
+          (region_at m lt).5.lawful_rows (λ b there its. ne (at_home m b lt there its)) colour in_colours
+          (store.lawful m colour) id mine
+    ]
 
     row_nodes_are : map (λ (b : BegunRow). b.node) (filter (is_of n) (log.rows c.region)) ≡ rows_of c
     row_nodes_are =
@@ -192,6 +257,8 @@ module _ (s : Store) (clients : List Client) (all : AreClients s clients) (ends 
       ids = ap length (ap log.nodes number ∙ same n) ∙ (nodes_are n c at).1;
       rows = subst (λ (u : ℕ). map (λ (b : BegunRow). b.node) (filter (is_of u) (log.rows c.region)) ≡ rows_of c) (sym number)
           row_nodes_are;
+      rows_at_home = at_home;
+      closed = closed_in;
       row_nodes = row_node_listed;
     }
 

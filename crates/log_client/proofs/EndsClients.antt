@@ -121,8 +121,7 @@ module _ (region colours n : ℕ) (histories : ℕ → List Entry) (rows : List 
       let lt = below j b at in
       let x = got nodes j (omega (arith, lt, many)) in
       let d = known (row_of n j) x.0 (in_board j x.0 x.1) (begun j x.0 x.1) in
-      let same = own_one j x.0 d b at in
-      (
+      let same = own_one j x.0 d b at in (
         subst (AgreesWith h) same d.4,
         sym (ap (λ (c : BegunRow). c.row) same) ∙ d.2,
         x.1 ∙ ap (λ (y : Node). Some y) (sym d.3 ∙ ap (λ (c : BegunRow). c.node) same),

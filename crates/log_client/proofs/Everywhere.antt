@@ -126,11 +126,15 @@ module _ (s : Store) (c d : Client) (is : IsClient s c) (number : d.number ≡ c
         (subst (HasOwnNodes c.number (holds_of d)) (append-nil is.nodes)
         (own_nodes_on c.number (holds_of c) (holds_of d) is.nodes [] is.own_nodes
         (λ n x at. is.own_nodes.ids n x (ap (λ (l : List Node). slice_get l n) (sym (append-nil is.nodes)) ∙ at))
-        (λ n h at. let g = was n h at in let used = g.2.used in (g.0, g.1, record {
-          on = g.2.on;
-          singles = λ k m t x there nodes single. inl (m, ap (λ (l : List Told). slice_get l m) (sym (g.2.made k)) ∙ there);
-          rows = λ j lt. inl (omega (arith, lt, used));
-        }))));
+        (λ n h at. let g = was n h at in let used = g.2.used in (
+          g.0,
+          g.1,
+          record {
+            on = g.2.on;
+            singles = λ k m t x there nodes single. inl (m, ap (λ (l : List Told). slice_get l m) (sym (g.2.made k)) ∙ there);
+            rows = λ j lt. inl (omega (arith, lt, used));
+          },
+        ))));
     pulls = pulls_truly_stays s.regions (holds_of c) (holds_of d) holds many
         (λ n g h a b. no_move g h (each n g h a b)) is.pulls;
   }
@@ -142,14 +146,18 @@ module _ (s : Store) (c d : Client) (is : IsClient s c) (number : d.number ≡ c
       (all_closed_longer d.region (length s.regions) g.0 h (rows_of c) g.2.on (lawful h at) (finished g.0 (home_at g.0 g.1)))
 
   pub nothing_along : DidNothing s c d
-  nothing_along objects kept finished keeps = (kept, record {
-    by = kept_stays (caller_of s d objects) (seen_of c) (seen_of d) kept on none
-        (subst (λ z. IsKeptBy (seen_of c) z kept) caller_is keeps.by);
-    floor = keeps.floor ∙ sym floor;
-    ids = keeps.ids ∙ sym count;
-    rows = keeps.rows ∙ ap (λ l. length (map (λ z. z.value) l.items)) (sym rows);
-    starts = λ k. keeps.starts k ∙ ap (λ l. counts_in (slice_get l.items k)) (sym tracks);
-  }, λ rest fits. refl) where
+  nothing_along objects kept finished keeps = (
+    kept,
+    record {
+      by = kept_stays (caller_of s d objects) (seen_of c) (seen_of d) kept on none
+          (subst (λ z. IsKeptBy (seen_of c) z kept) caller_is keeps.by);
+      floor = keeps.floor ∙ sym floor;
+      ids = keeps.ids ∙ sym count;
+      rows = keeps.rows ∙ ap (λ l. length (map (λ z. z.value) l.items)) (sym rows);
+      starts = λ k. keeps.starts k ∙ ap (λ l. counts_in (slice_get l.items k)) (sym tracks);
+    },
+    λ rest fits. refl,
+  ) where
     caller_is : caller_of s c objects ≡ caller_of s d objects
     caller_is = λ i. record {
       client = sym number i;

@@ -37,6 +37,17 @@ fenced_not : (history : List Entry) (x : Node) (why : Why) (stamp : ℕ) → IsM
 fenced_not history x Memory stamp none p = none stamp p
 fenced_not history x StampEnd stamp none p = none.0 stamp p
 
+-- the row of a proposal
+pub row_proposed : (region colours : ℕ) (histories : ℕ → List Entry) (rows : List BegunRow)
+    → AreLawfulRows region colours histories rows → (colour : ℕ) → colour < colours → (id : Id) (stamp : ℕ)
+    → Proposes (histories colour) id stamp
+    → (i : ℕ) × (b : BegunRow) × (slice_get rows i ≡ Some b) × (b.node.id ≡ id) × (has b.node.colours colour ≡ true)
+row_proposed region colours histories rows lawful colour lt id stamp p =
+    let fits = subst (FitsRows rows colour) p.5
+    (All-contains (λ (e : Entry). FitsRows rows colour e.event) (histories colour) p.1 (lawful.events colour lt)
+    (contains_in (histories colour) p.1 (slice_in (histories colour) p.0 p.1 p.4))) in
+    (fits.0, fits.1, fits.2, fits.3, member_has fits.1.node.colours fits.6 colour fits.7)
+
 module _ (region regions colours n : ℕ) (histories : ℕ → List Entry) (rows : List BegunRow) (h : Hold) (nodes : List Node)
     (lawful : AreLawfulRows region colours histories rows)
     (number : h.passes.number ≡ n)
@@ -45,15 +56,6 @@ module _ (region regions colours n : ℕ) (histories : ℕ → List Entry) (rows
     (closed : AllClosed h nodes) where
   module _ (colour : ℕ) (lt : colour < colours) (good : IsColumnHistory region regions (dated region (histories colour)))
       (more : IsPrefix (entries_seen h colour) (histories colour)) where
-    -- the row of a proposal
-    row_proposed : (id : Id) (stamp : ℕ) → Proposes (histories colour) id stamp → (i : ℕ) × (b : BegunRow)
-        × (slice_get rows i ≡ Some b) × (b.node.id ≡ id) × (has b.node.colours colour ≡ true)
-    row_proposed id stamp p =
-        let fits = subst (FitsRows rows colour) p.5
-        (All-contains (λ (e : Entry). FitsRows rows colour e.event) (histories colour) p.1 (lawful.events colour lt)
-        (contains_in (histories colour) p.1 (slice_in (histories colour) p.0 p.1 p.4))) in
-        (fits.0, fits.1, fits.2, fits.3, member_has fits.1.node.colours fits.6 colour fits.7)
-
     -- a row of the client of which the node is proposed and open was not closed
     module _ (i : ℕ) (b : BegunRow) (at : slice_get rows i ≡ Some b) (of : has b.node.colours colour ≡ true)
         (its : b.row.client ≡ n) (stamp : ℕ) (proposed : Proposes (histories colour) b.node.id stamp) (e : Standing)
@@ -102,7 +104,7 @@ module _ (region regions colours n : ℕ) (histories : ℕ → List Entry) (rows
     not_open : (id : Id) → id.client ≡ n → (e : Standing) → open_entry id (entries (histories colour)) ≡ Some e → ⊥
     not_open id mine e found =
         let p = (open_is_proposed region regions (histories colour) id e good found).proposed in
-        let row = row_proposed id e.key.stamp p in
+        let row = row_proposed region colours histories rows lawful colour lt id e.key.stamp p in
         not_open_row row.0 row.1 row.2 row.4
         (sym (All-contains (FitsRow region) rows row.1 lawful.fit
         (contains_in rows row.1 (slice_in rows row.0 row.1 row.2))).client ∙ (ap (λ (i : Id). i.client) row.3 ∙ mine))
@@ -116,3 +118,22 @@ module _ (region regions colours n : ℕ) (histories : ℕ → List Entry) (rows
           → open_entry id (entries (histories colour)) ≡ None
       by_entry None e = e
       by_entry (Some e) is = absurd (not_open id mine e is)
+
+-- An id of a client who has begun no row of a region is open nowhere there.
+pub no_row_open : (region regions colours n : ℕ) (histories : ℕ → List Entry) (rows : List BegunRow)
+    → AreLawfulRows region colours histories rows
+    → ((b : BegunRow) → Contains rows b → b.row.client ≡ n → ⊥)
+    → (colour : ℕ) → colour < colours → IsColumnHistory region regions (dated region (histories colour))
+    → (id : Id) → id.client ≡ n → open_entry id (entries (histories colour)) ≡ None
+no_row_open region regions colours n histories rows lawful none colour lt good id mine =
+    by_entry (open_entry id (entries (histories colour))) refl where
+      by_entry : (o : Option Standing) → open_entry id (entries (histories colour)) ≡ o
+          → open_entry id (entries (histories colour)) ≡ None
+      by_entry None e = e
+      by_entry (Some e) is =
+          let p = (open_is_proposed region regions (histories colour) id e good is).proposed in
+          let row = row_proposed region colours histories rows lawful colour lt id e.key.stamp p in
+          let there = contains_in rows row.1 (slice_in rows row.0 row.1 row.2) in
+          absurd (none row.1 there
+          (sym (All-contains (FitsRow region) rows row.1 lawful.fit there).client
+          ∙ (ap (λ (i : Id). i.client) row.3 ∙ mine)))

@@ -77,7 +77,7 @@ module _ (r : Region) (h : Hold) (old new : Track) (y : Synced) (stamp events : 
         is_cut = counts ∙ shows.cut;
         not_trimmed = subst (λ (v : Counts). IsWithin v old.snapshot.counts) shows.base trimmed;
         of_column = answered ∙ (
-          λ i. record { region = shows.region i; colour = shows.colour i; counts = sym counts i });
+            λ i. record { region = shows.region i; colour = shows.colour i; counts = sym counts i });
         track = extends.track
             ∙ ap (λ (s : Snapshot). track_of s) (sym (ap (λ (z : Synced). z.snapshot) extends.answer));
         first = ap (λ (z : Synced). z.first) extends.answer;

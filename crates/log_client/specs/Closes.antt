@@ -1,7 +1,9 @@
 -- What a store ends with, for each of its clients.
-use Rattle.std.specs.Prelude.{◌≡◌, ℕ, List, length, map, Some, slice_get}
+use Rattle.std.specs.Prelude.{◌≡◌, ℕ, ◌<◌, List, length, map, Some, None, slice_get}
 use Rattle.std.specs.List.{Contains, filter}
-use Rattle.log_node.specs.declared.node.Node.{Node}
+use Rattle.log_node.specs.declared.ids.Id.{Id}
+use Rattle.log_node.specs.Standings.{open_entry}
+use Rattle.col_core.specs.History.{entries}
 use Rattle.col_core.specs.Keeping.{Kept}
 use Rattle.col_core.specs.Log.{Log, places_of}
 use Rattle.col_core.specs.Rows.{BegunRow, is_of}
@@ -11,7 +13,7 @@ use Rattle.log_client.specs.declared.store.Store.{Store}
 use Rattle.log_client.specs.declared.client.Client.{Client}
 use Rattle.log_client.specs.declared.closed.Closed.{Closed}
 use Rattle.log_client.specs.Fits.{Fits}
-use Rattle.log_client.specs.Clients.{IsClient, Keeps, caller_of, holds_of, rows_of, seen_of}
+use Rattle.log_client.specs.Clients.{IsClient, Keeps, Finished, caller_of, holds_of, rows_of, seen_of}
 use Rattle.log_client.specs.Closing.{EndsStore}
 
 -- they are all clients of the store, by number
@@ -30,6 +32,11 @@ pub record EndsFor (s : Store) (log : Log) (c : Client) : Type 0 where
       → places_of c.number (log.histories region colour) ≡ kept.made region colour
   pub ids : length (log.nodes c.number) ≡ c.count
   pub rows : map (λ (b : BegunRow). b.node) (filter (is_of c.number) (log.rows c.region)) ≡ rows_of c
+  -- it has begun rows of its own region alone, and has left open none of its ids where it has finished
+  pub rows_at_home : (region : ℕ) (b : BegunRow) → region < length s.regions → Contains (log.rows region) b
+      → b.row.client ≡ c.number → region ≡ c.region
+  pub closed : Finished c → (region colour : ℕ) (id : Id) → region < length s.regions → colour < s.size.colours
+      → id.client ≡ c.number → open_entry id (entries (log.histories region colour)) ≡ None
   pub row_nodes : (b : BegunRow) → Contains (log.rows c.region) b → b.row.client ≡ c.number
       → slice_get (log.nodes c.number) b.node.id.count ≡ Some b.node
 

@@ -59,8 +59,9 @@ pub returns-in-Err-clause-err : goal.returns-in-Err-clause-err
 returns-in-Err-clause-err g c =
     let e = c.in-Err.ensures in
     let region = c.if-snapshot-self.false in
-    let colour = c.if-snapshot-colour.false in
-    ((omega (arith, region), omega (arith, colour)),
-    look_nothing
-    c.args.store.now c.args.self.now c.region-region.result.now c.index_mut-hold.result.now c.trim.new.hold c.args.colour
-    c.requires.client c.region-region.ensures.there c.index_mut-hold.ensures.value e.hold e.others e.same e.err)
+    let colour = c.if-snapshot-colour.false in (
+      (omega (arith, region), omega (arith, colour)),
+      look_nothing
+          c.args.store.now c.args.self.now c.region-region.result.now c.index_mut-hold.result.now c.trim.new.hold c.args.colour
+          c.requires.client c.region-region.ensures.there c.index_mut-hold.ensures.value e.hold e.others e.same e.err,
+    )
