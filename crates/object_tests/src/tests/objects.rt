@@ -1,4 +1,5 @@
 // Objects fed with texts that were worked out by hand. Each row of a table makes its own object.
+use crate::made::key_of;
 use log_node::{
     ColourList, Colours, Counts, Head, Id, Item, Key, Keys, ListOf, Node, Text, Versions, Wants,
 };
@@ -9,13 +10,6 @@ use std::alloc::{AllocError, Global};
 use std::process::Abort;
 use std::sync::Arc;
 use std::test::Fail;
-
-fn key(stamp: u64, client: u8, count: u64) -> Key {
-    Key {
-        stamp,
-        id: Id { client, count },
-    }
-}
 
 /// A list of keys.
 fn keys(alloc: Global, words: &[&str]) -> Result<Keys, AllocError> {
@@ -102,7 +96,7 @@ fn node(alloc: Global, id: Id, colours: u16, text: &str) -> Result<Arc<Node>, Al
 
 fn item(alloc: Global, stamp: u64, colours: u16, text: &str) -> Result<Item, AllocError> {
     let head = Head {
-        key: key(stamp, 0, stamp),
+        key: key_of(stamp, 0, stamp),
         needs: Counts([0; 4]),
     };
     let node = node(alloc, head.key.id, colours, text)?;
@@ -176,7 +170,7 @@ fn done(
 fn all_done(rt: &impl Abort, alloc: Global) -> Result<TxState, AllocError> {
     let mut map = TxState::new(alloc);
     for ((stamp, client, count), text, told, value) in TRANSACTIONS {
-        let under = key(stamp, client, count);
+        let under = key_of(stamp, client, count);
         is_told(rt, done(alloc, &mut map, under, text)?, told);
         is_value(rt, map.value(b"b"), Some(value));
     }
@@ -186,7 +180,7 @@ fn all_done(rt: &impl Abort, alloc: Global) -> Result<TxState, AllocError> {
 #[test]
 fn a_transaction_commits_on_the_writers_that_it_read(rt: HostRuntime) -> Result<(), Fail> {
     let map = all_done(&rt, rt.alloc())?;
-    assert_eq!(rt; map.writer(b"b"), Some(key(3, 1, 1)));
+    assert_eq!(rt; map.writer(b"b"), Some(key_of(3, 1, 1)));
     Ok(())
 }
 
@@ -203,7 +197,7 @@ fn a_read_names_the_last_writers(rt: HostRuntime) -> Result<(), Fail> {
     let map = all_done(&rt, rt.alloc())?;
     let wanted = keys(rt.alloc(), &["b", "c"])?;
     let versions = map.versions(rt.alloc(), &wanted)?;
-    is_writer(&rt, &versions, 0, Some(key(3, 1, 1)));
+    is_writer(&rt, &versions, 0, Some(key_of(3, 1, 1)));
     is_writer(&rt, &versions, 1, None);
     Ok(())
 }

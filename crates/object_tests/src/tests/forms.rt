@@ -1,6 +1,7 @@
 // Texts that were written by hand, both ways.
 ghost use Rattle.object_form.specs.Forms.{IsForm};
 
+use crate::made::key_of;
 use log_node::{Form, Id, Key, ListOf, Pair, Text, Version};
 use object_form::{read_form, write_form};
 use std::alloc::{AllocError, Global};
@@ -105,19 +106,12 @@ fn other_texts_are_plain(rt: HostRuntime) -> Result<(), Fail> {
     Ok(())
 }
 
-fn key(stamp: u64, client: u8, count: u64) -> Key {
-    Key {
-        stamp,
-        id: Id { client, count },
-    }
-}
-
 /// A transaction read `b` as a writer left it and `c` before any, and writes 7 to one key.
 fn is_read_so(rt: &impl Abort, reads: &[Version], writes: &[Pair]) {
     assert_eq!(rt; reads.len(), 2);
     assert_eq!(rt; writes.len(), 1);
     assert_eq!(rt; reads[0].key.as_bytes(), b"b".as_slice());
-    assert_eq!(rt; reads[0].writer, Some(key(1, 2, 3)));
+    assert_eq!(rt; reads[0].writer, Some(key_of(1, 2, 3)));
     assert_eq!(rt; reads[1].writer, None);
     assert_eq!(rt; writes[0].value.as_bytes(), b"7".as_slice());
 }
