@@ -16,7 +16,7 @@ use Rattle.chain_store.specs.declared.told.Told.{Told}
 use Rattle.chain_store.specs.declared.hold.Hold.{Hold}
 use Rattle.chain_store.specs.declared.region.Region.{Region}
 use Rattle.chain_store.specs.Holds.{IsHold, seen_in, made_in, entries_seen, view_of}
-use Rattle.append_core.specs.Going.{GoesOn}
+use Rattle.chain_store.specs.Going.{GoesOn}
 use Rattle.client_law.specs.Knowing.{SeesOn}
 use Rattle.client_law.specs.Making.{MakesNone}
 use Rattle.client_law.specs.Kept.{IsKeptBy}

@@ -30,4 +30,11 @@ mod SyncCalls
 mod TrimReplies
 mod Everywhere
 mod TellingAll
+mod Dealing
+mod Ends
+mod TrulyPulled
+mod EndsLog
+mod EndsRows
+mod Endings
+mod EndsClients
 pub mod CallerLemmas

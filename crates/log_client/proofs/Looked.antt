@@ -23,9 +23,9 @@ use Rattle.chain_store.specs.declared.hold.Hold.{Hold}
 use Rattle.chain_store.specs.declared.region.Region.{Region}
 use Rattle.chain_store.specs.Histories.{entries_in, maker}
 use Rattle.chain_store.specs.Holds.{IsHold, SameBut, SeesMoreIn, seen_in, made_in, turned_in, entries_seen, view_of}
-use Rattle.append_core.specs.Going.{GoesOn}
+use Rattle.chain_store.specs.Going.{GoesOn}
 use Rattle.append_core.specs.Standing.{IsSingleOf}
-use Rattle.append_core.proofs.CallerLemmas.{goes_same, goes_weaken}
+use Rattle.chain_store.proofs.CallerLemmas.{goes_same, goes_weaken}
 use Rattle.lawful_run.specs.Callers.{Caller}
 use Rattle.client_law.specs.Knowing.{SeesOn}
 use Rattle.client_law.specs.Making.{MakesNone}

@@ -23,8 +23,8 @@ use Rattle.chain_store.specs.declared.hold.Hold.{Hold}
 use Rattle.chain_store.specs.declared.region.Region.{Region}
 use Rattle.chain_store.specs.Histories.{entries_in, Names}
 use Rattle.chain_store.specs.Holds.{IsHold, SameBut, SeesMoreIn, seen_in, made_in, entries_seen}
-use Rattle.append_core.specs.Going.{GoesOn}
-use Rattle.append_core.proofs.CallerLemmas.{looks_on}
+use Rattle.chain_store.specs.Going.{GoesOn}
+use Rattle.chain_store.proofs.CallerLemmas.{looks_on}
 use Rattle.lawful_run.specs.Callers.{Caller}
 use Rattle.lawful_run.specs.Reads.{Syncs, ShowsPlayed, IsTrimmed, greatest_stamp}
 use Rattle.client_law.specs.Knowing.{Rest, log_of}

@@ -11,7 +11,7 @@ use Rattle.chain_store.specs.Holds.{IsHold, seen_in, made_in, turned_in, view_of
 use Rattle.chain_store.specs.Histories.{maker}
 use Rattle.turn_cell.specs.Histories.{made_by}
 use Rattle.chain_store.specs.Telling.{IsHoldNote, KnowsSame, Tells, Hears}
-use Rattle.append_core.proofs.CallerLemmas.{later_same}
+use Rattle.chain_store.proofs.CallerLemmas.{later_same}
 use Rattle.log_client.proofs.Lists.{got, got_end}
 use Rattle.log_client.specs.Fits.{HasGoneOn}
 use Rattle.log_client.specs.Ending.{AreHoldsIn}

@@ -15,8 +15,8 @@ use Rattle.chain_store.specs.declared.region.Region.{Region}
 use Rattle.chain_store.specs.Columns.{told_event}
 use Rattle.chain_store.specs.Regions.{tag_at}
 use Rattle.chain_store.specs.Holds.{IsHold, SameBut, SeesMoreIn, MakesOneIn, TrimsIn, seen_in, made_in}
-use Rattle.append_core.specs.Going.{GoesOn}
-use Rattle.append_core.proofs.CallerLemmas.{looks_on, makes_on}
+use Rattle.chain_store.specs.Going.{GoesOn}
+use Rattle.chain_store.proofs.CallerLemmas.{looks_on, makes_on}
 use Rattle.lawful_run.specs.Callers.{Caller}
 use Rattle.client_law.specs.Making.{MakesOnly}
 use Rattle.client_law.proofs.CallerLemmas.{kept_after, trims_stand}

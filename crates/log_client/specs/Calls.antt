@@ -51,25 +51,6 @@ IsSame c d = (d.number ≡ c.number) × (d.region ≡ c.region)
 abbrev pub DidNothing : Store → Client → Client → Type 0
 DidNothing s c d = IsExplained s c d (λ log caller kept after. after ≡ kept)
 
--- APPENDS
-
--- a point as a reply shows it
-abbrev pub piece_of : Point → PointPiece
-piece_of p = record { colour = p.colour; at = p.at; position = p.position }
-
--- the node of these colours and this text stands where the answer says
-abbrev pub AppendsAs : Colours → List ℕ → Appended → Log → Caller → Kept → Kept → Type 0
-AppendsAs colours text a log caller kept after =
-    (a.id ≡ (node_of caller kept colours text).id) × (a.stood.key.id ≡ a.id)
-    × Appends log caller kept (node_of caller kept colours text) a.stood.key.stamp a.row (map piece_of a.stood.points) after
-
--- No memory was found: nothing was done, or the row is gone for that.
-abbrev pub GoesForMemory : Colours → List ℕ → Log → Caller → Kept → Kept → Type 0
-GoesForMemory colours text log caller kept after =
-    (after ≡ kept)
-    ⊎ ((places : ℕ → List ℕ) × IsGoneForMemory log caller kept (node_of caller kept colours text) places
-    × (after ≡ with_made (with_row kept) caller.own places))
-
 -- SYNCS
 
 -- what a sync played: the stretch that the answer names of what the client has played since
@@ -114,21 +95,3 @@ abbrev pub TrimRefused : Store → Client → Client → ℕ → Snapshot → Tr
 TrimRefused s c d colour snapshot (trim_faults.OtherColumn region other) =
     (region ≡ snapshot.region) × (other ≡ snapshot.colour) × ((region ≢ c.region) ⊎ (other ≢ colour)) × (d ≡ c)
 TrimRefused s c d colour snapshot trim_faults.NoMemory = IsOfColumn c colour snapshot × DidNothing s c d
-
-abbrev pub PullsAs : ℕ → ℕ → Pulled → Log → Caller → Kept → Kept → Type 0
-PullsAs region colour p log caller kept after =
-    (place : ℕ) × (too_low : List ℕ) × (p.give ≡ Event place)
-    × Pulls log caller kept region colour p.nodes place p.carry too_low
-    × (after ≡ kept_after_pull kept caller.own region colour place p.carry too_low)
-
--- Gives were made, and nothing was carried.
-abbrev pub GaveAlone : ℕ → ℕ → Log → Caller → Kept → Kept → Type 0
-GaveAlone region colour log caller kept after =
-    (too_low gives : List ℕ) × All (GivesTooLow log caller region colour) too_low × (length gives ≤ 1)
-    × All (λ place. (from : ℕ) × GivesAt log caller region colour place from) gives
-    × (after ≡ with_places (with_places kept region colour too_low) region colour gives)
-
--- Why nothing was pulled: both regions are one, and nothing was done; or memory was refused, and only gives were made.
-abbrev pub PullRefused : Store → Client → Client → ℕ → ℕ → PullFault → Type 0
-PullRefused s c d region colour pull_faults.SameRegion = (region ≡ c.region) × (d ≡ c)
-PullRefused s c d region colour pull_faults.NoMemory = (region ≢ c.region) × IsExplained s c d (GaveAlone region colour)

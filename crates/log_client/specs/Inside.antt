@@ -64,39 +64,3 @@ IsRefusedOn r h old (Trimmed colour shown) =
     (colour ≡ old.snapshot.colour) × (shown ≡ base r.number r.regions (dated_seen r h old.snapshot.colour))
     × (is_within shown old.snapshot.counts ≡ false)
 IsRefusedOn r h old NoMemory = Unit {0}
-
--- the node of these colours and this text that the client appends next, on this row where it takes one
-abbrev pub next_node : Client → Colours → List ℕ → Option Row → Node
-next_node c colours text row = record {
-  id = record { client = c.number; count = c.count };
-  region = c.region;
-  colours = colours;
-  text = text;
-  floor = c.floor;
-  wants = map (starts_of c) (members colours);
-  row = row;
-}
-
--- The holds are as before but for two, of different regions.
-pub record ChangesTwo (n m : ℕ) (gs hs : List Hold) (g g' h h' : Hold) : Type 0 where
-  pub apart : n ≢ m
-  pub first : slice_get gs n ≡ Some g
-  pub second : slice_get gs m ≡ Some h
-  pub changed : hs ≡ slice_set (slice_set gs n g') m h'
-
--- two of the holds changed as those of a pull between two regions
-abbrev pub PullsBetween : Region → Region → ℕ → List Hold → List Hold → Pulled → Type 0
-PullsBetween from to colour gs hs p =
-    (g g' h h' : Hold) × ChangesTwo from.number to.number gs hs g g' h h'
-    × GoesOnIn from colour g g' × GoesOnIn to colour h h' × Pulls from to colour g g' h h' p
-    × (OfOrigin from colour g h → OfOrigin from colour g' h')
-    × (AsksForHeld from to colour g h → AsksForHeld from to colour g' h')
-
--- the same of one that was refused for want of memory
-abbrev pub LeavesBetween : Region → Region → ℕ → List Hold → List Hold → PullFault → Type 0
-LeavesBetween from to colour gs hs fault =
-    (g g' h h' : Hold) × ChangesTwo from.number to.number gs hs g g' h h'
-    × GoesOnIn from colour g g' × GoesOnIn to colour h h' × (fault ≡ pull_faults.NoMemory)
-    × GivesAlone from to colour g g' h h' × SeesMoreIn colour h h'
-    × (OfOrigin from colour g h → OfOrigin from colour g' h')
-    × (AsksForHeld from to colour g h → AsksForHeld from to colour g' h')

@@ -1,4 +1,4 @@
-//! Clients of a store, each on a thread of its own: appends, syncs, pulls, trims and stamped reads, and what explains their
+//! Clients of a store, each on a thread of its own: what they see, play, trim and tell one another, and what explains their
 //! answers.
 #![tactic(auto)]
 
@@ -7,15 +7,15 @@ mod client;
 mod closed;
 mod closing;
 mod faults;
-mod moves;
 mod notes;
 mod opening;
 mod played;
 mod store;
 mod syncs;
 mod track;
+mod trims;
 
-pub use answers::{Appended, Synced};
+pub use answers::Synced;
 pub use client::Client;
 pub use closed::{Closed, ClosedRegions, RowNodes};
 pub use faults::{SyncFault, TrimFault};
