@@ -91,17 +91,17 @@ pub fresh_dealt : (shape : Shape) (old new : List Client) (hs : List Hold) → D
 fresh_dealt shape old new hs dealt fresh = (
   dealt.same ∙ fresh.0,
   λ n d at.
-  let g = dealt.got n d (omega arith) at in
-  let f = fresh.1 n g.0 g.2 in
-  record {
-    number = g.4.number ∙ f.number;
-    home = f.home ∙ ap (λ (r : ℕ). Some r) (sym g.4.region);
-    floor = g.4.floor ∙ f.floor;
-    count = g.4.count ∙ f.count;
-    rows = ap (λ v. v.items) g.4.rows ∙ f.rows;
-    tracks = subst (λ (r : ℕ). AreFreshTracks r shape.colours d.tracks.items) (sym g.4.region)
-        (subst (λ v. AreFreshTracks g.0.region shape.colours v.items) (sym g.4.tracks) f.tracks);
-  },
+      let g = dealt.got n d (omega arith) at in
+      let f = fresh.1 n g.0 g.2 in
+      record {
+        number = g.4.number ∙ f.number;
+        home = f.home ∙ ap (λ (r : ℕ). Some r) (sym g.4.region);
+        floor = g.4.floor ∙ f.floor;
+        count = g.4.count ∙ f.count;
+        rows = ap (λ v. v.items) g.4.rows ∙ f.rows;
+        tracks = subst (λ (r : ℕ). AreFreshTracks r shape.colours d.tracks.items) (sym g.4.region)
+            (subst (λ v. AreFreshTracks g.0.region shape.colours v.items) (sym g.4.tracks) f.tracks);
+      },
 )
 
 pub holds_dealt : (rs : List Region) (r : Region) (old new : List Client) (hs : List Hold) → Dealt old new hs 0

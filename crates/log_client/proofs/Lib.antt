@@ -5,7 +5,7 @@ mod Once
 mod Steps
 mod Alone
 mod Playing
-mod Trims
+mod Trimming
 mod Pulling
 mod Truly
 mod OwnNodes
@@ -31,10 +31,4 @@ mod TrimReplies
 mod Everywhere
 mod TellingAll
 mod Dealing
-mod Ends
-mod TrulyPulled
-mod EndsLog
-mod EndsRows
-mod Endings
-mod EndsClients
 pub mod CallerLemmas

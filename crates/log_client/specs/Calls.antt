@@ -1,32 +1,19 @@
 -- What a client's calls answer, and what explains it.
-use Rattle.std.specs.Prelude.{◌≡◌, ◌≢◌, ◌⊎◌, ℕ, ◌+◌, ◌≤◌, List, [], ◌∷◌, ◌++◌, length, map, drop, Option, Some, None}
-use Rattle.std.specs.List.{All}
-use Rattle.log_node.specs.declared.ids.Colours.{Colours}
+use Rattle.std.specs.Prelude.{◌≡◌, ◌≢◌, ◌⊎◌, ℕ, List, ◌++◌, length, drop}
 use Rattle.log_node.specs.declared.ids.Counts.{Counts}
 use Rattle.log_node.specs.declared.node.At.{At}
 use Rattle.log_node.specs.declared.node.At.TheVariants.{Event}
 use Rattle.log_node.specs.Seen.{PlacedNode}
-use Rattle.log_node.specs.Sets.{members}
 use Rattle.col_core.specs.Log.{Log}
-use Rattle.col_core.specs.Keeping.{Kept, kept_after_sync, kept_after_event, with_made, with_row}
+use Rattle.col_core.specs.Keeping.{Kept, kept_after_sync, kept_after_event}
 use Rattle.script_text.specs.declared.script.Object.{Object}
-use Rattle.report_text.specs.declared.report.PointPiece.{PointPiece}
-use Rattle.report_text.specs.declared.report.SyncPiece.{SyncPiece}
-use Rattle.report_text.specs.declared.report.RaisePiece.{RaisePiece}
-use Rattle.lawful_run.specs.Callers.{Caller, node_of}
-use Rattle.lawful_run.specs.Appends.{Appends, HasNoStamp, IsFull, IsGoneForMemory}
-use Rattle.lawful_run.specs.Stops.{Stops}
-use Rattle.lawful_run.specs.Reads.{Syncs, ShowsPlayed, IsTrimmed, greatest_stamp, ReadsAt, AreRead, ShowsKey, HidesRead}
-use Rattle.lawful_run.specs.Moves.{GivesAt, GivesTooLow, Pulls, Trims, with_places, kept_after_pull}
+use Rattle.lawful_run.specs.Callers.{Caller}
+use Rattle.lawful_run.specs.Reads.{Syncs, ShowsPlayed, IsTrimmed, greatest_stamp}
+use Rattle.lawful_run.specs.Moves.{Trims}
 use Rattle.client_law.specs.Knowing.{Rest, log_of}
 use Rattle.playback.specs.declared.player.Snapshot.{Snapshot}
-use Rattle.append_core.specs.declared.stood.Point.{Point}
-use Rattle.region_pull.specs.declared.pulled.Pulled.{Pulled}
-use Rattle.region_pull.specs.declared.pulled.PullFault.{PullFault}
-use Rattle.region_pull.specs.declared.pulled.PullFault.TheVariants as pull_faults
 use Rattle.log_client.specs.declared.store.Store.{Store}
 use Rattle.log_client.specs.declared.client.Client.{Client}
-use Rattle.log_client.specs.declared.answers.Appended.{Appended}
 use Rattle.log_client.specs.declared.answers.Synced.{Synced}
 use Rattle.log_client.specs.declared.faults.SyncFault.{SyncFault}
 use Rattle.log_client.specs.declared.faults.SyncFault.TheVariants as sync_faults

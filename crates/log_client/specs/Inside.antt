@@ -1,31 +1,20 @@
--- What the functions of this crate say of each other: plays on a track, and pulls between two of a client's holds.
-use Rattle.std.specs.Prelude.{◌≡◌, ◌≢◌, ℕ, false, ◌≤◌, List, ◌++◌, length, map, Option, Some, slice_get, slice_set}
-use Rattle.log_node.specs.declared.ids.Colours.{Colours}
-use Rattle.log_node.specs.declared.ids.Row.{Row}
+-- What the functions of this crate say of each other: plays on a track.
+use Rattle.std.specs.Prelude.{◌≡◌, ℕ, false, ◌≤◌, List, ◌++◌, length}
 use Rattle.log_node.specs.declared.limits.TheConstants.{MAX_STAMP}
-use Rattle.log_node.specs.declared.node.Node.{Node}
 use Rattle.log_node.specs.Seen.{PlacedNode}
-use Rattle.log_node.specs.Sets.{members}
 use Rattle.log_node.specs.Vectors.{IsWithin, is_within}
 use Rattle.col_core.specs.Cuts.{Dated, base}
 use Rattle.col_core.specs.Computed.{cut, dated}
 use Rattle.chain_store.specs.declared.hold.Hold.{Hold}
 use Rattle.chain_store.specs.declared.region.Region.{Region}
-use Rattle.chain_store.specs.Holds.{seen_in, entries_seen, SeesMoreIn}
-use Rattle.region_pull.specs.declared.pulled.Pulled.{Pulled}
-use Rattle.region_pull.specs.declared.pulled.PullFault.{PullFault}
-use Rattle.region_pull.specs.declared.pulled.PullFault.TheVariants as pull_faults
-use Rattle.region_pull.specs.Going.{GoesOnIn}
-use Rattle.region_pull.specs.Origins.{OfOrigin, AsksForHeld}
-use Rattle.region_pull.specs.Pulls.{Pulls, GivesAlone}
+use Rattle.chain_store.specs.Holds.{seen_in, entries_seen}
 use Rattle.lawful_run.specs.Reads.{greatest_stamp}
 use Rattle.playback.specs.declared.player.Played.{Played}
 use Rattle.log_client.specs.declared.track.Track.{Track}
-use Rattle.log_client.specs.declared.client.Client.{Client}
 use Rattle.log_client.specs.declared.answers.Synced.{Synced}
 use Rattle.log_client.specs.declared.faults.SyncFault.{SyncFault}
 use Rattle.log_client.specs.declared.faults.SyncFault.TheVariants.{Trimmed, NoMemory}
-use Rattle.log_client.specs.Clients.{Plays, starts_of}
+use Rattle.log_client.specs.Clients.{Plays}
 
 -- the column of a colour, as the hold has seen it, with its cuts
 abbrev pub dated_seen : Region → Hold → ℕ → List Dated

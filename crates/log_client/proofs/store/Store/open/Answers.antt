@@ -54,11 +54,11 @@ returns-clause-clients c =
     } in (
       ap length c.into-2.ensures ∙ i.fresh.0,
       λ n d at.
-      let there = ap (λ (z : List Client). slice_get z n) (sym c.into-2.ensures) ∙ at in
-      let fresh = i.fresh.1 n d there in
-      let home = All-contains (λ (h : ℕ). h < shape.regions) shape.homes d.region c.requires.homes
-      (contains_in shape.homes d.region (slice_in shape.homes n d.region fresh.home)) in
-      is_new_client shape s n d fresh
-      (subst (λ (rs : List Region). HasNewHolds rs n (holds_of d)) (sym regions) (i.holds n d there))
-      (omega (arith, home, all, count, many)) refl,
+          let there = ap (λ (z : List Client). slice_get z n) (sym c.into-2.ensures) ∙ at in
+          let fresh = i.fresh.1 n d there in
+          let home = All-contains (λ (h : ℕ). h < shape.regions) shape.homes d.region c.requires.homes
+          (contains_in shape.homes d.region (slice_in shape.homes n d.region fresh.home)) in
+          is_new_client shape s n d fresh
+          (subst (λ (rs : List Region). HasNewHolds rs n (holds_of d)) (sym regions) (i.holds n d there))
+          (omega (arith, home, all, count, many)) refl,
     )
