@@ -51,7 +51,7 @@ seen_at hs region h at colour place t there =
     ∙ mapped (λ (u : Told). u.entry) (seen_in h colour) place t there
 
 -- a single enters its id
-single_enters : (id : Id) (ev : event_types.Event) → IsSingleOf id ev → enters id ev ≡ true
+pub single_enters : (id : Id) (ev : event_types.Event) → IsSingleOf id ev → enters id ev ≡ true
 single_enters id (events.Single other floor wants) is = subst (λ (i : Id). same_id id i ≡ true) (sym is) (same_id-refl id)
 single_enters id (events.Propose other floor wants) is = absurd is
 single_enters id (events.Settle other outcome) is = absurd is

@@ -5,11 +5,21 @@ mod Once
 mod Steps
 mod Alone
 mod Playing
-mod Trims
+mod Trimming
 mod Pulling
 mod Truly
 mod OwnNodes
+mod Ends
+mod TrulyPulled
+mod EndsLog
+mod EndsRows
+mod Endings
+mod EndsClients
 mod Greatest
+mod OwnMore
+mod LeftOpen
+mod Handing
+mod ClosesStore
 mod Shown
 mod Plays
 mod AtHome
@@ -21,10 +31,4 @@ mod TrimReplies
 mod Everywhere
 mod TellingAll
 mod Dealing
-mod Ends
-mod TrulyPulled
-mod EndsLog
-mod EndsRows
-mod Endings
-mod EndsClients
 pub mod CallerLemmas

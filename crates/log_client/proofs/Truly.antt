@@ -76,7 +76,7 @@ no_give : (ev : event_types.Event) (region from : ℕ) → IsNoMove ev → ev �
 no_give ev region from none is = subst IsNoMove is none
 
 -- an entry that a hold made, which goes on, it had made, or is one of those
-made_split : (Made : ℕ → event_types.Event → Type 0) (g h : Hold) (colour n : ℕ) (t : Told) → GoesOn Made g h
+pub made_split : (Made : ℕ → event_types.Event → Type 0) (g h : Hold) (colour n : ℕ) (t : Told) → GoesOn Made g h
     → slice_get (made_in h colour) n ≡ Some t → WasMade g colour t ⊎ Made colour t.entry.event
 made_split Made g h colour n t goes at = by_place (got_split (made_in g colour) (goes.made colour).0 n t
     (ap (λ (l : List Told). slice_get l n) (sym (goes.made colour).1) ∙ at)) where

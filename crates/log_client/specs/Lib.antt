@@ -7,3 +7,5 @@ pub mod Inside
 pub mod Calls
 pub mod Notes
 pub mod Opening
+pub mod Leaving
+pub mod Closes
