@@ -15,3 +15,4 @@ mod RowsShown
 mod ColumnsShown
 mod MoveGuards
 mod ObjectSteps
+mod DequeueSteps

@@ -107,7 +107,7 @@ pulls_none command w given new region own colour held mine has is_given same = r
   is = λ replies. ap (λ (x : World). answered (with_replies w replies) command x answers.NoMemory []) (sym worlds);
 } where
   without : Grants
-  without = record { start = true; marks = λ _. true; helps = λ _ _. true; carry = false }
+  without = record { start = true; marks = λ _. true; helps = λ _ _. true; carry = false; fold = true }
 
   client : ℕ
   client = command.client

@@ -83,7 +83,7 @@ command_done objects command old world given reply low ok err is = turn given ok
     replies = refl;
   } where
     none : Grants
-    none = record { start = false; marks = λ _. true; helps = λ _ _. true; carry = true }
+    none = record { start = false; marks = λ _. true; helps = λ _ _. true; carry = true; fold = true }
 
 pub any_default : {A : Type 0} (xs : List A) (i : ℕ) (d e : A) → i < length xs → get_or xs i d ≡ get_or xs i e
 any_default [] i d e lt = absurd (let f : ⊥ = omega (arith, lt) in f)

@@ -3,3 +3,4 @@ pub mod Runs
 pub mod Doing
 pub mod Points
 pub mod Reports
+pub mod Reading

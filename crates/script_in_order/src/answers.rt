@@ -11,6 +11,7 @@ ghost use Rattle.script_in_order.specs.Runs.{reply_of};
 use crate::appends::append;
 use crate::moves::{pull, trim};
 use crate::object_appends::{delete, enqueue, put, put_all};
+use crate::queues::dequeue;
 use crate::stops::stop;
 use crate::syncs::sync;
 use log_node::{Items, ListOf};
@@ -68,6 +69,10 @@ pub fn answer(
         }
         What::Enq { object, value } => {
             let answer = enqueue(alloc, objects, command, *object, value, world)?;
+            Ok((answer, ListOf::new(alloc)))
+        }
+        What::Deq { object } => {
+            let answer = dequeue(alloc, objects, command, *object, world)?;
             Ok((answer, ListOf::new(alloc)))
         }
         _ => unreachable!(),

@@ -43,8 +43,8 @@ pub fn append(
     }
 }
 
-// An append to one colour: its node enters, and its colour is cleared below its key.
-fn append_one(
+/// An append to one colour: its node enters, and its colour is cleared below its key.
+pub fn append_one(
     alloc: Global,
     command: &Command,
     colour: u8,

@@ -25,7 +25,8 @@ fn has_one(colours: Colours) -> bool
 }
 
 /// Whether a command is one of those that are done: an append to any number of colours, a stop of an append to several,
-/// a sync, a pull, a trim, and what appends for an object: a put, a deletion, several puts at once and an enqueue.
+/// a sync, a pull, a trim, and what appends for an object: a put, a deletion, several puts at once, an enqueue and
+/// a dequeue.
 pub fn is_built(what: &What) -> bool
     ensures { result ≡ is_built what.now }
 {
@@ -44,6 +45,6 @@ pub fn is_built(what: &What) -> bool
         What::Read { .. } => false,
         What::Commit { .. } => false,
         What::Enq { .. } => true,
-        What::Deq { .. } => false,
+        What::Deq { .. } => true,
     }
 }

@@ -10,6 +10,7 @@ mod in_order;
 mod moves;
 mod object_appends;
 mod points;
+mod queues;
 mod replies;
 mod reports;
 mod rows;

@@ -1,5 +1,5 @@
 -- One command, where it finds memory, does what it does with memory granted everywhere.
-use Rattle.std.proofs.Common.{◌≡◌, ◌≢◌, inl, ℕ, zero, suc, List, [], ◌∷◌, ◌++◌, map, take, Option, Some, None, refl, ap, sym, subst, ◌∙◌}
+use Rattle.std.proofs.Common.{◌≡◌, inl, ℕ, zero, suc, cond, List, [], ◌∷◌, ◌++◌, map, take, Option, Some, None, refl, ap, sym, subst, ◌∙◌}
 use Rattle.std.specs.Prelude.{◌==◌}
 use Rattle.log_node.specs.declared.ids.Row.{Row}
 use Rattle.log_node.specs.declared.ids.Colours.{Colours}
@@ -21,7 +21,9 @@ use Rattle.script_text.specs.declared.script.What.TheVariants as whats
 use Rattle.script_text.specs.declared.script.Command.{Command}
 use Rattle.report_text.specs.declared.report.Answer.{Answer}
 use Rattle.report_text.specs.declared.report.Answer.TheVariants as answers
+use Rattle.report_text.specs.declared.report.PointPiece.{PointPiece}
 use Rattle.report_text.specs.declared.report.ReplyLine.{ReplyLine}
+use Rattle.object_fold.specs.Queues.{front_after}
 use Rattle.script_meaning.specs.States.{State, Grants, all_granted, answered}
 use Rattle.script_meaning.specs.Helping.{all_cleared}
 use Rattle.script_meaning.specs.Appends.{with_single, appended_one, appended_by, appended_several, appended, stopped, is_full, append_steps, ended_colour, point_in}
@@ -31,7 +33,8 @@ use Rattle.script_text.specs.Items.{set_of}
 use Rattle.lawful_run.specs.Callers.{Caller}
 use Rattle.lawful_run.specs.Asks.{kind_of, colours_of, keys_of, put_form}
 use Rattle.script_meaning.specs.Objects.{caller_in, refusing_home, shard_set}
-use Rattle.script_meaning.specs.Meaning.{done_one, done_from, done}
+use Rattle.script_meaning.specs.Dequeues.{first_nodes, sync_now, base_now, dequeued_at, dequeued_by}
+use Rattle.script_meaning.specs.Meaning.{done_one, done_from, done, TellsNoWant}
 use Rattle.script_meaning.proofs.GrantedSteps.{IsClean, RunsTo, stays_there, runs_on, clean_from, complete_exact, taken_exact, clears_run, clears_exact}
 use Rattle.script_meaning.proofs.Invariant.{line_of}
 
@@ -61,7 +64,7 @@ module _ (objects : List Object) (grants : Grants) (state : State) (command : Co
   abbrev caller : Caller
   caller = caller_in w objects u
 
-  single_runs : (text : List ℕ) (c : ℕ) → RunsTo w (with_single grants w u text c)
+  pub single_runs : (text : List ℕ) (c : ℕ) → RunsTo w (with_single grants w u text c)
   single_runs text c =
       runs_on w (after w (Single u c text)) (with_single grants w u text c)
       (record { steps = Single u c text ∷ []; run = refl })
@@ -157,6 +160,48 @@ module _ (objects : List Object) (grants : Grants) (state : State) (command : Co
   nothing_done : Extends state state
   nothing_done = record { world = stays_there w; replies = λ n r i. i }
 
+  at_extends : (v : World) (stamp : ℕ) (point : PointPiece) → RunsTo w v
+      → Extends state (dequeued_at grants state command v stamp point)
+  at_extends v stamp point r =
+      let v' = after v (Play u point.colour) in
+      let plays : RunsTo w v' = runs_on w v v' r (record { steps = Play u point.colour ∷ []; run = refl }) in
+      let answer = answers.Took (front_after (first_nodes v u point.colour point.position)) point
+      (sync_now v u point.colour) in
+      let base = answers.UnreadTrimmed stamp point.colour (base_now v u point.colour) in
+      choice (Extends state) (may_play v u point.colour)
+      (cond grants.fold (answered state command v' answer [])
+      (answered state command v' (answers.UnreadNoMemory stamp) [])) (answered state command v base [])
+      (λ _. choice (Extends state) grants.fold (answered state command v' answer [])
+      (answered state command v' (answers.UnreadNoMemory stamp) [])
+      (λ _. answer_extends state command v' answer [] plays)
+      (λ _. answer_extends state command v' (answers.UnreadNoMemory stamp) [] plays))
+      (λ _. answer_extends state command v base [] r)
+
+  at_runs : (v : World) (stamp : ℕ) (point : PointPiece) → RunsTo v (dequeued_at grants state command v stamp point).world
+  at_runs v stamp point =
+      let v' = after v (Play u point.colour) in
+      let plays : RunsTo v v' = record { steps = Play u point.colour ∷ []; run = refl } in
+      let answer = answers.Took (front_after (first_nodes v u point.colour point.position)) point
+      (sync_now v u point.colour) in
+      let base = answers.UnreadTrimmed stamp point.colour (base_now v u point.colour) in
+      choice (λ (s : State). RunsTo v s.world) (may_play v u point.colour)
+      (cond grants.fold (answered state command v' answer [])
+      (answered state command v' (answers.UnreadNoMemory stamp) [])) (answered state command v base [])
+      (λ _. choice (λ (s : State). RunsTo v s.world) grants.fold (answered state command v' answer [])
+      (answered state command v' (answers.UnreadNoMemory stamp) []) (λ _. plays) (λ _. plays))
+      (λ _. stays_there v)
+
+  deq_extends : (cs : List ℕ) → Extends state (dequeued_by grants state command cs)
+  deq_extends [] = nothing_done
+  deq_extends (c ∷ cs) =
+      let text = form_text forms.Dequeue in
+      let v = with_single grants w u text c in
+      let point = point_in w v u (next_id w u) c in
+      choice (Extends state) (may_single w u c) (dequeued_at grants state command v (single_stamp w u c) point)
+      (answered state command w (answers.StampEnd c) [])
+      (λ _. at_extends v (single_stamp w u c) point (single_runs text c))
+      (λ _. answer_extends state command w (answers.StampEnd c) [] (stays_there w))
+
   one_command_extends : (what : What) → Extends state (done_one objects grants state command what)
   one_command_extends (whats.Append colours text) = append_extends colours text (members colours)
   one_command_extends (whats.Stop steps colours text) = stop_extends colours text steps
@@ -181,7 +226,7 @@ module _ (objects : List Object) (grants : Grants) (state : State) (command : Co
   one_command_extends (whats.Enq object value) =
       append_extends (set_of (colours_of caller object)) (form_text (forms.Enqueue value))
       (members (set_of (colours_of caller object)))
-  one_command_extends (whats.Deq object) = nothing_done
+  one_command_extends (whats.Deq object) = deq_extends (colours_of caller object)
 
   from_extends : (home : Option ℕ) → Extends state (done_from home objects grants state command)
   from_extends None = one_command_extends command.what
@@ -277,15 +322,21 @@ module _ (objects : List Object) (grants : Grants) (state : State) (command : Co
 
   -- the client is nowhere answered with want of memory
   abbrev TellsNone : State → Type 0
-  TellsNone s = (r : ReplyLine) → In r (s.replies u) → r.answer ≢ answers.NoMemory
+  TellsNone s = (r : ReplyLine) → In r (s.replies u) → TellsNoWant r.answer
 
   -- what was answered so tells of it
-  told_so : (v : World) → TellsNone (answered state command v answers.NoMemory []) → ⊥
-  told_so v tells =
-      let line = line_of command answers.NoMemory [] in
+  told : (v : World) (answer : Answer) → TellsNone (answered state command v answer []) → TellsNoWant answer
+  told v answer tells =
+      let line = line_of command answer [] in
       tells line
       (subst (λ (l : List ReplyLine). In line l) (sym (updated-here state.replies u (state.replies u ++ line ∷ [])))
-      (in_right line (state.replies u) (line ∷ []) (inl refl))) refl
+      (in_right line (state.replies u) (line ∷ []) (inl refl)))
+
+  told_so : (v : World) → TellsNone (answered state command v answers.NoMemory []) → ⊥
+  told_so v tells = (told v answers.NoMemory tells).refused refl
+
+  told_unread : (v : World) (stamp : ℕ) → TellsNone (answered state command v (answers.UnreadNoMemory stamp) []) → ⊥
+  told_unread v stamp tells = (told v (answers.UnreadNoMemory stamp) tells).unread stamp refl
 
   pull_exact : (region c : ℕ) → TellsNone (pulled grants state command region c)
       → pulled grants state command region c ≡ pulled all_granted state command region c
@@ -309,6 +360,49 @@ module _ (objects : List Object) (grants : Grants) (state : State) (command : Co
       (given grants state command region c) g))) tells)))
       ∙ sym (if_false (region == own) (stayed grants state command) from_all_found f)))
       ∙ sym (pulled_is all_granted state command region c))
+
+  at_exact : (v : World) (stamp : ℕ) (point : PointPiece) → TellsNone (dequeued_at grants state command v stamp point)
+      → dequeued_at grants state command v stamp point ≡ dequeued_at all_granted state command v stamp point
+  at_exact v stamp point tells =
+      let v' = after v (Play u point.colour) in
+      let took : State = answered state command v' (answers.Took
+      (front_after (first_nodes v u point.colour point.position)) point (sync_now v u point.colour)) [] in
+      let unread : State = answered state command v' (answers.UnreadNoMemory stamp) [] in
+      let base : State = answered state command v
+      (answers.UnreadTrimmed stamp point.colour (base_now v u point.colour)) [] in
+      by_test _ (may_play v u point.colour)
+      (λ t. if_true (may_play v u point.colour) (cond grants.fold took unread) base t
+      ∙ (by_test _ grants.fold (λ g. if_true grants.fold took unread g)
+      (λ g. absurd (told_unread v' stamp (subst TellsNone
+      (if_true (may_play v u point.colour) (cond grants.fold took unread) base t
+      ∙ if_false grants.fold took unread g) tells)))
+      ∙ sym (if_true (may_play v u point.colour) took base t)))
+      (λ f. if_false (may_play v u point.colour) (cond grants.fold took unread) base f
+      ∙ sym (if_false (may_play v u point.colour) took base f))
+
+  deq_exact : (cs : List ℕ) → IsClean (dequeued_by grants state command cs).world
+      → TellsNone (dequeued_by grants state command cs)
+      → dequeued_by grants state command cs ≡ dequeued_by all_granted state command cs
+  deq_exact [] clean tells = refl
+  deq_exact (c ∷ cs) clean tells =
+      let text = form_text forms.Dequeue in
+      let stamp = single_stamp w u c in
+      let v = with_single grants w u text c in
+      let v' = with_single all_granted w u text c in
+      let at : World → State = λ x. dequeued_at grants state command x stamp (point_in w x u (next_id w u) c) in
+      let ended : State = answered state command w (answers.StampEnd c) [] in
+      by_test _ (may_single w u c)
+      (λ t. let is = if_true (may_single w u c) (at v) ended t in
+      let clean' : IsClean (at v).world = subst (λ (s : State). IsClean s.world) is clean in
+      let same : v ≡ v' = single_exact text c (clean_from v (at v).world
+      (at_runs v stamp (point_in w v u (next_id w u) c)) clean') in
+      is ∙ (at_exact v stamp (point_in w v u (next_id w u) c) (subst TellsNone is tells)
+      ∙ (ap (λ (x : World). dequeued_at all_granted state command x stamp (point_in w x u (next_id w u) c)) same
+      ∙ sym (if_true (may_single w u c)
+      (dequeued_at all_granted state command v' stamp (point_in w v' u (next_id w u) c)) ended t))))
+      (λ f. if_false (may_single w u c) (at v) ended f
+      ∙ sym (if_false (may_single w u c)
+      (dequeued_at all_granted state command v' stamp (point_in w v' u (next_id w u) c)) ended f))
 
   one_command_exact : (what : What) → IsClean (done_one objects grants state command what).world
       → TellsNone (done_one objects grants state command what)
@@ -336,7 +430,7 @@ module _ (objects : List Object) (grants : Grants) (state : State) (command : Co
   one_command_exact (whats.Enq object value) clean tells =
       append_exact (set_of (colours_of caller object)) (form_text (forms.Enqueue value))
       (members (set_of (colours_of caller object))) clean
-  one_command_exact (whats.Deq object) clean tells = refl
+  one_command_exact (whats.Deq object) clean tells = deq_exact (colours_of caller object) clean tells
 
   from_exact : (home : Option ℕ) → IsClean (done_from home objects grants state command).world
       → TellsNone (done_from home objects grants state command)

@@ -62,7 +62,7 @@ plain (whats.GetAll object keys) b = absurd (let f : ⊥ = cc in f)
 plain (whats.Read object keys) b = absurd (let f : ⊥ = cc in f)
 plain (whats.Commit object pairs) b = absurd (let f : ⊥ = cc in f)
 plain (whats.Enq object value) b = record { before = λ k. refl; behind = λ k. refl }
-plain (whats.Deq object) b = absurd (let f : ⊥ = cc in f)
+plain (whats.Deq object) b = record { before = λ k. refl; behind = λ k. refl }
 
 -- a reply line of a command
 abbrev pub line_of : Command → Answer → List PlacedNode → ReplyLine

@@ -1,14 +1,13 @@
 -- Each state to which a fitting script's commands lead keeps what `Runs` says.
 use Rattle.std.proofs.Common.{◌≡◌, ◌⊎◌, inl, inr, ℕ, zero, suc, ◌+◌, ◌^◌, ◌<◌, ◌≤◌, List, [], ◌∷◌, ◌++◌, length, take, Option, Some, None, Bool, true, false, refl, ap, sym, subst, ◌∙◌, arith, append-nil, append_assoc, length-append, map}
-use Rattle.std.specs.Prelude.{IsTrue, not, nat_lt, ◌==◌, slice_get, slice_index, slice_index_or}
-use Rattle.std.specs.List.{All, list_all, list_any}
+use Rattle.std.specs.Prelude.{IsTrue, not, nat_lt, slice_get, slice_index, slice_index_or}
+use Rattle.std.specs.List.{All, list_all}
 use Rattle.std.proofs.lemmas.Bool.{and_from, leb-true, ltb-true, lt-ltb, cases_lt}
 use Rattle.log_node.specs.declared.ids.Row.{Row}
 use Rattle.log_node.specs.declared.ids.Colours.{Colours}
 use Rattle.log_node.specs.declared.forms.Form.TheVariants as forms
 use Rattle.log_node.specs.Sets.{members}
 use Rattle.object_form.specs.Forms.{form_text}
-use Rattle.object_fold.specs.Nodes.{shard_of}
 use Rattle.log_node.specs.declared.marks.Why.TheVariants.{Memory, StampEnd}
 use Rattle.log_node.specs.declared.marks.Outcome.{Outcome}
 use Rattle.log_node.specs.declared.marks.Outcome.TheVariants.{Open, Gone, Final}
@@ -42,6 +41,7 @@ use Rattle.script_meaning.proofs.Sets.{one_is_power}
 use Rattle.script_meaning.proofs.ShardSets.{shard_members, set_has, shards_below, shards_has}
 use Rattle.script_meaning.proofs.Playing.{at_or}
 use Rattle.script_meaning.proofs.ObjectAppends.{AsksIn, does_as}
+use Rattle.script_meaning.proofs.DequeueRuns as dequeues
 use Rattle.script_meaning.proofs.ObjectKinds.{some_of, object_has, queue_one, not_away, is_away, did_stay_away}
 use Rattle.script_meaning.proofs.AppendOne as one
 use Rattle.script_meaning.proofs.AfterMoves as moving
@@ -324,7 +324,8 @@ module _ (script : Script) (commands : List Command) (state : State) (command : 
       runs_queue object (form_text (forms.Enqueue value)) uses.0 (ap manner_of asked)
       (λ is w' kept. subst (λ (what : What). AsksToAppend (caller_in w' script.objects u) kept what
       (set_of (colours_of caller object)) (form_text (forms.Enqueue value))) (sym asked) (is, refl))
-  runs_what (whats.Deq object) asked b within uses = absurd (let f : ⊥ = cc in f)
+  runs_what (whats.Deq object) asked b within uses =
+      dequeues.runs_dequeue script commands state command grants runs fit object asked uses
 
 module _ (script : Script) (commands : List Command) (state : State) (command : Command) (grants : Grants)
     (runs : Runs script commands state) where

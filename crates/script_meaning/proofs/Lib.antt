@@ -18,6 +18,8 @@ mod ChainNodes
 mod Sync
 mod OwnEvents
 mod Trimming
+mod Dequeuing
+mod HelpGrants
 mod Carried
 mod Pulling
 mod MoveCases
@@ -34,6 +36,7 @@ mod ObjectForms
 mod CompletionParts
 mod Stopping
 mod Invariant
+mod DequeueRuns
 mod InvariantHolds
 mod RowsOfClients
 mod LawfulReports

@@ -72,6 +72,21 @@ module _ (objects : List Object) (regions count : ℕ)
       subst (λ (l : List ℕ). members (set_of l) ≡ l) colours_are
       (queue_set regions count few has.found.kind within (is has.found.kind has.kind))
 
+queue_of : (regions count : ℕ) (kind : Kind) → IsKindWithin regions count kind → is_queue kind ≡ true
+    → (c : ℕ) × (object_colours (Some kind) ≡ c ∷ []) × (c < count)
+queue_of regions count (kinds.Map home colours) w q = absurd (let f : ⊥ = cc in f)
+queue_of regions count (kinds.Tx home colours) w q = absurd (let f : ⊥ = cc in f)
+queue_of regions count (kinds.Causal colour) w q = absurd (let f : ⊥ = cc in f)
+queue_of regions count (kinds.Queue home colour) w q = (colour, refl, w.1)
+
+-- the one colour of a queue
+pub queue_colour : (objects : List Object) (regions count : ℕ)
+    → All (λ (o : Object). IsKindWithin regions count o.kind) objects → (object : ℕ) → HasObject objects object is_queue
+    → (c : ℕ) × (object_colours (option_map (λ (o : Object). o.kind) (slice_get objects object)) ≡ c ∷ []) × (c < count)
+queue_colour objects regions count all object has =
+    let q = queue_of regions count has.found.kind (within objects regions count all object is_queue has) has.kind in
+    (q.0, sym (colours_are objects regions count all object is_queue has) ∙ q.1, q.2)
+
 -- Homes
 
 none_some : {A : Type 0} (x : A) → Some x ≡ None → ⊥

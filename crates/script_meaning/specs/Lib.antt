@@ -3,5 +3,6 @@ pub mod Helping
 pub mod Appends
 pub mod Moves
 pub mod Objects
+pub mod Dequeues
 pub mod Meaning
 pub mod Laws

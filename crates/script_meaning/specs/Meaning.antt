@@ -14,6 +14,7 @@ use Rattle.script_text.specs.declared.script.What.{What}
 use Rattle.script_text.specs.declared.script.What.TheVariants as whats
 use Rattle.script_text.specs.declared.script.Command.{Command}
 use Rattle.script_text.specs.declared.script.Script.{Script}
+use Rattle.report_text.specs.declared.report.Answer.{Answer}
 use Rattle.report_text.specs.declared.report.Answer.TheVariants as answers
 use Rattle.report_text.specs.declared.report.ReplyLine.{ReplyLine}
 use Rattle.report_text.specs.declared.report.ClientReport.{ClientReport}
@@ -25,6 +26,7 @@ use Rattle.script_meaning.specs.States.{State, opening, Grants, all_granted, ans
 use Rattle.script_meaning.specs.Appends.{appended, stopped}
 use Rattle.script_meaning.specs.Moves.{synced, pulled, trimmed}
 use Rattle.script_meaning.specs.Objects.{caller_in, refusing_home, put_into, deleted_from, put_all_into, enqueued_in}
+use Rattle.script_meaning.specs.Dequeues.{dequeued}
 
 -- the state after a command that is built and was granted memory before it did anything; another changes nothing
 abbrev pub done_one : List Object → Grants → State → Command → What → State
@@ -47,7 +49,7 @@ done_one objects grants state command (whats.Read object keys) = state
 done_one objects grants state command (whats.Commit object pairs) = state
 done_one objects grants state command (whats.Enq object value) =
     enqueued_in objects grants state command object value
-done_one objects grants state command (whats.Deq object) = state
+done_one objects grants state command (whats.Deq object) = dequeued objects grants state command object
 
 -- the same, unless the home of the command's object refuses it
 abbrev pub done_from : Option ℕ → List Object → Grants → State → Command → State
@@ -107,8 +109,12 @@ pub record IsStepReport (script : Script) (report : Report) : Type 0 where
   pub leads : LeadTo script script.commands state
   pub shown : report ≡ report_of script state
 
+-- the answer does not tell of want of memory
+pub record TellsNoWant (answer : Answer) : Type 0 where
+  pub refused : answer ≢ answers.NoMemory
+  pub unread : (stamp : ℕ) → answer ≢ answers.UnreadNoMemory stamp
+
 -- no reply and no mark tells of want of memory
 pub record FindsMemory (report : Report) : Type 0 where
-  pub replies : All (λ (c : ClientReport). All
-      (λ (r : ReplyLine). r.answer ≢ answers.NoMemory) c.replies) report.clients
+  pub replies : All (λ (c : ClientReport). All (λ (r : ReplyLine). TellsNoWant r.answer) c.replies) report.clients
   pub marks : All (λ (r : RowReport). All (λ (m : ColourMark). m.mark ≢ marks.Fenced Memory) r.marks) report.rows

@@ -109,6 +109,14 @@ impl Client {
         self.begun.get(number as usize)
     }
 
+    /// Its node of a number, where it has appended one.
+    pub fn node(&self, number: u64) -> Option<&Arc<Node>>
+        ensures some { IfSome result (λ node. slice_get self.now.nodes number ≡ Some node.now.value) }
+        ensures none { result ≡ None → slice_get self.now.nodes number ≡ None }
+    {
+        self.nodes.get(number as usize)
+    }
+
     /// Takes the memory for one node and one row more, unless it is there.
     pub fn room(&mut self) -> Result<(), AllocError>
         ensures ok { OnOk result (self.new ≡ with_spare self.old) }

@@ -2,7 +2,7 @@
 use super::*;
 
 /// Scripts, and their reports.
-const REPORTS: [(&str, &str); 2] = [
+const REPORTS: [(&str, &str); 3] = [
     // Puts, deletions and enqueues are appends of their texts to the shards of their keys: that of `b` is x, those of `a`
     // and `d` are y and x. A client of another region is refused; a causal map has no home.
     (
@@ -105,6 +105,41 @@ column r y
 1 a single a.0 floor 0 wants 0 stamp 2
 2 a settle b.0 final 1
 = clock 2 line b.0:1,a.0:2 queue - cut 2 base 0
+",
+    ),
+    // A dequeue takes the front of what was enqueued before its own node, and none where nothing waits.
+    (
+        "fuzzylog 1
+regions e
+colours x
+client a e
+queue q e x
+begin
+a deq q
+a enq q v
+a enq q w
+a deq q
+a deq q
+a deq q
+a pull e x
+",
+        "report 1
+client a
+7 deq none x!0@0 x?1/1
+8 enq ok 2 x!1@1
+9 enq ok 3 x!2@2
+10 deq ok v x!3@3 x?4/4
+11 deq ok w x!4@4 x?5/5
+12 deq none x!5@5 x?6/6
+13 pull sameregion
+column e x
+0 a single a.0 floor 0 wants 0 stamp 1
+1 a single a.1 floor 1 wants 1 stamp 2
+2 a single a.2 floor 2 wants 1 stamp 3
+3 a single a.3 floor 3 wants 1 stamp 4
+4 a single a.4 floor 4 wants 4 stamp 5
+5 a single a.5 floor 5 wants 5 stamp 6
+= clock 6 line a.0:1,a.1:2,a.2:3,a.3:4,a.4:5,a.5:6 queue - cut 6 base 0
 ",
     ),
 ];

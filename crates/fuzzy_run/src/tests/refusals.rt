@@ -25,12 +25,11 @@ const REFUSED: [(&str, u32, &str); 12] = [
 ];
 
 /// Commands on objects from line 12 on that are not done today.
-const OBJECTS: [&str; 5] = [
+const OBJECTS: [&str; 4] = [
     "a get m k",
     "a getall m k j",
     "a read t k",
     "a read t k\na commit t k=v",
-    "a deq q",
 ];
 
 /// The script is refused at that line for that reason.
