@@ -21,7 +21,7 @@ use Rattle.log_client.specs.Fits.{HaveGoneOn}
 use Rattle.log_client.specs.Clients.{holds_of, seen_of, caller_of, IsClient, Finished}
 use Rattle.log_client.specs.Calls.{IsExplained, DidNothing, TrimsAs}
 use Rattle.log_client.proofs.Steps.{more_last}
-use Rattle.log_client.proofs.Trimming.{trims_there, makes_only_last}
+use Rattle.log_client.proofs.Trims.{trims_there, makes_only_last}
 use Rattle.log_client.proofs.AtHome.{ChangesHome, gone_looked, have_gone_on, home_after, others_after, sees_after, are_regions}
 use Rattle.log_client.proofs.Looked.{IsPlain, made_looked, finished_stays, client_looked, tracks_stay, did_nothing}
 
