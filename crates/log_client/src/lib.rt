@@ -13,7 +13,7 @@ mod played;
 mod store;
 mod syncs;
 mod track;
-mod trims;
+mod trimming;
 
 pub use answers::Synced;
 pub use client::Client;
