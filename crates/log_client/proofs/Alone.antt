@@ -1,18 +1,15 @@
 -- Appends to one colour: from what a hold has seen and made to what a client knows.
-use Rattle.std.proofs.Common.{◌≡◌, ◌≢◌, ℕ, zero, suc, ◌+◌, ◌<◌, ◌≤◌, List, [], ◌∷◌, ◌++◌, length, map, Option, Some, None, Bool, true, false, slice_get, refl, ap, sym, subst, ◌∙◌, inl, inr, ◌⊎◌, arith}
-use Rattle.std.specs.Prelude.{◌==◌, ◌&&◌, IsTrue}
-use Rattle.std.specs.List.{Contains}
+use Rattle.std.proofs.Common.{◌≡◌, ◌≢◌, ℕ, ◌+◌, ◌≤◌, List, length, Some, true, slice_get, refl, ap, sym, subst, ◌∙◌, inl, inr, ◌⊎◌, arith}
+use Rattle.std.specs.Prelude.{◌==◌, IsTrue}
 use Rattle.std.proofs.lemmas.Bool.{and_from, eq-eqb, eqb-true, cases_eq}
 use Rattle.std.proofs.lemmas.List.{length-map}
-use mathlib.Core.List.{IsPrefix}
 use Rattle.log_node.specs.declared.ids.Id.{Id}
-use Rattle.log_node.specs.declared.ids.Counts.{Counts}
 use Rattle.log_node.specs.declared.node.Node.{Node}
 use Rattle.log_node.specs.Order.{same_id}
 use Rattle.col_core.specs.declared.Event as event_types
 use Rattle.col_core.specs.declared.Event.TheVariants as events
 use Rattle.col_core.specs.declared.Entry.{Entry}
-use Rattle.col_core.specs.History.{enters, entry_key, line}
+use Rattle.col_core.specs.History.{enters, line}
 use Rattle.col_core.specs.Rows.{node_wants}
 use Rattle.col_core.specs.Log.{is_own}
 use Rattle.col_core.specs.Keeping.{Kept}
@@ -21,16 +18,16 @@ use Rattle.chain_store.specs.declared.told.Told.{Told}
 use Rattle.chain_store.specs.declared.hold.Hold.{Hold}
 use Rattle.chain_store.specs.Histories.{Names}
 use Rattle.chain_store.specs.Columns.{told_single}
-use Rattle.chain_store.specs.Holds.{entries_seen, seen_in}
+use Rattle.chain_store.specs.Holds.{seen_in}
 use Rattle.append_core.specs.declared.stood.Stood.{Stood}
 use Rattle.append_core.specs.Standing.{IsSingleOf}
 use Rattle.append_core.specs.Standing.{StandsAlone as HoldStands}
 use Rattle.append_core.specs.Helping.{HelpsOpen}
 use Rattle.lawful_run.specs.Callers.{Caller}
-use Rattle.client_law.specs.Knowing.{Seen, Rest, SeesOn}
+use Rattle.client_law.specs.Knowing.{Rest, SeesOn}
 use Rattle.client_law.specs.Making.{is_own_step, own_steps, MakesOnly}
 use Rattle.client_law.specs.Appends.{EachStep, StandsAlone}
-use Rattle.log_client.specs.Fits.{entries_by, seen_by, Fits}
+use Rattle.log_client.specs.Fits.{seen_by, Fits}
 use Rattle.log_client.proofs.Lists.{mapped}
 use Rattle.log_client.proofs.Seeing.{seen_there}
 use Rattle.log_client.proofs.Fitting.{listed}

@@ -1,5 +1,5 @@
 -- What a store ends with, for each of its clients.
-use Rattle.std.proofs.Common.{◌≡◌, ◌≢◌, ℕ, ◌+◌, ◌<◌, ◌≤◌, List, [], ◌∷◌, length, map, Option, Some, None, slice_get, refl, ap, sym, subst, ◌∙◌, inl, inr, ◌⊎◌, arith}
+use Rattle.std.proofs.Common.{◌≡◌, ℕ, ◌<◌, List, [], length, map, Some, None, slice_get, refl, ap, sym, subst, ◌∙◌, inl, inr, arith}
 use Rattle.std.specs.List.{Contains, filter}
 use Rattle.std.proofs.lemmas.Bool.{cases_eq, cases_lt}
 use Rattle.std.proofs.lemmas.List.{length-map}
@@ -14,11 +14,9 @@ use Rattle.col_core.specs.declared.Entry.{Entry}
 use Rattle.col_core.specs.History.{entries}
 use Rattle.stamp_board.specs.declared.seats.Seat.{Seat}
 use Rattle.chain_store.proofs.CallerLemmas.{row_place}
-use Rattle.col_core.specs.Keeping.{Kept}
-use Rattle.col_core.specs.Log.{Log, places_of}
+use Rattle.col_core.specs.Log.{Log}
 use Rattle.col_core.specs.Rows.{BegunRow, FitsRow, is_of}
 use Rattle.col_core.proofs.CallerLemmas.{in_contains, in_slice}
-use Rattle.script_text.specs.declared.script.Object.{Object}
 use Rattle.stamp_board.specs.declared.view.Size.{Size}
 use Rattle.stamp_board.specs.Views.{KnowsBegun}
 use Rattle.chain_store.specs.declared.hold.Hold.{Hold}
@@ -34,8 +32,8 @@ use Rattle.log_client.specs.declared.closed.Closed.{Closed}
 use Rattle.log_client.specs.declared.closed.Leaving.{Leaving}
 use Rattle.log_client.specs.Ending.{AreRegions, AreHoldsIn, PullsTruly, HasOwnNodes}
 use Rattle.log_client.specs.Closing.{AreHoldsAt, HaveEnded, EndsRegion, EndsStore, EndsClient}
-use Rattle.log_client.specs.Clients.{IsClient, Keeps, Finished, caller_of, holds_of, rows_of, seen_of}
-use Rattle.log_client.specs.Leaving.{left_of, Leaves, AreLeaving}
+use Rattle.log_client.specs.Clients.{IsClient, Finished, caller_of, holds_of, rows_of, seen_of}
+use Rattle.log_client.specs.Leaving.{left_of, AreLeaving}
 use Rattle.log_client.specs.Closes.{AreClients, EndsFor, Closes}
 use Rattle.log_client.proofs.Lists.{got, mapped, same_items, unmapped}
 use Rattle.log_client.proofs.Endings.{store_ends}

@@ -1,21 +1,20 @@
 -- The log with which a store ends: its rows are lawful beside its histories, and each id that enters is of a listed node.
-use Rattle.std.proofs.Common.{◌≡◌, ◌≢◌, ℕ, zero, suc, ◌+◌, ◌<◌, ◌≤◌, List, [], ◌∷◌, ◌++◌, length, map, Option, Some, None, Bool, true, false, slice_get, refl, ap, sym, subst, ◌∙◌, inl, inr, ◌⊎◌, arith}
-use Rattle.std.specs.List.{All, Contains}
+use Rattle.std.proofs.Common.{◌≡◌, ℕ, suc, ◌<◌, ◌≤◌, List, [], ◌∷◌, length, map, Option, Some, None, true, slice_get, refl, ap, sym, subst, ◌∙◌, inl, inr, arith}
+use Rattle.std.specs.List.{All}
 use Rattle.std.proofs.lemmas.Option.{slice_get_within}
 use Rattle.std.proofs.lemmas.List.Elements.{All-contains, All-cons, All-nil}
 use Rattle.log_node.specs.declared.ids.Id.{Id}
 use Rattle.log_node.specs.declared.ids.Row.{Row}
 use Rattle.log_node.specs.declared.node.Node.{Node}
 use Rattle.log_node.specs.declared.marks.ColourMark.{ColourMark}
-use Rattle.log_node.specs.Sets.{has, members}
-use Rattle.log_node.specs.Order.{same_id}
+use Rattle.log_node.specs.Sets.{has}
 use Rattle.col_core.specs.declared.Event as event_types
 use Rattle.col_core.specs.declared.Event.TheVariants as events
 use Rattle.col_core.specs.declared.Entry.{Entry}
 use Rattle.col_core.specs.History.{enters}
 use Rattle.col_core.specs.Log.{Log}
 use Rattle.col_core.specs.Rows.{BegunRow, FitsRow, FitsRows, IsMarkOf, AreLawfulRows}
-use Rattle.col_core.proofs.CallerLemmas.{contains_in, same_id-refl, same_id-true, slice_in}
+use Rattle.col_core.proofs.CallerLemmas.{contains_in, same_id-true, slice_in}
 use Rattle.column.specs.Columns.{ColumnState, single_event, propose_event}
 use Rattle.stamp_board.specs.declared.seats.Seat.{Seat}
 use Rattle.stamp_board.specs.Views.{KnowsBegun}
@@ -23,16 +22,16 @@ use Rattle.chain_store.specs.declared.told.Told.{Told}
 use Rattle.chain_store.specs.declared.hold.Hold.{Hold}
 use Rattle.chain_store.specs.declared.region.Region.{Region}
 use Rattle.chain_store.specs.declared.closed.ClosedRegion.{ClosedRegion}
-use Rattle.chain_store.specs.Histories.{entries_in, Brings, EntersAs}
+use Rattle.chain_store.specs.Histories.{entries_in, Brings}
 use Rattle.chain_store.specs.Owning.{row_of}
-use Rattle.chain_store.specs.Holds.{IsHold, view_of}
+use Rattle.chain_store.specs.Holds.{view_of}
 use Rattle.chain_store.specs.Closing.{closed_of}
 use Rattle.chain_store.proofs.CallerLemmas.{member_has, row_place}
 use Rattle.stamp_board.specs.Closing.{all_begun}
 use Rattle.log_client.specs.Fits.{IsListed}
 use Rattle.log_client.specs.Ending.{AreRegions, AreHoldsIn, PullsTruly, HasOwnNodes}
-use Rattle.log_client.specs.Closing.{AreHoldsAt, EndsColumn, EndsRegion, Enters}
-use Rattle.log_client.proofs.Lists.{got, mapped, same_items, unmapped}
+use Rattle.log_client.specs.Closing.{EndsColumn, EndsRegion, Enters}
+use Rattle.log_client.proofs.Lists.{mapped, unmapped}
 use Rattle.log_client.proofs.Ends.{Ended, IsEnd, brings, column, entered_listed, rows_at, row_node_listed}
 use Rattle.log_client.proofs.EndsLog.{found, log, told_is, told_of}
 

@@ -6,12 +6,11 @@ use Rattle.std.proofs.lemmas.List.{length-map}
 use Rattle.std.proofs.lemmas.Option.{slice_get_within}
 use Rattle.chain_store.specs.declared.hold.Hold.{Hold}
 use Rattle.chain_store.specs.declared.region.Region.{Region}
-use Rattle.chain_store.specs.Holds.{IsHold}
 use Rattle.chain_store.specs.Closing.{AreHoldsOf}
 use Rattle.lawful_run.proofs.CallerLemmas.{get-append}
 use Rattle.log_client.specs.declared.closed.Leaving.{Leaving}
 use Rattle.log_client.specs.Closing.{AreHoldsAt}
-use Rattle.log_client.specs.Leaving.{left_of, HaveOneMore, Gave, Gathered, Leaves, AreLeaving}
+use Rattle.log_client.specs.Leaving.{left_of, HaveOneMore, Gave, Gathered, AreLeaving}
 use Rattle.log_client.proofs.Lists.{got, got_last, same_items, set_here, set_there, unmapped}
 
 -- one client more gave its last hold

@@ -1,5 +1,5 @@
 -- What is closed for a client who has finished stays closed in the log with which the store ends.
-use Rattle.std.proofs.Common.{◌≡◌, ◌≢◌, ℕ, ◌+◌, ◌<◌, ◌≤◌, List, [], ◌∷◌, length, map, Option, Some, None, true, slice_get, refl, ap, sym, subst, ◌∙◌, inl, inr, ◌⊎◌, arith, eq-eqb}
+use Rattle.std.proofs.Common.{◌≡◌, ℕ, ◌<◌, List, Option, Some, None, true, slice_get, refl, ap, sym, subst, ◌∙◌, inl, inr, ◌⊎◌, eq-eqb}
 use Rattle.std.specs.List.{All, Contains, filter}
 use Rattle.std.proofs.lemmas.List.Elements.{All-contains}
 use mathlib.Core.List.{IsPrefix}
@@ -11,10 +11,8 @@ use Rattle.log_node.specs.declared.marks.Why.TheVariants.{Memory, StampEnd}
 use Rattle.log_node.specs.declared.marks.Mark.{Mark}
 use Rattle.log_node.specs.declared.marks.Mark.TheVariants as marks
 use Rattle.log_node.specs.declared.marks.ColourMark.{ColourMark}
-use Rattle.log_node.specs.Sets.{has, members}
+use Rattle.log_node.specs.Sets.{has}
 use Rattle.log_node.specs.Standings.{Standing, open_entry}
-use Rattle.col_core.specs.declared.Event.TheVariants as events
-use Rattle.col_core.specs.declared.Event as event_types
 use Rattle.col_core.specs.declared.Entry.{Entry}
 use Rattle.col_core.specs.History.{entries, has_entered}
 use Rattle.col_core.specs.Computed.{dated}

@@ -5,7 +5,7 @@ mod Once
 mod Steps
 mod Alone
 mod Playing
-mod Trimming
+mod Trims
 mod Pulling
 mod Truly
 mod OwnNodes

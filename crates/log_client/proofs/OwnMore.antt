@@ -1,22 +1,19 @@
 -- The nodes that a client appended, after an append to one colour or one that began a row.
-use Rattle.std.proofs.Common.{◌≡◌, ◌≢◌, ℕ, ◌+◌, ◌<◌, ◌≤◌, List, [], ◌∷◌, ◌++◌, length, map, Option, Some, slice_get, refl, ap, sym, subst, ◌∙◌, inl, inr, ◌⊎◌, arith, append-nil}
+use Rattle.std.proofs.Common.{◌≡◌, ◌≢◌, ℕ, ◌+◌, ◌<◌, List, [], ◌∷◌, ◌++◌, length, Some, slice_get, refl, ap, sym, subst, ◌∙◌, inl, inr, ◌⊎◌, arith, append-nil}
 use Rattle.std.specs.Prelude.{◌==◌}
 use Rattle.std.proofs.lemmas.Bool.{cases_eq}
-use mathlib.Core.List.{IsPrefix}
 use Rattle.log_node.specs.declared.ids.Id.{Id}
 use Rattle.log_node.specs.declared.node.Node.{Node}
 use Rattle.col_core.specs.declared.Event as event_types
 use Rattle.col_core.specs.declared.Event.TheVariants as events
-use Rattle.col_core.specs.declared.Entry.{Entry}
 use Rattle.col_core.specs.Ids.{IsStepOf}
 use Rattle.col_core.proofs.CallerLemmas.{in_filter, in_slice, slice_in}
-use Rattle.stamp_board.specs.Views.{KnowsBegun, Learns}
+use Rattle.stamp_board.specs.Views.{KnowsBegun}
 use Rattle.stamp_board.proofs.CallerLemmas.{Learns-refl}
-use Rattle.turn_cell.specs.Histories.{made_by}
 use Rattle.chain_store.specs.declared.told.Told.{Told}
 use Rattle.chain_store.specs.declared.hold.Hold.{Hold}
 use Rattle.chain_store.specs.declared.region.Region.{Region}
-use Rattle.chain_store.specs.Histories.{entries_in, maker}
+use Rattle.chain_store.specs.Histories.{maker}
 use Rattle.chain_store.specs.Columns.{told_single}
 use Rattle.chain_store.specs.Going.{GoesOn}
 use Rattle.chain_store.specs.Owning.{row_of}

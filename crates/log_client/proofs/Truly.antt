@@ -1,6 +1,5 @@
 -- What a client carried and asked for stays true.
-use Rattle.std.proofs.Common.{◌≡◌, ◌≢◌, ℕ, ◌+◌, ◌<◌, ◌≤◌, List, [], ◌∷◌, ◌++◌, length, map, Some, slice_get, refl, ap, sym, subst, ◌∙◌, inl, inr, ◌⊎◌, arith}
-use Rattle.std.specs.List.{All}
+use Rattle.std.proofs.Common.{◌≡◌, ℕ, List, length, Some, slice_get, ap, sym, subst, ◌∙◌, inl, inr, ◌⊎◌, arith}
 use Rattle.std.proofs.lemmas.List.Elements.{All-contains}
 use Rattle.std.proofs.lemmas.Option.{slice_get_within}
 use mathlib.Core.List.{IsPrefix}
@@ -12,9 +11,9 @@ use Rattle.chain_store.specs.declared.told.Told.{Told}
 use Rattle.chain_store.specs.declared.hold.Hold.{Hold}
 use Rattle.chain_store.specs.declared.region.Region.{Region}
 use Rattle.chain_store.specs.Regions.{tag_at}
-use Rattle.chain_store.specs.Holds.{IsHold, made_in, seen_in}
+use Rattle.chain_store.specs.Holds.{made_in, seen_in}
 use Rattle.chain_store.specs.Going.{GoesOn}
-use Rattle.region_pull.specs.Origins.{IsOfOrigin, IsHeldFor, OfOrigin, AsksForHeld}
+use Rattle.region_pull.specs.Origins.{IsOfOrigin, IsHeldFor}
 use Rattle.region_pull.proofs.CallerLemmas.{origin_stays, held_stays}
 use Rattle.log_client.specs.Ending.{IsNoMove, AreHoldsIn, ArePair, PullsTruly}
 use Rattle.log_client.proofs.Lists.{got, got_split}

@@ -1,7 +1,6 @@
-use Rattle.std.proofs.Common.{List, map, refl, ap, subst, sym, ◌≡◌, ◌∙◌}
+use Rattle.std.proofs.Common.{List, map, ap, subst, sym, ◌∙◌}
 use Rattle.chain_store.specs.declared.hold.Hold.{Hold}
 use Rattle.chain_store.specs.declared.region.Region.{Region}
-use Rattle.chain_store.specs.declared.closed.ClosedRegion.{ClosedRegion}
 use Rattle.log_client.specs.declared.client.Client.{Client}
 use Rattle.log_client.specs.Closing.{HaveEnded}
 use Rattle.log_client.specs.Clients.{holds_of}
