@@ -26,12 +26,14 @@ use Rattle.lawful_run.proofs.CallerLemmas.{get_within, get-append}
 use Rattle.script_meaning.specs.States.{State, Grants, has_colours, is_built, StopsAreLast, answered}
 use Rattle.script_meaning.specs.Helping.{all_cleared}
 use Rattle.script_meaning.specs.Appends.{appended_one, appended_by, appended_several, appended, stopped, is_full, append_steps, with_single, point_in, ended_colour}
+use Rattle.script_meaning.specs.Stamped.{scanned}
 use Rattle.script_meaning.specs.Meaning.{done_one, done, LeadTo, nothing, next}
 use Rattle.script_meaning.proofs.Clearing.{Finished}
 use Rattle.script_meaning.proofs.Kept.{Does, did_nothing}
 use Rattle.script_meaning.proofs.Sets.{one_is_power}
 use Rattle.script_meaning.proofs.AppendOne as one
 use Rattle.script_meaning.proofs.AfterMoves as moving
+use Rattle.script_meaning.proofs.AfterScan as scanning
 use Rattle.script_meaning.proofs.BeginRow as begun
 use Rattle.script_meaning.proofs.AppendSeveral as several
 use Rattle.script_meaning.proofs.AppendFinal as final
@@ -228,6 +230,19 @@ module _ (script : Script) (commands : List Command) (state : State) (command : 
       (let z : length (members colours) ≡ suc (suc (length ms)) = ap length is in omega (arith, z))
       (λ x i. all_at (λ y. y < script.shape.colours) (members colours) all x i)
 
+  -- a scan
+  some_member : (xs : List ℕ) → 1 ≤ length xs → (x : ℕ) × In x xs
+  some_member [] le = absurd (let f : ⊥ = omega (arith, le) in f)
+  some_member (x ∷ xs) le = (x, inl refl)
+
+  runs_scan_of : (colours : Colours) → command.what ≡ whats.Scan colours → 1 ≤ length (members colours)
+      → All (λ c. c < script.shape.colours) (members colours)
+      → Runs script commands' (scanned grants state command (members colours))
+  runs_scan_of colours asked some all =
+      let first = some_member (members colours) some in
+      scanning.runs_scan script commands state command grants runs fit colours asked
+      (λ x i. all_at (λ y. y < script.shape.colours) (members colours) all x i) first.0 first.1
+
   runs_what : (what : What) → command.what ≡ what → is_built what ≡ true
       → IsWithin script.shape.regions script.shape.colours what
       → Runs script commands' (done_one grants state command what)
@@ -238,7 +253,7 @@ module _ (script : Script) (commands : List Command) (state : State) (command : 
       (λ x i. all_at (λ y. y < script.shape.colours) (members colours) within x i) steps asked
   runs_what (whats.Sync colour) asked b within =
       moving.runs_sync script commands state command runs fit colour asked within
-  runs_what (whats.Scan colours) asked b within = absurd (let f : ⊥ = cc in f)
+  runs_what (whats.Scan colours) asked b within = runs_scan_of colours asked (has_low 1 colours b).0 within
   runs_what (whats.Pull region colour) asked b within =
       moving.runs_pull script commands state command runs fit grants region colour asked within.0 within.1
   runs_what (whats.Trim colour) asked b within =

@@ -14,6 +14,10 @@ mod Lists
 mod Playing
 mod ChainNodes
 mod Sync
+mod StampedRaises
+mod StampedPlays
+mod StampedReads
+mod StampedEnds
 mod OwnEvents
 mod Trimming
 mod Carried
@@ -30,10 +34,12 @@ mod Refusing
 mod CompletionParts
 mod Stopping
 mod Invariant
+mod AfterScan
 mod InvariantHolds
 mod RowsOfClients
 mod LawfulReports
 mod GrantedSteps
+mod GrantedReads
 mod GrantedCommands
 mod ExactReports
 mod LastStops

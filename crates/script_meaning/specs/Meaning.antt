@@ -23,6 +23,7 @@ use Rattle.lawful_run.specs.Columns.{row_report}
 use Rattle.script_meaning.specs.States.{State, opening, Grants, all_granted, answered}
 use Rattle.script_meaning.specs.Appends.{appended, stopped}
 use Rattle.script_meaning.specs.Moves.{synced, pulled, trimmed}
+use Rattle.script_meaning.specs.Stamped.{scanned}
 
 -- the state after a command that is built and was granted memory before it did anything; another changes nothing
 abbrev pub done_one : Grants → State → Command → What → State
@@ -30,7 +31,7 @@ done_one grants state command (whats.Append colours text) =
     appended grants state command colours text (members colours)
 done_one grants state command (whats.Stop steps colours text) = stopped grants state command colours text steps
 done_one grants state command (whats.Sync colour) = synced state command colour
-done_one grants state command (whats.Scan colours) = state
+done_one grants state command (whats.Scan colours) = scanned grants state command (members colours)
 done_one grants state command (whats.Pull region colour) = pulled grants state command region colour
 done_one grants state command (whats.Trim colour) = trimmed state command colour
 done_one grants state command (whats.Put object key value) = state
