@@ -37,20 +37,20 @@ with_nodes command meaning w new answer nodes none d =
 pub built_kinds : (what : What) → is_built what ≡ true
     → ((c : Colours) (t : List ℕ) → what ≡ whats.Append c t → ⊥)
     → ((n : ℕ) (c : Colours) (t : List ℕ) → what ≡ whats.Stop n c t → ⊥)
-    → ((c : ℕ) → what ≡ whats.Sync c → ⊥) → ((r c : ℕ) → what ≡ whats.Pull r c → ⊥)
+    → ((c : ℕ) → what ≡ whats.Sync c → ⊥) → ((c : Colours) → what ≡ whats.Scan c → ⊥) → ((r c : ℕ) → what ≡ whats.Pull r c → ⊥)
     → ((c : ℕ) → what ≡ whats.Trim c → ⊥) → ⊥
-built_kinds (whats.Append colours text) b p q r s t = p colours text refl
-built_kinds (whats.Stop steps colours text) b p q r s t = q steps colours text refl
-built_kinds (whats.Sync colour) b p q r s t = r colour refl
-built_kinds (whats.Scan colours) b p q r s t = let f : ⊥ = cc in f
-built_kinds (whats.Pull region colour) b p q r s t = s region colour refl
-built_kinds (whats.Trim colour) b p q r s t = t colour refl
-built_kinds (whats.Put object key value) b p q r s t = let f : ⊥ = cc in f
-built_kinds (whats.Get object key) b p q r s t = let f : ⊥ = cc in f
-built_kinds (whats.Del object key) b p q r s t = let f : ⊥ = cc in f
-built_kinds (whats.PutAll object pairs) b p q r s t = let f : ⊥ = cc in f
-built_kinds (whats.GetAll object keys) b p q r s t = let f : ⊥ = cc in f
-built_kinds (whats.Read object keys) b p q r s t = let f : ⊥ = cc in f
-built_kinds (whats.Commit object pairs) b p q r s t = let f : ⊥ = cc in f
-built_kinds (whats.Enq object value) b p q r s t = let f : ⊥ = cc in f
-built_kinds (whats.Deq object) b p q r s t = let f : ⊥ = cc in f
+built_kinds (whats.Append colours text) b p q r k s t = p colours text refl
+built_kinds (whats.Stop steps colours text) b p q r k s t = q steps colours text refl
+built_kinds (whats.Sync colour) b p q r k s t = r colour refl
+built_kinds (whats.Scan colours) b p q r k s t = k colours refl
+built_kinds (whats.Pull region colour) b p q r k s t = s region colour refl
+built_kinds (whats.Trim colour) b p q r k s t = t colour refl
+built_kinds (whats.Put object key value) b p q r k s t = let f : ⊥ = cc in f
+built_kinds (whats.Get object key) b p q r k s t = let f : ⊥ = cc in f
+built_kinds (whats.Del object key) b p q r k s t = let f : ⊥ = cc in f
+built_kinds (whats.PutAll object pairs) b p q r k s t = let f : ⊥ = cc in f
+built_kinds (whats.GetAll object keys) b p q r k s t = let f : ⊥ = cc in f
+built_kinds (whats.Read object keys) b p q r k s t = let f : ⊥ = cc in f
+built_kinds (whats.Commit object pairs) b p q r k s t = let f : ⊥ = cc in f
+built_kinds (whats.Enq object value) b p q r k s t = let f : ⊥ = cc in f
+built_kinds (whats.Deq object) b p q r k s t = let f : ⊥ = cc in f

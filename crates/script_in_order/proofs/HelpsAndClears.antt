@@ -143,7 +143,14 @@ clears_same by key colours more a b is p =
 
 -- where memory was granted for a command's helps, and in its own marks
 abbrev pub found_with : (ℕ → Bool) → List (ℕ → Bool) → Grants
-found_with marks finds = record { start = true; marks = marks; helps = λ n. get_or finds n (λ _. true); carry = true }
+found_with marks finds = record {
+  start = true;
+  marks = marks;
+  helps = λ n. get_or finds n (λ _. true);
+  carry = true;
+  raises = λ _. true;
+  items = true;
+}
 
 finds_from : (marks : ℕ → Bool) (before finds : List (ℕ → Bool))
     → FindsNext (found_with marks (before ++ finds)) (length before) finds

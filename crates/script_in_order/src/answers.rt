@@ -10,6 +10,7 @@ ghost use Rattle.script_in_order.specs.Runs.{reply_of};
 
 use crate::appends::append;
 use crate::moves::{pull, trim};
+use crate::scans::scan;
 use crate::stops::stop;
 use crate::syncs::sync;
 use log_node::{Items, ListOf};
@@ -43,6 +44,7 @@ pub fn answer(
             Ok((answer, ListOf::new(alloc)))
         }
         What::Sync { colour } => sync(alloc, command, *colour, world),
+        What::Scan { colours } => scan(alloc, command, *colours, world),
         What::Pull { region, colour } => {
             let answer = pull(alloc, command, *region, *colour, world)?;
             Ok((answer, ListOf::new(alloc)))

@@ -14,7 +14,7 @@ fn has_colours(count: usize, colours: Colours) -> bool
 }
 
 /// Whether a command is one of those that are done: an append to any number of colours, a stop of an append to several,
-/// a sync, a pull and a trim.
+/// a sync, a scan, a pull and a trim.
 pub fn is_built(what: &What) -> bool
     ensures { result ≡ is_built what.now }
 {
@@ -22,7 +22,7 @@ pub fn is_built(what: &What) -> bool
         What::Append { colours, .. } => has_colours(1, *colours),
         What::Stop { colours, .. } => has_colours(2, *colours),
         What::Sync { .. } => true,
-        What::Scan { .. } => false,
+        What::Scan { colours } => has_colours(1, *colours),
         What::Pull { .. } => true,
         What::Trim { .. } => true,
         What::Put { .. } => false,

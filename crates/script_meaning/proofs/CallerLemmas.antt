@@ -11,6 +11,8 @@ use Rattle.script_meaning.specs.Meaning.{LeadTo, nothing, next}
 use Rattle.script_meaning.proofs.GrantedCommands.{done_extends}
 pub use Rattle.script_meaning.proofs.Lines.{final_stays}
 pub use Rattle.script_meaning.proofs.Rows.{standing_as}
+pub use Rattle.script_meaning.proofs.StampedEnds.{rising_line, keys_listed}
+pub use Rattle.script_meaning.proofs.StampedReads.{stamp_low}
 
 pub lead_reached : (script : Script) {commands : List Command} {state : State} → LeadTo script commands state
     → IsReached state.world

@@ -23,7 +23,7 @@ use Rattle.world_laws.specs.declared.steps.Step.TheVariants.{Seen}
 use Rattle.world_laws.specs.Worlds.{World, ClientState, home_of, home_history, run_steps, after, base_after, is_client, is_column, may_play}
 use Rattle.world_laws.specs.Laws.{IsReached, log_of}
 use Rattle.world_laws.proofs.CallerLemmas.{run_reached, run_steps-append}
-use Rattle.playback.specs.Merging.{AreRising}
+use Rattle.playback.specs.Merging.{AreRising, region_order}
 use Rattle.playback.proofs.CallerLemmas.{order_is_merged}
 use Rattle.script_text.specs.declared.script.What.{What}
 use Rattle.script_text.specs.declared.script.Object.{Object}
@@ -74,8 +74,15 @@ lines_are log caller w u at same (c ∷ colours) =
     ap (λ (l : List Entry). line l ∷ lines_read log caller (map (sync_in w u) colours)) is
     ∙ ap (λ (ls : List (List Key)). line h ∷ ls) (lines_are log caller w u at same colours)
 
+-- what is read of the same columns is the same
+keys_same : (w v : World) (u stamp : ℕ) → v.shape ≡ w.shape → v.histories ≡ w.histories → (colours : List ℕ)
+    → keys_read v u stamp colours ≡ keys_read w u stamp colours
+keys_same w v u stamp shape histories colours =
+    ap (λ (s : Shape). region_order stamp (map (λ c. line (v.histories (slice_index s.homes u) c)) colours)) shape
+    ∙ ap (λ (f : ℕ → ℕ → List Entry). region_order stamp (map (λ c. line (f (home_of w u) c)) colours)) histories
+
 -- a line rises
-rising_line : (w : World) → IsReached w → (r c : ℕ) → AreRising (line (w.histories r c))
+pub rising_line : (w : World) → IsReached w → (r c : ℕ) → AreRising (line (w.histories r c))
 rising_line w reached r c i j d lt there =
     let l = line (w.histories r c) in
     line_rises r w.shape.regions (dated r (w.histories r c)) ((held_of w reached).lawful r c) i j
@@ -90,6 +97,27 @@ rising_line w reached r c i j d lt there =
           ≡ Some (slice_index_or (line (w.histories r c)) n d)
       at_index n low = ap (λ (h : List Entry). slice_get (line h) n) (entries_dated r (w.histories r c))
           ∙ found (line (w.histories r c)) n low
+
+-- the keys that are read are in the order of the region
+keys_ordered : (w : World) → IsReached w → (u stamp : ℕ) (colours : List ℕ)
+    → IsRegionOrder (map (λ c. line (home_history w u c)) colours) stamp (keys_read w u stamp colours)
+keys_ordered w reached u stamp colours =
+    order_is_merged stamp (map (λ c. line (home_history w u c)) colours) rise where
+      rise : (l : List Key) → Contains (map (λ c. line (home_history w u c)) colours) l → AreRising l
+      rise l c =
+          let m = reading.in_mapped (λ c. line (home_history w u c)) colours l
+          (in_contains (map (λ c. line (home_history w u c)) colours) l c) in
+          subst AreRising m.2 (rising_line w reached (home_of w u) m.0)
+
+-- and each has its node
+pub keys_listed : (w : World) → IsReached w → (u stamp : ℕ) (colours : List ℕ) (key : Key)
+    → In key (keys_read w u stamp colours) → (node : Node) × (node_with w key.id ≡ Some node)
+keys_listed w reached u stamp colours key i =
+    let o = (keys_ordered w reached u stamp colours).no_other key
+    (contains_in (keys_read w u stamp colours) key i) in
+    let m = reading.in_mapped (λ c. line (home_history w u c)) colours o.1
+    (in_contains (map (λ c. line (home_history w u c)) colours) o.1 o.2) in
+    line_node w reached (home_of w u) m.0 key (subst (λ (l : List Key). In key l) (sym m.2) (in_contains o.1 key o.3))
 
 module _ (objects : List Object) (S : ℕ → Type 0) (what : What) (may : may_help (manner_of what) ≡ true) (w : World)
     (reached : IsReached w) (fin : Finished S w) (u : ℕ) (free : S u → ⊥) (colours : List ℕ)
@@ -385,29 +413,22 @@ module _ (objects : List Object) (S : ℕ → Type 0) (what : What) (may : may_h
       syncs = map (sync_in w2 u) colours
 
       -- the keys
-      rise : (l : List Key) → Contains (map (λ c. line (home_history w2 u c)) colours) l → AreRising l
-      rise l c =
-          let m = reading.in_mapped (λ c. line (home_history w2 u c)) colours l
-          (in_contains (map (λ c. line (home_history w2 u c)) colours) l c) in
-          subst AreRising m.2 (rising_line w2 reached2 (home_of w2 u) m.0)
-
       ordered : IsRegionOrder (map (λ c. line (home_history w2 u c)) colours) stamp (keys_read w2 u stamp colours)
-      ordered = order_is_merged stamp (map (λ c. line (home_history w2 u c)) colours) rise
+      ordered = keys_ordered w2 reached2 u stamp colours
 
-      are_read : AreRead (log_of w4) (caller_in w4 objects u) stamp syncs (keys_read w2 u stamp colours)
+      same_keys : keys_read w4 u stamp colours ≡ keys_read w2 u stamp colours
+      same_keys = keys_same w2 w4 u stamp shape42 histories4 colours
+
+      are_read : AreRead (log_of w4) (caller_in w4 objects u) stamp syncs (keys_read w4 u stamp colours)
       are_read =
-          subst (λ (ls : List (List Key)). IsRegionOrder ls stamp (keys_read w2 u stamp colours))
+          subst (λ (ls : List (List Key)). IsRegionOrder ls stamp (keys_read w4 u stamp colours))
           (sym (lines_are (log_of w4) (caller_in w4 objects u) w2 u
-          (ap (λ (s : Shape). slice_index s.homes u) shape42) histories4 colours)) ordered
+          (ap (λ (s : Shape). slice_index s.homes u) shape42) histories4 colours))
+          (subst (IsRegionOrder (map (λ c. line (home_history w2 u c)) colours) stamp) (sym same_keys) ordered)
 
-      nodes : (key : Key) → In key (keys_read w2 u stamp colours) → (node : Node) × (node_with w4 key.id ≡ Some node)
+      nodes : (key : Key) → In key (keys_read w4 u stamp colours) → (node : Node) × (node_with w4 key.id ≡ Some node)
       nodes key i =
-          let o = ordered.no_other key (contains_in (keys_read w2 u stamp colours) key i) in
-          let m = reading.in_mapped (λ c. line (home_history w2 u c)) colours o.1
-          (in_contains (map (λ c. line (home_history w2 u c)) colours) o.1 o.2) in
-          let there : In key (line (home_history w2 u m.0)) =
-          subst (λ (l : List Key). In key l) (sym m.2) (in_contains o.1 key o.3) in
-          let n = line_node w2 reached2 (home_of w2 u) m.0 key there in
+          let n = keys_listed w2 reached2 u stamp colours key (subst (λ (l : List Key). In key l) same_keys i) in
           (n.0, ap (λ (l : Log). slice_get (l.nodes key.id.client) key.id.count) log4 ∙ n.1)
 
       -- the client keeps what the read tells

@@ -83,10 +83,11 @@ pub record StampedRead : Type 0 where
 -- the client has seen the stamp.
 abbrev pub read_after_plays : ℕ → List ℕ → World → World → World → Option ℕ → StampedRead
 read_after_plays client colours first clear last None =
-    let stamp = read_stamp first client colours in record {
-      world = after last (Seen client stamp);
+    let stamp = read_stamp first client colours in
+    let seen = after last (Seen client stamp) in record {
+      world = seen;
       ends = Whole stamp (map (raise_in first client stamp) colours) (map (sync_in clear client) colours)
-          (keys_read clear client stamp colours);
+          (keys_read seen client stamp colours);
     }
 read_after_plays client colours first clear last (Some colour) = record {
   world = last;
