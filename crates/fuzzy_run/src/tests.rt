@@ -12,6 +12,7 @@ mod edges;
 mod large;
 mod refusals;
 mod regions;
+mod scans;
 mod several;
 mod singles;
 mod stops;
