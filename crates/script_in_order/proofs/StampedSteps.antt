@@ -20,6 +20,7 @@ use Rattle.world_laws.specs.Worlds.{World, home_of, home_history, after, reply, 
 use Rattle.script_meaning.specs.States.{Grants}
 use Rattle.script_meaning.specs.Stamped.{Progress, raised, played, read_stamp, keys_read}
 use Rattle.script_in_order.specs.Stamped.{Raises}
+use Rattle.script_in_order.proofs.HelpsAndClears.{fold_last}
 use Rattle.script_in_order.proofs.Sets.{first_members, one_more, none_more, map_last}
 
 -- THE COLOURS OF A SET
@@ -220,10 +221,6 @@ stamp_next w client stamp number set n here so_far is =
 pub stamp_same : (w : World) (client stamp : ℕ) (set : Colours) (n : ℕ) → has set n ≡ false
     → stamp ≡ read_stamp w client (first_members set n) → stamp ≡ read_stamp w client (first_members set (n + 1))
 stamp_same w client stamp set n none so_far = so_far ∙ ap (read_stamp w client) (sym (none_more set n none))
-
-fold_last : {A B : Type 0} (f : B → A → B) (b : B) (xs : List A) (x : A) → fold f b (xs ++ x ∷ []) ≡ f (fold f b xs) x
-fold_last f b [] x = refl
-fold_last f b (y ∷ ys) x = fold_last f (f b y) ys x
 
 pub keys_next : (w : World) (client stamp : ℕ) (set : Colours) (n : ℕ) (old new l : List Key) → has set n ≡ true
     → old ≡ keys_read w client stamp (first_members set n) → l ≡ line (home_history w client n)

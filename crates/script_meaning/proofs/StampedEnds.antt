@@ -22,7 +22,7 @@ use Rattle.world_laws.specs.declared.steps.Step.{Step}
 use Rattle.world_laws.specs.declared.steps.Step.TheVariants.{Seen}
 use Rattle.world_laws.specs.Worlds.{World, ClientState, home_of, home_history, run_steps, after, base_after, is_client, is_column, may_play}
 use Rattle.world_laws.specs.Laws.{IsReached, log_of}
-use Rattle.world_laws.proofs.CallerLemmas.{run_reached, run_steps-append}
+use Rattle.world_laws.proofs.CallerLemmas.{in_map, run_reached, run_steps-append}
 use Rattle.playback.specs.Merging.{AreRising, region_order}
 use Rattle.playback.proofs.CallerLemmas.{order_is_merged}
 use Rattle.script_text.specs.declared.script.What.{What}
@@ -43,6 +43,7 @@ use Rattle.script_meaning.proofs.AppendOne.{caller_same}
 use Rattle.script_meaning.proofs.ChainNodes.{line_node}
 use Rattle.script_meaning.proofs.Clearing.{Finished, Helped, helped_none, helped_reached, helped_finished, ClearsAll, clear_all}
 use Rattle.script_meaning.proofs.Kept.{caller_in, IsKeptBy, MadeBy, later_log}
+use Rattle.script_meaning.proofs.Lists.{in_map_back}
 use Rattle.script_meaning.proofs.Reached.{held_of}
 use Rattle.script_meaning.proofs.StaysComplete.{of_done_stays}
 use Rattle.script_meaning.proofs.StampedRaises as raising
@@ -105,7 +106,7 @@ keys_ordered w reached u stamp colours =
     order_is_merged stamp (map (λ c. line (home_history w u c)) colours) rise where
       rise : (l : List Key) → Contains (map (λ c. line (home_history w u c)) colours) l → AreRising l
       rise l c =
-          let m = reading.in_mapped (λ c. line (home_history w u c)) colours l
+          let m = in_map (λ c. line (home_history w u c)) colours l
           (in_contains (map (λ c. line (home_history w u c)) colours) l c) in
           subst AreRising m.2 (rising_line w reached (home_of w u) m.0)
 
@@ -115,7 +116,7 @@ pub keys_listed : (w : World) → IsReached w → (u stamp : ℕ) (colours : Lis
 keys_listed w reached u stamp colours key i =
     let o = (keys_ordered w reached u stamp colours).no_other key
     (contains_in (keys_read w u stamp colours) key i) in
-    let m = reading.in_mapped (λ c. line (home_history w u c)) colours o.1
+    let m = in_map (λ c. line (home_history w u c)) colours o.1
     (in_contains (map (λ c. line (home_history w u c)) colours) o.1 o.2) in
     line_node w reached (home_of w u) m.0 key (subst (λ (l : List Key). In key l) (sym m.2) (in_contains o.1 key o.3))
 
@@ -464,7 +465,7 @@ module _ (objects : List Object) (S : ℕ → Type 0) (what : What) (may : may_h
             let h = w.histories own c in
             inr (
               raise_in w u stamp c,
-              contains_in raises (raise_in w u stamp c) (reading.mapped_in (raise_in w u stamp) colours c i),
+              contains_in raises (raise_in w u stamp c) (in_map_back (raise_in w u stamp) colours c i),
               length h,
               k.seen own c,
               until (nat_lt (clock h) stamp) (length h) refl,

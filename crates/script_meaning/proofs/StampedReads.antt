@@ -18,7 +18,7 @@ use Rattle.col_core.proofs.CallerLemmas.{apart, by_test, if_true, if_false, cont
 use Rattle.world_laws.specs.declared.steps.Step.TheVariants.{Seen}
 use Rattle.world_laws.specs.Worlds.{World, ClientState, home_of, home_history, run_steps, after, after_seen, is_client, may_see}
 use Rattle.world_laws.specs.Laws.{IsReached, log_of}
-use Rattle.world_laws.proofs.CallerLemmas.{at_updated, updated-here, slice_last, run_reached, run_steps-append, lawful_past_in}
+use Rattle.world_laws.proofs.CallerLemmas.{in_map, at_updated, updated-here, slice_last, run_reached, run_steps-append, lawful_past_in}
 use Rattle.script_text.specs.declared.script.Object.{Object}
 use Rattle.lawful_run.specs.Callers.{Caller}
 use Rattle.lawful_run.specs.Reads.{RaisesAt, HidesRead, HidesSyncs}
@@ -29,7 +29,7 @@ use Rattle.script_meaning.proofs.AppendOne.{updated-not, helped_places}
 use Rattle.script_meaning.proofs.Clearing.{Finished, Helped, IsClear, of_open}
 use Rattle.script_meaning.proofs.FirstProposal.{in_any}
 use Rattle.script_meaning.proofs.Kept.{caller_in, IsKeptBy, later_log}
-use Rattle.script_meaning.proofs.Lists.{range_in}
+use Rattle.script_meaning.proofs.Lists.{range_in, in_map_back}
 use Rattle.script_meaning.proofs.OwnEvents.{finished_client}
 use Rattle.script_meaning.proofs.Points.{made_seen}
 use Rattle.script_meaning.proofs.Reached.{held_of}
@@ -53,16 +53,6 @@ greatest_above [] x i = absurd i
 greatest_above (y ∷ xs) x (inl same) = omega (arith, same)
 greatest_above (y ∷ xs) x (inr i) = let r = greatest_above xs x i in omega (arith, r)
 
-pub in_mapped : {A B : Type 0} (f : A → B) (xs : List A) (y : B) → In y (map f xs) → (x : A) × In x xs × (f x ≡ y)
-in_mapped f [] y i = absurd i
-in_mapped f (x ∷ xs) y (inl same) = (x, inl refl, same)
-in_mapped f (x ∷ xs) y (inr i) = let r = in_mapped f xs y i in (r.0, inr r.1, r.2)
-
-pub mapped_in : {A B : Type 0} (f : A → B) (xs : List A) (x : A) → In x xs → In (f x) (map f xs)
-mapped_in f [] x i = absurd i
-mapped_in f (y ∷ xs) x (inl same) = inl (ap f same)
-mapped_in f (y ∷ xs) x (inr i) = inr (mapped_in f xs x i)
-
 -- it is the floor, or the clock of one of the colours
 pub stamp_is : (w : World) (u : ℕ) (colours : List ℕ) → (read_stamp w u colours ≡ (w.clients u).floor)
     ⊎ ((c : ℕ) × In c colours × (clock (home_history w u c) ≡ read_stamp w u colours))
@@ -76,7 +66,7 @@ stamp_is w u colours = turn (cases_lt (w.clients u).floor (greatest clocks)) whe
       ⊎ ((c : ℕ) × In c colours × (clock (home_history w u c) ≡ read_stamp w u colours))
   turn (inl less) =
       let all = map (λ colour. clock (home_history w u colour)) colours in
-      let m = in_mapped (λ colour. clock (home_history w u colour)) colours (greatest all)
+      let m = in_map (λ colour. clock (home_history w u colour)) colours (greatest all)
       (greatest_is all (omega (arith, less))) in
       let same : greatest all ≡ max (w.clients u).floor (greatest all) = omega (arith, less) in
       inr (m.0, m.1, m.2 ∙ same)
@@ -86,7 +76,7 @@ pub above_clock : (w : World) (u : ℕ) (colours : List ℕ) (c : ℕ) → In c 
     → clock (home_history w u c) ≤ read_stamp w u colours
 above_clock w u colours c i =
     let a = greatest_above (map (λ colour. clock (home_history w u colour)) colours) (clock (home_history w u c))
-    (mapped_in (λ colour. clock (home_history w u colour)) colours c i) in
+    (in_map_back (λ colour. clock (home_history w u colour)) colours c i) in
     omega (arith, a)
 
 clock_low : (w : World) → IsReached w → (r c : ℕ) → clock (w.histories r c) ≤ last_stamp
@@ -109,7 +99,7 @@ stamp_low w reached u colours =
     omega (arith, a, b) where
       each : (x : ℕ) → In x (map (λ colour. clock (home_history w u colour)) colours) → x ≤ last_stamp
       each x i =
-          let m = in_mapped (λ colour. clock (home_history w u colour)) colours x i in
+          let m = in_map (λ colour. clock (home_history w u colour)) colours x i in
           subst (λ (n : ℕ). n ≤ last_stamp) m.2 (clock_low w reached (home_of w u) m.0)
 
 -- a clock of the first events is no greater than that of all
