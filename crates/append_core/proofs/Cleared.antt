@@ -8,6 +8,9 @@ use Rattle.std.proofs.lemmas.Bool.{true≢false, and_parts, and_from, cases_orde
 use mathlib.Core.List.{IsPrefix}
 use Rattle.log_node.specs.declared.ids.Id.{Id}
 use Rattle.log_node.specs.declared.ids.Key.{Key}
+use Rattle.log_node.specs.declared.ids.Colours.{Colours}
+use Rattle.log_node.specs.declared.marks.Mark.TheVariants.{Fenced}
+use Rattle.log_node.specs.Sets.{has}
 use Rattle.log_node.specs.Seen.{BegunAppend}
 use Rattle.log_node.specs.Order.{same_id, id_below, key_below}
 use Rattle.log_node.specs.Standings.{Standing, open_entry, is_open_id}
@@ -19,12 +22,16 @@ use Rattle.col_core.specs.Ids.{is_open_below, open_below}
 use Rattle.col_core.proofs.CallerLemmas.{In, Rises, in_contains, contains_in, in_filter, in_filter-back, rises, rises-filter}
 use Rattle.col_core.proofs.CallerLemmas.{by_test, entries-of, fewer, fewer_less, key-stamps, opens_above, past_is_lawful}
 use Rattle.col_core.proofs.CallerLemmas.{clocks_rise, same_id-refl}
+use Rattle.stamp_board.specs.declared.view.Size.{Size}
+use Rattle.stamp_board.specs.Rows.{IsRow}
 use Rattle.chain_store.specs.declared.hold.Hold.{Hold}
 use Rattle.chain_store.specs.declared.region.Region.{Region}
 use Rattle.chain_store.specs.Histories.{entries_in}
-use Rattle.chain_store.specs.Holds.{IsHold, SameBut, SeesMoreIn, seen_in, entries_seen}
-use Rattle.append_core.specs.Going.{GoesOn, HelpsOpen, IsStepIn, IsUnderClock}
-use Rattle.append_core.proofs.Going.{goes_then, goes_weaken, looks_on}
+use Rattle.chain_store.specs.Holds.{IsHold, SameBut, SeesMoreIn, seen_in, entries_seen, view_of}
+use Rattle.chain_store.specs.Proposals.{IsMarkedOpen}
+use Rattle.chain_store.specs.Going.{GoesOn}
+use Rattle.append_core.specs.Helping.{HelpsOpen, IsStepIn, IsUnderClock, MayBeOpenIn, WasOpen}
+use Rattle.chain_store.proofs.CallerLemmas.{goes_then, goes_weaken, looks_on}
 use Rattle.append_core.proofs.Lasting.{found, finds, longer, lawful_longer}
 
 -- which keys are under the clock
@@ -161,13 +168,31 @@ pub empty : {A : Type 0} (xs : List A) → length xs ≤ 0 → xs ≡ []
 empty [] le = refl
 empty (x ∷ xs) le = absurd (let f : ⊥ = omega (arith, le) in f)
 
+-- where the hold knew of a row of the append, it has the colour, and the hold knew no fence of it there
+may_be_open : (r : Region) (g m : Hold) (b : BegunAppend) (k : ℕ) → IsHold r g → has b.colours k ≡ true
+    → IsMarkedOpen r.board.size k (view_of g) (view_of m) (seen_in m k) b → MayBeOpenIn g b.id k
+may_be_open r g m b k is coloured marked row x in_row begun of =
+    let s = marked.same row x (subst (λ (z : Size). IsRow z row) is.seat.1 in_row) begun of in (
+      subst (λ (c : Colours). has c k ≡ true) (sym s.1) coloured,
+      λ why fenced. let e = s.2 (Fenced why) fenced in let f : ⊥ = cc (e) in f,
+    )
+
 -- a look that finds the least open entry, and help of its append
-pub helped_open : (g m h : Hold) (b : BegunAppend) (k : ℕ) (key : Key) → SameBut k g m → SeesMoreIn k g m
+pub helped_open : (r : Region) (g m h : Hold) (b : BegunAppend) (k : ℕ) (key : Key) → IsHold r g → SameBut k g m
+    → SeesMoreIn k g m
     → Some b.id ≡ option_map (λ (e : Standing). e.key.id) (find (is_open_below key) (entries (entries_seen m k)))
+    → has b.colours k ≡ true → IsMarkedOpen r.board.size k (view_of g) (view_of m) (seen_in m k) b
     → GoesOn (IsStepIn b) m h → GoesOn (λ c e. HelpsOpen g h e) g h
-helped_open g m h b k key but sees first goes =
+helped_open r g m h b k key is but sees first coloured marked goes =
     let f = first_open key (entries (entries_seen m k)) b.id
     (find (is_open_below key) (entries (entries_seen m k))) refl first in
+    let was : WasOpen g h b.id = record {
+      colour = k;
+      log = seen_in m k;
+      after = sees.more;
+      before = goes.more k;
+      opened = f.3;
+      unfenced = may_be_open r g m b k is coloured marked;
+    } in
     goes_then (λ c e. HelpsOpen g h e) g m h (looks_on (λ c e. HelpsOpen g h e) k g m but sees)
-    (goes_weaken (IsStepIn b) m h (λ c e. HelpsOpen g h e)
-    (λ c e step. (b.id, step.1, (k, seen_in m k, sees.more, goes.more k, f.3))) goes)
+    (goes_weaken (IsStepIn b) m h (λ c e. HelpsOpen g h e) (λ c e step. (b.id, step.1, was)) goes)

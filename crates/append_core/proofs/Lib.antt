@@ -1,6 +1,6 @@
-mod Going
 mod Taking
 mod Lasting
+mod Helped
 mod Marked
 mod Cleared
 mod Places

@@ -1,9 +1,8 @@
 -- What a hold knows of a begun append in the columns of its colours, and that it knows it later.
-use Rattle.std.proofs.Common.{◌≡◌, ◌≢◌, ℕ, ◌<◌, List, true, false, None, refl, sym, subst, ◌∙◌, arith, inl, inr, ◌⊎◌}
+use Rattle.std.proofs.Common.{◌≡◌, ◌≢◌, ℕ, ◌<◌, List, true, false, None, refl, sym, subst, ◌∙◌, arith, inl, inr}
 use Rattle.std.proofs.lemmas.Bool.{true≢false}
 use mathlib.Core.List.{IsPrefix}
 use Rattle.log_node.specs.declared.ids.Colours.{Colours}
-use Rattle.log_node.specs.declared.marks.Why.{Why}
 use Rattle.log_node.specs.declared.marks.Mark.{Mark}
 use Rattle.log_node.specs.declared.marks.Mark.TheVariants as marks
 use Rattle.log_node.specs.declared.marks.Outcome.{Outcome}
@@ -14,17 +13,16 @@ use Rattle.log_node.specs.Standings.{open_entry}
 use Rattle.col_core.specs.declared.Event.{Event}
 use Rattle.col_core.specs.History.{entries, has_entered}
 use Rattle.col_core.specs.Ids.{IsFinal}
-use Rattle.stamp_board.specs.Views.{KnowsAll, KnowsMark}
-use Rattle.stamp_board.specs.Seats.{IsLater}
+use Rattle.stamp_board.specs.Views.{Grows, KnowsAll, KnowsMark}
 use Rattle.stamp_board.proofs.CallerLemmas.{Learns-from, mark_learnt}
 use Rattle.chain_store.specs.declared.told.Told.{Told}
 use Rattle.chain_store.specs.declared.hold.Hold.{Hold}
 use Rattle.chain_store.specs.declared.region.Region.{Region}
-use Rattle.chain_store.specs.Histories.{entries_in}
 use Rattle.chain_store.specs.Proposals.{HasProposal}
 use Rattle.chain_store.specs.Holds.{IsHold, KnowsAppend, SameBut, seen_in, entries_seen, view_of}
-use Rattle.append_core.specs.Going.{GoesOn}
-use Rattle.append_core.specs.Settled.{IsMarkedThere, IsSettledThere}
+use Rattle.chain_store.specs.Going.{GoesOn}
+use Rattle.chain_store.proofs.CallerLemmas.{prefix_same, prefix_then}
+use Rattle.append_core.specs.Settled.{IsMarkedThere, IsSettledOver, IsSettledNow, IsSettledThere}
 use Rattle.append_core.proofs.Taking.{entered_proposed, entered_more}
 use Rattle.append_core.proofs.Lasting.{final_later, closed_later}
 
@@ -80,10 +78,10 @@ marked_at r h b k (marks.Number n) set known entered = let p = entered n refl in
 
 -- the hold has gone on
 module _ (Made : ℕ → Event → Type 0) (g h : Hold) (b : BegunAppend) (goes : GoesOn Made g h)
-    (later : IsLater g.seat h.seat) where
+    (grows : Grows (view_of g) (view_of h)) where
   known_later : (c : ℕ) (m : Mark) → KnowsMark (view_of g) b.row c m → KnowsMark (view_of h) b.row c m
-  known_later c m = mark_learnt (view_of g) (view_of h) b.row later.grows.size
-      (Learns-from (view_of g) (view_of h) later.grows) c m
+  known_later c m = mark_learnt (view_of g) (view_of h) b.row grows.size
+      (Learns-from (view_of g) (view_of h) grows) c m
 
   pub marked_later : (c : ℕ) → IsMarkedThere g b c → IsMarkedThere h b c
   marked_later c m = record {
@@ -99,7 +97,7 @@ module _ (Made : ℕ → Event → Type 0) (g h : Hold) (b : BegunAppend) (goes 
 -- by a settling it is settled in the colour where it was marked
 pub settled_at : (h : Hold) (b : BegunAppend) (o : Outcome) (c : ℕ) → IsMarkedThere h b c
     → open_entry b.id (entries (entries_seen h c)) ≡ None
-    → ((f : ℕ) → o ≡ Final f → IsFinal (entries_seen h c) b.id f) → IsSettledThere h b o c
+    → ((f : ℕ) → o ≡ Final f → IsFinal (entries_seen h c) b.id f) → IsSettledNow h b o c
 settled_at h b o c m closed final = record {
   mark = m.mark;
   set = m.set;
@@ -109,30 +107,49 @@ settled_at h b o c m closed final = record {
   final = final;
 }
 
--- it stays settled in other columns than that of a call
-pub settled_elsewhere : (g h : Hold) (b : BegunAppend) (o : Outcome) (k c : ℕ) → SameBut k g h → IsLater g.seat h.seat
-    → c ≢ k → IsSettledThere g b o c → IsSettledThere h b o c
-settled_elsewhere g h b o k c but later ne s =
-    let same : seen_in g c ≡ seen_in h c = sym (but.others c ne) in record {
-      mark = s.mark;
-      set = s.set;
-      known = mark_learnt (view_of g) (view_of h) b.row later.grows.size
-          (Learns-from (view_of g) (view_of h) later.grows) c s.mark s.known;
-      closed = subst (λ (l : List Told). open_entry b.id (entries (entries_in l)) ≡ None) same s.closed;
-      done = subst (λ (l : List Told). ((why : Why) × (s.mark ≡ marks.Fenced why))
-          ⊎ (has_entered b.id (entries_in l) ≡ true)) same s.done;
-      final = λ f is. subst (λ (l : List Told). IsFinal (entries_in l) b.id f) same (s.final f is);
-    }
+-- where it is settled it is marked
+pub settled_marked : (h : Hold) (b : BegunAppend) (o : Outcome) (c : ℕ) → IsSettledNow h b o c → IsMarkedThere h b c
+settled_marked h b o c s = record { mark = s.mark; set = s.set; known = s.known; done = s.done }
 
--- it stays settled in each column where it has entered
-pub settled_later : (r : Region) (g h : Hold) (b : BegunAppend) (o : Outcome) (c : ℕ) → IsHold r h
-    → c < r.board.size.colours → IsPrefix (seen_in g c) (seen_in h c) → IsLater g.seat h.seat
-    → has_entered b.id (entries_seen g c) ≡ true → IsSettledThere g b o c → IsSettledThere h b o c
-settled_later r g h b o c is lt more later entered s = record {
+-- what is settled over a history is so for one who knows more
+over_longer : (g h : Hold) (b : BegunAppend) (o : Outcome) (c : ℕ) (log : List Told) → Grows (view_of g) (view_of h)
+    → IsSettledOver g b o c log → IsSettledOver h b o c log
+over_longer g h b o c log grows s = record {
   mark = s.mark;
   set = s.set;
-  known = mark_learnt (view_of g) (view_of h) b.row later.grows.size
-      (Learns-from (view_of g) (view_of h) later.grows) c s.mark s.known;
+  known = mark_learnt (view_of g) (view_of h) b.row grows.size (Learns-from (view_of g) (view_of h) grows) c s.mark s.known;
+  closed = s.closed;
+  done = s.done;
+  final = s.final;
+}
+
+-- it stays settled in other columns than that of a call
+pub settled_elsewhere : (g h : Hold) (b : BegunAppend) (o : Outcome) (k c : ℕ) → SameBut k g h
+    → Grows (view_of g) (view_of h) → c ≢ k → IsSettledNow g b o c → IsSettledNow h b o c
+settled_elsewhere g h b o k c but grows ne s =
+    subst (λ (l : List Told). IsSettledOver h b o c l) (sym (but.others c ne))
+    (over_longer g h b o c (seen_in g c) grows s)
+
+-- what is settled now was settled at some time, and what was so at some time was so later
+pub settled_there : (h : Hold) (b : BegunAppend) (o : Outcome) (c : ℕ) → IsSettledNow h b o c → IsSettledThere h b o c
+settled_there h b o c s = record { log = seen_in h c; within = prefix_same (seen_in h c) (seen_in h c) refl; over = s }
+
+pub settled_stays : (g h : Hold) (b : BegunAppend) (o : Outcome) (c : ℕ) → IsPrefix (seen_in g c) (seen_in h c)
+    → Grows (view_of g) (view_of h) → IsSettledThere g b o c → IsSettledThere h b o c
+settled_stays g h b o c more grows s = record {
+  log = s.log;
+  within = prefix_then s.log (seen_in g c) (seen_in h c) s.within more;
+  over = over_longer g h b o c s.log grows s.over;
+}
+
+-- it stays settled, over all that is seen, in each column where it has entered
+pub settled_later : (r : Region) (g h : Hold) (b : BegunAppend) (o : Outcome) (c : ℕ) → IsHold r h
+    → c < r.board.size.colours → IsPrefix (seen_in g c) (seen_in h c) → Grows (view_of g) (view_of h)
+    → has_entered b.id (entries_seen g c) ≡ true → IsSettledNow g b o c → IsSettledNow h b o c
+settled_later r g h b o c is lt more grows entered s = record {
+  mark = s.mark;
+  set = s.set;
+  known = mark_learnt (view_of g) (view_of h) b.row grows.size (Learns-from (view_of g) (view_of h) grows) c s.mark s.known;
   closed = closed_later r g h c is lt more b.id entered s.closed;
   done = inr (entered_more (seen_in g c) (seen_in h c) b.id more entered);
   final = λ f final. final_later r g h c is lt more b.id f (s.final f final);

@@ -1,28 +1,26 @@
 -- Where a final key stands in the line of what a hold has seen.
-use Rattle.std.proofs.Common.{◌≡◌, ◌≢◌, ℕ, zero, suc, ◌+◌, ◌<◌, ◌≤◌, Bool, true, false, cond, List, [], ◌∷◌, ◌++◌, length, Option, Some, None, slice_get, refl, ap, sym, subst, ◌∙◌, arith, inl, inr, ◌⊎◌, eq-eqb, append-nil}
+use Rattle.std.proofs.Common.{◌≡◌, ℕ, suc, ◌+◌, ◌<◌, ◌≤◌, Bool, true, false, cond, List, [], ◌∷◌, ◌++◌, length, Some, None, slice_get, refl, ap, sym, subst, ◌∙◌, arith, inl, inr, ◌⊎◌, eq-eqb, append-nil}
 use Rattle.std.specs.Prelude.{nat_lt, not, ◌==◌}
-use Rattle.std.specs.List.{Contains, position, position_or_len, prefix_len}
+use Rattle.std.specs.List.{position, position_or_len}
 use Rattle.std.proofs.lemmas.Bool.{ltb-true, lt-ltb, and_from, true≢false}
 use mathlib.Core.List.{IsPrefix}
-use Rattle.log_node.specs.declared.ids.Id.{Id}
 use Rattle.log_node.specs.declared.ids.Key.{Key}
 use Rattle.log_node.specs.Order.{same_id, same_key}
 use Rattle.log_node.proofs.CallerLemmas.{same_key-is, same_id-refl}
 use Rattle.col_core.specs.declared.Entry.{Entry}
-use Rattle.col_core.specs.History.{clock, entries, entry_key, line}
+use Rattle.col_core.specs.History.{clock, entry_key, line}
 use Rattle.col_core.specs.Computed.{dated}
 use Rattle.col_core.specs.Cuts.{Dated, entries_of}
 use Rattle.col_core.specs.Legal.{IsColumnHistory}
 use Rattle.col_core.specs.Ids.{IsFinal, open_below}
-use Rattle.col_core.proofs.CallerLemmas.{In, by_test, if_true, if_false, apart, in_contains, in_slice, slice_in, line_grows, clear_stands, clocks_rise, entries_dated, dates_longer, later}
-use Rattle.chain_store.specs.declared.told.Told.{Told}
+use Rattle.col_core.proofs.CallerLemmas.{In, by_test, if_true, if_false, in_contains, in_slice, slice_in, line_grows, clear_stands, clocks_rise, entries_dated, dates_longer, later}
 use Rattle.chain_store.specs.declared.hold.Hold.{Hold}
 use Rattle.chain_store.specs.declared.region.Region.{Region}
 use Rattle.chain_store.specs.Histories.{entries_in}
 use Rattle.chain_store.specs.Holds.{IsHold, seen_in, entries_seen}
 use Rattle.chain_store.proofs.CallerLemmas.{lawful_seen}
-use Rattle.append_core.specs.Going.{IsUnderClock}
-use Rattle.append_core.proofs.Lasting.{longer, lawful_longer, final_later}
+use Rattle.append_core.specs.Helping.{IsUnderClock}
+use Rattle.append_core.proofs.Lasting.{longer, lawful_longer}
 use Rattle.append_core.proofs.Cleared.{under_clock}
 use Rattle.append_core.proofs.Places.{prefix_get}
 

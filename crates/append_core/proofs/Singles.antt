@@ -1,5 +1,5 @@
 -- The point of an append to one colour.
-use Rattle.std.proofs.Common.{◌≡◌, ℕ, ◌<◌, ◌≤◌, List, [], ◌∷◌, ◌++◌, length, Option, Some, None, slice_get, refl, sym, subst, ◌∙◌, inl, inr, ◌⊎◌, append-nil}
+use Rattle.std.proofs.Common.{◌≡◌, ℕ, ◌<◌, List, [], ◌∷◌, length, Option, Some, None, slice_get, refl, sym, subst, ◌∙◌, inl, inr, ◌⊎◌, append-nil}
 use Rattle.std.specs.Prelude.{IfSome}
 use Rattle.std.specs.List.{position}
 use Rattle.log_node.specs.declared.ids.Key.{Key}
@@ -13,17 +13,21 @@ use Rattle.col_core.specs.Legal.{IsColumnHistory}
 use Rattle.col_core.specs.Ids.{IsFinal}
 use Rattle.col_core.specs.Rows.{node_wants}
 use Rattle.col_core.proofs.CallerLemmas.{singles_stay}
+use Rattle.stamp_board.specs.declared.seats.Seat.{Seat}
+use Rattle.stamp_board.specs.Seats.{seen as seat_seen}
+use Rattle.stamp_board.specs.Views.{Grows}
+use Rattle.stamp_board.proofs.CallerLemmas.{Grows-refl}
 use Rattle.chain_store.specs.declared.told.Told.{Told}
 use Rattle.chain_store.specs.declared.hold.Hold.{Hold}
 use Rattle.chain_store.specs.declared.region.Region.{Region}
 use Rattle.chain_store.specs.Columns.{told_single}
-use Rattle.chain_store.specs.Holds.{IsHold, SameBut, MakesOneIn, seen_in, entries_seen}
-use Rattle.chain_store.proofs.CallerLemmas.{lawful_seen}
+use Rattle.chain_store.specs.Holds.{IsHold, SameBut, MakesOneIn, seen_in, entries_seen, view_of}
 use Rattle.append_core.specs.declared.stood.Stood.{Stood}
-use Rattle.append_core.specs.Going.{GoesOn, HelpsOpen}
+use Rattle.chain_store.specs.Going.{GoesOn}
+use Rattle.append_core.specs.Helping.{HelpsOpen}
 use Rattle.append_core.specs.Standing.{IsSingleOf, StandsAlone}
-use Rattle.append_core.proofs.Going.{goes_same, goes_then, goes_weaken, makes_on}
-use Rattle.append_core.proofs.Taking.{helped_longer}
+use Rattle.chain_store.proofs.CallerLemmas.{lawful_seen, goes_same, goes_then, goes_weaken, makes_on}
+use Rattle.append_core.proofs.Helped.{helped_longer}
 use Rattle.append_core.proofs.Places.{prefix_length, prefix_get, at_end, at_image}
 use Rattle.append_core.proofs.Placed.{key_placed}
 
@@ -52,12 +56,12 @@ module _ (r : Region) (g m : Hold) (x : Node) (colour stamp : ℕ) (at : At)
       )).final
 
   -- and stands where the answer says
-  pub stands_alone : (h : Hold) (position : ℕ) (s : Stood) → SameBut colour g m
+  pub stands_alone : (h : Hold) (position : ℕ) (s : Stood) → SameBut colour g m → m.seat ≡ g.seat
       → GoesOn (λ c e. HelpsOpen m h e) m h
       → slice_get (line (entries_seen h colour)) position ≡ Some (entry_key stamp x.id)
       → s.key ≡ entry_key stamp x.id → s.points ≡ record { colour = colour; at = at; position = position } ∷ []
       → StandsAlone g h x colour s
-  stands_alone h position s but on stands key points = record {
+  stands_alone h position s but seat on stands key points = record {
     stamp = stamp;
     place = length one.before;
     position = position;
@@ -75,6 +79,7 @@ module _ (r : Region) (g m : Hold) (x : Node) (colour stamp : ℕ) (at : At)
         (helped_longer (λ c e. (c ≡ colour) × IsSingleOf x.id e) (λ c e. HelpsOpen m h e) g m h h
         (makes_on (λ c e. (c ≡ colour) × IsSingleOf x.id e) colour g m but
         (told_single colour g.passes.number x stamp) at one refl (refl, refl))
+        (subst (λ (t : Seat). Grows (view_of g) (seat_seen t)) (sym seat) (Grows-refl (view_of g)))
         (goes_same (λ c e. HelpsOpen m h e) h h refl) on));
   }
 

@@ -14,7 +14,6 @@ use Rattle.log_node.specs.Order.{same_id}
 use Rattle.log_node.specs.Seen.{BegunAppend}
 use Rattle.log_node.specs.Sets.{has}
 use Rattle.col_core.specs.declared.Entry.{Entry}
-use Rattle.col_core.specs.declared.Event.{Event as ColumnEvent}
 use Rattle.col_core.specs.History.{enters, has_entered}
 use Rattle.col_core.proofs.CallerLemmas.{In, in_contains, entered_longer, same_id-refl}
 use Rattle.stamp_board.specs.declared.view.Size.{Size}
@@ -25,9 +24,10 @@ use Rattle.chain_store.specs.Histories.{entries_in}
 use Rattle.chain_store.specs.Columns.{told_propose, told_settle}
 use Rattle.chain_store.specs.Rows.{IsBegunRow}
 use Rattle.chain_store.specs.Steps.{MatchAt}
-use Rattle.chain_store.specs.Holds.{SameBut, MakesOneIn, LooksIn, seen_in}
-use Rattle.append_core.specs.Going.{GoesOn, IsStepIn, WasOpen, HelpsOpen}
-use Rattle.append_core.proofs.Going.{prefix_then, goes_same, goes_then, goes_weaken, looks_on, makes_on}
+use Rattle.chain_store.specs.Holds.{SameBut, MakesOneIn, LooksIn}
+use Rattle.chain_store.specs.Going.{GoesOn}
+use Rattle.append_core.specs.Helping.{IsStepIn}
+use Rattle.chain_store.proofs.CallerLemmas.{looks_on, makes_on}
 
 -- entries of a longer history
 
@@ -79,31 +79,3 @@ module _ (g h : Hold) (b : BegunAppend) (k : ℕ) (coloured : has b.colours k �
   settled_on o (Event place) m =
       makes_on (IsStepIn b) k g h but (told_settle g.passes.number b.id o) (Event place) m refl (coloured, refl)
   settled_on o (Look events) s = looks_on (IsStepIn b) k g h but s.0
-
--- what was open between two sights was so between wider ones
-
-opened_longer : (g h k l : Hold) (id : Id) → ((c : ℕ) → IsPrefix (seen_in g c) (seen_in h c))
-    → ((c : ℕ) → IsPrefix (seen_in k c) (seen_in l c)) → WasOpen h k id → WasOpen g l id
-opened_longer g h k l id low high o = (
-  o.0,
-  o.1,
-  prefix_then (seen_in g o.0) (seen_in h o.0) o.1 (low o.0) o.2,
-  prefix_then o.1 (seen_in k o.0) (seen_in l o.0) o.3 (high o.0),
-  o.4,
-)
-
-pub helped_longer : (Before After : ℕ → ColumnEvent → Type 0) (g h k l : Hold) → GoesOn Before g h → GoesOn After k l
-    → GoesOn (λ c e. HelpsOpen h k e) h k → GoesOn (λ c e. HelpsOpen g l e) h k
-helped_longer Before After g h k l a b =
-    goes_weaken (λ c e. HelpsOpen h k e) h k (λ c e. HelpsOpen g l e)
-    (λ c e m. (m.0, m.1, opened_longer g h k l m.0 a.more b.more m.2))
-
--- help after help
-pub helps_then : (g h k : Hold) → GoesOn (λ c e. HelpsOpen g h e) g h → GoesOn (λ c e. HelpsOpen h k e) h k
-    → GoesOn (λ c e. HelpsOpen g k e) g k
-helps_then g h k a b =
-    goes_then (λ c e. HelpsOpen g k e) g h k
-    (helped_longer (λ c e. HelpsOpen g k e) (λ c e. HelpsOpen h k e) g g h k
-    (goes_same (λ c e. HelpsOpen g k e) g g refl) b a)
-    (helped_longer (λ c e. HelpsOpen g h e) (λ c e. HelpsOpen g k e) g h k k a
-    (goes_same (λ c e. HelpsOpen g k e) k k refl) b)

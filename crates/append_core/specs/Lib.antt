@@ -1,3 +1,3 @@
-pub mod Going
+pub mod Helping
 pub mod Settled
 pub mod Standing

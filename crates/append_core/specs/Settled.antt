@@ -1,5 +1,6 @@
 -- What a hold knows of a begun append in the column of one of its colours.
-use Rattle.std.specs.Prelude.{◌≡◌, ◌≢◌, ◌⊎◌, ℕ, true, None}
+use Rattle.std.specs.Prelude.{◌≡◌, ◌≢◌, ◌⊎◌, ℕ, true, List, None}
+use mathlib.Core.List.{IsPrefix}
 use Rattle.log_node.specs.Seen.{BegunAppend}
 use Rattle.log_node.specs.Standings.{open_entry}
 use Rattle.log_node.specs.declared.marks.Why.{Why}
@@ -10,22 +11,34 @@ use Rattle.log_node.specs.declared.marks.Outcome.TheVariants.{Final}
 use Rattle.col_core.specs.History.{entries, has_entered}
 use Rattle.col_core.specs.Ids.{IsFinal}
 use Rattle.stamp_board.specs.Views.{KnowsMark}
+use Rattle.chain_store.specs.declared.told.Told.{Told}
 use Rattle.chain_store.specs.declared.hold.Hold.{Hold}
-use Rattle.chain_store.specs.Holds.{entries_seen, view_of}
+use Rattle.chain_store.specs.Histories.{entries_in}
+use Rattle.chain_store.specs.Holds.{seen_in, view_of}
 
--- its mark there is known: it is fenced, or its id has entered, as far as the hold has seen
+-- Its mark there is known: it is fenced, or its id has entered, as far as the hold has seen. It stays so.
 pub record IsMarkedThere (h : Hold) (b : BegunAppend) (c : ℕ) : Type 0 where
   pub mark : Mark
   pub set : mark ≢ marks.None
   pub known : KnowsMark (view_of h) b.row c mark
-  pub done : ((why : Why) × (mark ≡ marks.Fenced why)) ⊎ (has_entered b.id (entries_seen h c) ≡ true)
+  pub done : ((why : Why) × (mark ≡ marks.Fenced why)) ⊎ (has_entered b.id (entries_in (seen_in h c)) ≡ true)
 
--- It is settled there, as far as the hold has seen: it is marked, is open no more, and is final under the number where
--- the outcome is final.
-pub record IsSettledThere (h : Hold) (b : BegunAppend) (o : Outcome) (c : ℕ) : Type 0 where
+-- over this history of the column of a colour: it is marked, is open no more, and is final under the number where the
+-- outcome is final
+pub record IsSettledOver (h : Hold) (b : BegunAppend) (o : Outcome) (c : ℕ) (log : List Told) : Type 0 where
   pub mark : Mark
   pub set : mark ≢ marks.None
   pub known : KnowsMark (view_of h) b.row c mark
-  pub closed : open_entry b.id (entries (entries_seen h c)) ≡ None
-  pub done : ((why : Why) × (mark ≡ marks.Fenced why)) ⊎ (has_entered b.id (entries_seen h c) ≡ true)
-  pub final : (f : ℕ) → o ≡ Final f → IsFinal (entries_seen h c) b.id f
+  pub closed : open_entry b.id (entries (entries_in log)) ≡ None
+  pub done : ((why : Why) × (mark ≡ marks.Fenced why)) ⊎ (has_entered b.id (entries_in log) ≡ true)
+  pub final : (f : ℕ) → o ≡ Final f → IsFinal (entries_in log) b.id f
+
+-- It is settled there, over all that the hold has seen.
+abbrev pub IsSettledNow : Hold → BegunAppend → Outcome → ℕ → Type 0
+IsSettledNow h b o c = IsSettledOver h b o c (seen_in h c)
+
+-- It was settled there, over what the hold had seen at some time. It stays so.
+pub record IsSettledThere (h : Hold) (b : BegunAppend) (o : Outcome) (c : ℕ) : Type 0 where
+  pub log : List Told
+  pub within : IsPrefix log (seen_in h c)
+  pub over : IsSettledOver h b o c log

@@ -10,7 +10,8 @@ use Rattle.chain_store.specs.declared.hold.Hold.{Hold}
 use Rattle.chain_store.specs.Columns.{told_single}
 use Rattle.chain_store.specs.Holds.{seen_in, entries_seen}
 use Rattle.append_core.specs.declared.stood.Stood.{Stood}
-use Rattle.append_core.specs.Going.{GoesOn, HelpsOpen}
+use Rattle.chain_store.specs.Going.{GoesOn}
+use Rattle.append_core.specs.Helping.{HelpsOpen}
 
 -- the event enters the id as final
 abbrev pub IsSingleOf : Id → events.Event → Type 0

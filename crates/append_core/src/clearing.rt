@@ -3,7 +3,8 @@ ghost use Rattle.std.specs.Prelude.{◌≡◌, ◌<◌, ◌≤◌, ◌-◌, [], 
 ghost use Rattle.col_core.specs.Ids.{open_below};
 ghost use Rattle.stamp_board.specs.Seats.{IsLater};
 ghost use Rattle.chain_store.specs.Holds.{IsHold, entries_seen};
-ghost use Rattle.append_core.specs.Going.{GoesOn, HelpsOpen, IsUnderClock};
+ghost use Rattle.chain_store.specs.Going.{GoesOn};
+ghost use Rattle.append_core.specs.Helping.{HelpsOpen, IsUnderClock};
 
 use crate::helping::help;
 use chain_store::{Hold, Region};

@@ -6,8 +6,9 @@ ghost use Rattle.log_node.specs.Sets.{has};
 ghost use Rattle.stamp_board.specs.Seats.{IsLater};
 ghost use Rattle.stamp_board.specs.Views.{KnowsOutcome};
 ghost use Rattle.chain_store.specs.Holds.{IsHold, KnowsAppend, SameBut, view_of};
-ghost use Rattle.append_core.specs.Going.{GoesOn, IsStepIn};
-ghost use Rattle.append_core.specs.Settled.{IsMarkedThere, IsSettledThere};
+ghost use Rattle.chain_store.specs.Going.{GoesOn};
+ghost use Rattle.append_core.specs.Helping.{IsStepIn};
+ghost use Rattle.append_core.specs.Settled.{IsMarkedThere, IsSettledNow};
 
 use chain_store::{Hold, Region};
 use log_node::{Begun, MAX_COLOURS, Outcome};
@@ -64,7 +65,7 @@ fn settle_colour<R: Wait>(
     ensures seat { IsLater hold.old.seat hold.new.seat }
     ensures next { hold.new.next ≡ hold.old.next }
     ensures goes { GoesOn (IsStepIn begun.now) hold.old hold.new }
-    ensures settled { has begun.now.colours colour ≡ true → IsSettledThere hold.new begun.now outcome colour }
+    ensures settled { has begun.now.colours colour ≡ true → IsSettledNow hold.new begun.now outcome colour }
 {
     if !begun.colours.has(colour) {
         return;
@@ -82,7 +83,7 @@ fn settle<R: Wait>(rt: &R, region: &Region, hold: &mut Hold, begun: &Begun, outc
     ensures seat { IsLater hold.old.seat hold.new.seat }
     ensures next { hold.new.next ≡ hold.old.next }
     ensures goes { GoesOn (IsStepIn begun.now) hold.old hold.new }
-    ensures settled { (c : ℕ) → has begun.now.colours c ≡ true → IsSettledThere hold.new begun.now outcome c }
+    ensures settled { (c : ℕ) → has begun.now.colours c ≡ true → IsSettledNow hold.new begun.now outcome c }
 {
     for colour in 0..MAX_COLOURS {
         settle_colour(rt, region, hold, begun, outcome, colour);
@@ -99,7 +100,7 @@ pub fn help<R: Wait>(rt: &R, region: &Region, hold: &mut Hold, begun: &Begun) ->
     ensures next { hold.new.next ≡ hold.old.next }
     ensures outcome { (result ≢ Outcome.Open) × KnowsOutcome (view_of hold.new) begun.now.row result × IsOutcome result }
     ensures goes { GoesOn (IsStepIn begun.now) hold.old hold.new }
-    ensures settled { (c : ℕ) → has begun.now.colours c ≡ true → IsSettledThere hold.new begun.now result c }
+    ensures settled { (c : ℕ) → has begun.now.colours c ≡ true → IsSettledNow hold.new begun.now result c }
 {
     mark(rt, region, hold, begun);
     let outcome = region.decide(hold, begun.row);

@@ -4,7 +4,8 @@ ghost use Rattle.col_core.specs.History.{line};
 ghost use Rattle.col_core.specs.Ids.{IsFinal};
 ghost use Rattle.stamp_board.specs.Seats.{IsLater};
 ghost use Rattle.chain_store.specs.Holds.{IsHold, entries_seen};
-ghost use Rattle.append_core.specs.Going.{GoesOn, HelpsOpen};
+ghost use Rattle.chain_store.specs.Going.{GoesOn};
+ghost use Rattle.append_core.specs.Helping.{HelpsOpen};
 
 use crate::clearing::clear;
 use chain_store::{Hold, Region};

@@ -1,6 +1,6 @@
 -- What backs a history, once the column's seat has set a mark or an entry was added.
-use Rattle.std.proofs.Common.{◌≡◌, ◌≢◌, ◌≤◌, max, ℕ, zero, suc, Bool, true, false, cond, List, [], ◌∷◌, ◌++◌, length, Some, None, refl, ap, sym, subst, ◌∙◌, arith, inl, inr, ◌⊎◌, append_assoc, append-nil, eq-eqb}
-use Rattle.std.specs.Prelude.{◌==◌, ◌&&◌, slice_get, if◌then◌else◌}
+use Rattle.std.proofs.Common.{◌≡◌, ◌≢◌, ◌≤◌, max, ℕ, true, false, List, [], ◌∷◌, ◌++◌, refl, ap, sym, subst, ◌∙◌, arith, inl, inr, ◌⊎◌, append_assoc, append-nil, eq-eqb}
+use Rattle.std.specs.Prelude.{◌==◌, if◌then◌else◌}
 use Rattle.std.proofs.lemmas.Bool.{eqb-true}
 use Rattle.log_node.specs.declared.ids.Row.{Row}
 use Rattle.log_node.specs.declared.node.Node.{Node}
@@ -15,12 +15,12 @@ use Rattle.stamp_board.specs.declared.view.Size.{Size}
 use Rattle.stamp_board.specs.declared.view.View.{View}
 use Rattle.stamp_board.specs.declared.seats.ColumnSeat.{ColumnSeat}
 use Rattle.stamp_board.specs.Rows.{IsRow, AreColours}
-use Rattle.stamp_board.specs.Views.{Grows, Learns, KnowsBegun, KnowsOutcome}
+use Rattle.stamp_board.specs.Views.{Grows, Learns}
 use Rattle.stamp_board.specs.Seats.{column_seen, set_mark, IsLaterColumn, SetsNone, SetsMark}
 use Rattle.stamp_board.proofs.CallerLemmas.{Learns-from, begun_learnt, outcome_learnt}
 use Rattle.chain_store.specs.declared.told.Told.{Told}
 use Rattle.chain_store.specs.Histories.{entries_in}
-use Rattle.chain_store.specs.Marks.{same_row, is_row, proposes, stamps_of, numbers, Backs, IsBacked, IsRowOf, IsEnded}
+use Rattle.chain_store.specs.Marks.{same_row, proposes, stamps_of, numbers, Backs, IsBacked, IsRowOf, IsEnded}
 use Rattle.chain_store.proofs.Entering.{get_cases, map_with}
 
 pub same_row-is : (a b : Row) → same_row a b ≡ true → a ≡ b

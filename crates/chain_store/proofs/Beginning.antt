@@ -1,5 +1,5 @@
 -- A hold that has begun a row, or has learnt of one.
-use Rattle.std.proofs.Common.{◌≡◌, ◌≢◌, ℕ, ◌+◌, ◌<◌, ◌≤◌, ◌^◌, ◌⊎◌, inl, inr, List, Some, slice_get, refl, ap, sym, subst, ◌∙◌, arith}
+use Rattle.std.proofs.Common.{◌≡◌, ◌≢◌, ℕ, ◌+◌, ◌<◌, ◌≤◌, ◌^◌, inl, inr, List, refl, ap, sym, subst, ◌∙◌, arith}
 use Rattle.std.specs.Prelude.{if◌then◌else◌, ◌==◌}
 use Rattle.std.proofs.lemmas.Bool.{cases_eq, eq-eqb, ne_eqb}
 use Rattle.log_node.specs.declared.limits.TheConstants.{MAX_STAMP}
@@ -11,7 +11,6 @@ use Rattle.col_core.specs.declared.Event.TheVariants.{Single, Propose, Settle, R
 use Rattle.col_core.proofs.CallerLemmas.{if_true, if_false}
 use Rattle.stamp_board.specs.declared.view.Size.{Size}
 use Rattle.stamp_board.specs.declared.view.View.{View}
-use Rattle.stamp_board.specs.declared.seats.Seat.{Seat}
 use Rattle.stamp_board.specs.Rows.{AreColours}
 use Rattle.stamp_board.specs.Views.{Grows, KnowsBegun}
 use Rattle.stamp_board.specs.Seats.{IsLater, Begins, IsNext, IsNextNode, seen as seat_seen}

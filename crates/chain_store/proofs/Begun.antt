@@ -1,15 +1,13 @@
 -- What is known of a begun append.
-use Rattle.std.proofs.Common.{◌≡◌, ℕ, true, Option, Some, None, refl, ap, sym, subst, ◌∙◌, inl, inr}
+use Rattle.std.proofs.Common.{◌≡◌, ℕ, true, Some, None, sym, subst, ◌∙◌, inl, inr}
 use Rattle.log_node.specs.declared.ids.Colours.{Colours}
-use Rattle.log_node.specs.declared.ids.Row.{Row}
 use Rattle.log_node.specs.declared.node.Node.{Node}
 use Rattle.log_node.specs.Seen.{BegunAppend}
 use Rattle.log_node.specs.Sets.{has}
-use Rattle.column.specs.Columns.{IsBegun}
 use Rattle.stamp_board.specs.declared.view.Size.{Size}
 use Rattle.stamp_board.specs.declared.view.View.{View}
 use Rattle.stamp_board.specs.Rows.{IsRow, AreColours}
-use Rattle.stamp_board.specs.Views.{KnowsBegun, Learns}
+use Rattle.stamp_board.specs.Views.{Learns}
 use Rattle.stamp_board.proofs.CallerLemmas.{begun_learnt}
 use Rattle.chain_store.specs.Histories.{FitsColumn}
 use Rattle.chain_store.specs.Marks.{IsRowOf}

@@ -1,6 +1,6 @@
 -- A hold after a call on a colour's column.
-use Rattle.std.proofs.Common.{◌≡◌, ℕ, ◌+◌, ◌<◌, ◌≤◌, List, length, true, Option, None, Some, set, get_or, refl, ap, sym, subst, ◌∙◌, Result, Ok, Err, inl, inr, ◌⊎◌, arith}
-use Rattle.std.specs.Prelude.{slice_get, IfOk, IfSome, OnErr}
+use Rattle.std.proofs.Common.{◌≡◌, ℕ, ◌<◌, ◌≤◌, List, true, Option, None, Some, set, get_or, refl, ap, sym, subst, ◌∙◌, Result, Ok, Err, inl, inr, ◌⊎◌, arith}
+use Rattle.std.specs.Prelude.{IfOk, IfSome, OnErr}
 use Rattle.log_node.specs.declared.ids.Counts.{Counts}
 use Rattle.log_node.specs.declared.node.Node.{Node}
 use Rattle.log_node.specs.declared.node.At.{At}

@@ -1,5 +1,5 @@
 -- How holds get their passes, and what a new region's holds are.
-use Rattle.std.proofs.Common.{◌≡◌, ◌≢◌, inl, inr, ℕ, zero, suc, ◌+◌, ◌<◌, List, [], ◌∷◌, length, set, Option, Some, None, slice_get, refl, ap, sym, subst, ◌∙◌, arith, length-set}
+use Rattle.std.proofs.Common.{◌≡◌, ◌≢◌, inl, inr, ℕ, zero, suc, ◌+◌, List, [], ◌∷◌, length, set, Option, Some, None, slice_get, refl, ap, sym, subst, ◌∙◌, arith, length-set}
 use Rattle.std.proofs.lemmas.Option.{slice_get_within}
 use Rattle.log_node.specs.declared.node.Node.{Node}
 use Rattle.stamp_board.specs.declared.board.Board.{Board}
@@ -14,7 +14,7 @@ use Rattle.chain_store.specs.declared.hold.Hold.{Hold}
 use Rattle.chain_store.specs.Histories.{maker}
 use Rattle.chain_store.specs.Passes.{ColumnCell, ColumnPass, IsCellOf, IsHolder}
 use Rattle.chain_store.specs.Ends.{AreNewHolders}
-use Rattle.chain_store.specs.Holds.{HasPasses, IsHold, history_seen, turned_in, made_in}
+use Rattle.chain_store.specs.Holds.{HasPasses, IsHold, history_seen, turned_in}
 use Rattle.chain_store.specs.Openings.{Dealt, Got, HasNew, HaveAll, Zipped}
 use Rattle.chain_store.specs.Opening.{IsNewHold, AreNewHolds}
 use Rattle.chain_store.proofs.Holding.{got_set, set_other}

@@ -1,14 +1,13 @@
 -- A column with one entry more.
-use Rattle.std.proofs.Common.{◌≡◌, ◌≢◌, ℕ, zero, suc, get_or, ◌+◌, ◌-◌, ◌<◌, ◌≤◌, Bool, true, false, List, [], ◌∷◌, ◌++◌, length, map, take, drop, Option, Some, None, refl, ap, sym, subst, ◌∙◌, arith, inl, inr, ◌⊎◌, length-append}
+use Rattle.std.proofs.Common.{◌≡◌, ℕ, zero, suc, get_or, ◌+◌, ◌-◌, ◌<◌, ◌≤◌, Bool, true, false, List, [], ◌∷◌, ◌++◌, length, map, take, drop, Some, refl, ap, sym, subst, ◌∙◌, arith, inl, inr, ◌⊎◌, length-append}
 use Rattle.std.specs.Prelude.{slice_get, slice_set, slice_index, slice_index_or, ◌||◌}
-use Rattle.std.specs.List.{list_any, Contains}
+use Rattle.std.specs.List.{Contains}
 use Rattle.std.specs.Option.{option_map}
 use Rattle.std.proofs.lemmas.Bool.{cases_eq}
 use Rattle.log_node.specs.declared.ids.Id.{Id}
 use Rattle.log_node.specs.declared.ids.Key.{Key}
 use Rattle.log_node.specs.declared.node.Node.{Node}
 use Rattle.log_node.specs.Seen.{PlacedNode}
-use Rattle.log_node.specs.Order.{same_id}
 use Rattle.skeen_core.specs.declared.waiting.Waiting.{Waiting}
 use Rattle.col_core.specs.declared.Entry.{Entry}
 use Rattle.col_core.specs.declared.Event.{Event}
@@ -20,14 +19,14 @@ use Rattle.col_core.proofs.CallerLemmas.{dated-append}
 use Rattle.log_node.specs.declared.ids.Counts.{Counts}
 use Rattle.log_node.specs.Marks.{IsStamp}
 use Rattle.col_core.specs.History.{enters, has_entered, last_stamp}
-use Rattle.col_core.proofs.CallerLemmas.{by_test, same_id-true}
+use Rattle.col_core.proofs.CallerLemmas.{by_test}
 use Rattle.column.specs.Entering.{EnteredNode}
-use Rattle.column.specs.Columns.{ColumnState, single_event, stamp_for, with_room, after_single, after_propose, entered_node, HasStored, HasCarried}
+use Rattle.column.specs.Columns.{ColumnState, stamp_for, with_room, after_single, after_propose, entered_node}
 use Rattle.skeen_core.specs.Queues.{entry_under}
 use Rattle.std.proofs.lemmas.List.{get_or-set_same, get_or-set_other}
 use Rattle.chain_store.specs.declared.told.Told.{Told}
 use Rattle.chain_store.specs.Entered.{AreBelow}
-use Rattle.chain_store.specs.Histories.{entries_in, Names, EntersAs, Brings, IsOfMaker}
+use Rattle.chain_store.specs.Histories.{Names, EntersAs, Brings, IsOfMaker}
 use Rattle.chain_store.specs.Columns.{IsOfHistory, newest_in, newest_nodes, told_by, last_of, single_told, told_propose}
 
 -- places of a list with one element more at its end
@@ -237,6 +236,11 @@ module _ (column new : ColumnState) (t : Told) (node : Node) (brought : t.nodes 
           has.0,
           ap (λ (cs : List (List PlacedNode)). slice_get (slice_index_or cs region []) has.0) (sym h.copies) ∙ has.1,
         ));
+    stamped = λ region item has.
+        g.stamped region item (
+          has.0,
+          ap (λ (cs : List (List PlacedNode)). slice_get (slice_index_or cs region []) has.0) (sym h.copies) ∙ has.1,
+        );
   } where
     brought_there : (e : Event) (nodes : List Node) → Brings column.region column.colour e nodes
         → Brings new.region new.colour e nodes

@@ -1,6 +1,6 @@
 -- What is known and what stands after a client's seat and a column's have told one another.
-use Rattle.std.proofs.Common.{◌≡◌, ◌<◌, ◌++◌, ◌∷◌, [], ℕ, zero, suc, drop, true, List, Option, Some, None, length, refl, ap, sym, subst, ◌∙◌, inl, inr, ◌⊎◌}
-use Rattle.std.specs.Prelude.{slice_get, IfSome}
+use Rattle.std.proofs.Common.{◌≡◌, ◌<◌, ◌++◌, ◌∷◌, [], ℕ, zero, suc, drop, true, List, Option, Some, None, length, refl, ap, sym, subst, ◌∙◌, inr}
+use Rattle.std.specs.Prelude.{IfSome}
 use Rattle.std.specs.List.{find}
 use Rattle.log_node.specs.declared.ids.Id.{Id}
 use Rattle.log_node.specs.declared.ids.Key.{Key}
@@ -13,7 +13,6 @@ use Rattle.skeen_core.specs.declared.waiting.Waiting.{Waiting}
 use Rattle.skeen_core.specs.Queues.{waiting_entries, kept_count}
 use Rattle.col_core.specs.declared.Event.{Event}
 use Rattle.col_core.specs.declared.Event.TheVariants as events
-use Rattle.col_core.specs.declared.Entry.{Entry}
 use Rattle.col_core.specs.History.{enters}
 use Rattle.col_core.proofs.CallerLemmas.{In}
 use Rattle.column.specs.Entering.{EnteredNode}
@@ -22,17 +21,17 @@ use Rattle.stamp_board.specs.declared.view.Size.{Size}
 use Rattle.stamp_board.specs.declared.view.View.{View}
 use Rattle.stamp_board.specs.declared.seats.ColumnSeat.{ColumnSeat}
 use Rattle.stamp_board.specs.Rows.{IsRow, AreColours}
-use Rattle.stamp_board.specs.Views.{Agree, KnowsBegun, Learns, own_mark, told}
-use Rattle.stamp_board.specs.Seats.{column_seen, set_mark, SetsNone}
+use Rattle.stamp_board.specs.Views.{Agree, Learns, own_mark, told}
+use Rattle.stamp_board.specs.Seats.{column_seen, SetsNone}
 use Rattle.chain_store.specs.declared.told.Told.{Told}
 use Rattle.chain_store.specs.declared.seated.Seated.{Seated}
-use Rattle.chain_store.specs.Histories.{entries_in, EntersAs, Brings, FitsColumn}
-use Rattle.chain_store.specs.Marks.{Backs, IsBacked, IsRowOf}
-use Rattle.chain_store.specs.Columns.{IsOfHistory, Stands, Stays, Gains, newest_in}
+use Rattle.chain_store.specs.Histories.{Brings, FitsColumn}
+use Rattle.chain_store.specs.Marks.{Backs, IsRowOf}
+use Rattle.chain_store.specs.Columns.{Stands, Stays, Gains, newest_in}
 use Rattle.log_node.specs.declared.node.At.{At}
 use Rattle.log_node.specs.declared.node.At.TheVariants as ats
 use Rattle.chain_store.specs.Steps.{MatchAt}
-use Rattle.chain_store.specs.Rows.{IsBegunRow, KnowsRow, IsKnownBelow}
+use Rattle.chain_store.specs.Rows.{IsKnownBelow}
 use Rattle.chain_store.proofs.Settlings.{found_in, in_get}
 
 -- what a note says
@@ -65,7 +64,7 @@ one_of : (x y : Node) (nodes : List Node) → nodes ≡ x ∷ [] → nodes ≡ y
 one_of x y nodes p q = let f : x ∷ [] ≡ y ∷ [] = sym p ∙ q in let g : x ≡ y = cc in g
 
 -- the node of an entry that entered an id, where the node has a row
-entered_row : (v : View) (region colour : ℕ) (id : Id) (x : Node) (row : Row) (e : Event) (nodes : List Node)
+pub entered_row : (v : View) (region colour : ℕ) (id : Id) (x : Node) (row : Row) (e : Event) (nodes : List Node)
     → nodes ≡ x ∷ [] → enters id e ≡ true → x.row ≡ Some row → Brings region colour e nodes → Backs v e nodes
     → IsRowOf v row x × FitsColumn region colour x
 entered_row v region colour id x row (events.Single other floor wants) nodes brought it of brings backs =
@@ -83,7 +82,7 @@ entered_row v region colour id x row (events.Give other from) nodes brought it o
 entered_row v region colour id x row (events.Carry other start heads) nodes brought it of brings backs = absurd (let g : ⊥ = cc in g)
 entered_row v region colour id x row (events.Trim counts) nodes brought it of brings backs = absurd (let g : ⊥ = cc in g)
 
-drop_get : {A : Type 0} (n : ℕ) (xs : List A) (x : A) → In x (drop n xs) → In x xs
+pub drop_get : {A : Type 0} (n : ℕ) (xs : List A) (x : A) → In x (drop n xs) → In x xs
 drop_get zero xs x i = i
 drop_get (suc n) [] x i = i
 drop_get (suc n) (y ∷ ys) x i = inr (drop_get n ys x i)

@@ -1,11 +1,9 @@
 -- A hold after a turn at one column.
-use Rattle.std.proofs.Common.{◌≡◌, ◌≢◌, ℕ, zero, suc, ◌+◌, ◌<◌, ◌≤◌, List, [], ◌∷◌, ◌++◌, length, Option, Some, None, set, get_or, refl, ap, sym, subst, ◌∙◌, arith, inl, inr, ◌⊎◌, length-set}
+use Rattle.std.proofs.Common.{◌≡◌, ◌≢◌, ℕ, zero, suc, ◌+◌, ◌<◌, ◌≤◌, List, [], ◌∷◌, ◌++◌, length, Some, set, get_or, refl, ap, sym, subst, ◌∙◌, arith, inl, inr, ◌⊎◌, length-set}
 use Rattle.std.specs.Prelude.{slice_get}
 use Rattle.std.specs.Vec.{with_item}
 use Rattle.std.proofs.lemmas.Bool.{cases_eq}
 use Rattle.std.proofs.lemmas.Option.{slice_get_read}
-use mathlib.Core.List.{IsPrefix}
-use Rattle.log_node.specs.declared.ids.Id.{Id}
 use Rattle.log_node.specs.declared.node.Node.{Node}
 use Rattle.log_node.specs.declared.node.At.{At}
 use Rattle.col_core.specs.declared.Event.{Event}
@@ -13,7 +11,7 @@ use Rattle.col_core.specs.declared.Event.TheVariants.{Single, Propose, Settle, R
 use Rattle.stamp_board.specs.declared.view.Size.{Size}
 use Rattle.stamp_board.specs.declared.view.View.{View}
 use Rattle.stamp_board.specs.declared.seats.Seat.{Seat}
-use Rattle.stamp_board.specs.Views.{Grows, KnowsBegun}
+use Rattle.stamp_board.specs.Views.{Grows}
 use Rattle.stamp_board.specs.Seats.{IsLater, IsClients, seen as seat_seen}
 use Rattle.stamp_board.proofs.CallerLemmas.{Learns-from, Grows-refl, begun_learnt}
 use Rattle.turn_cell.specs.Histories.{made_by}
@@ -25,7 +23,7 @@ use Rattle.column.specs.Columns.{single_event}
 use Rattle.chain_store.specs.Histories.{maker}
 use Rattle.chain_store.specs.Passes.{ColumnCell, ColumnPass, IsHolder, SeesMore, MakesOne}
 use Rattle.chain_store.specs.Regions.{IsColumnAt}
-use Rattle.chain_store.specs.Owning.{Owns, HasRowOf, IsAccountedFor, row_of}
+use Rattle.chain_store.specs.Owning.{Owns, IsAccountedFor, row_of}
 use Rattle.chain_store.specs.Holds.{history_seen, passes_of, turned_in, made_in, view_of, HasPasses, IsHold, SameBut}
 use Rattle.chain_store.proofs.Entering.{get_cases}
 use Rattle.chain_store.proofs.Passing.{made_with}

@@ -1,35 +1,33 @@
 -- What the calls say that enter no node.
-use Rattle.std.proofs.Common.{◌≡◌, ◌≢◌, ℕ, suc, ◌+◌, ◌-◌, ◌<◌, ◌≤◌, Bool, true, false, List, [], ◌∷◌, ◌++◌, length, map, take, drop, Some, refl, ap, sym, subst, ◌∙◌, arith, inl, inr, ◌⊎◌, length-append, eq-eqb}
-use Rattle.std.specs.Prelude.{◌==◌, nat_lt, min, max, if◌then◌else◌, slice_get}
+use Rattle.std.proofs.Common.{◌≡◌, ◌≢◌, ℕ, suc, ◌+◌, ◌-◌, ◌<◌, ◌≤◌, Bool, true, false, List, [], ◌∷◌, ◌++◌, length, map, take, drop, refl, ap, sym, subst, ◌∙◌, arith, inl, inr, ◌⊎◌, length-append, eq-eqb}
+use Rattle.std.specs.Prelude.{◌==◌, nat_lt, min, max, if◌then◌else◌}
 use Rattle.std.specs.List.{flat_map}
 use Rattle.std.proofs.lemmas.Bool.{ltb-true, ltb-false, lt-ltb, le-ltb, ne_eqb}
 use Rattle.std.proofs.lemmas.List.{length-drop}
 use Rattle.std.proofs.lemmas.Grind.{flat_map-append}
-use mathlib.Core.List.{IsPrefix}
-use Rattle.log_node.specs.declared.ids.Counts.{Counts}
 use Rattle.log_node.specs.declared.node.At.{At}
-use Rattle.log_node.specs.declared.node.At.TheVariants.{Event, Look}
+use Rattle.log_node.specs.declared.node.At.TheVariants.{Look}
 use Rattle.log_node.specs.declared.node.Head.{Head}
 use Rattle.log_node.specs.Seen.{PlacedNode}
 use Rattle.log_node.specs.Vectors.{at}
 use Rattle.col_core.specs.declared.Entry.{Entry}
-use Rattle.col_core.specs.declared.Event.TheVariants.{Raise, Give, Carry, Trim}
-use Rattle.col_core.specs.History.{clock, line, event_number}
+use Rattle.col_core.specs.declared.Event.TheVariants.{Raise, Give}
+use Rattle.col_core.specs.History.{clock, line}
 use Rattle.col_core.specs.Cuts.{Dated, chain, base, held, carried}
 use Rattle.col_core.specs.Computed.{cut, dated}
 use Rattle.col_core.proofs.CallerLemmas.{by_test, if_true, if_false, clock-append, dated-append}
 use Rattle.column.specs.declared.given.Given.{Given}
-use Rattle.column.specs.Columns.{ColumnState, history_of, base_of, held_of, new_items, IsGiven}
+use Rattle.column.specs.Columns.{history_of, base_of, held_of, new_items, IsGiven}
 use Rattle.turn_cell.specs.Cells.{seen, Adds, MayPut, IsLook, IsEvent}
 use Rattle.chain_store.specs.declared.told.Tag.{Tag}
 use Rattle.chain_store.specs.declared.told.Told.{Told}
 use Rattle.chain_store.specs.declared.seated.Seated.{Seated}
-use Rattle.chain_store.specs.Histories.{entries_in, maker, EntersAs}
+use Rattle.chain_store.specs.Histories.{entries_in, maker}
 use Rattle.chain_store.specs.Columns.{Stands, Gains, Stays, newest_of, tag_of, told_event, told_carry}
-use Rattle.chain_store.specs.Passes.{ColumnCell, ColumnPass, IsHolder, HasTurnOf, SeesMore, MakesOne, dated_in, tag_in}
-use Rattle.chain_store.specs.Moves.{held_in, base_in, LooksAt, RaisesAt, ShowsGiven, GivesAt, new_after, CarriesAt, TrimsAt}
+use Rattle.chain_store.specs.Passes.{ColumnCell, ColumnPass, HasTurnOf, SeesMore, MakesOne, dated_in}
+use Rattle.chain_store.specs.Moves.{held_in, base_in, LooksAt, RaisesAt, ShowsGiven, GivesAt, new_after, CarriesAt}
 use Rattle.chain_store.proofs.Entering.{map_with}
-use Rattle.chain_store.proofs.Turning.{stood, tagged, adds, saw, makes_at}
+use Rattle.chain_store.proofs.Turning.{stood, adds, saw, makes_at}
 
 pub looks_at : (n : ℕ) (p q r : ColumnPass) (at : At) → SeesMore n (seen p) (seen q) → IsLook q r at → LooksAt n (seen p) (seen r) at
 looks_at n p q r at s w = (

@@ -1,11 +1,12 @@
 -- A column with one entry more by which no node enters.
-use Rattle.std.proofs.Common.{Result, Ok, Err, ◌≡◌, ◌≢◌, ℕ, zero, suc, get_or, ◌+◌, ◌-◌, ◌<◌, ◌≤◌, Bool, true, false, List, [], ◌∷◌, ◌++◌, length, map, drop, Option, Some, None, refl, ap, sym, subst, ◌∙◌, arith, min, inl, inr, ◌⊎◌, length-append, append_assoc, append-nil}
+use Rattle.std.proofs.Common.{Result, Ok, Err, ◌≡◌, ℕ, zero, suc, ◌+◌, ◌-◌, ◌<◌, ◌≤◌, true, false, List, [], ◌∷◌, ◌++◌, length, map, drop, Some, refl, ap, sym, subst, ◌∙◌, arith, min, inl, inr, ◌⊎◌, length-append}
 use Rattle.std.specs.Prelude.{OnOk, OnErr, if◌then◌else◌, nat_lt, slice_get, slice_set, slice_index, slice_index_or}
 use Rattle.std.specs.List.{Contains}
 use Rattle.std.specs.Option.{option_map}
 use Rattle.std.proofs.lemmas.Bool.{cases_eq, ltb-true, ltb-false}
 use Rattle.std.proofs.lemmas.List.{get_or-set_same, get_or-set_other}
 use Rattle.std.proofs.lemmas.Option.{slice_get_within, slice_get-map, get_or_from_slice_get}
+use Rattle.log_node.specs.declared.limits.TheConstants.{MAX_STAMP}
 use Rattle.log_node.specs.declared.ids.Id.{Id}
 use Rattle.log_node.specs.declared.ids.Key.{Key}
 use Rattle.log_node.specs.declared.ids.Row.{Row}
@@ -13,20 +14,18 @@ use Rattle.log_node.specs.declared.ids.Counts.{Counts}
 use Rattle.log_node.specs.declared.node.Node.{Node}
 use Rattle.log_node.specs.declared.node.Head.{Head}
 use Rattle.log_node.specs.Seen.{PlacedNode}
-use Rattle.skeen_core.specs.declared.waiting.Waiting.{Waiting}
 use Rattle.col_core.specs.declared.Entry.{Entry}
 use Rattle.col_core.specs.declared.Event.{Event}
 use Rattle.col_core.specs.declared.Event.TheVariants.{Raise, Give, Carry, Trim}
 use Rattle.col_core.specs.History.{clock, enters, event_number, last_stamp, line}
 use Rattle.col_core.proofs.CallerLemmas.{by_test, if_true, if_false}
 use Rattle.column.specs.declared.given.Given.{Given}
-use Rattle.column.specs.Entering.{EnteredNode}
 use Rattle.column.specs.Columns.{ColumnState, after_raise, after_give, after_trim, with_items, new_items, copy_of, held_of, base_after, HasStored, HasCarried}
 use Rattle.stamp_board.specs.declared.seats.ColumnSeat.{ColumnSeat}
 use Rattle.stamp_board.specs.Seats.{column_seen}
 use Rattle.chain_store.specs.declared.told.Told.{Told}
 use Rattle.chain_store.specs.Entered.{AreBelow}
-use Rattle.chain_store.specs.Histories.{Names, Brings, IsOfMaker}
+use Rattle.chain_store.specs.Histories.{Brings, IsOfMaker}
 use Rattle.chain_store.specs.Marks.{proposes, Backs, IsBacked}
 use Rattle.chain_store.specs.Columns.{IsOfHistory, newest_in, newest_nodes, told_by, last_of, told_event, told_carry}
 use Rattle.chain_store.specs.Givens.{OfTheirHeads}
@@ -81,7 +80,8 @@ pub record HasMoved (column new : ColumnState) (t : Told) : Type 0 where
   pub newest : newest_nodes new t.entry.event ≡ t.nodes
   pub stored : (key : Key) (node : Node) → HasStored new key node → HasStored column key node
   pub carried : (region : ℕ) (item : PlacedNode) → HasCarried new region item
-      → HasCarried column region item ⊎ (Contains t.nodes item.node × (item.node.id ≡ item.head.key.id))
+      → HasCarried column region item
+      ⊎ (Contains t.nodes item.node × (item.node.id ≡ item.head.key.id) × (item.head.key.stamp ≤ MAX_STAMP))
 
 module _ (column new : ColumnState) (t : Told) (h : HasMoved column new t) where
   pub moved_newest : newest_in new ≡ Some t
@@ -121,6 +121,10 @@ module _ (column new : ColumnState) (t : Told) (h : HasMoved column new t) where
         brought = new.0;
         of_id = new.1;
       }
+    ];
+    stamped = λ region item has. elim (h.carried region item has) [
+      | inl old ↦ g.stamped region item old
+      | inr new ↦ new.2
     ];
   } where
     brought_there : (e : Event) (nodes : List Node) → Brings column.region column.colour e nodes
@@ -215,7 +219,11 @@ carries column new by region (first ∷ rest) is some within heads = record {
               | inl old ↦
                   inl (subst (λ (r : ℕ). HasCarried column r item) (sym same) (g.0, old))
               | inr new ↦
-                  inr (contained (λ (i : PlacedNode). i.node) items new.0 item new.1, heads new.0 item new.1)
+                  inr (
+                    contained (λ (i : PlacedNode). i.node) items new.0 item new.1,
+                    (heads new.0 item new.1).0,
+                    (heads new.0 item new.1).1,
+                  )
             ]
         | inr differ ↦
             inl (
@@ -244,7 +252,7 @@ pub ids_of_heads : (items : List PlacedNode) → OfTheirHeads items
     ≡ map (λ (h : Head). h.key.id) (map (λ (i : PlacedNode). i.head) items)
 ids_of_heads [] heads = refl
 ids_of_heads (i ∷ is) heads =
-    ap (λ (x : Id). x ∷ map (λ (n : Node). n.id) (map (λ (j : PlacedNode). j.node) is)) (heads 0 i refl)
+    ap (λ (x : Id). x ∷ map (λ (n : Node). n.id) (map (λ (j : PlacedNode). j.node) is)) (heads 0 i refl).0
     ∙ ap (λ (l : List Id). i.head.key.id ∷ l) (ids_of_heads is (λ n j at. heads (suc n) j at))
 
 -- What a column beside its seat gains, or that it stays, by its parts.

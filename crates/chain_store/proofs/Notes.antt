@@ -1,27 +1,24 @@
 -- Passes that have told or heard.
-use Rattle.std.proofs.Common.{◌≡◌, ◌≢◌, Bool, ℕ, zero, suc, ◌+◌, ◌<◌, ◌≤◌, ◌⊎◌, inl, inr, List, [], ◌∷◌, ◌++◌, length, Option, Some, None, set, get_or, slice_get, refl, ap, sym, subst, ◌∙◌, arith, length-append, length-set, append-nil}
+use Rattle.std.proofs.Common.{◌≡◌, Bool, ℕ, zero, suc, ◌+◌, ◌<◌, ◌≤◌, inl, inr, List, [], ◌∷◌, ◌++◌, length, Option, Some, set, get_or, slice_get, refl, ap, sym, subst, ◌∙◌, arith, length-append, append-nil}
 use Rattle.std.proofs.lemmas.Bool.{cases_eq}
 use Rattle.std.proofs.lemmas.Option.{slice_get_within, slice_get_past, slice_get_read}
 use Rattle.std.proofs.lemmas.List.Elements.{filter-append}
 use Rattle.std.specs.Prelude.{◌==◌}
-use Rattle.std.specs.List.{filter}
 use mathlib.Core.List.{IsPrefix}
 use mathlib.Core.Logic.{dite}
 use native.Mathlib.Decide.{dec_le}
-use Rattle.stamp_board.specs.declared.seats.Seat.{Seat}
-use Rattle.stamp_board.specs.Seats.{IsLater, IsNote, seen as seat_seen}
+use Rattle.stamp_board.specs.Seats.{IsLater}
 use Rattle.turn_cell.specs.Histories.{IsLonger, maker as maker_with, made_by}
 use Rattle.turn_cell.specs.Cells.{seen, own, IsReady, IsSameView, IsAccounted}
 use Rattle.chain_store.specs.declared.told.Told.{Told}
 use Rattle.chain_store.specs.declared.hold.Hold.{Hold}
 use Rattle.chain_store.specs.declared.region.Region.{Region}
-use Rattle.chain_store.specs.declared.telling.HoldNote.{HoldNote}
 use Rattle.chain_store.specs.Histories.{maker}
 use Rattle.chain_store.specs.Columns.{tag_of}
 use Rattle.chain_store.specs.Passes.{ColumnCell, ColumnPass, IsHolder, IsLawfulTold, tag_in}
 use Rattle.chain_store.specs.Owning.{Owns}
 use Rattle.chain_store.specs.Holds.{history_seen, passes_of, HasPasses, IsHold, made_in, seen_in, view_of}
-use Rattle.chain_store.specs.Telling.{IsTold, AreTold, SeenAlike, Heard, HeardAll, KnowsSame, Tells, Hears, told_in, view_told}
+use Rattle.chain_store.specs.Telling.{IsTold, SeenAlike, Heard, HeardAll}
 use Rattle.chain_store.proofs.Entering.{get_last}
 use Rattle.chain_store.proofs.Holding.{set_got, set_other, passes_set, owns_step, clients_later}
 

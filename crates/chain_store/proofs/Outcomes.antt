@@ -1,7 +1,7 @@
 -- The number of a final outcome: it is that of the greatest mark.
-use Rattle.std.proofs.Common.{◌≡◌, ◌≢◌, ℕ, zero, suc, ◌+◌, ◌<◌, ◌≤◌, max, Bool, true, false, List, [], ◌∷◌, map, refl, ap, sym, subst, ◌∙◌, arith, inl, inr, ◌⊎◌}
+use Rattle.std.proofs.Common.{◌≡◌, ◌≢◌, ℕ, zero, suc, ◌+◌, ◌<◌, ◌≤◌, Bool, true, false, List, [], ◌∷◌, map, refl, ap, sym, subst, ◌∙◌, arith, inl, inr}
 use Rattle.std.specs.Prelude.{◌==◌, ◌||◌, if◌then◌else◌, slice_index}
-use Rattle.std.specs.List.{list_any, range_with_len, filter}
+use Rattle.std.specs.List.{list_any, range_with_len}
 use Rattle.std.proofs.lemmas.Bool.{eqb-true, cases_eq}
 use Rattle.log_node.specs.declared.ids.Colours.{Colours}
 use Rattle.log_node.specs.declared.ids.Row.{Row}
@@ -15,10 +15,10 @@ use Rattle.log_node.specs.Marks.{IsMark}
 use Rattle.log_node.specs.Outcomes.{outcome_of, is_missing, is_stamp_end_fence, is_memory_fence, number_of, greatest}
 use Rattle.log_node.specs.Sets.{has, members}
 use Rattle.col_core.specs.History.{last_stamp}
-use Rattle.col_core.proofs.CallerLemmas.{by_test, if_true, if_false, apart, In, in_filter-back}
+use Rattle.col_core.proofs.CallerLemmas.{by_test, if_false, In, in_filter-back}
 use Rattle.stamp_board.specs.declared.view.Size.{Size}
 use Rattle.stamp_board.specs.declared.view.View.{View}
-use Rattle.stamp_board.specs.Words.{row_at, word_at, row_word}
+use Rattle.stamp_board.specs.Words.{row_at, row_word}
 use Rattle.stamp_board.specs.Rows.{mark_in, marks_at, decided_in, outcome_in}
 use Rattle.stamp_board.specs.Views.{KnowsBegun, KnowsOutcome, MayBe}
 
@@ -87,20 +87,28 @@ in_range (suc n) a c le lt = elim (cases_eq a c) [
 pub in_members : (set : Colours) (c : ℕ) → has set c ≡ true → c < 64 → In c (members set)
 in_members set c h lt = in_filter-back (has set) c (range_with_len 0 64) (in_range 64 0 c (omega arith) (omega (arith, lt))) h
 
+not_zero : (n : ℕ) → n ≢ 0 → (n == 0) ≡ false
+not_zero n ne = by_test ((n == 0) ≡ false) (n == 0) (λ t. absurd (ne (eqb-true n 0 t))) (λ z. z)
+
+module _ (k : Size) (ws : List ℕ) (v : View) (may : MayBe k ws v) (row : Row) (x : Node) (begun : KnowsBegun v row x) where
+  -- an outcome with which a row is decided is that of its marks
+  pub kept_of_marks : (o : Outcome) → o ≢ Open → decided_in k ws row ≡ o
+      → outcome_of (marks_at k ws (row_at k row) x.colours) ≡ o
+  kept_of_marks o shut decided =
+      let shown = may.decided row (λ e. shut (sym decided ∙ e)) in
+      let is : outcome_in k ws row ≡ o = sym shown ∙ decided in
+      let b = may.begun row x begun in
+      subst (λ (s : Colours). outcome_of (marks_at k ws (row_at k row) s) ≡ o) b.1
+      (sym (if_false (slice_index ws (row_word k row) == 0) Open
+      (outcome_of (marks_at k ws (row_at k row) record { 0 = slice_index ws (row_word k row) }))
+      (not_zero (slice_index ws (row_word k row)) b.0)) ∙ is)
+
 module _ (k : Size) (ws : List ℕ) (v : View) (may : MayBe k ws v) (row : Row) (x : Node) (begun : KnowsBegun v row x)
     (f : ℕ) (known : KnowsOutcome v row (Final f)) where
   of_marks : outcome_of (marks_at k ws (row_at k row) x.colours) ≡ Final f
   of_marks =
-      let decided = may.outcomes row (Final f) known in
-      let shown = may.decided row (λ e. absurd (let g : Final f ≡ Open = sym decided ∙ e in let h : ⊥ = cc in h)) in
-      let is : outcome_in k ws row ≡ Final f = sym shown ∙ decided in
-      let b = may.begun row x begun in
-      subst (λ (s : Colours). outcome_of (marks_at k ws (row_at k row) s) ≡ Final f) b.1
-      (sym (if_false (slice_index ws (row_word k row) == 0) Open
-      (outcome_of (marks_at k ws (row_at k row) record { 0 = slice_index ws (row_word k row) }))
-      (not_zero (slice_index ws (row_word k row)) b.0)) ∙ is) where
-        not_zero : (n : ℕ) → n ≢ 0 → (n == 0) ≡ false
-        not_zero n ne = by_test ((n == 0) ≡ false) (n == 0) (λ t. absurd (ne (eqb-true n 0 t))) (λ z. z)
+      kept_of_marks k ws v may row x begun (Final f) (λ e. let h : ⊥ = cc (e) in h)
+      (may.outcomes row (Final f) known)
 
   -- where a row keeps a final outcome, the mark of each of its colours has a number at most the final one
   pub under_final : (c : ℕ) → has x.colours c ≡ true → c < 64 → IsUnder (mark_in k ws row c) f

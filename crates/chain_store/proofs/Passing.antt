@@ -1,13 +1,8 @@
 -- What a pass has seen and made, from the turns of its cell.
-use Rattle.std.proofs.Common.{◌≡◌, ◌≢◌, ℕ, zero, suc, ◌+◌, ◌-◌, take, drop, ◌<◌, Bool, true, false, List, [], ◌∷◌, ◌++◌, length, map, Option, Some, refl, ap, sym, subst, ◌∙◌, Result, Ok, Err, arith, inl, inr, ◌⊎◌, append_assoc, length-append, eq-eqb}
-use Rattle.std.specs.Prelude.{IfOk, ◌==◌, slice_get, slice_index_or}
-use Rattle.std.specs.List.{filter}
+use Rattle.std.proofs.Common.{◌≡◌, ℕ, zero, suc, ◌-◌, take, drop, List, [], ◌∷◌, ◌++◌, length, Some, refl, ap, sym, subst, ◌∙◌, Result, Ok, Err, inl, inr, eq-eqb}
+use Rattle.std.specs.Prelude.{IfOk, ◌==◌, slice_get}
 use Rattle.std.proofs.lemmas.Bool.{cases_eq}
-use mathlib.Core.List.{IsPrefix}
 use Rattle.log_node.specs.declared.ids.Counts.{Counts}
-use Rattle.log_node.specs.declared.node.At.{At}
-use Rattle.log_node.specs.declared.node.At.TheVariants.{Event, Look}
-use Rattle.log_node.specs.Seen.{PlacedNode}
 use Rattle.log_node.specs.Vectors.{at}
 use Rattle.col_core.specs.declared.Entry.{Entry}
 use Rattle.col_core.specs.declared.view.View.{View}
@@ -15,18 +10,17 @@ use Rattle.col_core.specs.Computed.{cut, dated}
 use Rattle.col_core.specs.Cuts.{chain, base}
 use Rattle.col_core.specs.Legal.{IsColumnHistory}
 use Rattle.col_core.proofs.CallerLemmas.{by_test, if_true, if_false}
-use Rattle.column.specs.Columns.{ColumnState, history_of, AreItems, greater}
+use Rattle.column.specs.Columns.{history_of, greater}
 use Rattle.column.specs.Views.{IsView}
-use Rattle.turn_cell.specs.declared.view.Maker.{Maker}
-use Rattle.turn_cell.specs.Histories.{maker as maker_with, made_by, made_of, with_entry}
-use Rattle.turn_cell.specs.Cells.{seen, own, IsSameMaker, IsSameView, Accounts, AddsEntry, IsReady, IsNewPass, Adds, MayPut, cell_tag}
+use Rattle.turn_cell.specs.Histories.{maker as maker_with, made_by}
+use Rattle.turn_cell.specs.Cells.{own, IsNewPass}
 use Rattle.chain_store.specs.declared.told.Tag.{Tag}
 use Rattle.chain_store.specs.declared.told.Told.{Told}
 use Rattle.chain_store.specs.declared.seated.Seated.{Seated}
-use Rattle.chain_store.specs.Histories.{entries_in, maker, Names}
-use Rattle.chain_store.specs.Columns.{Stands, IsOfHistory, Gains, Stays, newest_of, tag_of}
+use Rattle.chain_store.specs.Histories.{entries_in, maker}
+use Rattle.chain_store.specs.Columns.{Stands, tag_of}
 use Rattle.chain_store.proofs.Entering.{entered_named}
-use Rattle.chain_store.specs.Passes.{ColumnCell, ColumnPass, IsHolder, SeesMore, MakesOne, ShowsHistory, dated_in, tag_in}
+use Rattle.chain_store.specs.Passes.{ColumnCell, ColumnPass, IsHolder, ShowsHistory, dated_in, tag_in}
 
 pub ok_as : {T E : Type 0} (r : Result T E) (P Q : T → Type 0) → ((x : T) → P x → Q x) → IfOk r P → IfOk r Q
 ok_as (Ok x) P Q f h = f x h
@@ -103,6 +97,7 @@ shows_history s t log from view stands is v =
         | inr other ↦
             stands.0.carried region i ((v.items region lt).carried other n i e)
       ];
+      stamped = λ region n i lt other e. stands.0.stamped region i ((v.items region lt).carried other n i e);
     }) where
       map_long : (l : List Told) → length (entries_in l) ≡ length l
       map_long [] = refl

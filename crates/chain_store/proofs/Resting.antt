@@ -1,5 +1,5 @@
 -- What a hold at rest has seen.
-use Rattle.std.proofs.Common.{◌≡◌, ℕ, ◌<◌, List, length, ap, sym, subst, arith}
+use Rattle.std.proofs.Common.{ℕ, ◌<◌, List, ap, sym, subst, arith}
 use Rattle.col_core.specs.Legal.{IsColumnHistory}
 use Rattle.col_core.specs.Computed.{dated}
 use Rattle.turn_cell.specs.Cells.{seen}

@@ -1,7 +1,7 @@
 -- A column in which an append's id was settled.
-use Rattle.std.proofs.Common.{◌≡◌, ◌≢◌, ℕ, zero, suc, get_or, ◌+◌, ◌-◌, ◌<◌, ◌≤◌, max, Bool, true, false, List, [], ◌∷◌, ◌++◌, length, map, Option, Some, None, refl, ap, sym, subst, ◌∙◌, arith, inl, inr, ◌⊎◌, append-nil, length-append}
-use Rattle.std.specs.Prelude.{◌==◌, ◌||◌, ◌&&◌, slice_get, slice_index, slice_index_or, if◌then◌else◌, IsTrue, not}
-use Rattle.std.specs.List.{Contains, filter, find, list_any}
+use Rattle.std.proofs.Common.{◌≡◌, ◌≢◌, ℕ, zero, suc, get_or, ◌+◌, ◌-◌, ◌<◌, ◌≤◌, Bool, true, false, List, [], ◌∷◌, ◌++◌, length, Option, Some, None, refl, ap, sym, subst, ◌∙◌, arith, inl, inr, ◌⊎◌, append-nil, length-append}
+use Rattle.std.specs.Prelude.{◌||◌, ◌&&◌, slice_get, slice_index_or, if◌then◌else◌, not}
+use Rattle.std.specs.List.{Contains, find, list_any}
 use Rattle.std.specs.Option.{option_map}
 use Rattle.std.proofs.lemmas.Bool.{or_left, or_right, and_from}
 use Rattle.log_node.specs.declared.ids.Id.{Id}
@@ -11,7 +11,7 @@ use Rattle.log_node.specs.declared.ids.Counts.{Counts}
 use Rattle.log_node.specs.declared.ids.Colours.{Colours}
 use Rattle.log_node.specs.declared.node.Node.{Node}
 use Rattle.log_node.specs.declared.limits.TheConstants.{MAX_STAMP}
-use Rattle.log_node.specs.Seen.{PlacedNode, BegunAppend}
+use Rattle.log_node.specs.Seen.{BegunAppend}
 use Rattle.log_node.specs.Order.{same_id, key_below}
 use Rattle.log_node.specs.Sets.{has}
 use Rattle.log_node.specs.Standings.{Standing, open_entry, is_open_id}
@@ -29,27 +29,27 @@ use Rattle.col_core.specs.Computed.{dated}
 use Rattle.col_core.specs.Legal.{IsColumnHistory}
 use Rattle.col_core.proofs.CallerLemmas.{by_test, if_true, if_false, apart, In, in_filter, same_id-refl}
 use Rattle.column.specs.Entering.{EnteredNode}
-use Rattle.column.specs.Columns.{ColumnState, after_settle, HasStored, HasCarried}
+use Rattle.column.specs.Columns.{ColumnState, after_settle}
 use Rattle.stamp_board.specs.declared.view.Size.{Size}
 use Rattle.stamp_board.specs.declared.view.View.{View}
 use Rattle.stamp_board.specs.declared.seats.ColumnSeat.{ColumnSeat}
-use Rattle.stamp_board.specs.Rows.{IsRow, mark_in}
-use Rattle.stamp_board.specs.Views.{KnowsBegun, KnowsOutcome, MayBe, Possibly}
+use Rattle.stamp_board.specs.Rows.{mark_in}
+use Rattle.stamp_board.specs.Views.{KnowsOutcome, MayBe, Possibly}
 use Rattle.stamp_board.specs.Seats.{column_seen, set_mark, IsLaterColumn, SetsNone}
 use Rattle.stamp_board.proofs.CallerLemmas.{Learns-from, outcome_learnt}
 use Rattle.chain_store.specs.declared.seated.Seated.{Seated}
 use Rattle.chain_store.specs.Rows.{KnowsRow}
 use Rattle.chain_store.specs.declared.told.Told.{Told}
 use Rattle.chain_store.specs.Entered.{AreBelow}
-use Rattle.chain_store.specs.Histories.{entries_in, Names, EntersAs, Brings, IsOfMaker}
+use Rattle.chain_store.specs.Histories.{entries_in, EntersAs, Brings, IsOfMaker}
 use Rattle.col_core.specs.Ids.{Proposes, Singles, Settles, IsFinal, HasCome, IsOver, alone, settled}
-use Rattle.chain_store.specs.Marks.{is_first_of, is_row, same_row, proposes, stamps_of, numbers, Backs, IsBacked, IsRowOf}
+use Rattle.chain_store.specs.Marks.{is_first_of, is_row, proposes, stamps_of, numbers, Backs, IsBacked, IsRowOf}
 use Rattle.chain_store.specs.Columns.{IsOfHistory, Stands, newest_in, told_by, told_settle}
-use Rattle.chain_store.proofs.Entering.{get_last, get_old, get_cases, map_with, names_more, enters_more}
+use Rattle.chain_store.proofs.Entering.{get_last, get_cases, map_with, names_more, enters_more}
 use Rattle.chain_store.proofs.Backing.{same_row-is}
 use Rattle.chain_store.proofs.Begun.{begun_later, begun_row}
 use Rattle.chain_store.proofs.Proposals.{stays_later}
-use Rattle.chain_store.proofs.Outcomes.{IsUnder, under_final}
+use Rattle.chain_store.proofs.Outcomes.{under_final}
 use Rattle.col_core.specs.IdLaws.{IsSettled}
 use Rattle.col_core.proofs.CallerLemmas.{entered_is_over, settled_stays, singles_stay, open_is_proposed, proposed_is_open, proposed_once}
 
@@ -181,6 +181,11 @@ module _ (column new : ColumnState) (by : ℕ) (id : Id) (outcome : Outcome) (is
           has.0,
           ap (λ (c : ColumnState). slice_get (slice_index_or c.copies region []) has.0) (sym is) ∙ has.1,
         ));
+    stamped = λ region item has.
+        g.stamped region item (
+          has.0,
+          ap (λ (c : ColumnState). slice_get (slice_index_or c.copies region []) has.0) (sym is) ∙ has.1,
+        );
   } where
     there : (u : Told) → Brings column.region column.colour u.entry.event u.nodes
         → Brings new.region new.colour u.entry.event u.nodes

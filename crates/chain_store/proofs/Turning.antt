@@ -1,19 +1,17 @@
 -- Turns of a client, and what its calls say of them.
-use Rattle.std.proofs.Common.{◌≡◌, ℕ, suc, ◌+◌, ◌<◌, List, [], ◌∷◌, ◌++◌, length, Option, Some, refl, ap, sym, subst, ◌∙◌, arith, inl, inr, ◌⊎◌, length-append}
+use Rattle.std.proofs.Common.{◌≡◌, ℕ, suc, List, [], ◌∷◌, ◌++◌, length, Some, refl, ap, sym, subst, ◌∙◌, arith, inr, length-append}
 use mathlib.Core.List.{IsPrefix}
 use Rattle.log_node.specs.declared.node.At.{At}
-use Rattle.log_node.specs.declared.node.At.TheVariants.{Event, Look}
-use Rattle.col_core.specs.declared.Entry.{Entry}
 use Rattle.col_core.specs.Legal.{IsColumnHistory}
 use Rattle.column.specs.Columns.{history_of}
 use Rattle.turn_cell.specs.declared.view.Maker.{Maker}
 use Rattle.turn_cell.specs.Histories.{maker as maker_with, made_by, with_entry}
-use Rattle.turn_cell.specs.Cells.{seen, own, IsSameMaker, IsSameView, Accounts, AddsEntry, IsReady, HasTurn, Adds, MayPut, IsLook, IsEvent}
+use Rattle.turn_cell.specs.Cells.{seen, own, IsSameMaker, IsSameView, Accounts, AddsEntry, IsReady, HasTurn, Adds, MayPut, IsEvent}
 use Rattle.chain_store.specs.declared.told.Tag.{Tag}
 use Rattle.chain_store.specs.declared.told.Told.{Told}
 use Rattle.chain_store.specs.declared.seated.Seated.{Seated}
 use Rattle.chain_store.specs.Histories.{entries_in, maker}
-use Rattle.chain_store.specs.Columns.{Stands, Gains, Stays, newest_of, tag_of}
+use Rattle.chain_store.specs.Columns.{Stands, Gains, newest_of, tag_of}
 use Rattle.chain_store.specs.Passes.{ColumnCell, ColumnPass, IsHolder, HasTurnOf, SeesMore, MakesOne, IsLawfulTold, tag_in}
 use Rattle.chain_store.proofs.Passing.{lawful_of, made_with}
 

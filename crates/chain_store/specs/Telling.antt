@@ -1,5 +1,5 @@
 -- What clients of a region tell one another.
-use Rattle.std.specs.Prelude.{◌≡◌, ℕ, ◌<◌, List, length, Some, slice_get}
+use Rattle.std.specs.Prelude.{◌≡◌, ℕ, List, length, Some, slice_get}
 use Rattle.stamp_board.specs.declared.view.View.{View}
 use Rattle.stamp_board.specs.Views.{Learns}
 use Rattle.stamp_board.specs.Seats.{IsSeatOf, IsLater, seen as seat_seen}

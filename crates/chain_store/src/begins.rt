@@ -1,15 +1,17 @@
 // The rows that a client begins, and their outcomes.
-ghost use Rattle.std.specs.Prelude.{◌≡◌, ◌≢◌, ◌<◌, ◌≤◌, ◌^◌, MatchResult};
+ghost use Rattle.std.specs.Prelude.{◌≡◌, ◌≢◌, ◌<◌, ◌≤◌, ◌^◌, ℕ, true, map, MatchResult};
 ghost use Rattle.log_node.specs.Marks.{IsOutcome};
+ghost use Rattle.log_node.specs.Outcomes.{outcome_of};
+ghost use Rattle.log_node.specs.Sets.{members};
 ghost use Rattle.stamp_board.specs.Rows.{IsRow, AreColours};
-ghost use Rattle.stamp_board.specs.Views.{KnowsAll, KnowsOutcome};
+ghost use Rattle.stamp_board.specs.Views.{KnowsAll, KnowsBegun, KnowsOutcome};
 ghost use Rattle.stamp_board.specs.Seats.{IsNext, IsFull, IsLater};
 ghost use Rattle.chain_store.specs.Holds.{IsHold, view_of};
-ghost use Rattle.chain_store.specs.Beginning.{HasNextRow, BeginsRow};
+ghost use Rattle.chain_store.specs.Beginning.{HasNextRow, BeginsRow, KnowsMarks};
 
 use crate::hold::Hold;
 use crate::region::Region;
-use log_node::{Full, MAX_STAMP, Node, Outcome, Row};
+use log_node::{Full, MAX_STAMP, Mark, Node, Outcome, Row};
 use std::sync::Arc;
 
 impl Region {
@@ -44,7 +46,8 @@ impl Region {
     }
 
     /// The outcome of the row's marks, which stands from then on unless it is open: it is open where the row is not
-    /// begun, or a mark that this call looked for was missing.
+    /// begun, or a mark that this call looked for was missing. The outcome that was kept is loaded once more, which tells
+    /// that it is that of the marks that the hold knew.
     pub fn decide(&self, hold: &mut Hold, row: Row) -> Outcome
         requires hold { IsHold self.now hold.old }
         requires row { IsRow self.now.board.size row }
@@ -54,8 +57,11 @@ impl Region {
         ensures known { result ≢ Outcome.Open → KnowsOutcome (view_of hold.new) row result }
         ensures before { (o : Outcome) → KnowsOutcome (view_of hold.old) row o → result ≡ o }
         ensures closed { KnowsAll (view_of hold.old) row → result ≢ Outcome.Open }
+        ensures marks { (x : Node) (mark : ℕ → Mark) → KnowsBegun (view_of hold.old) row x
+            → KnowsMarks (view_of hold.old) row x mark → result ≡ outcome_of (map mark (members x.colours)) }
         ensures stamp { IsOutcome result }
     {
-        self.board.decide(&mut hold.seat, row)
+        self.board.decide(&mut hold.seat, row);
+        self.board.last(&mut hold.seat, row)
     }
 }

@@ -20,7 +20,7 @@ ghost use Rattle.chain_store.specs.Histories.{FitsColumn};
 ghost use Rattle.chain_store.specs.Columns.{told_single, told_propose, told_settle};
 ghost use Rattle.chain_store.specs.Marks.{stamps_of, numbers};
 ghost use Rattle.chain_store.specs.Rows.{IsBegunRow, place_after};
-ghost use Rattle.chain_store.specs.Proposals.{HasProposal};
+ghost use Rattle.chain_store.specs.Proposals.{HasProposal, IsMarkedOpen};
 ghost use Rattle.chain_store.specs.Steps.{HasSingleCause, MatchAt};
 ghost use Rattle.chain_store.specs.Passes.{ShowsHistory, dated_in};
 ghost use Rattle.chain_store.specs.Regions.{tag_at, IsColumnAt};
@@ -327,7 +327,7 @@ impl Region {
     }
 
     /// How many open entries the colour's column has with a key below, and the append of the least of them, of which the
-    /// hold then knows.
+    /// hold then knows, as it knows its mark there.
     pub fn below<R: Wait>(&self, rt: &R, hold: &mut Hold, colour: u8, key: Key) -> Below
         requires hold { IsHold self.now hold.old }
         requires colour { colour < self.now.board.size.colours }
@@ -342,6 +342,8 @@ impl Region {
             (find (is_open_below key) (entries (entries_seen hold.new colour))) }
         ensures known { IfSome result.first
             (λ b. KnowsAppend self.now hold.new b × (has b.colours colour ≡ true)) }
+        ensures marked { IfSome result.first (IsMarkedOpen self.now.board.size colour (view_of hold.old)
+            (view_of hold.new) (seen_in hold.new colour)) }
     {
         let by = hold.passes.number;
         let pass = &mut hold.passes.items[colour as usize];

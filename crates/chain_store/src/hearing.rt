@@ -13,19 +13,20 @@ ghost use Rattle.col_core.specs.History.{entries, IsAtEnd};
 ghost use Rattle.column.specs.Columns.{is_open_below};
 ghost use Rattle.col_core.specs.Ids.{IsFinal};
 ghost use Rattle.stamp_board.specs.Views.{Agree, KnowsBegun, KnowsMark, KnowsOutcome, Learns};
-ghost use Rattle.stamp_board.specs.Seats.{IsSeatOf, IsClients, IsColumnOf, IsLater, IsLaterColumn, seen, column_seen};
+ghost use Rattle.stamp_board.specs.Rows.{IsRow};
+ghost use Rattle.stamp_board.specs.Seats.{IsSeatOf, IsClients, IsColumnOf, IsLater, IsLaterColumn, seen, column_seen, set_mark};
 ghost use Rattle.chain_store.specs.declared.told.Told.{Told};
 ghost use Rattle.chain_store.specs.Histories.{entries_in};
 ghost use Rattle.chain_store.specs.Marks.{stamps_of, numbers};
 ghost use Rattle.chain_store.specs.Columns.{Gains, Stands, Stays, told_propose, told_settle, tag_of};
 ghost use Rattle.chain_store.specs.Rows.{IsBegunRow, KnowsRow, OneNode, place_after, IsKnownBelow};
-ghost use Rattle.chain_store.specs.Proposals.{HasProposal};
+ghost use Rattle.chain_store.specs.Proposals.{HasProposal, IsMarkedOpen};
 ghost use Rattle.chain_store.specs.Steps.{MatchStep, mark_after};
 
 use crate::proposing::Step;
 use crate::seated::Seated;
 use column::Below;
-use log_node::{Begun, Id, Key, Mark, Outcome};
+use log_node::{Begun, Id, Key, Mark, Outcome, Row};
 use stamp_board::{Board, Seat};
 
 impl Seated {
@@ -137,7 +138,51 @@ impl Seated {
         }
     }
 
-    /// The open entries with a key below; the client's seat then knows the least one's row.
+    // The same, where the column's seat first looks at its mark of a row.
+    fn teach_marked(&mut self, board: &Board, seat: &mut Seat, row: Row)
+        requires seats { IsColumnOf board.now self.old.seat × IsSeatOf board.now seat.old }
+        requires row { IsRow board.now.size row }
+        ensures tag { tag_of self.new ≡ tag_of self.old }
+        ensures column { self.new.column ≡ self.old.column }
+        ensures later { IsLaterColumn self.old.seat self.new.seat }
+        ensures stays { Stays self.old self.new }
+        ensures seat { IsLater seat.old seat.new }
+        ensures learns { Learns (column_seen self.new.seat) (seen seat.new) }
+        ensures agree { Agree (seen seat.old) (column_seen self.new.seat) }
+        ensures own { IsClients board.now seat.old → (j : ℕ) (x : Node) → j < board.now.size.rows
+            → KnowsBegun (column_seen self.old.seat) (record { client = seat.old.client; number = j }) x
+            → j < seat.old.used }
+        ensures mark { set_mark self.new.seat row ≢ Mark.None → KnowsMark (column_seen self.new.seat) row
+            self.old.column.colour (set_mark self.new.seat row) }
+    {
+        board.look(&mut self.seat, row);
+        self.teach(board, seat);
+    }
+
+    // The same, where the column's seat first looks at its mark of an append, if there is one.
+    fn teach_first(&mut self, board: &Board, seat: &mut Seat, first: &Option<Begun>)
+        requires seats { IsColumnOf board.now self.old.seat × IsSeatOf board.now seat.old }
+        requires rows { IfSome first.now (λ b. IsRow board.now.size b.row) }
+        ensures tag { tag_of self.new ≡ tag_of self.old }
+        ensures column { self.new.column ≡ self.old.column }
+        ensures later { IsLaterColumn self.old.seat self.new.seat }
+        ensures stays { Stays self.old self.new }
+        ensures seat { IsLater seat.old seat.new }
+        ensures learns { Learns (column_seen self.new.seat) (seen seat.new) }
+        ensures agree { Agree (seen seat.old) (column_seen self.new.seat) }
+        ensures own { IsClients board.now seat.old → (j : ℕ) (x : Node) → j < board.now.size.rows
+            → KnowsBegun (column_seen self.old.seat) (record { client = seat.old.client; number = j }) x
+            → j < seat.old.used }
+        ensures mark { IfSome first.now (λ b. set_mark self.new.seat b.row ≢ Mark.None
+            → KnowsMark (column_seen self.new.seat) b.row self.old.column.colour (set_mark self.new.seat b.row)) }
+    {
+        match first {
+            Some(begun) => self.teach_marked(board, seat, begun.row),
+            None => self.teach(board, seat),
+        }
+    }
+
+    /// The open entries with a key below; the client's seat then knows the least one's row and its mark here.
     pub(crate) fn below_told(&mut self, board: &Board, seat: &mut Seat, key: Key) -> Below
         requires seats { IsColumnOf board.now self.old.seat × IsSeatOf board.now seat.old }
         requires stands { (log : List Told) × Stands self.old log }
@@ -153,8 +198,11 @@ impl Seated {
             (IsKnownBelow board.now.size self.old.column.region self.old.column.colour (seen seat.new)) }
         ensures own { IfSome result.first (λ b. IsClients board.now seat.old → b.row.client ≡ seat.old.client
             → b.row.number < seat.old.used) }
+        ensures marked { (log : List Told) → Stands self.new log → IfSome result.first
+            (IsMarkedOpen board.now.size self.old.column.colour (seen seat.old) (seen seat.new) log) }
     {
-        self.teach(board, seat);
-        self.column.below(key)
+        let below = self.column.below(key);
+        self.teach_first(board, seat, &below.first);
+        below
     }
 }

@@ -77,7 +77,7 @@ impl Seated {
         ensures carried { let items = new_items self.old.column region given.now in
             let held = held_of self.old.column region in
             IfOk result (λ count. 0 < count → Gains self.old self.new (told_carry by region held items)) }
-        ensures kept { IfOk result (λ count. count ≡ 0 → Stays self.old self.new) }
+        ensures look { IfOk result (λ count. count ≡ 0 → Stays self.old self.new) }
         ensures err { OnErr result (Stays self.old self.new) }
     {
         self.column.agrees();

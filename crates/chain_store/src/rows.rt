@@ -19,7 +19,7 @@ ghost use Rattle.chain_store.specs.Marks.{stamps_of, numbers};
 ghost use Rattle.chain_store.specs.Columns.{told_propose, told_settle};
 ghost use Rattle.chain_store.specs.Passes.{IsHolder, IsBeside, SeesMore, MakesOne, Looks, tag_in};
 ghost use Rattle.chain_store.specs.Rows.{IsBegunRow, KnowsRow, IsKnownBelow, OneNode, place_after};
-ghost use Rattle.chain_store.specs.Proposals.{HasProposal};
+ghost use Rattle.chain_store.specs.Proposals.{HasProposal, IsMarkedOpen};
 ghost use Rattle.chain_store.specs.Steps.{MatchAt};
 
 use crate::proposing::Step;
@@ -129,7 +129,7 @@ pub fn settle_in<R: Wait>(
     }
 }
 
-/// The open entries with a key below, and the least of them, whose row the seat then knows. Waits for the turn.
+/// The open entries with a key below, and the least of them, whose row and mark the seat then knows. Waits for the turn.
 pub fn below_in<R: Wait>(
     rt: &R,
     board: &Board,
@@ -152,6 +152,8 @@ pub fn below_in<R: Wait>(
         (IsKnownBelow board.now.size (tag_in cell.now).region (tag_in cell.now).colour (seat_seen seat.new)) }
     ensures own { IfSome result.first (λ b. IsClients board.now seat.old → b.row.client ≡ seat.old.client
         → b.row.number < seat.old.used) }
+    ensures marked { IfSome result.first (IsMarkedOpen board.now.size (tag_in cell.now).colour (seat_seen seat.old)
+        (seat_seen seat.new) (seen pass.new)) }
 {
     let mut turn = begin(rt, cell, pass, by);
     let below = turn.value.below_told(board, seat, key);

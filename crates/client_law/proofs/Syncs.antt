@@ -21,7 +21,7 @@ use Rattle.lawful_run.specs.Callers.{Caller}
 use Rattle.lawful_run.specs.Reads.{ShowsNode, greatest_stamp}
 use Rattle.client_law.specs.Knowing.{Seen, Rest, log_of, SeesOn}
 use Rattle.client_law.specs.Kept.{AreUnder, IsKeptBy}
-use Rattle.client_law.specs.Moves.{home_dated, LooksThere, SyncsStand, ShowsThere, PlaysThere, PlaysStand, KeptAfterSync, TrimmedThere}
+use Rattle.client_law.specs.Moves.{home_dated, LooksThere, SyncsStand, ShowsThere, PlaysThere, PlaysStand, KeptAfterSync, KeptAfterKeys, PlaysKeys, TrimmedThere}
 use Rattle.client_law.proofs.Lists.{at_new, map_at}
 use Rattle.client_law.proofs.Keeping.{own_chain, seen_on, known_on, under_on, made_on, starts_on, reached_on}
 use Rattle.client_law.proofs.Events.{seen_here}
@@ -111,9 +111,9 @@ stamp_within (x ∷ xs) zero item e =
     let s = ap (λ (n : PlacedNode). n.head.key.stamp) (same_Some x item e) in omega (arith, s)
 stamp_within (x ∷ xs) (suc i) item e = let a = stamp_within xs i item e in omega (arith, a)
 
-module _ (old new : Seen) (rest : Rest) (caller : Caller) (kept : Kept) (colour : ℕ) (snapshot : Counts)
+module _ (old new : Seen) (caller : Caller) (kept : Kept) (colour : ℕ) (snapshot : Counts)
     (nodes : List PlacedNode) (on : SeesOn caller old new) (k : IsKeptBy old caller kept)
-    (l : LooksThere new caller kept colour snapshot) (p : PlaysThere new rest caller kept colour snapshot nodes) where
+    (l : LooksThere new caller kept colour snapshot) (p : PlaysKeys new caller kept colour snapshot nodes) where
   abbrev ds : List Dated
   ds = home_dated new caller colour
 
@@ -127,14 +127,15 @@ module _ (old new : Seen) (rest : Rest) (caller : Caller) (kept : Kept) (colour 
       let n : count_by (same_place place) p.order ≡ 1 = p.played.each_once place
       ∙ if_true (is_between (kept.starts colour) snapshot place) 1 0 between in
       let r = some_counted (same_place place) p.order (omega (arith, n)) in
-      let q = zipped_at (ShowsThere new rest caller colour) p.order nodes r.0 place p.lines
+      let q = zipped_at (λ place (item : PlacedNode). (head : Head) × Stands (chain caller.own ds) place head
+      × (item.head.key ≡ head.key)) p.order nodes r.0 place p.keys
       (r.2 ∙ ap Some (sym (same_place-is place r.1 r.3))) in
-      let stands : slice_get (chain caller.own ds caller.own) i ≡ Some q.2.head = q.2.stands in
+      let stands : slice_get (chain caller.own ds caller.own) i ≡ Some q.2.0 = q.2.1 in
       let is : slice_get (chain caller.own ds caller.own) i ≡ Some (head_with ds key) =
       ap (λ (hs : List Head). slice_get hs i) (own_chain caller.own (new caller.own colour))
       ∙ map_at (head_with ds) (line (new caller.own colour)) i key there in
-      let same : q.2.head ≡ head_with ds key = same_Some q.2.head (head_with ds key) (sym stands ∙ is) in
-      let stamp = ap (λ (x : Key). x.stamp) (q.2.key ∙ ap (λ (h : Head). h.key) same) in
+      let same : q.2.0 ≡ head_with ds key = same_Some q.2.0 (head_with ds key) (sym stands ∙ is) in
+      let stamp = ap (λ (x : Key). x.stamp) (q.2.2 ∙ ap (λ (h : Head). h.key) same) in
       let le = stamp_within nodes r.0 q.0 q.1 in
       omega (arith, stamp, le)
 
@@ -146,11 +147,11 @@ module _ (old new : Seen) (rest : Rest) (caller : Caller) (kept : Kept) (colour 
         starts_on caller old new kept on k (max kept.floor (greatest_stamp nodes)) colour (omega arith) i key less there
     turn (inr past) = let a = now_played i key past lt there in omega (arith, a)
 
-pub kept_after_syncing : KeptAfterSync
-kept_after_syncing old new rest caller kept colour snapshot nodes on none k l p =
+pub kept_after_keys : KeptAfterKeys
+kept_after_keys old new caller kept colour snapshot nodes on none k l p =
     let own = caller.own in
     let greater = max kept.floor (greatest_stamp nodes) in
-    let all = all_under old new rest caller kept colour snapshot nodes on k l p in
+    let all = all_under old new caller kept colour snapshot nodes on k l p in
     let g = is_greatest new caller kept colour snapshot l in
     let count = counts_line caller old new kept colour snapshot on l in
     record {
@@ -170,6 +171,22 @@ kept_after_syncing old new rest caller kept colour snapshot nodes on none k l p 
           (λ _. reached_on caller old new kept on k c);
       steps_made = λ r c. made_on caller old new kept on k r c (none r c);
     }
+
+keys_there : (new : Seen) (rest : Rest) (caller : Caller) (kept : Kept) (colour : ℕ) (snapshot : Counts)
+    (nodes : List PlacedNode) → PlaysThere new rest caller kept colour snapshot nodes
+    → PlaysKeys new caller kept colour snapshot nodes
+keys_there new rest caller kept colour snapshot nodes p = record {
+  order = p.order;
+  played = p.played;
+  keys = all_zip_of (ShowsThere new rest caller colour)
+      (λ place (item : PlacedNode). (head : Head) × Stands (chain caller.own (home_dated new caller colour)) place head
+      × (item.head.key ≡ head.key)) (λ place item s. (s.head, s.stands, s.key)) p.order nodes p.lines;
+}
+
+pub kept_after_syncing : KeptAfterSync
+kept_after_syncing old new rest caller kept colour snapshot nodes on none k l p =
+    kept_after_keys old new caller kept colour snapshot nodes on none k l
+    (keys_there new rest caller kept colour snapshot nodes p)
 
 pub trimmed_there : TrimmedThere
 trimmed_there old new rest caller kept colour shown on k is below = record {

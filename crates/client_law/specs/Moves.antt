@@ -52,18 +52,37 @@ pub record PlaysThere (new : Seen) (rest : Rest) (caller : Caller) (kept : Kept)
   pub played : IsPlayOrder (chain caller.own (home_dated new caller colour)) (kept.starts colour) snapshot order
   pub lines : AllZip (ShowsThere new rest caller colour) order nodes
 
+-- the same of their keys alone, without the texts
+pub record PlaysKeys (new : Seen) (caller : Caller) (kept : Kept) (colour : ℕ) (snapshot : Counts)
+    (nodes : List PlacedNode) : Type 0 where
+  pub order : List Place
+  pub played : IsPlayOrder (chain caller.own (home_dated new caller colour)) (kept.starts colour) snapshot order
+  pub keys : AllZip (λ place (item : PlacedNode). (head : Head)
+      × Stands (chain caller.own (home_dated new caller colour)) place head × (item.head.key ≡ head.key)) order nodes
+
 abbrev pub PlaysStand : Type 0
 PlaysStand = (new : Seen) (rest : Rest) (caller : Caller) (kept : Kept) (colour : ℕ) (snapshot : Counts)
     (nodes : List PlacedNode) → PlaysThere new rest caller kept colour snapshot nodes
     → ShowsPlayed (log_of new rest) caller kept colour (length (new caller.own colour)) snapshot nodes
+
+-- what is kept after a sync that played these nodes
+abbrev pub kept_after_played : Seen → Caller → Kept → ℕ → Counts → List PlacedNode → Kept
+kept_after_played new caller kept colour snapshot nodes =
+    kept_after_sync kept caller.own colour (length (new caller.own colour)) snapshot (greatest_stamp nodes)
 
 -- What is kept after a sync: the nodes that it played raise the floor above all that it has played.
 abbrev pub KeptAfterSync : Type 0
 KeptAfterSync = (old new : Seen) (rest : Rest) (caller : Caller) (kept : Kept) (colour : ℕ) (snapshot : Counts)
     (nodes : List PlacedNode) → SeesOn caller old new → MakesNone caller.client old new → IsKeptBy old caller kept
     → LooksThere new caller kept colour snapshot → PlaysThere new rest caller kept colour snapshot nodes
-    → IsKeptBy new caller
-    (kept_after_sync kept caller.own colour (length (new caller.own colour)) snapshot (greatest_stamp nodes))
+    → IsKeptBy new caller (kept_after_played new caller kept colour snapshot nodes)
+
+-- It rests on the keys alone.
+abbrev pub KeptAfterKeys : Type 0
+KeptAfterKeys = (old new : Seen) (caller : Caller) (kept : Kept) (colour : ℕ) (snapshot : Counts)
+    (nodes : List PlacedNode) → SeesOn caller old new → MakesNone caller.client old new → IsKeptBy old caller kept
+    → LooksThere new caller kept colour snapshot → PlaysKeys new caller kept colour snapshot nodes
+    → IsKeptBy new caller (kept_after_played new caller kept colour snapshot nodes)
 
 -- A sync is refused where the client lacks nodes that are trimmed in what is seen now.
 abbrev pub TrimmedThere : Type 0

@@ -10,6 +10,7 @@ use std::thread::Threads;
 
 mod edges;
 mod large;
+mod objects;
 mod refusals;
 mod regions;
 mod scans;

@@ -19,7 +19,6 @@ use Rattle.column.specs.declared.given.Given.{Given}
 use Rattle.turn_cell.specs.Histories.{made_by}
 use Rattle.chain_store.specs.declared.told.Tag.{Tag}
 use Rattle.chain_store.specs.declared.told.Told.{Told}
-use Rattle.chain_store.specs.Givens.{OfTheirHeads}
 use Rattle.chain_store.specs.Histories.{entries_in, maker}
 use Rattle.chain_store.specs.Columns.{told_carry}
 use Rattle.chain_store.specs.Passes.{SeesMore, MakesOne, dated_in, IsLawfulTold}
@@ -42,10 +41,6 @@ chain_long t log =
     ∙ ap (λ (l : List Entry). length (line l)) (entries_dated own (entries_in log)))
 
 module _ (t : Tag) (before : List Told) (from : ℕ) (given : Given) (g : ShowsGiven t before from given) where
-  -- the nodes that are given have their heads' ids
-  pub of_their_heads : OfTheirHeads given.items
-  of_their_heads n i e = (g.nodes n i e).of_id
-
   -- they reach to the end of the line
   pub given_long : length (line (entries_in before)) ≤ given.start + length given.items
   given_long =

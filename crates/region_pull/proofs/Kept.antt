@@ -8,7 +8,8 @@ use Rattle.chain_store.specs.declared.region.Region.{Region}
 use Rattle.chain_store.specs.Regions.{tag_at}
 use Rattle.chain_store.specs.Holds.{IsHold, seen_in, made_in}
 use Rattle.region_pull.specs.Origins.{IsOfOrigin, IsHeldFor, OfOrigin, AsksForHeld}
-use Rattle.region_pull.proofs.Seen.{lawful_seen, of_origin_longer, held_for_longer}
+use Rattle.chain_store.proofs.CallerLemmas.{lawful_seen}
+use Rattle.region_pull.proofs.Seen.{of_origin_longer, held_for_longer}
 
 -- a client that has seen more of the origin, and made only entries more by which it carries none of its nodes
 pub origin_stays : (from : Region) (k : ℕ) (g g' h h' : Hold) → IsHold from g' → k < from.board.size.colours

@@ -1,5 +1,5 @@
--- What a hold has seen is lawful, and stays true as it sees more.
-use Rattle.std.proofs.Common.{◌≡◌, ℕ, ◌<◌, ◌≤◌, List, ◌++◌, ap, sym, subst, ◌∙◌, arith}
+-- What a history says stays true as more is seen.
+use Rattle.std.proofs.Common.{◌≡◌, ℕ, ◌≤◌, List, ◌++◌, ap, sym, subst, ◌∙◌, arith}
 use mathlib.Core.List.{IsPrefix}
 use Rattle.std.proofs.lemmas.List.{map-append}
 use Rattle.log_node.specs.declared.ids.Id.{Id}
@@ -11,27 +11,11 @@ use Rattle.col_core.specs.Legal.{IsColumnHistory}
 use Rattle.col_core.proofs.CallerLemmas.{chains_grow, dates_longer, later}
 use Rattle.chain_store.specs.declared.told.Tag.{Tag}
 use Rattle.chain_store.specs.declared.told.Told.{Told}
-use Rattle.chain_store.specs.declared.hold.Hold.{Hold}
-use Rattle.chain_store.specs.declared.region.Region.{Region}
 use Rattle.chain_store.specs.Histories.{entries_in, EntersAs}
-use Rattle.chain_store.specs.Passes.{dated_in, tag_in, IsLawfulTold}
+use Rattle.chain_store.specs.Passes.{dated_in, IsLawfulTold}
 use Rattle.chain_store.specs.Moves.{held_in}
-use Rattle.chain_store.specs.Regions.{tag_at}
-use Rattle.chain_store.specs.Holds.{IsHold, history_seen, passes_of, seen_in}
 use Rattle.region_pull.specs.Origins.{AreOfLine, IsOfOrigin, IsHeldFor}
-use Rattle.region_pull.proofs.Lists.{prefix_get, prefix_long, get_within}
-
--- what a hold at rest has seen of a column is lawful
-pub lawful_seen : (r : Region) (h : Hold) (k : ℕ) → IsHold r h → k < r.board.size.colours
-    → IsLawfulTold (tag_at r k) (seen_in h k)
-lawful_seen r h k is lt =
-    let many = is.passes.0 in
-    let all = r.count in
-    let c = get_within r.columns.items k (omega (arith, all, lt)) in
-    let p = get_within (passes_of h) k (omega (arith, many, all, lt)) in
-    let holder = is.passes.1 k c.0 p.0 c.1 p.1 in
-    subst (λ (t : Tag). IsLawfulTold t (seen_in h k)) (r.tied k c.0 c.1)
-    (subst (IsLawfulTold (tag_in c.0)) (sym (ap history_seen p.1)) holder.lawful)
+use Rattle.region_pull.proofs.Lists.{prefix_get, prefix_long}
 
 module _ (t : Tag) (old new : List Told) (more : IsPrefix old new) where
   pub enters_longer : (id : Id) (node : Node) → EntersAs old id node → EntersAs new id node

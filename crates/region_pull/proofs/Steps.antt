@@ -18,12 +18,14 @@ use Rattle.chain_store.specs.Moves.{held_in, GivesAt, CarriesAt}
 use Rattle.chain_store.specs.Regions.{tag_at}
 use Rattle.chain_store.specs.Holds.{IsHold, SameBut, seen_in, made_in, SeesMoreIn, LooksIn, GivesIn, CarriesIn}
 use Rattle.region_pull.specs.declared.pulled.Pulled.{Pulled}
-use Rattle.region_pull.specs.Going.{GoesOnIn, AreOfOneStore}
+use Rattle.chain_store.specs.Going.{GoesOnIn}
+use Rattle.region_pull.specs.Stores.{AreOfOneStore}
 use Rattle.region_pull.specs.Origins.{OfOrigin, AsksForHeld}
 use Rattle.region_pull.specs.Pulls.{Gave, before_gave, Asks, CarriesLine, Pulls, GivesAlone}
 use Rattle.region_pull.specs.Inside.{HasAsked}
 use Rattle.region_pull.proofs.Lists.{prefix_same, prefix_then, taken_prefix}
-use Rattle.region_pull.proofs.Seen.{lawful_seen, held_longer}
+use Rattle.chain_store.proofs.CallerLemmas.{lawful_seen}
+use Rattle.region_pull.proofs.Seen.{held_longer}
 use Rattle.region_pull.proofs.Giving.{Asked, made_more, asked_none, asks_alone, asked_looked, asked_seen, last, asks_last, asked_again, shows_last, asks_further, asks_held}
 use Rattle.region_pull.proofs.Carrying.{carries_line, carries_all, looks_carries, origin_looked, origin_carried}
 

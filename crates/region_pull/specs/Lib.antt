@@ -1,4 +1,4 @@
-pub mod Going
+pub mod Stores
 pub mod Origins
 pub mod Pulls
 pub mod Inside

@@ -1,7 +1,8 @@
 // Giving from what another region holds.
 ghost use Rattle.std.specs.Prelude.{◌≡◌, ◌≢◌, IfOk, OnErr};
 ghost use Rattle.chain_store.specs.Holds.{IsHold, SeesMoreIn};
-ghost use Rattle.region_pull.specs.Going.{GoesOnIn, AreOfOneStore};
+ghost use Rattle.chain_store.specs.Going.{GoesOnIn};
+ghost use Rattle.region_pull.specs.Stores.{AreOfOneStore};
 ghost use Rattle.region_pull.specs.Pulls.{GivesAlone};
 ghost use Rattle.region_pull.specs.Inside.{HasAsked};
 

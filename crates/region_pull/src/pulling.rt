@@ -1,7 +1,8 @@
 // A pull, from the look at what is held to the carry.
 ghost use Rattle.std.specs.Prelude.{◌≡◌, ◌↔◌, Err, IfOk, IfErr};
 ghost use Rattle.chain_store.specs.Holds.{IsHold};
-ghost use Rattle.region_pull.specs.Going.{GoesOnIn, AreOfOneStore};
+ghost use Rattle.chain_store.specs.Going.{GoesOnIn};
+ghost use Rattle.region_pull.specs.Stores.{AreOfOneStore};
 ghost use Rattle.region_pull.specs.Origins.{OfOrigin, AsksForHeld};
 ghost use Rattle.region_pull.specs.Pulls.{Pulls, Leaves};
 

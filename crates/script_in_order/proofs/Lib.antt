@@ -16,3 +16,4 @@ mod ListsShown
 mod RowsShown
 mod ColumnsShown
 mod MoveGuards
+mod ObjectSteps

@@ -23,16 +23,12 @@ const REFUSED: [(&str, u32, &str); 11] = [
     ),
 ];
 
-/// Commands on objects from line 12 on; none is done today.
-const OBJECTS: [&str; 9] = [
-    "a put m k v",
+/// Commands on objects from line 12 on that are not done today.
+const OBJECTS: [&str; 5] = [
     "a get m k",
-    "a del m k",
-    "a putall m k=v j=w",
     "a getall m k j",
     "a read t k",
     "a read t k\na commit t k=v",
-    "a enq q v",
     "a deq q",
 ];
 
@@ -58,7 +54,7 @@ fn a_line_that_is_not_done_is_refused_with_its_reason(rt: HostRuntime) -> Result
 }
 
 #[test]
-fn commands_on_objects_are_not_built(rt: HostRuntime) -> Result<(), Fail> {
+fn some_commands_on_objects_are_not_built(rt: HostRuntime) -> Result<(), Fail> {
     for lines in OBJECTS.iter() {
         let script = format!(in rt.alloc();
             "fuzzylog 1

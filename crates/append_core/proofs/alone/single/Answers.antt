@@ -32,7 +32,7 @@ returns-clause-ok g c =
     stands_alone c.args.region.now c.args.hold.now c.single.new.hold c.args.node.now.value c.args.colour e.stamp e.at
     c.in_ok-entered.ensures.ok h c.line_position-position.result
     (record { key = record { stamp = e.stamp; id = c.deref.result.now.id }; points = c.into.result })
-    c.in_ok-entered.ensures.others c.line_position-position.ensures.goes
+    c.in_ok-entered.ensures.others c.in_ok-entered.ensures.seat c.line_position-position.ensures.goes
     (subst (λ (y : Node). slice_get keys c.line_position-position.result ≡ Some (entry_key e.stamp y.id)) c.deref.ensures
     c.line_position-position.ensures.stands)
     (ap (λ (y : Node). entry_key e.stamp y.id) c.deref.ensures)

@@ -1,8 +1,8 @@
 use Rattle.std.proofs.Common.{◌∙◌, arith}
 use Rattle.col_core.specs.Ids.{open_below}
 use Rattle.chain_store.specs.Holds.{entries_seen}
-use Rattle.append_core.proofs.Going.{later_then}
-use Rattle.append_core.proofs.Taking.{helps_then}
+use Rattle.chain_store.proofs.CallerLemmas.{later_then}
+use Rattle.append_core.proofs.Helped.{helps_then}
 use Rattle.append_core.proofs.Cleared.{under_later, empty}
 use Rattle.append_core.proofs.clearing.clear.Goals as goal
 
@@ -30,7 +30,7 @@ loop-turn-preserved g c =
       next = e.next ∙ i.next;
       under = under_later c.args.region.now l.hold h c.args.colour c.args.key e.hold c.requires.colour
           (e.goes.more c.args.colour) i.under;
-      goes = helps_then c.args.hold.now l.hold h i.goes e.goes;
+      goes = helps_then c.args.hold.now l.hold h i.goes i.seat.grows e.goes;
       few = omega (arith, e.fewer, e.count, i.few);
     }
 
@@ -49,7 +49,8 @@ returns-then-found-le1-clause-seat g c =
 pub returns-then-found-le1-clause-goes : goal.returns-then-found-le1-clause-goes
 returns-then-found-le1-clause-goes g c =
     let l = c.loop-turn in
-    helps_then c.args.hold.now l.hold c.help_first-found.new.hold l.invariant.goes c.help_first-found.ensures.goes
+    helps_then c.args.hold.now l.hold c.help_first-found.new.hold l.invariant.goes l.invariant.seat.grows
+    c.help_first-found.ensures.goes
 
 pub returns-then-found-le1-clause-none : goal.returns-then-found-le1-clause-none
 returns-then-found-le1-clause-none g c =

@@ -2,7 +2,8 @@ use Rattle.std.proofs.Common.{◌≡◌, ◌≤◌, ◌-◌, length}
 use Rattle.col_core.specs.Ids.{open_below}
 use Rattle.stamp_board.specs.Seats.{IsLater}
 use Rattle.chain_store.specs.Holds.{IsHold, entries_seen}
-use Rattle.append_core.specs.Going.{GoesOn, HelpsOpen, IsUnderClock}
+use Rattle.chain_store.specs.Going.{GoesOn}
+use Rattle.append_core.specs.Helping.{HelpsOpen, IsUnderClock}
 use Rattle.append_core.proofs.clearing.clear.Given as goal
 
 -- there are no more open entries below the key than helps are left

@@ -8,9 +8,10 @@ use Rattle.log_node.specs.Sets.{has}
 use Rattle.log_node.specs.Standings.{Standing, open_entry}
 use Rattle.col_core.specs.History.{entries}
 use Rattle.col_core.specs.Ids.{is_open_below}
-use Rattle.chain_store.specs.Holds.{KnowsAppend, entries_seen}
-use Rattle.append_core.specs.Going.{HelpsOpen}
-use Rattle.append_core.proofs.Going.{later_then, looks_on}
+use Rattle.chain_store.specs.Holds.{KnowsAppend, seen_in, entries_seen, view_of}
+use Rattle.chain_store.specs.Proposals.{IsMarkedOpen}
+use Rattle.append_core.specs.Helping.{HelpsOpen}
+use Rattle.chain_store.proofs.CallerLemmas.{later_then, looks_on}
 use Rattle.append_core.proofs.Cleared.{under_later, fewer_later, less_later, first_open, none_open, helped_open}
 use Rattle.append_core.proofs.clearing.help_first.Goals as goal
 
@@ -20,11 +21,18 @@ returns-in-Some-clause-seat g c =
 
 pub returns-in-Some-clause-goes : goal.returns-in-Some-clause-goes
 returns-in-Some-clause-goes g c =
+    let r = c.args.region.now in
+    let g = c.args.hold.now in
+    let m = c.below-count.new.hold in
+    let k = c.args.colour in
     let e = c.below-count.ensures in
-    helped_open c.args.hold.now c.below-count.new.hold c.help.new.hold c.in-Some.begun c.args.colour c.args.key e.others
-    e.look.0
+    let known = subst (λ (o : Option BegunAppend). IfSome o
+    (λ (b : BegunAppend). KnowsAppend r m b × (has b.colours k ≡ true))) c.in-Some.is e.known in
+    let marked = subst (λ (o : Option BegunAppend). IfSome o
+    (IsMarkedOpen r.board.size k (view_of g) (view_of m) (seen_in m k))) c.in-Some.is e.marked in
+    helped_open r g m c.help.new.hold c.in-Some.begun k c.args.key c.requires.hold e.others e.look.0
     (sym (ap (λ (o : Option BegunAppend). option_map (λ (b : BegunAppend). b.id) o) c.in-Some.is) ∙ e.first_id)
-    c.help.ensures.goes
+    known.1 marked c.help.ensures.goes
 
 pub returns-in-Some-clause-count : goal.returns-in-Some-clause-count
 returns-in-Some-clause-count g c =

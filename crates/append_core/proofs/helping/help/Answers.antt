@@ -5,8 +5,8 @@ use Rattle.stamp_board.specs.Rows.{IsRow}
 use Rattle.stamp_board.specs.Views.{KnowsAll, KnowsOutcome}
 use Rattle.stamp_board.proofs.CallerLemmas.{Learns-from, outcome_learnt}
 use Rattle.chain_store.specs.Holds.{view_of}
-use Rattle.append_core.specs.Going.{IsStepIn}
-use Rattle.append_core.proofs.Going.{later_then, append_later, goes_same, goes_then}
+use Rattle.append_core.specs.Helping.{IsStepIn}
+use Rattle.chain_store.proofs.CallerLemmas.{later_then, append_later, goes_same, goes_then}
 use Rattle.append_core.proofs.Marked.{all_known, marked_later}
 use Rattle.append_core.proofs.helping.help.Goals as goal
 
@@ -46,7 +46,7 @@ settle-requires-clause-marked g c = λ k it.
     let m = c.mark.new.hold in
     let d = c.decide-outcome.new.hold in
     marked_later (IsStepIn b) m d b (goes_same (IsStepIn b) m d c.decide-outcome.ensures.same.0)
-    c.decide-outcome.ensures.seat k (c.mark.ensures.marked k it)
+    c.decide-outcome.ensures.seat.grows k (c.mark.ensures.marked k it)
 
 pub returns-clause-seat : goal.returns-clause-seat
 returns-clause-seat g c =

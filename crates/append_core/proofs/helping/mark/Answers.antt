@@ -1,9 +1,9 @@
 use Rattle.std.proofs.Common.{◌≡◌, ℕ, true, refl, sym, subst, ◌∙◌, arith, inl, inr}
 use Rattle.std.proofs.lemmas.Bool.{cases_eq}
 use Rattle.log_node.specs.Sets.{has}
-use Rattle.append_core.specs.Going.{IsStepIn}
+use Rattle.append_core.specs.Helping.{IsStepIn}
 use Rattle.append_core.specs.Settled.{IsMarkedThere}
-use Rattle.append_core.proofs.Going.{later_same, later_then, append_later, goes_same, goes_then}
+use Rattle.chain_store.proofs.CallerLemmas.{later_same, later_then, append_later, goes_same, goes_then}
 use Rattle.append_core.proofs.Marked.{below_all, marked_later}
 use Rattle.append_core.proofs.helping.mark.Goals as goal
 
@@ -34,7 +34,7 @@ loop-colour-preserved g c =
       goes = goes_then (IsStepIn c.args.begun.now) c.args.hold.now l.hold h i.goes e.goes;
       marked = λ k lt it. elim (cases_eq k l.colour) [
         | inl is ↦ subst (λ (j : ℕ). IsMarkedThere h c.args.begun.now j) (sym is) (e.marked (subst (λ (j : ℕ). has c.args.begun.now.colours j ≡ true) is it))
-        | inr ne ↦ marked_later (IsStepIn c.args.begun.now) l.hold h c.args.begun.now e.goes e.seat k
+        | inr ne ↦ marked_later (IsStepIn c.args.begun.now) l.hold h c.args.begun.now e.goes e.seat.grows k
             (i.marked k (omega (arith, lt, ne)) it)
       ];
     }

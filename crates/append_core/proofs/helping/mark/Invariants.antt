@@ -2,7 +2,8 @@ use Rattle.std.proofs.Common.{◌≡◌, ◌<◌, ℕ, true}
 use Rattle.log_node.specs.Sets.{has}
 use Rattle.stamp_board.specs.Seats.{IsLater}
 use Rattle.chain_store.specs.Holds.{IsHold}
-use Rattle.append_core.specs.Going.{GoesOn, IsStepIn}
+use Rattle.chain_store.specs.Going.{GoesOn}
+use Rattle.append_core.specs.Helping.{IsStepIn}
 use Rattle.append_core.specs.Settled.{IsMarkedThere}
 use Rattle.append_core.proofs.helping.mark.Given as goal
 

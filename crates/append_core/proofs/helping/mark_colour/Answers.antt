@@ -1,8 +1,8 @@
 use Rattle.std.proofs.Common.{refl, ap, sym, ◌∙◌}
 use Rattle.log_node.specs.Seen.{BegunAppend}
 use Rattle.chain_store.specs.Holds.{view_of}
-use Rattle.append_core.specs.Going.{IsStepIn}
-use Rattle.append_core.proofs.Going.{later_same, goes_same}
+use Rattle.append_core.specs.Helping.{IsStepIn}
+use Rattle.chain_store.proofs.CallerLemmas.{later_same, goes_same}
 use Rattle.append_core.proofs.Taking.{proposed_on}
 use Rattle.append_core.proofs.Marked.{colour_within, has_colour, lacks_colour, marked_at}
 use Rattle.append_core.proofs.helping.mark_colour.Goals as goal

@@ -3,9 +3,9 @@ use Rattle.std.proofs.lemmas.Bool.{cases_eq}
 use Rattle.log_node.specs.Sets.{has}
 use Rattle.stamp_board.proofs.CallerLemmas.{Learns-from, outcome_learnt}
 use Rattle.chain_store.specs.Holds.{view_of}
-use Rattle.append_core.specs.Going.{IsStepIn}
-use Rattle.append_core.specs.Settled.{IsSettledThere}
-use Rattle.append_core.proofs.Going.{later_same, later_then, append_later, goes_same, goes_then}
+use Rattle.append_core.specs.Helping.{IsStepIn}
+use Rattle.append_core.specs.Settled.{IsSettledNow}
+use Rattle.chain_store.proofs.CallerLemmas.{later_same, later_then, append_later, goes_same, goes_then}
 use Rattle.append_core.proofs.Marked.{below_all, marked_later, settled_elsewhere}
 use Rattle.append_core.proofs.helping.settle.Goals as goal
 
@@ -36,7 +36,7 @@ settle_colour-requires-clause-outcome g c =
 pub settle_colour-requires-clause-marked : goal.settle_colour-requires-clause-marked
 settle_colour-requires-clause-marked g c = λ it.
     let i = c.loop-colour.invariant in
-    marked_later (IsStepIn c.args.begun.now) c.args.hold.now c.loop-colour.hold c.args.begun.now i.goes i.seat
+    marked_later (IsStepIn c.args.begun.now) c.args.hold.now c.loop-colour.hold c.args.begun.now i.goes i.seat.grows
     c.loop-colour.colour (c.requires.marked c.loop-colour.colour it)
 
 pub loop-colour-preserved : goal.loop-colour-preserved
@@ -51,9 +51,9 @@ loop-colour-preserved g c =
       next = e.next ∙ i.next;
       goes = goes_then (IsStepIn b) c.args.hold.now l.hold h i.goes e.goes;
       settled = λ k lt it. elim (cases_eq k l.colour) [
-        | inl is ↦ subst (λ (j : ℕ). IsSettledThere h b c.args.outcome j) (sym is)
+        | inl is ↦ subst (λ (j : ℕ). IsSettledNow h b c.args.outcome j) (sym is)
             (e.settled (subst (λ (j : ℕ). has b.colours j ≡ true) is it))
-        | inr ne ↦ settled_elsewhere l.hold h b c.args.outcome l.colour k e.others e.seat ne
+        | inr ne ↦ settled_elsewhere l.hold h b c.args.outcome l.colour k e.others e.seat.grows ne
             (i.settled k (omega (arith, lt, ne)) it)
       ];
     }

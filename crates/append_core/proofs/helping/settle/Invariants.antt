@@ -2,8 +2,9 @@ use Rattle.std.proofs.Common.{◌≡◌, ◌<◌, ℕ, true}
 use Rattle.log_node.specs.Sets.{has}
 use Rattle.stamp_board.specs.Seats.{IsLater}
 use Rattle.chain_store.specs.Holds.{IsHold}
-use Rattle.append_core.specs.Going.{GoesOn, IsStepIn}
-use Rattle.append_core.specs.Settled.{IsSettledThere}
+use Rattle.chain_store.specs.Going.{GoesOn}
+use Rattle.append_core.specs.Helping.{IsStepIn}
+use Rattle.append_core.specs.Settled.{IsSettledNow}
 use Rattle.append_core.proofs.helping.settle.Given as goal
 
 -- the append is settled in the first colours
@@ -13,5 +14,5 @@ invariant-loop-colour g l = record {
   seat : IsLater l.fn.hold.seat l.hold.seat;
   next : l.hold.next ≡ l.fn.hold.next;
   goes : GoesOn (IsStepIn l.begun) l.fn.hold l.hold;
-  settled : (c : ℕ) → c < l.colour → has l.begun.colours c ≡ true → IsSettledThere l.hold l.begun l.outcome c;
+  settled : (c : ℕ) → c < l.colour → has l.begun.colours c ≡ true → IsSettledNow l.hold l.begun l.outcome c;
 }

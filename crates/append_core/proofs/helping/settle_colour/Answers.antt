@@ -1,7 +1,7 @@
 use Rattle.std.proofs.Common.{refl, ap, sym, ◌∙◌}
 use Rattle.log_node.specs.Seen.{BegunAppend}
-use Rattle.append_core.specs.Going.{IsStepIn}
-use Rattle.append_core.proofs.Going.{later_same, goes_same}
+use Rattle.append_core.specs.Helping.{IsStepIn}
+use Rattle.chain_store.proofs.CallerLemmas.{later_same, goes_same}
 use Rattle.append_core.proofs.Taking.{settled_on}
 use Rattle.append_core.proofs.Marked.{colour_within, has_colour, lacks_colour, marked_later, settled_at}
 use Rattle.append_core.proofs.helping.settle_colour.Goals as goal
@@ -45,6 +45,6 @@ returns-clause-settled g c = λ it.
     let goes = settled_on c.args.hold.now h c.args.begun.now c.args.colour it e.others c.args.outcome c.settle.result.at
     e.at in
     settled_at h c.args.begun.now c.args.outcome c.args.colour
-    (marked_later (IsStepIn c.args.begun.now) c.args.hold.now h c.args.begun.now goes e.same.0 c.args.colour
+    (marked_later (IsStepIn c.args.begun.now) c.args.hold.now h c.args.begun.now goes e.same.0.grows c.args.colour
     (c.requires.marked it))
     e.closed e.stands

@@ -1,9 +1,9 @@
-use Rattle.std.proofs.Common.{◌≡◌, ◌∙◌, Some, None, refl, sym, ap}
+use Rattle.std.proofs.Common.{◌∙◌, sym}
 use Rattle.col_core.specs.History.{line}
 use Rattle.chain_store.specs.Holds.{entries_seen}
-use Rattle.append_core.specs.Going.{HelpsOpen}
-use Rattle.append_core.proofs.Going.{goes_then, looks_on, later_same, later_then}
-use Rattle.append_core.proofs.Taking.{helps_then}
+use Rattle.append_core.specs.Helping.{HelpsOpen}
+use Rattle.chain_store.proofs.CallerLemmas.{looks_on}
+use Rattle.append_core.proofs.Helped.{helps_then}
 use Rattle.append_core.proofs.Lasting.{final_later}
 use Rattle.append_core.proofs.Placed.{final_under, has_place, key_placed}
 use Rattle.append_core.proofs.stands.cleared_position.Goals as goal
@@ -29,7 +29,7 @@ pub returns-clause-goes : goal.returns-clause-goes
 returns-clause-goes g c =
     let m = c.clear.new.hold in
     let h = c.place-position.new.hold in
-    helps_then c.args.hold.now m h c.clear.ensures.goes
+    helps_then c.args.hold.now m h c.clear.ensures.goes c.clear.ensures.seat.grows
     (looks_on (λ k e. HelpsOpen m h e) c.args.colour m h c.place-position.ensures.others c.place-position.ensures.look.0)
 
 pub returns-clause-stands : goal.returns-clause-stands

@@ -1,6 +1,6 @@
 use Rattle.std.proofs.Common.{refl}
-use Rattle.append_core.specs.Going.{HelpsOpen}
-use Rattle.append_core.proofs.Going.{goes_same, later_same}
+use Rattle.append_core.specs.Helping.{HelpsOpen}
+use Rattle.chain_store.proofs.CallerLemmas.{goes_same, later_same}
 use Rattle.append_core.proofs.stands.line_position.Goals as goal
 
 pub returns-in-Some-clause-seat : goal.returns-in-Some-clause-seat

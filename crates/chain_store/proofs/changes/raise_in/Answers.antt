@@ -1,13 +1,11 @@
-use Rattle.std.proofs.Common.{◌≡◌, ◌<◌, ◌≢◌, ℕ, Bool, refl, ap, sym, subst, ◌∙◌, inl, min, length, nat_lt}
+use Rattle.std.proofs.Common.{◌<◌, refl, ap, sym, subst, ◌∙◌, inl, nat_lt}
 use Rattle.turn_cell.specs.Cells.{seen}
-use Rattle.col_core.specs.declared.Entry.{Entry}
-use Rattle.col_core.specs.declared.Event.TheVariants.{Raise, Give, Trim}
-use Rattle.col_core.specs.History.{clock, line}
-use Rattle.column.specs.Columns.{held_of, new_items}
+use Rattle.col_core.specs.declared.Event.TheVariants.{Raise}
+use Rattle.col_core.specs.History.{clock}
 use Rattle.chain_store.specs.declared.told.Tag.{Tag}
-use Rattle.chain_store.specs.Columns.{told_event, told_carry}
+use Rattle.chain_store.specs.Columns.{told_event}
 use Rattle.chain_store.specs.Passes.{tag_in}
-use Rattle.chain_store.proofs.Turning.{at_rest, stood, tagged, saw, may}
+use Rattle.chain_store.proofs.Turning.{at_rest, stood, tagged, saw}
 use Rattle.chain_store.proofs.Moved.{may_move, moved_at, raises_at}
 use Rattle.chain_store.proofs.changes.raise_in.Goals as goal
 

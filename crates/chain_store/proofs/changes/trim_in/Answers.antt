@@ -1,12 +1,9 @@
-use Rattle.std.proofs.Common.{◌≡◌, ◌<◌, ◌≢◌, ℕ, Bool, refl, ap, sym, subst, ◌∙◌, inl, min, length}
+use Rattle.std.proofs.Common.{◌<◌, refl, ap, sym, subst, ◌∙◌, inl}
 use Rattle.turn_cell.specs.Cells.{seen}
-use Rattle.col_core.specs.declared.Entry.{Entry}
-use Rattle.col_core.specs.declared.Event.TheVariants.{Raise, Give, Trim}
-use Rattle.col_core.specs.History.{clock, line}
-use Rattle.column.specs.Columns.{held_of, new_items}
+use Rattle.col_core.specs.declared.Event.TheVariants.{Trim}
 use Rattle.chain_store.specs.declared.told.Tag.{Tag}
 use Rattle.chain_store.specs.Histories.{entries_in}
-use Rattle.chain_store.specs.Columns.{told_event, told_carry}
+use Rattle.chain_store.specs.Columns.{told_event}
 use Rattle.chain_store.specs.Passes.{tag_in}
 use Rattle.chain_store.proofs.Turning.{at_rest, stood, tagged, saw, may, adds}
 use Rattle.chain_store.proofs.Moved.{made_at, base_at}

@@ -1,8 +1,6 @@
-use Rattle.std.proofs.Common.{inl, ap, ◌∙◌, List}
-use Rattle.turn_cell.specs.Cells.{seen}
+use Rattle.std.proofs.Common.{inl, ap, ◌∙◌}
 use Rattle.col_core.specs.History.{clock}
-use Rattle.chain_store.specs.Passes.{tag_in}
-use Rattle.chain_store.proofs.Turning.{at_rest, tagged}
+use Rattle.chain_store.proofs.Turning.{at_rest}
 use Rattle.chain_store.proofs.Moved.{looks_at, journal_at}
 use Rattle.chain_store.proofs.looks.clock_in.Goals as goal
 

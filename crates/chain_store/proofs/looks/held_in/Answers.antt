@@ -1,4 +1,4 @@
-use Rattle.std.proofs.Common.{inl, ap, ◌∙◌, List}
+use Rattle.std.proofs.Common.{inl, ◌∙◌}
 use Rattle.turn_cell.specs.Cells.{seen}
 use Rattle.chain_store.specs.Passes.{tag_in}
 use Rattle.chain_store.proofs.Turning.{at_rest, tagged}

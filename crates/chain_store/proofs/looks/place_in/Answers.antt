@@ -1,11 +1,9 @@
 use Rattle.std.proofs.Common.{inl, ap, ◌∙◌, List}
-use Rattle.turn_cell.specs.Cells.{seen}
 use Rattle.std.specs.List.{position}
 use Rattle.log_node.specs.Order.{same_key}
 use Rattle.col_core.specs.declared.Entry.{Entry}
 use Rattle.col_core.specs.History.{line}
-use Rattle.chain_store.specs.Passes.{tag_in}
-use Rattle.chain_store.proofs.Turning.{at_rest, tagged}
+use Rattle.chain_store.proofs.Turning.{at_rest}
 use Rattle.chain_store.proofs.Moved.{looks_at, journal_at}
 use Rattle.chain_store.proofs.looks.place_in.Goals as goal
 

@@ -1,7 +1,5 @@
-use Rattle.std.proofs.Common.{ℕ, ◌≡◌, ◌<◌, refl, ap, sym, subst, ◌∙◌, inl, true, length, List}
+use Rattle.std.proofs.Common.{ℕ, ◌≡◌, refl, ap, sym, subst, ◌∙◌, inl, true, length, List}
 use Rattle.log_node.specs.Sets.{has}
-use Rattle.log_node.specs.declared.node.At.{At}
-use Rattle.log_node.specs.declared.node.At.TheVariants.{Event, Look}
 use Rattle.log_node.specs.declared.marks.Mark.TheVariants as marks
 use Rattle.stamp_board.specs.Views.{KnowsMark}
 use Rattle.stamp_board.specs.Seats.{seen as seat_seen}
@@ -17,7 +15,6 @@ use Rattle.chain_store.specs.declared.seated.Seated.{Seated}
 use Rattle.chain_store.specs.Columns.{told_propose, tag_of, Gains}
 use Rattle.chain_store.specs.Passes.{tag_in}
 use Rattle.chain_store.specs.Proposals.{HasProposal}
-use Rattle.chain_store.specs.Steps.{MatchAt}
 use Rattle.chain_store.proofs.Turning.{at_rest, stood, tagged, may, adds, saw, makes}
 use Rattle.chain_store.proofs.Heard.{at_event, at_look}
 use Rattle.chain_store.proofs.rows.propose_in.Goals as goal

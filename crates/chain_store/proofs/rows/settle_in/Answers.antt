@@ -1,27 +1,19 @@
-use Rattle.std.proofs.Common.{ℕ, ◌≡◌, ◌<◌, refl, ap, sym, subst, ◌∙◌, inl, true, length, List}
+use Rattle.std.proofs.Common.{◌≡◌, refl, ap, sym, subst, ◌∙◌, inl, true, length, List}
 use Rattle.log_node.specs.Sets.{has}
-use Rattle.log_node.specs.declared.node.At.{At}
-use Rattle.log_node.specs.declared.node.At.TheVariants.{Event, Look}
-use Rattle.log_node.specs.declared.marks.Mark.TheVariants as marks
-use Rattle.stamp_board.specs.Views.{KnowsMark}
 use Rattle.stamp_board.specs.Seats.{seen as seat_seen}
 use Rattle.turn_cell.specs.Cells.{seen}
 use Rattle.chain_store.specs.declared.told.Tag.{Tag}
 use Rattle.chain_store.specs.declared.told.Told.{Told}
-use Rattle.chain_store.specs.Rows.{IsBegunRow, KnowsRow}
-use Rattle.log_node.specs.declared.node.Node.{Node}
-use Rattle.chain_store.specs.declared.seated.Seated.{Seated}
+use Rattle.chain_store.specs.Rows.{KnowsRow}
 use Rattle.log_node.specs.Standings.{open_entry}
 use Rattle.skeen_core.specs.Queues.{has_open}
 use Rattle.col_core.specs.declared.Entry.{Entry}
 use Rattle.col_core.specs.History.{entries}
 use Rattle.col_core.specs.Ids.{IsFinal}
 use Rattle.col_core.proofs.CallerLemmas.{by_test}
-use Rattle.chain_store.specs.Histories.{entries_in}
 use Rattle.chain_store.specs.Rows.{place_after}
-use Rattle.chain_store.specs.Columns.{told_settle, tag_of, Gains}
+use Rattle.chain_store.specs.Columns.{told_settle}
 use Rattle.chain_store.specs.Passes.{tag_in}
-use Rattle.chain_store.specs.Steps.{MatchAt}
 use Rattle.chain_store.proofs.Turning.{at_rest, stood, tagged, may, adds, saw, makes}
 use Rattle.chain_store.proofs.Heard.{at_event, at_look}
 use Rattle.chain_store.proofs.rows.settle_in.Goals as goal

@@ -1,4 +1,3 @@
-use Rattle.std.proofs.Common.{sym, ap, ◌∙◌}
 use Rattle.turn_cell.specs.Cells.{seen}
 use Rattle.chain_store.specs.Passes.{tag_in}
 use Rattle.chain_store.proofs.Turning.{begun, sees, lawful_at}

@@ -1,4 +1,4 @@
-use Rattle.std.proofs.Common.{refl, sym, ap, ◌∙◌, ◌++◌, ◌∷◌, [], inl, inr}
+use Rattle.std.proofs.Common.{refl, ◌++◌, ◌∷◌, [], inl, inr}
 use Rattle.turn_cell.specs.Cells.{seen}
 use Rattle.chain_store.specs.Passes.{tag_in}
 use Rattle.chain_store.proofs.Turning.{rests, rests_with, maker_is, lawful_at}

@@ -9,7 +9,8 @@ use Rattle.chain_store.specs.declared.region.Region.{Region}
 use Rattle.chain_store.specs.Passes.{dated_in}
 use Rattle.chain_store.specs.Holds.{IsHold, SameBut, seen_in, LooksIn, GivesIn}
 use Rattle.chain_store.specs.Regions.{tag_at}
-use Rattle.region_pull.specs.Going.{GoesOnIn, AreOfOneStore}
+use Rattle.chain_store.specs.Going.{GoesOnIn}
+use Rattle.region_pull.specs.Stores.{AreOfOneStore}
 use Rattle.region_pull.specs.Inside.{HasAsked}
 use Rattle.region_pull.proofs.Steps.{SoFar, so_far_none, so_far_looked, asked_is, refused_goes, refused_alone, gave_goes, gave_again, gave_last}
 use Rattle.region_pull.proofs.asking.ask.Goals as goal

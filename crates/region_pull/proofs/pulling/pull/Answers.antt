@@ -1,11 +1,21 @@
 use Rattle.std.proofs.Common.{ℕ, [], ◌∷◌, ◌++◌, refl, subst}
 use Rattle.chain_store.specs.Regions.{tag_at}
-use Rattle.chain_store.specs.Holds.{CarriesIn}
+use Rattle.chain_store.specs.Holds.{CarriesIn, seen_in}
+use Rattle.chain_store.proofs.CallerLemmas.{given_stamped, lawful_seen}
+use Rattle.region_pull.specs.Pulls.{before_gave}
+use Rattle.region_pull.proofs.Lists.{taken_prefix}
 use Rattle.region_pull.proofs.Steps.{carried_goes, pulled, carry_refused, carry_refused_goes, origin_kept, origin_pulled, held_asked}
 use Rattle.region_pull.proofs.pulling.pull.Goals as goal
 
 pub carry-requires-clause-heads : goal.carry-requires-clause-heads
-carry-requires-clause-heads g c = λ n i e. (c.in-Ok.ensures.ok.shows.nodes n i e).of_id
+carry-requires-clause-heads g c =
+    let e = c.in-Ok.ensures in
+    let from = c.args.from.now in
+    let h = c.ask.new.from_hold in
+    let log = seen_in h c.args.colour in
+    given_stamped (tag_at from c.args.colour) (before_gave log e.ok.last) log e.ok.asked c.in-Ok.given
+    (taken_prefix e.ok.last.place log) (lawful_seen from h c.args.colour e.from_hold.rests c.requires.store.from_colour)
+    e.ok.shows
 
 pub returns-in-Ok-carry-clause-to_hold : goal.returns-in-Ok-carry-clause-to_hold
 returns-in-Ok-carry-clause-to_hold g c =

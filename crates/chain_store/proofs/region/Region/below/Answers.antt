@@ -4,7 +4,11 @@ use Rattle.col_core.specs.History.{entries}
 use Rattle.chain_store.specs.declared.told.Tag.{Tag}
 use Rattle.chain_store.specs.declared.told.Told.{Told}
 use Rattle.chain_store.specs.Histories.{entries_in}
+use Rattle.std.specs.Prelude.{IfSome}
+use Rattle.stamp_board.specs.Seats.{seen as seat_seen}
+use Rattle.chain_store.specs.Holds.{view_of}
 use Rattle.chain_store.specs.Moves.{LooksAt}
+use Rattle.chain_store.specs.Proposals.{IsMarkedOpen}
 use Rattle.chain_store.proofs.Holding.{holder}
 use Rattle.chain_store.proofs.ByColour.{knows_first, told_but, of_told, told_hold, beside}
 use Rattle.log_node.specs.declared.node.At.TheVariants.{Look}
@@ -72,3 +76,13 @@ returns-clause-known g c =
     knows_first c.args.self.now c.args.hold.now c.args.colour c.column.result.now c.below_in.new.pass
     c.below_in.new.seat c.requires.hold c.column.ensures
     c.below_in.ensures.seat c.below_in.result.first c.below_in.ensures.known c.below_in.ensures.own
+
+pub returns-clause-marked : goal.returns-clause-marked
+returns-clause-marked g c =
+    let r = c.args.self.now in
+    let h = c.args.hold.now in
+    of_told r h c.args.colour c.column.result.now c.index_mut-pass.result.now c.below_in.new.pass c.below_in.new.seat
+    c.requires.hold c.requires.colour c.column.ensures c.index_mut-pass.ensures.value
+    (λ (t : Tag) (old new : List Told). IfSome c.below_in.result.first
+    (IsMarkedOpen r.board.size t.colour (view_of h) (seat_seen c.below_in.new.seat) new))
+    c.below_in.ensures.marked

@@ -1,5 +1,4 @@
 use Rattle.std.proofs.Common.{◌≡◌, ℕ, List, sym, subst, true, None}
-use Rattle.std.specs.List.{position}
 use Rattle.col_core.specs.History.{entries}
 use Rattle.stamp_board.specs.Seats.{seen as seat_seen}
 use Rattle.turn_cell.specs.Cells.{seen}

@@ -1,4 +1,4 @@
-use Rattle.std.proofs.Common.{◌<◌, List, length, subst, arith, sym, ap, ◌∙◌}
+use Rattle.std.proofs.Common.{◌<◌, List, length, subst, arith, sym, ◌∙◌}
 use Rattle.std.proofs.lemmas.Bool.{lt-ltb, le-ltb}
 use Rattle.col_core.specs.declared.Entry.{Entry}
 use Rattle.column.specs.Columns.{new_items}

@@ -1,4 +1,4 @@
-use Rattle.std.proofs.Common.{◌≡◌, ◌≤◌, ℕ, refl, ap, sym, subst, ◌∙◌, arith}
+use Rattle.std.proofs.Common.{◌≤◌, subst, arith}
 use Rattle.log_node.specs.declared.marks.Mark.TheVariants as marks
 use Rattle.col_core.specs.History.{last_stamp}
 use Rattle.stamp_board.specs.declared.seats.ColumnSeat.{ColumnSeat}

@@ -1,12 +1,11 @@
-use Rattle.std.proofs.Common.{ℕ, refl, ap, sym, subst, ◌∙◌, ◌≡◌, ◌≤◌, ◌<◌, arith, length, false, true, List, ◌+◌}
-use Rattle.std.specs.Prelude.{slice_index, Some}
+use Rattle.std.proofs.Common.{ℕ, refl, ap, sym, subst, ◌∙◌, ◌≡◌, ◌≤◌, ◌<◌, arith, length, false, List, ◌+◌}
+use Rattle.std.specs.Prelude.{slice_index}
 use Rattle.log_node.specs.declared.node.Node.{Node}
 use Rattle.col_core.specs.declared.Entry.{Entry}
 use Rattle.col_core.specs.History.{has_entered}
 use Rattle.col_core.proofs.CallerLemmas.{same_id-true, same_id-refl}
 use Rattle.std.proofs.lemmas.List.{length-set}
 use Rattle.column.specs.Columns.{ColumnState, HasEnterCause, with_room, after_propose, stamp_for}
-use Rattle.chain_store.specs.declared.told.Told.{Told}
 use Rattle.chain_store.specs.Entered.{AreBelow}
 use Rattle.chain_store.specs.Columns.{told_propose, Enters}
 use Rattle.log_node.specs.Marks.{IsStamp}

@@ -1,4 +1,3 @@
-use Rattle.std.proofs.Common.{◌≡◌, refl, ap, sym, subst, ◌∙◌}
 use Rattle.stamp_board.specs.Seats.{seen, column_seen}
 use Rattle.chain_store.proofs.Heard.{learns_told}
 use Rattle.chain_store.proofs.Proposals.{stays_later, same_tag}

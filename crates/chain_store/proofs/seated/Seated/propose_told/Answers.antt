@@ -1,26 +1,20 @@
-use Rattle.std.proofs.Common.{◌≡◌, ◌<◌, ◌≤◌, ℕ, true, false, List, Some, refl, ap, sym, subst, ◌∙◌, arith}
-use Rattle.log_node.specs.declared.ids.Id.{Id}
-use Rattle.log_node.specs.declared.ids.Row.{Row}
+use Rattle.std.proofs.Common.{◌≡◌, true, Some, ap, sym, subst, ◌∙◌, arith}
 use Rattle.log_node.specs.declared.node.Node.{Node}
-use Rattle.log_node.specs.Seen.{BegunAppend}
 use Rattle.log_node.specs.Sets.{has}
-use Rattle.log_node.specs.Standings.{open_entry}
-use Rattle.skeen_core.specs.Queues.{has_open}
-use Rattle.col_core.specs.declared.Entry.{Entry}
-use Rattle.col_core.specs.History.{IsAtEnd, entries}
+use Rattle.col_core.specs.History.{IsAtEnd}
 use Rattle.column.specs.Columns.{ColumnState}
 use Rattle.log_node.specs.declared.marks.Mark.{Mark}
 use Rattle.stamp_board.specs.declared.view.Size.{Size}
 use Rattle.stamp_board.specs.declared.view.View.{View}
 use Rattle.stamp_board.specs.Rows.{IsRow}
-use Rattle.stamp_board.specs.Views.{KnowsBegun, Learns}
-use Rattle.stamp_board.specs.Seats.{seen, column_seen, set_mark}
-use Rattle.stamp_board.proofs.CallerLemmas.{Learns-from, Learns-trans, Grows-trans, begun_learnt, outcome_learnt}
+use Rattle.stamp_board.specs.Views.{KnowsBegun}
+use Rattle.stamp_board.specs.Seats.{seen, column_seen}
+use Rattle.stamp_board.proofs.CallerLemmas.{Learns-from, Learns-trans, Grows-trans, begun_learnt}
 use Rattle.chain_store.specs.declared.told.Tag.{Tag}
 use Rattle.chain_store.specs.declared.told.Told.{Told}
 use Rattle.chain_store.specs.Histories.{entries_in}
 use Rattle.chain_store.specs.Marks.{numbers}
-use Rattle.chain_store.specs.Columns.{Gains, told_propose, told_settle}
+use Rattle.chain_store.specs.Columns.{Gains, told_propose}
 use Rattle.chain_store.specs.Rows.{IsBegunRow}
 use Rattle.chain_store.proofs.Begun.{begun_later}
 use Rattle.chain_store.proofs.Heard.{gains_between, same_marks}

@@ -1,10 +1,8 @@
-use Rattle.std.proofs.Common.{◌≡◌, ◌≢◌, ◌<◌, ℕ, true, false, List, [], None, length, refl, ap, sym, subst, ◌∙◌, inl, inr}
+use Rattle.std.proofs.Common.{◌≡◌, ◌<◌, ℕ, List, [], None, length, refl, ap, sym, subst, ◌∙◌}
 use Rattle.log_node.specs.declared.ids.Id.{Id}
-use Rattle.log_node.specs.declared.ids.Row.{Row}
 use Rattle.log_node.specs.declared.limits.TheConstants.{MAX_STAMP}
 use Rattle.log_node.specs.Seen.{BegunAppend}
 use Rattle.log_node.specs.Standings.{open_entry, is_open_id}
-use Rattle.log_node.specs.declared.marks.Outcome.TheVariants.{Final}
 use Rattle.skeen_core.specs.Queues.{MaySettle, has_open, is_decided}
 use Rattle.std.specs.Prelude.{◌&&◌, if◌then◌else◌}
 use Rattle.col_core.proofs.CallerLemmas.{by_test}
@@ -15,9 +13,7 @@ use Rattle.col_core.specs.History.{entries}
 use Rattle.column.specs.Columns.{ColumnState, after_settle}
 use Rattle.stamp_board.specs.Seats.{column_seen}
 use Rattle.col_core.specs.Ids.{IsFinal, HasCome}
-use Rattle.chain_store.specs.Marks.{IsBacked}
-use Rattle.chain_store.specs.Entered.{AreBelow}
-use Rattle.chain_store.specs.Columns.{IsOfHistory, told_settle, tag_of}
+use Rattle.chain_store.specs.Columns.{IsOfHistory, told_settle}
 use Rattle.chain_store.specs.Tags.{tag}
 use Rattle.chain_store.proofs.Backing.{backed_more}
 use Rattle.chain_store.proofs.Proposals.{stays_later, same_tag}

@@ -1,14 +1,11 @@
-use Rattle.std.proofs.Common.{ℕ, refl, ap, sym, subst, inl, ◌∙◌, ◌≡◌, ◌≤◌, ◌<◌, arith, length, false, true, List, ◌+◌}
-use Rattle.std.specs.Prelude.{slice_index, Some}
-use Rattle.log_node.specs.declared.ids.Id.{Id}
+use Rattle.std.proofs.Common.{ℕ, refl, ap, sym, subst, inl, ◌∙◌, ◌≡◌, ◌≤◌, ◌<◌, arith, length, false, List, ◌+◌}
+use Rattle.std.specs.Prelude.{slice_index}
 use Rattle.log_node.specs.declared.node.Node.{Node}
 use Rattle.col_core.specs.declared.Entry.{Entry}
 use Rattle.col_core.specs.History.{has_entered}
 use Rattle.std.proofs.lemmas.List.{length-set}
 use Rattle.column.specs.Columns.{ColumnState, with_room, after_single}
-use Rattle.chain_store.specs.declared.told.Told.{Told}
 use Rattle.chain_store.specs.Entered.{AreBelow}
-use Rattle.chain_store.specs.Columns.{IsOfHistory}
 use Rattle.chain_store.proofs.Entering.{fresh, single_entered, entered_below, entered_newest, entered_gains, stamp_small}
 use Rattle.col_core.proofs.CallerLemmas.{same_id-true, same_id-refl}
 use Rattle.chain_store.specs.Columns.{single_told}

@@ -1,0 +1,91 @@
+-- What a client has stays as its holds see more.
+use Rattle.std.proofs.Common.{◌≡◌, ◌≢◌, ◌⊎◌, inl, inr, ℕ, true, ◌+◌, ◌<◌, ◌≤◌, List, [], ◌∷◌, ◌++◌, length, map, Option, Some, None, refl, ap, sym, subst, ◌∙◌, arith, append-nil, append_assoc}
+use Rattle.std.specs.Prelude.{slice_get}
+use Rattle.std.proofs.lemmas.Option.{same_Some}
+use mathlib.Core.List.{IsPrefix}
+use Rattle.log_node.specs.declared.ids.Counts.{Counts}
+use Rattle.log_node.specs.declared.ids.Row.{Row}
+use Rattle.log_node.specs.declared.limits.TheConstants.{MAX_STAMP}
+use Rattle.log_node.specs.declared.node.Node.{Node}
+use Rattle.log_node.specs.Seen.{PlacedNode}
+use Rattle.log_node.specs.Sets.{has}
+use Rattle.log_node.specs.Reach.{Reachable}
+use Rattle.log_node.specs.Standings.{open_entry}
+use Rattle.log_node.specs.declared.marks.Why.{Why}
+use Rattle.log_node.specs.declared.marks.Mark.TheVariants as marks
+use Rattle.col_core.specs.declared.Entry.{Entry}
+use Rattle.col_core.specs.History.{entries, has_entered}
+use Rattle.col_core.specs.Computed.{dated}
+use Rattle.col_core.specs.Legal.{IsColumnHistory}
+use Rattle.col_core.proofs.CallerLemmas.{entered_longer}
+use Rattle.stamp_board.specs.Views.{KnowsBegun, KnowsMark}
+use Rattle.stamp_board.proofs.CallerLemmas.{begun_learnt, mark_learnt}
+use Rattle.chain_store.specs.declared.told.Tag.{Tag}
+use Rattle.chain_store.specs.declared.told.Told.{Told}
+use Rattle.chain_store.specs.declared.hold.Hold.{Hold}
+use Rattle.chain_store.specs.Histories.{entries_in}
+use Rattle.chain_store.specs.Owning.{row_of}
+use Rattle.chain_store.specs.Passes.{IsLawfulTold}
+use Rattle.chain_store.specs.Holds.{seen_in, entries_seen, view_of}
+use Rattle.client_law.proofs.CallerLemmas.{closed_stays}
+use Rattle.log_client.specs.declared.track.Track.{Track}
+use Rattle.log_client.specs.Fits.{HasGoneOn}
+use Rattle.log_client.specs.Clients.{HasPlayed, nothing_played, played_then, IsTrack, AreRows, IsClosedIn, AllClosed}
+use Rattle.log_client.proofs.Plays.{reached_longer}
+use Rattle.log_client.proofs.Seeing.{entries_longer}
+
+pub prefix_on : {A : Type 0} (xs ys zs : List A) → IsPrefix xs ys → IsPrefix ys zs → IsPrefix xs zs
+prefix_on xs ys zs p q = (p.0 ++ q.0, sym (append_assoc xs p.0 q.0) ∙ (ap (λ l. l ++ q.0) p.1 ∙ q.1))
+
+-- WHAT WAS PLAYED
+
+pub played_longer : (own : ℕ) (old new : List Told) → IsPrefix old new → (v : Counts) (nodes : List PlacedNode)
+    → HasPlayed own old v nodes → HasPlayed own new v nodes
+played_longer own old new p v nodes h = go h where
+  go : {w : Counts} {ns : List PlacedNode} → HasPlayed own old w ns → HasPlayed own new w ns
+  go nothing_played = nothing_played
+  go (played_then from to ms more log before within plays) =
+      played_then from to ms more log (go before) (prefix_on log old new within p) plays
+
+pub track_longer : (t : Tag) (k : ℕ) (old new : List Told) (track : Track) → IsPrefix old new → IsLawfulTold t new
+    → IsTrack t.region k old track → IsTrack t.region k new track
+track_longer t k old new track p lawful is = record {
+  region = is.region;
+  of_colour = is.of_colour;
+  reached = reached_longer t old new track.snapshot.counts p lawful is.reached;
+  played = played_longer t.region old new p track.snapshot.counts track.nodes is.played;
+}
+
+-- ROWS
+
+pub rows_longer : (number : ℕ) (g h : Hold) (rows : List Node) → HasGoneOn g h → h.seat.used ≡ g.seat.used
+    → AreRows number g rows → AreRows number h rows
+rows_longer number g h rows on used are = record {
+  many = are.many ∙ sym used;
+  begun = λ j x at. begun_learnt (view_of g) (view_of h) (row_of number j) on.size on.learns x (are.begun j x at);
+}
+
+-- an append that is closed in a colour stays so
+pub closed_longer : (own regions : ℕ) (g h : Hold) (j : ℕ) (x : Node) (k : ℕ) → HasGoneOn g h
+    → IsColumnHistory own regions (dated own (entries_seen h k)) → IsClosedIn g j x k → IsClosedIn h j x k
+closed_longer own regions g h j x k on lawful is = record {
+  mark = is.mark;
+  set = is.set;
+  known = subst (λ (n : ℕ). KnowsMark (view_of h) (row_of n j) k is.mark) (sym on.number)
+      (mark_learnt (view_of g) (view_of h) (row_of g.passes.number j) on.size on.learns k is.mark is.known);
+  done = elim is.done [
+    | inl fenced ↦ inl fenced
+    | inr over ↦
+        (let more = entries_longer (seen_in g k) (seen_in h k) (on.more k) in
+        inr (
+          subst (λ (l : List Entry). has_entered x.id l ≡ true) more.1
+              (entered_longer (entries_seen g k) more.0 x.id over.0),
+          closed_stays own regions (entries_seen g k) (entries_seen h k) x.id lawful more over.0 over.1,
+        ))
+  ];
+}
+
+pub all_closed_longer : (own regions : ℕ) (g h : Hold) (rows : List Node) → HasGoneOn g h
+    → ((k : ℕ) → IsColumnHistory own regions (dated own (entries_seen h k))) → AllClosed g rows → AllClosed h rows
+all_closed_longer own regions g h rows on lawful all j x at k of =
+    closed_longer own regions g h j x k on (lawful k) (all j x at k of)

@@ -1,0 +1,67 @@
+use Rattle.std.proofs.Common.{refl, arith}
+use Rattle.log_client.proofs.TrimReplies.{look_client, look_goes, look_finished, look_nothing, trim_client, trim_goes, trim_finished, trim_explained}
+use Rattle.log_client.proofs.client.Client.trim.Goals as goal
+
+pub returns-in-Ok-clause-client : goal.returns-in-Ok-clause-client
+returns-in-Ok-clause-client g c =
+    let e = c.in-Ok.ensures in
+    trim_client
+    c.args.store.now c.args.self.now c.region-region.result.now c.index_mut-hold.result.now c.trim.new.hold c.args.colour
+    c.requires.client c.region-region.ensures.there c.index_mut-hold.ensures.value e.hold e.others e.same
+    c.args.snapshot.now.counts c.in-Ok.answer.1 c.in-Ok.answer.0 e.ok
+
+pub returns-in-Ok-clause-goes : goal.returns-in-Ok-clause-goes
+returns-in-Ok-clause-goes g c =
+    let e = c.in-Ok.ensures in
+    trim_goes
+    c.args.store.now c.args.self.now c.region-region.result.now c.index_mut-hold.result.now c.trim.new.hold c.args.colour
+    c.requires.client c.region-region.ensures.there c.index_mut-hold.ensures.value e.hold e.others e.same
+    c.args.snapshot.now.counts c.in-Ok.answer.1 c.in-Ok.answer.0 e.ok
+
+pub returns-in-Ok-clause-finished : goal.returns-in-Ok-clause-finished
+returns-in-Ok-clause-finished g c =
+    let e = c.in-Ok.ensures in
+    trim_finished
+    c.args.store.now c.args.self.now c.region-region.result.now c.index_mut-hold.result.now c.trim.new.hold c.args.colour
+    c.requires.client c.region-region.ensures.there c.index_mut-hold.ensures.value e.hold e.others e.same
+    c.args.snapshot.now.counts c.in-Ok.answer.1 c.in-Ok.answer.0 e.ok
+
+pub returns-in-Ok-clause-ok : goal.returns-in-Ok-clause-ok
+returns-in-Ok-clause-ok g c =
+    let e = c.in-Ok.ensures in
+    trim_explained
+    c.args.store.now c.args.self.now c.region-region.result.now c.index_mut-hold.result.now c.trim.new.hold c.args.colour
+    c.requires.client c.region-region.ensures.there c.index_mut-hold.ensures.value e.hold e.others e.same
+    c.args.snapshot.now.counts c.in-Ok.answer.1 c.in-Ok.answer.0 e.ok
+
+pub returns-in-Err-clause-client : goal.returns-in-Err-clause-client
+returns-in-Err-clause-client g c =
+    let e = c.in-Err.ensures in
+    look_client
+    c.args.store.now c.args.self.now c.region-region.result.now c.index_mut-hold.result.now c.trim.new.hold c.args.colour
+    c.requires.client c.region-region.ensures.there c.index_mut-hold.ensures.value e.hold e.others e.same e.err
+
+pub returns-in-Err-clause-goes : goal.returns-in-Err-clause-goes
+returns-in-Err-clause-goes g c =
+    let e = c.in-Err.ensures in
+    look_goes
+    c.args.store.now c.args.self.now c.region-region.result.now c.index_mut-hold.result.now c.trim.new.hold c.args.colour
+    c.requires.client c.region-region.ensures.there c.index_mut-hold.ensures.value e.hold e.others e.same e.err
+
+pub returns-in-Err-clause-finished : goal.returns-in-Err-clause-finished
+returns-in-Err-clause-finished g c =
+    let e = c.in-Err.ensures in
+    look_finished
+    c.args.store.now c.args.self.now c.region-region.result.now c.index_mut-hold.result.now c.trim.new.hold c.args.colour
+    c.requires.client c.region-region.ensures.there c.index_mut-hold.ensures.value e.hold e.others e.same e.err
+
+pub returns-in-Err-clause-err : goal.returns-in-Err-clause-err
+returns-in-Err-clause-err g c =
+    let e = c.in-Err.ensures in
+    let region = c.if-snapshot-self.false in
+    let colour = c.if-snapshot-colour.false in (
+      (omega (arith, region), omega (arith, colour)),
+      look_nothing
+          c.args.store.now c.args.self.now c.region-region.result.now c.index_mut-hold.result.now c.trim.new.hold c.args.colour
+          c.requires.client c.region-region.ensures.there c.index_mut-hold.ensures.value e.hold e.others e.same e.err,
+    )

@@ -1,0 +1,11 @@
+pub mod Regions
+pub mod Fits
+pub mod Ending
+pub mod Closing
+pub mod Clients
+pub mod Inside
+pub mod Calls
+pub mod Notes
+pub mod Opening
+pub mod Leaving
+pub mod Closes
