@@ -13,6 +13,7 @@ mod large;
 mod objects;
 mod refusals;
 mod regions;
+mod scans;
 mod several;
 mod singles;
 mod stops;

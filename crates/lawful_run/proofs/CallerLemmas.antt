@@ -1,3 +1,6 @@
 -- What callers may cite of this crate's proofs; all else there is private.
+pub use Rattle.lawful_run.proofs.HiddenReads.{kept_after_hidden, hides_more, hides_one_more, hides_none}
+pub use Rattle.lawful_run.proofs.HiddenReads.{hides_without}
 pub use Rattle.lawful_run.proofs.Later.{explained_later}
+pub use Rattle.lawful_run.proofs.LaterReads.{raise_later, raises_later, syncs_later, clear_later, hides_syncs_later}
 pub use Rattle.lawful_run.proofs.Prefixes.{get-append, get_within, prefix_get, prefix_length, prefix_take}

@@ -2,6 +2,7 @@ mod Prefixes
 mod LaterFacts
 mod LaterAppends
 mod LaterReads
+mod HiddenReads
 mod Later
 mod ReadItems
 mod Listed

@@ -52,6 +52,16 @@ impl Points {
             held: Held::Many(points),
         }
     }
+
+    /// The points, the least colour first.
+    pub fn as_slice(&self) -> &[PointPiece]
+        ensures { result.now ≡ self.now }
+    {
+        match &self.held {
+            Held::One(point) => std::slice::from_ref(point),
+            Held::Many(points) => points.as_slice(),
+        }
+    }
 }
 
 impl Printed for Points {

@@ -60,22 +60,23 @@ with_nodes command meaning w new answer nodes none d =
 pub built_kinds : (what : What) → is_built what ≡ true
     → ((c : Colours) (t : List ℕ) → what ≡ whats.Append c t → ⊥)
     → ((n : ℕ) (c : Colours) (t : List ℕ) → what ≡ whats.Stop n c t → ⊥)
-    → ((c : ℕ) → what ≡ whats.Sync c → ⊥) → ((r c : ℕ) → what ≡ whats.Pull r c → ⊥)
+    → ((c : ℕ) → what ≡ whats.Sync c → ⊥) → ((c : Colours) → what ≡ whats.Scan c → ⊥)
+    → ((r c : ℕ) → what ≡ whats.Pull r c → ⊥)
     → ((c : ℕ) → what ≡ whats.Trim c → ⊥) → ((o : ℕ) (k v : List ℕ) → what ≡ whats.Put o k v → ⊥)
     → ((o : ℕ) (k : List ℕ) → what ≡ whats.Del o k → ⊥) → ((o : ℕ) (ps : List Pair) → what ≡ whats.PutAll o ps → ⊥)
     → ((o : ℕ) (v : List ℕ) → what ≡ whats.Enq o v → ⊥) → ((o : ℕ) → what ≡ whats.Deq o → ⊥) → ⊥
-built_kinds (whats.Append colours text) b p q r s t u v x y z = p colours text refl
-built_kinds (whats.Stop steps colours text) b p q r s t u v x y z = q steps colours text refl
-built_kinds (whats.Sync colour) b p q r s t u v x y z = r colour refl
-built_kinds (whats.Scan colours) b p q r s t u v x y z = let f : ⊥ = cc in f
-built_kinds (whats.Pull region colour) b p q r s t u v x y z = s region colour refl
-built_kinds (whats.Trim colour) b p q r s t u v x y z = t colour refl
-built_kinds (whats.Put object key value) b p q r s t u v x y z = u object key value refl
-built_kinds (whats.Get object key) b p q r s t u v x y z = let f : ⊥ = cc in f
-built_kinds (whats.Del object key) b p q r s t u v x y z = v object key refl
-built_kinds (whats.PutAll object pairs) b p q r s t u v x y z = x object pairs refl
-built_kinds (whats.GetAll object keys) b p q r s t u v x y z = let f : ⊥ = cc in f
-built_kinds (whats.Read object keys) b p q r s t u v x y z = let f : ⊥ = cc in f
-built_kinds (whats.Commit object pairs) b p q r s t u v x y z = let f : ⊥ = cc in f
-built_kinds (whats.Enq object value) b p q r s t u v x y z = y object value refl
-built_kinds (whats.Deq object) b p q r s t u v x y z = z object refl
+built_kinds (whats.Append colours text) b p q r k s t u v x y z = p colours text refl
+built_kinds (whats.Stop steps colours text) b p q r k s t u v x y z = q steps colours text refl
+built_kinds (whats.Sync colour) b p q r k s t u v x y z = r colour refl
+built_kinds (whats.Scan colours) b p q r k s t u v x y z = k colours refl
+built_kinds (whats.Pull region colour) b p q r k s t u v x y z = s region colour refl
+built_kinds (whats.Trim colour) b p q r k s t u v x y z = t colour refl
+built_kinds (whats.Put object key value) b p q r k s t u v x y z = u object key value refl
+built_kinds (whats.Get object key) b p q r k s t u v x y z = let f : ⊥ = cc in f
+built_kinds (whats.Del object key) b p q r k s t u v x y z = v object key refl
+built_kinds (whats.PutAll object pairs) b p q r k s t u v x y z = x object pairs refl
+built_kinds (whats.GetAll object keys) b p q r k s t u v x y z = let f : ⊥ = cc in f
+built_kinds (whats.Read object keys) b p q r k s t u v x y z = let f : ⊥ = cc in f
+built_kinds (whats.Commit object pairs) b p q r k s t u v x y z = let f : ⊥ = cc in f
+built_kinds (whats.Enq object value) b p q r k s t u v x y z = y object value refl
+built_kinds (whats.Deq object) b p q r k s t u v x y z = z object refl

@@ -6,6 +6,8 @@ mod Finals
 mod AppendsAndStops
 mod ListsChanged
 mod SyncPlays
+mod StampedSteps
+mod StampedWholes
 mod PullsAndTrims
 mod CommandKinds
 mod RunReplies

@@ -1,5 +1,5 @@
 -- The replies of a run, and the commands one after another.
-use Rattle.std.proofs.Common.{◌≡◌, ℕ, zero, suc, ◌<◌, true, false, List, [], ◌∷◌, ◌++◌, length, get_or, set, Result, Ok}
+use Rattle.std.proofs.Common.{◌≡◌, ℕ, zero, suc, ◌<◌, false, List, [], ◌∷◌, ◌++◌, length, get_or, set, Result, Ok}
 use Rattle.std.proofs.Common.{Err, refl, ap, sym, ◌∙◌, arith, get_or-set_same, get_or-set_other, eq-eqb}
 use Rattle.std.specs.Prelude.{MatchResult, IfOk, OnErr}
 use Rattle.std.specs.declared.alloc.AllocError.{AllocError}
@@ -15,7 +15,7 @@ use Rattle.script_text.specs.declared.script.Command.{Command}
 use Rattle.report_text.specs.declared.report.Answer.{Answer}
 use Rattle.report_text.specs.declared.report.Answer.TheVariants.{NoMemory}
 use Rattle.report_text.specs.declared.report.ReplyLine.{ReplyLine}
-use Rattle.script_meaning.specs.States.{Grants, answered}
+use Rattle.script_meaning.specs.States.{Grants, all_granted, answered}
 use Rattle.script_in_order.specs.Doing.{Does, with_replies}
 use Rattle.script_in_order.specs.Runs.{RepliesView, RunView, no_replies, with_reply, replies_at, state_of, reply_of, IsDone}
 
@@ -83,7 +83,7 @@ command_done objects command old world given reply low ok err is = turn given ok
     replies = refl;
   } where
     none : Grants
-    none = record { start = false; marks = λ _. true; helps = λ _ _. true; carry = true; fold = true }
+    none = record all_granted { start = false }
 
 pub any_default : {A : Type 0} (xs : List A) (i : ℕ) (d e : A) → i < length xs → get_or xs i d ≡ get_or xs i e
 any_default [] i d e lt = absurd (let f : ⊥ = omega (arith, lt) in f)

@@ -141,7 +141,7 @@ none_at_all set p n is small none =
 
 -- Lists made colour by colour
 
-map_last : {A : Type 0} (f : ℕ → A) (xs : List ℕ) (x : ℕ) → map f (xs ++ x ∷ []) ≡ map f xs ++ f x ∷ []
+pub map_last : {A : Type 0} (f : ℕ → A) (xs : List ℕ) (x : ℕ) → map f (xs ++ x ∷ []) ≡ map f xs ++ f x ∷ []
 map_last f [] x = refl
 map_last {A} f (y ∷ xs) x = ap (λ (l : List A). f y ∷ l) (map_last f xs x)
 

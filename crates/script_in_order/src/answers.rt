@@ -12,6 +12,7 @@ use crate::appends::append;
 use crate::moves::{pull, trim};
 use crate::object_appends::{delete, enqueue, put, put_all};
 use crate::queues::dequeue;
+use crate::scans::scan;
 use crate::stops::stop;
 use crate::syncs::sync;
 use log_node::{Items, ListOf};
@@ -47,6 +48,7 @@ pub fn answer(
             Ok((answer, ListOf::new(alloc)))
         }
         What::Sync { colour } => sync(alloc, command, *colour, world),
+        What::Scan { colours } => scan(alloc, command, *colours, world),
         What::Pull { region, colour } => {
             let answer = pull(alloc, command, *region, *colour, world)?;
             Ok((answer, ListOf::new(alloc)))

@@ -25,8 +25,8 @@ fn has_one(colours: Colours) -> bool
 }
 
 /// Whether a command is one of those that are done: an append to any number of colours, a stop of an append to several,
-/// a sync, a pull, a trim, and what appends for an object: a put, a deletion, several puts at once, an enqueue and
-/// a dequeue.
+/// a sync, a scan, a pull, a trim, and what appends for an object: a put, a deletion, several puts at once, an enqueue
+/// and a dequeue.
 pub fn is_built(what: &What) -> bool
     ensures { result ≡ is_built what.now }
 {
@@ -34,7 +34,7 @@ pub fn is_built(what: &What) -> bool
         What::Append { colours, .. } => has_one(*colours),
         What::Stop { colours, .. } => has_colours(2, *colours),
         What::Sync { .. } => true,
-        What::Scan { .. } => false,
+        What::Scan { colours } => has_colours(1, *colours),
         What::Pull { .. } => true,
         What::Trim { .. } => true,
         What::Put { .. } => true,

@@ -15,6 +15,8 @@ mod replies;
 mod reports;
 mod rows;
 mod run;
+mod scans;
+mod stamped;
 mod stops;
 mod syncs;
 

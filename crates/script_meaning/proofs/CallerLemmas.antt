@@ -14,6 +14,8 @@ pub use Rattle.script_meaning.proofs.Lines.{final_stays}
 pub use Rattle.script_meaning.proofs.Rows.{standing_as}
 pub use Rattle.script_meaning.proofs.HelpGrants.{single_same}
 pub use Rattle.script_meaning.proofs.ChainNodes.{line_node}
+pub use Rattle.script_meaning.proofs.StampedEnds.{rising_line, keys_listed}
+pub use Rattle.script_meaning.proofs.StampedReads.{stamp_low}
 pub use Rattle.script_meaning.proofs.ShardSets.{keys_set, set_one, shard_members, set_has, shard_below, shards_below, shards_has}
 pub use Rattle.script_meaning.proofs.ObjectKinds.{object_has, queue_colour, queue_one, some_of}
 pub use Rattle.script_meaning.proofs.Playing.{at_or}

@@ -1,5 +1,5 @@
 -- One command, where it finds memory, does what it does with memory granted everywhere.
-use Rattle.std.proofs.Common.{◌≡◌, inl, ℕ, zero, suc, cond, List, [], ◌∷◌, ◌++◌, map, take, Option, Some, None, refl, ap, sym, subst, ◌∙◌}
+use Rattle.std.proofs.Common.{◌≡◌, ◌≢◌, inl, ℕ, zero, suc, cond, List, [], ◌∷◌, ◌++◌, length, map, take, Option, Some, None, true, refl, ap, sym, subst, ◌∙◌}
 use Rattle.std.specs.Prelude.{◌==◌}
 use Rattle.log_node.specs.declared.ids.Row.{Row}
 use Rattle.log_node.specs.declared.ids.Colours.{Colours}
@@ -28,6 +28,8 @@ use Rattle.script_meaning.specs.States.{State, Grants, all_granted, answered}
 use Rattle.script_meaning.specs.Helping.{all_cleared}
 use Rattle.script_meaning.specs.Appends.{with_single, appended_one, appended_by, appended_several, appended, stopped, is_full, append_steps, ended_colour, point_in}
 use Rattle.script_meaning.specs.Moves.{nodes_played, synced, lacking, with_give, with_carry, pulled_from, pulled, trimmed}
+use Rattle.script_meaning.specs.Stamped.{ReadEnd, Whole, Refused, Unraised, StampedRead, stamped_read, shown_key, scanned_by, scanned}
+use Rattle.script_meaning.proofs.GrantedReads.{IsRaised, read_runs, read_exact}
 use Rattle.script_meaning.proofs.MoveCases.{play_answer, trimmed_answer, pull_answer, with_trim, base_answer, played, refused, synced_is, stayed, carried, given, pulled_is, from_is, from_all, trimmed_is}
 use Rattle.script_text.specs.Items.{set_of}
 use Rattle.lawful_run.specs.Callers.{Caller}
@@ -157,6 +159,20 @@ module _ (objects : List Object) (grants : Grants) (state : State) (command : Co
       (answer_extends state command (with_trim w u c) (base_answer w (with_trim w u c) u c) []
       (record { steps = Trim u (home_of w u) c ((w.clients u).played c) ∷ []; run = refl }))
 
+  scan_extends : (colours : List ℕ) → Extends state (scanned grants state command colours)
+  scan_extends colours =
+      let read = stamped_read grants w u colours in
+      by_end read.world read.ends (read_runs grants w u colours) where
+        by_end : (v : World) (ends : ReadEnd) → RunsTo w v → Extends state (scanned_by grants state command v ends)
+        by_end v (Whole stamp raises syncs keys) r =
+            let answer = answers.Scanned stamp (length keys) raises syncs in
+            choice (Extends state) grants.items (answered state command v answer (map (shown_key v) keys))
+            (answered state command v answers.NoMemory [])
+            (λ _. answer_extends state command v answer (map (shown_key v) keys) r)
+            (λ _. answer_extends state command v answers.NoMemory [] r)
+        by_end v (Refused colour base) r = answer_extends state command v (answers.Trimmed colour base) [] r
+        by_end v Unraised r = answer_extends state command v answers.NoMemory [] r
+
   nothing_done : Extends state state
   nothing_done = record { world = stays_there w; replies = λ n r i. i }
 
@@ -206,7 +222,7 @@ module _ (objects : List Object) (grants : Grants) (state : State) (command : Co
   one_command_extends (whats.Append colours text) = append_extends colours text (members colours)
   one_command_extends (whats.Stop steps colours text) = stop_extends colours text steps
   one_command_extends (whats.Sync colour) = sync_extends colour
-  one_command_extends (whats.Scan colours) = nothing_done
+  one_command_extends (whats.Scan colours) = scan_extends (members colours)
   one_command_extends (whats.Pull region colour) = pull_extends region colour
   one_command_extends (whats.Trim colour) = trim_extends colour
   one_command_extends (whats.Put object key value) =
@@ -404,13 +420,47 @@ module _ (objects : List Object) (grants : Grants) (state : State) (command : Co
       ∙ sym (if_false (may_single w u c)
       (dequeued_at all_granted state command v' stamp (point_in w v' u (next_id w u) c)) ended f))
 
+  -- the answer to a scan, by how its read ended
+  end_exact : (v : World) (ends : ReadEnd) → TellsNone (scanned_by grants state command v ends)
+      → IsRaised ends × (scanned_by grants state command v ends ≡ scanned_by all_granted state command v ends)
+  end_exact v (Whole stamp raises syncs keys) tells =
+      let shown : State = answered state command v (answers.Scanned stamp (length keys) raises syncs)
+      (map (shown_key v) keys) in
+      let refused : State = answered state command v answers.NoMemory [] in
+      let t : all_granted.items ≡ true = refl in (
+        tt,
+        by_test _ grants.items
+            (λ is. if_true grants.items shown refused is ∙ sym (if_true all_granted.items shown refused t))
+            (λ f. absurd (told_so v (subst TellsNone (if_false grants.items shown refused f) tells))),
+      )
+  end_exact v (Refused colour base) tells = (tt, refl)
+  end_exact v Unraised tells = absurd (told_so v tells)
+
+  scanned_world : (v : World) (ends : ReadEnd) → (scanned_by grants state command v ends).world ≡ v
+  scanned_world v (Whole stamp raises syncs keys) =
+      choice (λ (s : State). s.world ≡ v) grants.items
+      (answered state command v (answers.Scanned stamp (length keys) raises syncs) (map (shown_key v) keys))
+      (answered state command v answers.NoMemory []) (λ _. refl) (λ _. refl)
+  scanned_world v (Refused colour base) = refl
+  scanned_world v Unraised = refl
+
+  scan_exact : (colours : List ℕ) → IsClean (scanned grants state command colours).world
+      → TellsNone (scanned grants state command colours)
+      → scanned grants state command colours ≡ scanned all_granted state command colours
+  scan_exact colours clean tells =
+      let read = stamped_read grants w u colours in
+      let ended = end_exact read.world read.ends tells in
+      ended.1
+      ∙ ap (λ (r : StampedRead). scanned_by all_granted state command r.world r.ends)
+      (read_exact grants w u colours (subst IsClean (scanned_world read.world read.ends) clean) ended.0)
+
   one_command_exact : (what : What) → IsClean (done_one objects grants state command what).world
       → TellsNone (done_one objects grants state command what)
       → done_one objects grants state command what ≡ done_one objects all_granted state command what
   one_command_exact (whats.Append colours text) clean tells = append_exact colours text (members colours) clean
   one_command_exact (whats.Stop steps colours text) clean tells = stop_exact colours text steps clean
   one_command_exact (whats.Sync colour) clean tells = refl
-  one_command_exact (whats.Scan colours) clean tells = refl
+  one_command_exact (whats.Scan colours) clean tells = scan_exact (members colours) clean tells
   one_command_exact (whats.Pull region colour) clean tells = pull_exact region colour tells
   one_command_exact (whats.Trim colour) clean tells = refl
   one_command_exact (whats.Put object key value) clean tells =

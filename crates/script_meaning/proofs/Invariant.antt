@@ -51,7 +51,7 @@ pub plain : (what : What) → is_built what ≡ true → IsPlain what
 plain (whats.Append colours text) b = record { before = λ k. refl; behind = λ k. refl }
 plain (whats.Stop steps colours text) b = record { before = λ k. refl; behind = λ k. refl }
 plain (whats.Sync colour) b = record { before = λ k. refl; behind = λ k. refl }
-plain (whats.Scan colours) b = absurd (let f : ⊥ = cc in f)
+plain (whats.Scan colours) b = record { before = λ k. refl; behind = λ k. refl }
 plain (whats.Pull region colour) b = record { before = λ k. refl; behind = λ k. refl }
 plain (whats.Trim colour) b = record { before = λ k. refl; behind = λ k. refl }
 plain (whats.Put object key value) b = record { before = λ k. refl; behind = λ k. refl }

@@ -33,6 +33,7 @@ use Rattle.lawful_run.proofs.CallerLemmas.{get_within, get-append}
 use Rattle.script_meaning.specs.States.{State, Grants, has_colours, is_built, StopsAreLast, answered}
 use Rattle.script_meaning.specs.Helping.{all_cleared}
 use Rattle.script_meaning.specs.Appends.{appended_one, appended_by, appended_several, appended, stopped, is_full, append_steps, with_single, point_in, ended_colour}
+use Rattle.script_meaning.specs.Stamped.{scanned}
 use Rattle.script_meaning.specs.Objects.{caller_in, refusing_home, shard_set}
 use Rattle.script_meaning.specs.Meaning.{done_one, done_from, done, LeadTo, nothing, next}
 use Rattle.script_meaning.proofs.Clearing.{Finished}
@@ -45,6 +46,7 @@ use Rattle.script_meaning.proofs.DequeueRuns as dequeues
 use Rattle.script_meaning.proofs.ObjectKinds.{some_of, object_has, queue_one, not_away, is_away, did_stay_away}
 use Rattle.script_meaning.proofs.AppendOne as one
 use Rattle.script_meaning.proofs.AfterMoves as moving
+use Rattle.script_meaning.proofs.AfterScan as scanning
 use Rattle.script_meaning.proofs.BeginRow as begun
 use Rattle.script_meaning.proofs.AppendSeveral as several
 use Rattle.script_meaning.proofs.AppendFinal as final
@@ -281,6 +283,19 @@ module _ (script : Script) (commands : List Command) (state : State) (command : 
       (set_has colours (λ d i. let x = low d i in let y = fit.few_colours in omega (arith, x, y))
       (subst (λ (l : List ℕ). 1 ≤ length l) (sym is) c.some)) is low
 
+  -- a scan
+  some_member : (xs : List ℕ) → 1 ≤ length xs → (x : ℕ) × In x xs
+  some_member [] le = absurd (let f : ⊥ = omega (arith, le) in f)
+  some_member (x ∷ xs) le = (x, inl refl)
+
+  runs_scan_of : (colours : Colours) → command.what ≡ whats.Scan colours → 1 ≤ length (members colours)
+      → All (λ c. c < script.shape.colours) (members colours)
+      → Runs script commands' (scanned grants state command (members colours))
+  runs_scan_of colours asked some all =
+      let first = some_member (members colours) some in
+      scanning.runs_scan script commands state command grants runs fit colours asked
+      (λ x i. all_at (λ y. y < script.shape.colours) (members colours) all x i) first.0 first.1
+
   runs_what : (what : What) → command.what ≡ what → is_built what ≡ true
       → IsWithin script.shape.regions script.shape.colours what → UsesObject script.objects what
       → Runs script commands' (done_one script.objects grants state command what)
@@ -293,7 +308,7 @@ module _ (script : Script) (commands : List Command) (state : State) (command : 
       (λ x i. all_at (λ y. y < script.shape.colours) (members colours) within x i) steps asked
   runs_what (whats.Sync colour) asked b within uses =
       moving.runs_sync script commands state command runs fit colour asked within
-  runs_what (whats.Scan colours) asked b within uses = absurd (let f : ⊥ = cc in f)
+  runs_what (whats.Scan colours) asked b within uses = runs_scan_of colours asked (has_low 1 colours b).0 within
   runs_what (whats.Pull region colour) asked b within uses =
       moving.runs_pull script commands state command runs fit grants region colour asked within.0 within.1
   runs_what (whats.Trim colour) asked b within uses =

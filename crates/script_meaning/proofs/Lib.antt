@@ -16,6 +16,10 @@ mod ObjectAppends
 mod Playing
 mod ChainNodes
 mod Sync
+mod StampedRaises
+mod StampedPlays
+mod StampedReads
+mod StampedEnds
 mod OwnEvents
 mod Trimming
 mod Dequeuing
@@ -37,10 +41,12 @@ mod CompletionParts
 mod Stopping
 mod Invariant
 mod DequeueRuns
+mod AfterScan
 mod InvariantHolds
 mod RowsOfClients
 mod LawfulReports
 mod GrantedSteps
+mod GrantedReads
 mod GrantedCommands
 mod ExactReports
 mod LastStops

@@ -19,7 +19,7 @@ use Rattle.col_core.specs.Copies.{AreTrueCopies}
 use Rattle.col_core.specs.Log.{Log, first}
 use Rattle.col_core.specs.Keeping.{Kept, updated, kept_after_sync}
 use Rattle.col_core.specs.Rows.{BegunRow}
-use Rattle.col_core.specs.PlayOrder.{Place, Stands, IsPlayOrder}
+use Rattle.col_core.specs.PlayOrder.{Place, Stands, IsPlayOrder, greatest_between}
 use Rattle.col_core.proofs.CallerLemmas.{both, if_true, cut-is_greatest, In}
 use Rattle.world_laws.specs.declared.steps.Step.TheVariants.{Play}
 use Rattle.world_laws.specs.Worlds.{World, ClientState, home_of, after, base_after, may_play, played_cut, played_stamp, after_play, with_client, no_row, is_client, is_column}
@@ -29,6 +29,7 @@ use Rattle.playback.specs.Orders.{play_order}
 use Rattle.script_text.specs.declared.script.Object.{Object}
 use Rattle.script_text.specs.declared.script.What.TheVariants as whats
 use Rattle.report_text.specs.declared.report.Answer.TheVariants as answers
+use Rattle.lawful_run.specs.Reads as reads
 use Rattle.lawful_run.specs.Reads.{Syncs, ShowsNode, ShowsPlayed, greatest_stamp, IsTrimmed}
 use Rattle.lawful_run.specs.Explains.{Explains}
 use Rattle.script_meaning.specs.Moves.{placed, placed_at, no_head, home_chains, nodes_played}
@@ -182,6 +183,14 @@ module _ (objects : List Object) (w : World) (reached : IsReached w) (u c : ℕ)
 
       pub start : kept.starts c ≡ from
       start = ap (λ (f : ℕ → Counts). f c) k.starts
+
+      -- the greatest stamp that is played, as the log has it
+      pub piece_stamp : greatest_stamp nodes
+          ≡ reads.played_stamp log (caller_in w objects u) kept c (length h) snapshot
+      piece_stamp =
+          stamp_is
+          ∙ ap (λ (v : Counts). greatest_between chains v snapshot) (sym start)
+          ∙ ap (λ (x : List Dated). greatest_between (chain own x) (kept.starts c) snapshot) (sym all)
 
       pub syncs : Syncs log (caller_in w objects u) kept c (length h) snapshot
       syncs = record {

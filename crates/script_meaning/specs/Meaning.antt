@@ -25,6 +25,7 @@ use Rattle.lawful_run.specs.Columns.{row_report}
 use Rattle.script_meaning.specs.States.{State, opening, Grants, all_granted, answered}
 use Rattle.script_meaning.specs.Appends.{appended, stopped}
 use Rattle.script_meaning.specs.Moves.{synced, pulled, trimmed}
+use Rattle.script_meaning.specs.Stamped.{scanned}
 use Rattle.script_meaning.specs.Objects.{caller_in, refusing_home, put_into, deleted_from, put_all_into, enqueued_in}
 use Rattle.script_meaning.specs.Dequeues.{dequeued}
 
@@ -34,7 +35,7 @@ done_one objects grants state command (whats.Append colours text) =
     appended grants state command colours text (members colours)
 done_one objects grants state command (whats.Stop steps colours text) = stopped grants state command colours text steps
 done_one objects grants state command (whats.Sync colour) = synced state command colour
-done_one objects grants state command (whats.Scan colours) = state
+done_one objects grants state command (whats.Scan colours) = scanned grants state command (members colours)
 done_one objects grants state command (whats.Pull region colour) = pulled grants state command region colour
 done_one objects grants state command (whats.Trim colour) = trimmed state command colour
 done_one objects grants state command (whats.Put object key value) =

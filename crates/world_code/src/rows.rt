@@ -47,18 +47,6 @@ fn is_at_end(clock: u64, floor: u64) -> bool
 }
 
 impl World {
-    /// The node that was appended with an id, where there is one.
-    pub fn node(&self, id: Id) -> Option<&Arc<Node>>
-        ensures some { IfSome result (λ node. slice_get ((world_of self.now).nodes id.client) id.count
-            ≡ Some node.now.value) }
-        ensures none { result ≡ None → slice_get ((world_of self.now).nodes id.client) id.count ≡ None }
-    {
-        if id.client as usize >= self.clients.len() {
-            return None;
-        }
-        self.clients[id.client as usize].node(id.count)
-    }
-
     /// The node of a begun row; `None` exactly where the row is not begun.
     pub fn row_node(&self, row: Row) -> Option<&Arc<Node>>
         ensures some { IfSome result (λ node. (is_begun (world_of self.now) row ≡ true)

@@ -2,7 +2,7 @@
 use super::*;
 
 /// Lines from line 8 on in one region, the line that is refused, and the reason.
-const REFUSED: [(&str, u32, &str); 12] = [
+const REFUSED: [(&str, u32, &str); 11] = [
     ("z append x hi", 8, "unknown client"),
     ("a fly x", 8, "unknown command"),
     ("a append z hi", 8, "unknown colour"),
@@ -12,7 +12,6 @@ const REFUSED: [(&str, u32, &str); 12] = [
     ("a append x \u{80}", 8, "not ascii"),
     ("a stop 0 x,y q\na sync x\n", 9, "client stopped"),
     ("a stop 1 x q", 8, "stop needs two colours"),
-    ("a append x hi\n\na scan x,y\na sync x\n", 10, "not built"),
     ("a scan x\na fly x\n", 9, "unknown command"),
     (
         "a append x \

@@ -11,6 +11,7 @@ use Rattle.script_meaning.specs.States.{is_built}
 use Rattle.script_meaning.specs.Appends.{appended, stopped}
 use Rattle.script_meaning.specs.Moves.{synced, pulled, trimmed}
 use Rattle.script_meaning.specs.Dequeues.{dequeued}
+use Rattle.script_meaning.specs.Stamped.{scanned}
 use Rattle.script_meaning.specs.Objects.{put_into, deleted_from, put_all_into, enqueued_in}
 use Rattle.script_in_order.specs.Doing.{DoneBy, DoesAtHome}
 use Rattle.script_in_order.proofs.CommandKinds.{does_what, with_nodes, built_kinds}
@@ -36,6 +37,13 @@ pub sync-requires : goal.sync-requires
 sync-requires c = record {
   caller = c.requires.fits.caller;
   within = subst (IsWithin c.args.world.now.shape.regions c.args.world.now.shape.colours) c.in-Sync.is
+      c.requires.fits.within;
+}
+
+pub scan-requires : goal.scan-requires
+scan-requires c = record {
+  caller = c.requires.fits.caller;
+  within = subst (IsWithin c.args.world.now.shape.regions c.args.world.now.shape.colours) c.in-Scan.is
       c.requires.fits.within;
 }
 
@@ -93,7 +101,7 @@ dequeue-requires c = record {
 pub unreachable-requires : goal.unreachable-requires
 unreachable-requires c =
     built_kinds c.args.command.now.what c.requires.built c.in_default.not-Append c.in_default.not-Stop
-    c.in_default.not-Sync c.in_default.not-Pull c.in_default.not-Trim c.in_default.not-Put c.in_default.not-Del
+    c.in_default.not-Sync c.in_default.not-Scan c.in_default.not-Pull c.in_default.not-Trim c.in_default.not-Put c.in_default.not-Del
     c.in_default.not-PutAll c.in_default.not-Enq c.in_default.not-Deq
 
 pub returns-in_ok-answer-in-Append-clause-ok : goal.returns-in_ok-answer-in-Append-clause-ok
@@ -127,6 +135,18 @@ returns-in-Sync-clause-ok c =
     (λ (g : Answer × List PlacedNode). DoesAtHome c.args.objects.now c.args.command.now w new g.0 g.1)
     (λ g d. does_what c.args.objects.now c.args.command.now (whats.Sync c.in-Sync.colour) w new g.0 g.1 c.in-Sync.is d)
     c.sync.ensures.ok
+
+pub returns-in-Scan-clause-ok : goal.returns-in-Scan-clause-ok
+returns-in-Scan-clause-ok c =
+    let w = world_of c.args.world.now in
+    let new = world_of c.scan.new.world in
+    IfOk-weaker c.scan.result
+    (λ (g : Answer × List PlacedNode). DoneBy
+    (λ grants state. scanned grants state c.args.command.now (members c.in-Scan.colours))
+    c.args.command.now w new g.0 g.1)
+    (λ (g : Answer × List PlacedNode). DoesAtHome c.args.objects.now c.args.command.now w new g.0 g.1)
+    (λ g d. does_what c.args.objects.now c.args.command.now (whats.Scan c.in-Scan.colours) w new g.0 g.1 c.in-Scan.is d)
+    c.scan.ensures.ok
 
 pub returns-in_ok-answer-in-Pull-clause-ok : goal.returns-in_ok-answer-in-Pull-clause-ok
 returns-in_ok-answer-in-Pull-clause-ok c =
