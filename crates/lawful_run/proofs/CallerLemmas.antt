@@ -1,3 +1,5 @@
 -- What callers may cite of this crate's proofs; all else there is private.
 pub use Rattle.lawful_run.proofs.Later.{explained_later}
 pub use Rattle.lawful_run.proofs.Prefixes.{get-append, get_within, prefix_get, prefix_length, prefix_take}
+pub use Rattle.lawful_run.proofs.ObjectAnswers.{explains_append, explains_get, explains_values, explains_get_trimmed, explains_get_without}
+pub use Rattle.lawful_run.proofs.ObjectAnswers.{explains_take, explains_unread, explains_unread_without, explains_away, one_shard}

@@ -23,4 +23,5 @@ mod Once
 mod ReadOrder
 mod Folds
 mod CausalGets
+mod ObjectAnswers
 pub mod CallerLemmas
