@@ -24,4 +24,5 @@ mod Once
 mod ReadOrder
 mod Folds
 mod CausalGets
+mod ObjectAnswers
 pub mod CallerLemmas
