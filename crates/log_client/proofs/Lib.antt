@@ -17,6 +17,7 @@ mod Endings
 mod EndsClients
 mod Greatest
 mod OwnMore
+mod Several
 mod LeftOpen
 mod Handing
 mod ClosesStore
