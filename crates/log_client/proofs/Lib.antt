@@ -18,6 +18,7 @@ mod EndsClients
 mod Greatest
 mod OwnMore
 mod Several
+mod Foreign
 mod LeftOpen
 mod Handing
 mod ClosesStore

@@ -36,7 +36,7 @@ use Rattle.chain_store.specs.Holds.{IsHold, entries_seen, seen_in, view_of}
 use Rattle.chain_store.proofs.CallerLemmas.{member_has}
 use Rattle.append_core.specs.declared.stood.Point.{Point}
 use Rattle.append_core.specs.declared.stood.Stood.{Stood}
-use Rattle.append_core.specs.Helping.{IsStepIn, HelpsOpen}
+use Rattle.append_core.specs.Helping.{IsStepIn}
 use Rattle.append_core.specs.Settled.{IsMarkedThere, IsSettledNow}
 use Rattle.append_core.specs.Several as core
 use Rattle.report_text.specs.declared.report.PointPiece.{PointPiece}
@@ -214,9 +214,9 @@ module _ (gs hs : List Hold) (caller : Caller) (r : Region) (g h : Hold) (at_g :
       → HasBegun (seen_by gs) (seen_by hs) rest caller kept x
   stops_begun steps s = has_begun s.begun (core.IsStepBefore x steps) s.goes (λ c e made own. made.2)
 
-  -- an append stands in all of its colours, where it helped none of the client's own
-  module _ (s : Stood) (a : core.StandsInAll r g h x s)
-      (foreign : (e : event_types.Event) → HelpsOpen g h e → IsTrue (is_own caller.client e) → ⊥) where
+  -- an append stands in all of its colours, where all that it made of its own are its steps
+  module _ (s : Stood) (a : core.StandsInAll r g h x s) (Made : ℕ → event_types.Event → Type 0) (goes : GoesOn Made g h)
+      (own : (c : ℕ) (e : event_types.Event) → Made c e → IsTrue (is_own caller.client e) → IsStepOf x.id e) where
     enters_there : (c : ℕ) (at : At) → core.EntersThere g h x c at → EntersThere (seen_by gs) (seen_by hs) caller x c at
     enters_there c (Event place) e =
         let old = seen_long gs caller.own g at_g c in
@@ -246,9 +246,7 @@ module _ (gs hs : List Hold) (caller : Caller) (r : Region) (g h : Hold) (at_g :
         → 2 ≤ length (members x.colours) → kept.rows ≡ g.seat.used → caller.rows ≡ r.board.size.rows
         → StandInAll (seen_by gs) (seen_by hs) rest caller kept x a.stamp (map piece_of s.points)
     stand_in_all kept id floor several rows board = record {
-      begun = has_begun a.begun (λ c e. IsStepIn (core.own_append g x) c e ⊎ HelpsOpen g h e) a.goes
-          (λ c e made own. elim made [ inl step ↦ step.1 | inr helps ↦ absurd (foreign e helps own) ])
-          kept id several rows board;
+      begun = has_begun a.begun Made goes own kept id several rows board;
       floor = floor;
       outcome = outcome_there hs rest caller.own h at_h fits (seen_by hs) (core.own_row g) x (row_in a.begun)
           a.begun.knows home (Final a.stamp) a.outcome;
