@@ -1,5 +1,5 @@
 -- What a client helps is not its own, where each append that it began before is closed.
-use Rattle.std.proofs.Common.{◌≡◌, ◌≢◌, ℕ, zero, suc, ◌+◌, ◌<◌, ◌≤◌, List, [], ◌∷◌, ◌++◌, length, Option, Some, None, true, slice_get, refl, ap, sym, subst, ◌∙◌, inl, inr, ◌⊎◌, arith, eqb-true}
+use Rattle.std.proofs.Common.{◌≡◌, ℕ, suc, ◌+◌, ◌<◌, List, [], ◌∷◌, length, Some, None, true, slice_get, refl, ap, sym, subst, ◌∙◌, inl, inr, ◌⊎◌, arith, eqb-true}
 use Rattle.std.specs.Prelude.{IsTrue}
 use Rattle.std.specs.List.{All}
 use Rattle.std.proofs.lemmas.Bool.{cases_eq}
@@ -20,7 +20,7 @@ use Rattle.col_core.specs.Log.{is_own}
 use Rattle.col_core.proofs.CallerLemmas.{contains_in, slice_in}
 use Rattle.stamp_board.specs.declared.view.Size.{Size}
 use Rattle.stamp_board.specs.Rows.{IsRow}
-use Rattle.stamp_board.specs.Views.{KnowsBegun, KnowsMark, Learns}
+use Rattle.stamp_board.specs.Views.{KnowsBegun, KnowsMark}
 use Rattle.stamp_board.proofs.CallerLemmas.{begun_learnt}
 use Rattle.chain_store.specs.declared.told.Told.{Told}
 use Rattle.chain_store.specs.declared.hold.Hold.{Hold}
@@ -32,7 +32,7 @@ use Rattle.chain_store.specs.Going.{GoesOn}
 use Rattle.chain_store.specs.Holds.{IsHold, made_in, seen_in, view_of}
 use Rattle.append_core.specs.Helping.{HelpsOpen}
 use Rattle.append_core.proofs.CallerLemmas.{never_helped}
-use Rattle.log_client.specs.Clients.{AllClosed, AreRows, IsClosedIn}
+use Rattle.log_client.specs.Clients.{AllClosed, AreRows}
 use Rattle.log_client.specs.Fits.{HasGoneOn}
 use Rattle.log_client.proofs.Lists.{got, got_onward}
 

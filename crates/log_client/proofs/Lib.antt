@@ -12,6 +12,7 @@ mod OwnNodes
 mod Ends
 mod TrulyPulled
 mod EndsLog
+mod ByClient
 mod EndsRows
 mod Endings
 mod EndsClients

@@ -1,16 +1,14 @@
 -- Appends to several colours: from what a hold has seen, made and knows to what a client knows.
-use Rattle.std.proofs.Common.{◌≡◌, ◌≢◌, ℕ, zero, suc, ◌+◌, ◌<◌, ◌≤◌, List, [], ◌∷◌, ◌++◌, length, map, Option, Some, None, Bool, true, false, cond, slice_get, refl, ap, sym, subst, ◌∙◌, inl, inr, ◌⊎◌, arith}
-use Rattle.std.specs.Prelude.{IsTrue, ◌==◌}
+use Rattle.std.proofs.Common.{◌≡◌, ◌≢◌, ℕ, zero, suc, ◌+◌, ◌<◌, ◌≤◌, List, [], ◌∷◌, length, map, Some, Bool, true, false, cond, slice_get, refl, ap, sym, subst, ◌∙◌, inl, inr, arith}
+use Rattle.std.specs.Prelude.{IsTrue}
 use Rattle.std.specs.List.{All, filter, range_with_len}
 use Rattle.std.proofs.lemmas.List.Elements.{All-cons, All-nil}
 use Rattle.log_node.specs.declared.ids.Id.{Id}
-use Rattle.log_node.specs.declared.ids.Row.{Row}
 use Rattle.log_node.specs.declared.ids.Colours.{Colours}
 use Rattle.log_node.specs.declared.node.At.{At}
 use Rattle.log_node.specs.declared.node.At.TheVariants.{Event, Look}
 use Rattle.log_node.specs.declared.node.Node.{Node}
-use Rattle.log_node.specs.declared.marks.Why.{Why}
-use Rattle.log_node.specs.declared.marks.Why.TheVariants.{Memory, StampEnd}
+use Rattle.log_node.specs.declared.marks.Why.TheVariants.{StampEnd}
 use Rattle.log_node.specs.declared.marks.Mark.{Mark}
 use Rattle.log_node.specs.declared.marks.Mark.TheVariants as marks
 use Rattle.log_node.specs.declared.marks.Outcome.{Outcome}
@@ -20,30 +18,29 @@ use Rattle.log_node.specs.Standings.{open_entry}
 use Rattle.col_core.specs.declared.Event as event_types
 use Rattle.col_core.specs.declared.Event.TheVariants as events
 use Rattle.col_core.specs.declared.Entry.{Entry}
-use Rattle.col_core.specs.History.{entries, entry_key, has_entered, line}
+use Rattle.col_core.specs.History.{entries, has_entered, line}
 use Rattle.col_core.specs.Ids.{IsStepOf}
 use Rattle.col_core.specs.Log.{is_own, HasMark, HasOutcome}
 use Rattle.col_core.specs.Keeping.{Kept}
 use Rattle.stamp_board.specs.declared.view.Size.{Size}
 use Rattle.stamp_board.specs.Rows.{IsRow}
 use Rattle.stamp_board.specs.Views.{KnowsMark}
-use Rattle.chain_store.specs.declared.told.Told.{Told}
 use Rattle.chain_store.specs.declared.hold.Hold.{Hold}
 use Rattle.chain_store.specs.declared.region.Region.{Region}
 use Rattle.chain_store.specs.Columns.{told_propose}
 use Rattle.chain_store.specs.Going.{GoesOn}
-use Rattle.chain_store.specs.Holds.{IsHold, entries_seen, seen_in, view_of}
+use Rattle.chain_store.specs.Holds.{IsHold, view_of}
 use Rattle.chain_store.proofs.CallerLemmas.{member_has}
 use Rattle.append_core.specs.declared.stood.Point.{Point}
 use Rattle.append_core.specs.declared.stood.Stood.{Stood}
 use Rattle.append_core.specs.Helping.{IsStepIn}
-use Rattle.append_core.specs.Settled.{IsMarkedThere, IsSettledNow}
+use Rattle.append_core.specs.Settled.{IsSettledNow}
 use Rattle.append_core.specs.Several as core
 use Rattle.report_text.specs.declared.report.PointPiece.{PointPiece}
 use Rattle.lawful_run.specs.Callers.{Caller}
-use Rattle.lawful_run.specs.Stops.{IsStepWithin, IsMarked, IsDecided}
+use Rattle.lawful_run.specs.Stops.{IsStepWithin}
 use Rattle.client_law.specs.Knowing.{Rest, log_of, SeesOn}
-use Rattle.client_law.specs.Appends.{EachStep, HasBegun, EntersThere, StandsThere, StandInAll, IsSettledThere, IsSettledEverywhere, EndsAtColour, StopsThere}
+use Rattle.client_law.specs.Appends.{HasBegun, EntersThere, StandsThere, StandInAll, IsSettledThere, IsSettledEverywhere, EndsAtColour, StopsThere}
 use Rattle.log_client.specs.Fits.{seen_by, Fits}
 use Rattle.log_client.proofs.Lists.{unmapped}
 use Rattle.log_client.proofs.Seeing.{seen_there}
