@@ -22,7 +22,7 @@ use Rattle.chain_store.specs.Holds.{seen_in}
 use Rattle.append_core.specs.declared.stood.Stood.{Stood}
 use Rattle.append_core.specs.Standing.{IsSingleOf}
 use Rattle.append_core.specs.Standing.{StandsAlone as HoldStands}
-use Rattle.append_core.specs.Helping.{HelpsOpen}
+use Rattle.chain_store.specs.Going.{GoesOn}
 use Rattle.lawful_run.specs.Callers.{Caller}
 use Rattle.client_law.specs.Knowing.{Rest, SeesOn}
 use Rattle.client_law.specs.Making.{is_own_step, own_steps, MakesOnly}
@@ -92,16 +92,17 @@ module _ (gs hs : List Hold) (caller : Caller) (g h : Hold) (at_g : slice_get gs
     stands = ap (λ (l : List Entry). slice_get (line l) a.position) (seen_there hs caller.own h at_h colour) ∙ a.stands;
   }
 
-  -- it is the client's only own step, where it helped none of its own appends
-  module _ (on : SeesOn caller (seen_by gs) (seen_by hs))
+  -- it is the client's only own step, where all else that it made is not its own
+  module _ (Foreign : event_types.Event → Type 0) (on : SeesOn caller (seen_by gs) (seen_by hs))
       (others : (region : ℕ) → region ≢ caller.own → slice_get hs region ≡ slice_get gs region)
-      (foreign : (e : event_types.Event) → HelpsOpen g h e → IsTrue (is_own caller.client e) → ⊥) where
+      (goes : GoesOn (λ c e. ((c ≡ colour) × IsSingleOf x.id e) ⊎ Foreign e) g h)
+      (foreign : (e : event_types.Event) → Foreign e → IsTrue (is_own caller.client e) → ⊥) where
     each : (c : ℕ) → EachStep caller (seen_by gs) (seen_by hs) c (λ e. (c ≡ colour) × IsSingleOf x.id e)
     each c =
         steps_of_goes gs hs caller g h at_g at_h is
-        (λ k e. ((k ≡ colour) × IsSingleOf x.id e) ⊎ HelpsOpen g h e) on a.goes
+        (λ k e. ((k ≡ colour) × IsSingleOf x.id e) ⊎ Foreign e) on goes
         (λ e. (c ≡ colour) × IsSingleOf x.id e) c
-        (λ e made own. elim made [ inl single ↦ single | inr helps ↦ absurd (foreign e helps own) ])
+        (λ e made own. elim made [ inl single ↦ single | inr other ↦ absurd (foreign e other own) ])
 
     own_at : (c place : ℕ) (e : Entry) → length (seen_by gs caller.own c) ≤ place
         → slice_get (seen_by hs caller.own c) place ≡ Some e → is_own_step caller.client e ≡ true

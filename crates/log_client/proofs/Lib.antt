@@ -12,11 +12,14 @@ mod OwnNodes
 mod Ends
 mod TrulyPulled
 mod EndsLog
+mod ByClient
 mod EndsRows
 mod Endings
 mod EndsClients
 mod Greatest
 mod OwnMore
+mod Several
+mod Foreign
 mod LeftOpen
 mod Handing
 mod ClosesStore
