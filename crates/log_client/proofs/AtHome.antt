@@ -175,15 +175,3 @@ module _ (s : Store) (c d : Client) (r : Region) (g h : Hold) (is : IsClient s c
           },
         )
       ]))
-
-  -- where it brought none
-  pub own_stays : ((k : ℕ) → made_in h k ≡ made_in g k) → h.seat.used ≡ g.seat.used
-      → HasOwnNodes d.number (holds_of d) is.nodes
-  own_stays made used =
-      subst (HasOwnNodes d.number (holds_of d)) (append-nil is.nodes)
-      (own_after [] (λ n x at. is.own_nodes.ids n x (ap (λ (l : List Node). slice_get l n) (sym (append-nil is.nodes)) ∙ at))
-      (record {
-        on = ch.on;
-        singles = λ k m t x at nodes single. inl (m, ap (λ l. slice_get l m) (sym (made k)) ∙ at);
-        rows = λ j lt. inl (omega (arith, lt, used));
-      }))
