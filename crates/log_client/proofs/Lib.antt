@@ -27,4 +27,5 @@ mod EndsLog
 mod EndsRows
 mod Endings
 mod EndsClients
+mod TwoHolds
 pub mod CallerLemmas

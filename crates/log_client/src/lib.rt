@@ -8,6 +8,7 @@ mod faults;
 mod notes;
 mod opening;
 mod played;
+mod pulls;
 mod store;
 mod syncs;
 mod track;
