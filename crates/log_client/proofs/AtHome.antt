@@ -1,19 +1,18 @@
 -- What a call leaves that changes the hold of the client's region alone.
-use Rattle.std.proofs.Common.{◌≡◌, ◌≢◌, ◌⊎◌, inl, inr, ℕ, zero, suc, ◌+◌, ◌<◌, ◌≤◌, List, [], ◌∷◌, ◌++◌, length, Option, Some, None, refl, ap, sym, subst, ◌∙◌, arith, append-nil}
+use Rattle.std.proofs.Common.{◌≡◌, ◌≢◌, inl, inr, ℕ, zero, suc, ◌≤◌, List, [], ◌∷◌, ◌++◌, length, Some, refl, ap, sym, subst, ◌∙◌, arith, append-nil}
 use Rattle.std.specs.Prelude.{slice_get, slice_set}
 use Rattle.std.proofs.lemmas.Bool.{cases_eq}
-use Rattle.std.proofs.lemmas.Option.{same_Some, slice_get_within}
+use Rattle.std.proofs.lemmas.Option.{same_Some}
 use mathlib.Core.List.{IsPrefix}
-use Rattle.log_node.specs.declared.ids.Id.{Id}
 use Rattle.log_node.specs.declared.limits.TheConstants.{MAX_STAMP}
 use Rattle.log_node.specs.declared.node.Node.{Node}
 use Rattle.script_text.specs.declared.script.Object.{Object}
 use Rattle.stamp_board.specs.declared.seats.Seat.{Seat}
-use Rattle.stamp_board.specs.Seats.{IsLater, seen as seat_seen}
-use Rattle.stamp_board.specs.Views.{Grows, Learns}
+use Rattle.stamp_board.specs.Seats.{seen as seat_seen}
+use Rattle.stamp_board.specs.Views.{Learns}
 use Rattle.chain_store.specs.declared.hold.Hold.{Hold}
 use Rattle.chain_store.specs.declared.region.Region.{Region}
-use Rattle.chain_store.specs.Holds.{IsHold, SameBut, seen_in, made_in, turned_in, view_of}
+use Rattle.chain_store.specs.Holds.{IsHold, SameBut, seen_in, made_in, view_of}
 use Rattle.client_law.specs.Knowing.{SeesOn}
 use Rattle.log_client.specs.declared.store.Store.{Store}
 use Rattle.log_client.specs.declared.client.Client.{Client}
@@ -176,15 +175,3 @@ module _ (s : Store) (c d : Client) (r : Region) (g h : Hold) (is : IsClient s c
           },
         )
       ]))
-
-  -- where it brought none
-  pub own_stays : ((k : ℕ) → made_in h k ≡ made_in g k) → h.seat.used ≡ g.seat.used
-      → HasOwnNodes d.number (holds_of d) is.nodes
-  own_stays made used =
-      subst (HasOwnNodes d.number (holds_of d)) (append-nil is.nodes)
-      (own_after [] (λ n x at. is.own_nodes.ids n x (ap (λ (l : List Node). slice_get l n) (sym (append-nil is.nodes)) ∙ at))
-      (record {
-        on = ch.on;
-        singles = λ k m t x at nodes single. inl (m, ap (λ l. slice_get l m) (sym (made k)) ∙ at);
-        rows = λ j lt. inl (omega (arith, lt, used));
-      }))

@@ -1,37 +1,28 @@
 -- How the clients of a new store get their holds.
-use Rattle.std.proofs.Common.{◌≡◌, ◌≢◌, ◌⊎◌, inl, inr, ℕ, zero, suc, ◌+◌, ◌<◌, ◌≤◌, List, [], ◌∷◌, ◌++◌, length, map, Option, Some, None, refl, ap, sym, subst, ◌∙◌, arith, length-append}
+use Rattle.std.proofs.Common.{◌≡◌, ◌≢◌, ◌⊎◌, inl, inr, ℕ, zero, suc, ◌+◌, ◌<◌, List, [], ◌∷◌, ◌++◌, length, map, Option, Some, None, refl, ap, sym, subst, ◌∙◌, arith, length-append}
 use Rattle.std.specs.Prelude.{slice_get, slice_set}
-use Rattle.std.specs.List.{All}
-use Rattle.std.proofs.lemmas.Bool.{cases_eq}
 use Rattle.std.proofs.lemmas.Option.{same_Some, slice_get_within}
-use Rattle.log_node.specs.declared.node.Node.{Node}
 use Rattle.log_node.specs.declared.node.Shape.{Shape}
 use Rattle.log_node.specs.Reach.{nothing}
 use Rattle.col_core.specs.declared.Entry.{Entry}
-use Rattle.col_core.specs.Computed.{dated}
-use Rattle.col_core.specs.Cuts.{chain}
-use Rattle.log_node.specs.Reach.{Reachable}
 use Rattle.log_node.specs.Vectors.{at, zeros}
 use Rattle.col_core.specs.Keeping.{nothing_kept}
 use Rattle.col_core.specs.Log.{places_of}
 use Rattle.script_text.specs.declared.script.Object.{Object}
 use Rattle.turn_cell.specs.Histories.{made_by}
-use Rattle.stamp_board.specs.declared.view.Size.{Size}
-use Rattle.chain_store.specs.declared.told.Told.{Told}
 use Rattle.chain_store.specs.declared.hold.Hold.{Hold}
 use Rattle.chain_store.specs.declared.region.Region.{Region}
 use Rattle.chain_store.specs.Histories.{entries_in, maker}
-use Rattle.chain_store.specs.Holds.{IsHold, seen_in, made_in, entries_seen}
+use Rattle.chain_store.specs.Holds.{IsHold, seen_in, made_in}
 use Rattle.chain_store.specs.Opening.{IsNewHold, AreNewHolds}
-use Rattle.client_law.specs.Kept.{IsKeptBy, AreUnder}
+use Rattle.client_law.specs.Kept.{AreUnder}
 use Rattle.client_law.proofs.CallerLemmas.{nothing_is_kept}
 use Rattle.log_client.specs.declared.store.Store.{Store}
 use Rattle.log_client.specs.declared.client.Client.{Client}
 use Rattle.log_client.specs.declared.track.Track.{Track}
-use Rattle.log_client.specs.Fits.{seen_by, entries_by}
-use Rattle.log_client.specs.Ending.{AreHoldsIn, PullsTruly, HasOwnNodes}
-use Rattle.log_client.specs.Clients.{holds_of, seen_of, rows_of, tracks_of, starts_of, counts_in, caller_of, nothing_played, IsTrack, AreRows, IsHome, IsClient, Keeps, Finished, AllClosed}
-use Rattle.log_client.specs.Opening.{fresh_track, AreFreshTracks, IsFresh, AreFreshClients, HaveNoHolds, Got, Dealt, HasNewHolds, HaveNewHolds, IsNewClient}
+use Rattle.log_client.specs.Fits.{entries_by}
+use Rattle.log_client.specs.Clients.{holds_of, seen_of, rows_of, tracks_of, counts_in, caller_of, nothing_played, IsTrack, IsClient, Keeps, Finished}
+use Rattle.log_client.specs.Opening.{AreFreshTracks, IsFresh, AreFreshClients, HaveNoHolds, Got, Dealt, HasNewHolds, HaveNewHolds, IsNewClient}
 use Rattle.log_client.proofs.Lists.{got, got_end}
 use Rattle.log_client.proofs.AtHome.{set_elsewhere, set_long}
 

@@ -1,21 +1,17 @@
 -- What a call leaves by which all of a client's holds go on and nothing is made.
-use Rattle.std.proofs.Common.{◌≡◌, ◌≢◌, ◌⊎◌, inl, inr, ℕ, ◌+◌, ◌<◌, ◌≤◌, List, [], ◌∷◌, ◌++◌, length, map, Option, Some, None, refl, ap, sym, subst, ◌∙◌, arith, append-nil}
+use Rattle.std.proofs.Common.{◌≡◌, inl, ℕ, List, [], length, map, Some, refl, ap, sym, subst, ◌∙◌, arith, append-nil}
 use Rattle.std.specs.Prelude.{slice_get}
-use Rattle.std.specs.List.{All}
-use Rattle.std.proofs.lemmas.Option.{same_Some, slice_get_within}
+use Rattle.std.proofs.lemmas.Option.{slice_get_within}
 use Rattle.std.proofs.lemmas.List.Elements.{All-nil}
-use mathlib.Core.List.{IsPrefix}
 use Rattle.log_node.specs.declared.node.Node.{Node}
 use Rattle.col_core.specs.declared.Entry.{Entry}
 use Rattle.col_core.specs.Computed.{dated}
 use Rattle.col_core.specs.Legal.{IsColumnHistory}
-use Rattle.col_core.specs.Keeping.{Kept}
-use Rattle.script_text.specs.declared.script.Object.{Object}
 use Rattle.chain_store.specs.declared.told.Tag.{Tag}
 use Rattle.chain_store.specs.declared.told.Told.{Told}
 use Rattle.chain_store.specs.declared.hold.Hold.{Hold}
 use Rattle.chain_store.specs.declared.region.Region.{Region}
-use Rattle.chain_store.specs.Holds.{IsHold, seen_in, made_in, entries_seen, view_of}
+use Rattle.chain_store.specs.Holds.{seen_in, made_in, entries_seen}
 use Rattle.chain_store.specs.Going.{GoesOn}
 use Rattle.client_law.specs.Knowing.{SeesOn}
 use Rattle.client_law.specs.Making.{MakesNone}
@@ -23,16 +19,15 @@ use Rattle.client_law.specs.Kept.{IsKeptBy}
 use Rattle.client_law.proofs.CallerLemmas.{kept_stays}
 use Rattle.log_client.specs.declared.store.Store.{Store}
 use Rattle.log_client.specs.declared.client.Client.{Client}
-use Rattle.log_client.specs.declared.track.Track.{Track}
 use Rattle.log_client.specs.Fits.{HasGoneOn, HaveGoneOn}
-use Rattle.log_client.specs.Ending.{IsNoMove, AreHoldsIn, HasOwnNodes, PullsTruly}
-use Rattle.log_client.specs.Clients.{holds_of, seen_of, rows_of, tracks_of, caller_of, counts_in, IsClient, IsHome, IsTrack, AreRows, Keeps, Finished, AllClosed}
+use Rattle.log_client.specs.Ending.{IsNoMove, AreHoldsIn, HasOwnNodes}
+use Rattle.log_client.specs.Clients.{holds_of, seen_of, rows_of, caller_of, counts_in, IsClient, IsHome, IsTrack, AreRows, Finished, AllClosed}
 use Rattle.log_client.specs.Calls.{DidNothing}
 use Rattle.log_client.proofs.Lists.{got}
 use Rattle.log_client.proofs.Seeing.{are_lawful, seen_there, sees_on}
 use Rattle.log_client.proofs.Steps.{made_nothing}
 use Rattle.log_client.proofs.Truly.{pulls_truly_stays}
-use Rattle.log_client.proofs.OwnNodes.{Brings, own_nodes_on}
+use Rattle.log_client.proofs.OwnNodes.{own_nodes_on}
 use Rattle.log_client.proofs.AtHome.{are_regions}
 use Rattle.log_client.proofs.Staying.{track_longer, rows_longer, all_closed_longer}
 

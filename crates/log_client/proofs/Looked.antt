@@ -1,11 +1,9 @@
 -- Calls at home by which nothing is made: what the client keeps stays.
-use Rattle.std.proofs.Common.{◌≡◌, ◌≢◌, ◌⊎◌, inl, inr, ℕ, ◌+◌, ◌<◌, ◌≤◌, List, [], ◌++◌, length, map, Option, Some, None, refl, ap, sym, subst, ◌∙◌, arith, append-nil}
+use Rattle.std.proofs.Common.{◌≡◌, ◌⊎◌, inl, inr, ℕ, ◌≤◌, List, [], length, Some, refl, ap, sym, subst, ◌∙◌, arith, append-nil}
 use Rattle.std.proofs.lemmas.List.Elements.{All-contains}
-use Rattle.std.specs.List.{All}
 use Rattle.std.specs.Prelude.{slice_get}
 use Rattle.std.proofs.lemmas.Bool.{cases_eq}
 use Rattle.std.proofs.lemmas.Option.{same_Some}
-use Rattle.log_node.specs.declared.ids.Counts.{Counts}
 use Rattle.log_node.specs.declared.limits.TheConstants.{MAX_STAMP}
 use Rattle.log_node.specs.declared.node.Node.{Node}
 use Rattle.log_node.specs.declared.ids.Id.{Id}
@@ -21,22 +19,20 @@ use Rattle.chain_store.specs.declared.told.Tag.{Tag}
 use Rattle.chain_store.specs.declared.told.Told.{Told}
 use Rattle.chain_store.specs.declared.hold.Hold.{Hold}
 use Rattle.chain_store.specs.declared.region.Region.{Region}
-use Rattle.chain_store.specs.Histories.{entries_in, maker}
-use Rattle.chain_store.specs.Holds.{IsHold, SameBut, SeesMoreIn, seen_in, made_in, turned_in, entries_seen, view_of}
+use Rattle.chain_store.specs.Histories.{maker}
+use Rattle.chain_store.specs.Holds.{SameBut, SeesMoreIn, seen_in, made_in, turned_in, entries_seen}
 use Rattle.chain_store.specs.Going.{GoesOn}
 use Rattle.append_core.specs.Standing.{IsSingleOf}
 use Rattle.chain_store.proofs.CallerLemmas.{goes_same, goes_weaken}
 use Rattle.lawful_run.specs.Callers.{Caller}
-use Rattle.client_law.specs.Knowing.{SeesOn}
 use Rattle.client_law.specs.Making.{MakesNone}
 use Rattle.client_law.specs.Kept.{IsKeptBy}
 use Rattle.client_law.proofs.CallerLemmas.{kept_stays}
 use Rattle.log_client.specs.declared.store.Store.{Store}
 use Rattle.log_client.specs.declared.client.Client.{Client}
 use Rattle.log_client.specs.declared.track.Track.{Track}
-use Rattle.log_client.specs.Fits.{HasGoneOn, HaveGoneOn, seen_by}
-use Rattle.log_client.specs.Ending.{IsNoMove, AreHoldsIn, HasOwnNodes, PullsTruly}
-use Rattle.log_client.specs.Clients.{holds_of, seen_of, rows_of, tracks_of, starts_of, caller_of, IsClient, IsHome, IsTrack, AreRows, Keeps, Finished, AllClosed}
+use Rattle.log_client.specs.Ending.{IsNoMove, HasOwnNodes, PullsTruly}
+use Rattle.log_client.specs.Clients.{holds_of, seen_of, rows_of, tracks_of, starts_of, caller_of, IsClient, IsTrack, AreRows, Keeps, Finished, AllClosed}
 use Rattle.log_client.specs.Calls.{DidNothing}
 use Rattle.col_core.proofs.CallerLemmas.{contains_in, slice_in}
 use Rattle.log_client.proofs.Lists.{got_split}

@@ -1,13 +1,11 @@
 -- A play on a track, from what a look showed.
-use Rattle.std.proofs.Common.{◌≡◌, ℕ, ◌<◌, ◌≤◌, List, ◌++◌, length, refl, ap, sym, subst, ◌∙◌}
+use Rattle.std.proofs.Common.{◌≡◌, ℕ, ◌<◌, ◌≤◌, List, ◌++◌, ap, sym, subst, ◌∙◌}
 use mathlib.Core.List.{IsPrefix}
 use Rattle.log_node.specs.declared.ids.Counts.{Counts}
 use Rattle.log_node.specs.declared.limits.TheConstants.{MAX_STAMP}
-use Rattle.log_node.specs.Seen.{PlacedNode}
 use Rattle.log_node.specs.Vectors.{IsWithin}
 use Rattle.log_node.specs.Reach.{Chains, Reachable}
 use Rattle.col_core.specs.declared.view.View.{View}
-use Rattle.col_core.specs.Cuts.{chain, base}
 use Rattle.col_core.specs.Computed.{cut}
 use Rattle.col_core.proofs.CallerLemmas.{cut-is_greatest, reachable_grows}
 use Rattle.playback.specs.declared.player.Played.{Played}
@@ -22,7 +20,6 @@ use Rattle.chain_store.specs.Regions.{tag_at}
 use Rattle.chain_store.specs.Holds.{IsHold, seen_in}
 use Rattle.chain_store.proofs.CallerLemmas.{lawful_seen}
 use Rattle.region_pull.proofs.CallerLemmas.{chain_longer}
-use Rattle.lawful_run.specs.Reads.{greatest_stamp}
 use Rattle.log_client.specs.declared.track.Track.{Track}
 use Rattle.log_client.specs.declared.answers.Synced.{Synced}
 use Rattle.log_client.specs.Clients.{Plays}

@@ -1,21 +1,18 @@
 -- What a look shows and what is played of it.
-use Rattle.std.proofs.Common.{◌≡◌, ◌≢◌, ◌⊎◌, inl, inr, ℕ, zero, suc, ◌-◌, ◌<◌, ◌≤◌, List, [], ◌∷◌, length, map, take, drop, Option, Some, None, refl, ap, sym, subst, ◌∙◌, arith}
+use Rattle.std.proofs.Common.{◌≡◌, inl, inr, ℕ, zero, suc, ◌-◌, ◌<◌, ◌≤◌, List, [], ◌∷◌, length, map, Some, sym, subst, arith}
 use Rattle.std.specs.Prelude.{slice_get, slice_index_or}
 use Rattle.std.specs.List.{AllZip}
 use Rattle.std.proofs.lemmas.Bool.{cases_eq}
 use Rattle.log_node.specs.declared.ids.Counts.{Counts}
 use Rattle.log_node.specs.declared.limits.TheConstants.{MAX_STAMP}
-use Rattle.log_node.specs.declared.node.Head.{Head}
 use Rattle.log_node.specs.Seen.{PlacedNode}
-use Rattle.log_node.specs.Vectors.{at, IsWithin}
-use Rattle.log_node.specs.Reach.{Chains, Reachable, IsGreatestReachable}
+use Rattle.log_node.specs.Vectors.{at}
+use Rattle.log_node.specs.Reach.{Chains, Reachable}
 use Rattle.col_core.specs.declared.view.View.{View}
 use Rattle.col_core.specs.Cuts.{chain}
-use Rattle.col_core.specs.Computed.{cut, dated}
-use Rattle.col_core.specs.Legal.{IsColumnHistory}
 use Rattle.col_core.specs.PlayOrder.{Place, Stands}
 use Rattle.col_core.proofs.CallerLemmas.{cut-is_greatest}
-use Rattle.playback.specs.Playing.{ShowsChains, ArePlayed, item_at, items_of, head_at}
+use Rattle.playback.specs.Playing.{ShowsChains, ArePlayed, item_at, head_at}
 use Rattle.playback.specs.Orders.{play_order}
 use Rattle.playback.proofs.CallerLemmas.{shows_chains}
 use Rattle.chain_store.specs.declared.told.Tag.{Tag}

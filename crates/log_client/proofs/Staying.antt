@@ -1,29 +1,19 @@
 -- What a client has stays as its holds see more.
-use Rattle.std.proofs.Common.{◌≡◌, ◌≢◌, ◌⊎◌, inl, inr, ℕ, true, ◌+◌, ◌<◌, ◌≤◌, List, [], ◌∷◌, ◌++◌, length, map, Option, Some, None, refl, ap, sym, subst, ◌∙◌, arith, append-nil, append_assoc}
-use Rattle.std.specs.Prelude.{slice_get}
-use Rattle.std.proofs.lemmas.Option.{same_Some}
+use Rattle.std.proofs.Common.{◌≡◌, inl, inr, ℕ, true, List, ◌++◌, ap, sym, subst, ◌∙◌, append_assoc}
 use mathlib.Core.List.{IsPrefix}
 use Rattle.log_node.specs.declared.ids.Counts.{Counts}
-use Rattle.log_node.specs.declared.ids.Row.{Row}
-use Rattle.log_node.specs.declared.limits.TheConstants.{MAX_STAMP}
 use Rattle.log_node.specs.declared.node.Node.{Node}
 use Rattle.log_node.specs.Seen.{PlacedNode}
-use Rattle.log_node.specs.Sets.{has}
-use Rattle.log_node.specs.Reach.{Reachable}
-use Rattle.log_node.specs.Standings.{open_entry}
-use Rattle.log_node.specs.declared.marks.Why.{Why}
-use Rattle.log_node.specs.declared.marks.Mark.TheVariants as marks
 use Rattle.col_core.specs.declared.Entry.{Entry}
-use Rattle.col_core.specs.History.{entries, has_entered}
+use Rattle.col_core.specs.History.{has_entered}
 use Rattle.col_core.specs.Computed.{dated}
 use Rattle.col_core.specs.Legal.{IsColumnHistory}
 use Rattle.col_core.proofs.CallerLemmas.{entered_longer}
-use Rattle.stamp_board.specs.Views.{KnowsBegun, KnowsMark}
+use Rattle.stamp_board.specs.Views.{KnowsMark}
 use Rattle.stamp_board.proofs.CallerLemmas.{begun_learnt, mark_learnt}
 use Rattle.chain_store.specs.declared.told.Tag.{Tag}
 use Rattle.chain_store.specs.declared.told.Told.{Told}
 use Rattle.chain_store.specs.declared.hold.Hold.{Hold}
-use Rattle.chain_store.specs.Histories.{entries_in}
 use Rattle.chain_store.specs.Owning.{row_of}
 use Rattle.chain_store.specs.Passes.{IsLawfulTold}
 use Rattle.chain_store.specs.Holds.{seen_in, entries_seen, view_of}

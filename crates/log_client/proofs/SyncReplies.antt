@@ -1,12 +1,10 @@
 -- What a sync of a client leaves, and what explains its answer.
-use Rattle.std.proofs.Common.{◌≡◌, ◌≢◌, ◌⊎◌, inl, inr, ℕ, true, false, zero, suc, ◌+◌, ◌<◌, ◌≤◌, List, [], ◌∷◌, ◌++◌, length, map, drop, Option, Some, None, refl, ap, sym, subst, ◌∙◌, arith, append-nil, eq-eqb}
-use Rattle.std.specs.Prelude.{slice_get, slice_set, max, IsTrue, IsFalse, ◌==◌}
+use Rattle.std.proofs.Common.{◌≡◌, ◌≢◌, inl, inr, ℕ, false, List, [], ◌∷◌, ◌++◌, length, drop, Some, refl, ap, sym, subst, ◌∙◌, arith, append-nil, eq-eqb}
+use Rattle.std.specs.Prelude.{slice_get, slice_set, max, ◌==◌}
 use Rattle.std.specs.List.{AllZip}
 use Rattle.std.proofs.lemmas.Bool.{cases_eq, ne_eqb}
-use Rattle.std.proofs.lemmas.Option.{same_Some, slice_get_within}
-use mathlib.Core.List.{IsPrefix}
+use Rattle.std.proofs.lemmas.Option.{same_Some}
 use Rattle.log_node.specs.declared.ids.Counts.{Counts}
-use Rattle.log_node.specs.declared.limits.TheConstants.{MAX_STAMP}
 use Rattle.log_node.specs.declared.node.Head.{Head}
 use Rattle.log_node.specs.Seen.{PlacedNode}
 use Rattle.log_node.specs.Vectors.{IsWithin, is_within}
@@ -22,14 +20,14 @@ use Rattle.chain_store.specs.declared.told.Told.{Told}
 use Rattle.chain_store.specs.declared.hold.Hold.{Hold}
 use Rattle.chain_store.specs.declared.region.Region.{Region}
 use Rattle.chain_store.specs.Histories.{entries_in, Names}
-use Rattle.chain_store.specs.Holds.{IsHold, SameBut, SeesMoreIn, seen_in, made_in, entries_seen}
+use Rattle.chain_store.specs.Holds.{SameBut, SeesMoreIn, seen_in, made_in}
 use Rattle.chain_store.specs.Going.{GoesOn}
 use Rattle.chain_store.proofs.CallerLemmas.{looks_on}
 use Rattle.lawful_run.specs.Callers.{Caller}
-use Rattle.lawful_run.specs.Reads.{Syncs, ShowsPlayed, IsTrimmed, greatest_stamp}
+use Rattle.lawful_run.specs.Reads.{Syncs, ShowsPlayed, greatest_stamp}
 use Rattle.client_law.specs.Knowing.{Rest, log_of}
 use Rattle.client_law.specs.Kept.{IsKeptBy}
-use Rattle.client_law.specs.Moves.{LooksThere, PlaysKeys, kept_after_played}
+use Rattle.client_law.specs.Moves.{LooksThere, PlaysKeys}
 use Rattle.client_law.proofs.CallerLemmas.{kept_after_keys, plays_stand, syncs_stand, trimmed_there}
 use Rattle.playback.specs.declared.player.Snapshot.{Snapshot}
 use Rattle.log_client.specs.declared.store.Store.{Store}
@@ -38,16 +36,16 @@ use Rattle.log_client.specs.declared.track.Track.{Track}
 use Rattle.log_client.specs.declared.answers.Synced.{Synced}
 use Rattle.log_client.specs.declared.faults.SyncFault.{SyncFault}
 use Rattle.log_client.specs.declared.faults.SyncFault.TheVariants as sync_faults
-use Rattle.log_client.specs.Fits.{Fits, HaveGoneOn}
-use Rattle.log_client.specs.Clients.{holds_of, seen_of, rows_of, tracks_of, starts_of, played_of, counts_in, nodes_in, caller_of, Plays, HasPlayed, played_then, IsClient, IsTrack, Keeps, Finished}
+use Rattle.log_client.specs.Fits.{Fits}
+use Rattle.log_client.specs.Clients.{holds_of, seen_of, rows_of, tracks_of, starts_of, played_of, counts_in, nodes_in, caller_of, Plays, HasPlayed, played_then, IsClient, IsTrack, Keeps}
 use Rattle.log_client.specs.Inside.{PlaysOn, IsRefusedOn, dated_seen}
-use Rattle.log_client.specs.Calls.{IsExplained, DidNothing, SyncsAs, SyncRefused, AnswersSync, nodes_played}
+use Rattle.log_client.specs.Calls.{IsExplained, SyncsAs, SyncRefused, AnswersSync, nodes_played}
 use Rattle.log_client.proofs.Seeing.{seen_there}
 use Rattle.log_client.proofs.Alone.{seen_long}
 use Rattle.log_client.proofs.Playing.{plays_there}
 use Rattle.log_client.proofs.AtHome.{ChangesHome, set_there, set_elsewhere, set_long, home_after, sees_after, are_regions}
 use Rattle.log_client.proofs.Staying.{played_longer}
-use Rattle.log_client.proofs.Looked.{IsPlain, made_looked, lawful_after, track_stays, finished_stays, caller_is, kept_before, makes_none, client_looked, keeps_stay, did_nothing}
+use Rattle.log_client.proofs.Looked.{IsPlain, made_looked, track_stays, kept_before, makes_none, client_looked, keeps_stay, did_nothing}
 
 dropped : {A : Type 0} (xs ys : List A) → drop (length xs) (xs ++ ys) ≡ ys
 dropped [] ys = refl

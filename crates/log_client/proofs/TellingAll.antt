@@ -1,21 +1,19 @@
 -- How all of a client's holds tell and hear.
-use Rattle.std.proofs.Common.{◌≡◌, ◌≢◌, ◌⊎◌, inl, inr, ℕ, ◌+◌, ◌<◌, ◌≤◌, List, [], ◌∷◌, ◌++◌, length, Some, refl, ap, sym, subst, ◌∙◌, arith, append-nil, length-append}
+use Rattle.std.proofs.Common.{◌≡◌, inl, inr, ℕ, ◌+◌, ◌<◌, ◌≤◌, List, [], ◌∷◌, ◌++◌, length, Some, refl, ap, sym, subst, ◌∙◌, arith, append-nil, length-append}
 use Rattle.std.specs.Prelude.{slice_get, slice_set}
-use Rattle.std.proofs.lemmas.Bool.{cases_eq, cases_lt}
+use Rattle.std.proofs.lemmas.Bool.{cases_eq}
 use Rattle.std.proofs.lemmas.Option.{same_Some, slice_get_within}
-use mathlib.Core.List.{IsPrefix}
 use Rattle.chain_store.specs.declared.hold.Hold.{Hold}
 use Rattle.chain_store.specs.declared.region.Region.{Region}
 use Rattle.chain_store.specs.declared.telling.HoldNote.{HoldNote}
-use Rattle.chain_store.specs.Holds.{IsHold, seen_in, made_in, turned_in, view_of}
+use Rattle.chain_store.specs.Holds.{IsHold, seen_in, turned_in}
 use Rattle.chain_store.specs.Histories.{maker}
 use Rattle.turn_cell.specs.Histories.{made_by}
 use Rattle.chain_store.specs.Telling.{IsHoldNote, KnowsSame, Tells, Hears}
 use Rattle.chain_store.proofs.CallerLemmas.{later_same}
 use Rattle.log_client.proofs.Lists.{got, got_end}
-use Rattle.log_client.specs.Fits.{HasGoneOn}
 use Rattle.log_client.specs.Ending.{AreHoldsIn}
-use Rattle.log_client.specs.Notes.{AreNotes, TellsAll, KnowSame, HearAll}
+use Rattle.log_client.specs.Notes.{TellsAll, KnowSame, HearAll}
 use Rattle.log_client.proofs.AtHome.{set_there, set_elsewhere, set_long}
 use Rattle.log_client.proofs.Everywhere.{GoesAlong}
 

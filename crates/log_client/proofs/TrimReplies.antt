@@ -1,29 +1,24 @@
 -- What a trim of a client leaves, and what explains its answer.
-use Rattle.std.proofs.Common.{◌≡◌, ◌≢◌, ℕ, true, ◌+◌, ◌<◌, ◌≤◌, List, [], ◌∷◌, length, take, Some, refl, ap, sym, subst, ◌∙◌, arith, eq-eqb}
+use Rattle.std.proofs.Common.{◌≡◌, ℕ, true, length, Some, refl, ap, subst, arith, eq-eqb}
 use Rattle.std.specs.Prelude.{slice_get, slice_index_or, ◌==◌, ◌&&◌}
 use Rattle.std.specs.Vec.{with_item}
 use Rattle.std.proofs.lemmas.Option.{slice_get_read}
 use Rattle.log_node.specs.declared.ids.Counts.{Counts}
 use Rattle.log_node.specs.declared.node.At.{At}
-use Rattle.log_node.specs.declared.node.At.TheVariants.{Event}
 use Rattle.col_core.specs.declared.Event.TheVariants as events
-use Rattle.col_core.specs.Keeping.{Kept, kept_after_event}
-use Rattle.script_text.specs.declared.script.Object.{Object}
+use Rattle.col_core.specs.Keeping.{kept_after_event}
 use Rattle.chain_store.specs.declared.told.Told.{Told}
 use Rattle.chain_store.specs.declared.hold.Hold.{Hold}
 use Rattle.chain_store.specs.declared.region.Region.{Region}
 use Rattle.chain_store.specs.Columns.{told_event}
 use Rattle.chain_store.specs.Regions.{tag_at}
-use Rattle.chain_store.specs.Holds.{IsHold, SameBut, SeesMoreIn, MakesOneIn, TrimsIn, seen_in, made_in}
-use Rattle.chain_store.specs.Going.{GoesOn}
+use Rattle.chain_store.specs.Holds.{IsHold, SameBut, SeesMoreIn, MakesOneIn, TrimsIn, seen_in}
 use Rattle.chain_store.proofs.CallerLemmas.{looks_on, makes_on}
-use Rattle.lawful_run.specs.Callers.{Caller}
-use Rattle.client_law.specs.Making.{MakesOnly}
 use Rattle.client_law.proofs.CallerLemmas.{kept_after, trims_stand}
 use Rattle.log_client.specs.declared.store.Store.{Store}
 use Rattle.log_client.specs.declared.client.Client.{Client}
 use Rattle.log_client.specs.Fits.{HaveGoneOn}
-use Rattle.log_client.specs.Clients.{holds_of, seen_of, tracks_of, caller_of, IsClient, Keeps, Finished}
+use Rattle.log_client.specs.Clients.{holds_of, seen_of, caller_of, IsClient, Finished}
 use Rattle.log_client.specs.Calls.{IsExplained, DidNothing, TrimsAs}
 use Rattle.log_client.proofs.Steps.{more_last}
 use Rattle.log_client.proofs.Trims.{trims_there, makes_only_last}

@@ -1,5 +1,5 @@
 -- The regions of one store.
-use Rattle.std.specs.Prelude.{◌≡◌, ℕ, ◌<◌, ◌≤◌, List, length, Some, slice_get}
+use Rattle.std.specs.Prelude.{◌≡◌, ℕ, ◌≤◌, List, length, Some, slice_get}
 use Rattle.log_node.specs.declared.limits.TheConstants.{MAX_REGIONS}
 use Rattle.stamp_board.specs.declared.view.Size.{Size}
 use Rattle.chain_store.specs.declared.region.Region.{Region}

@@ -1,4 +1,4 @@
-use Rattle.std.proofs.Common.{◌≡◌, ◌<◌, ◌+◌, ◌∷◌, ◌++◌, [], rules, refl, length, slice_get, Some, ap, sym, subst, ◌∙◌, arith, length-append}
+use Rattle.std.proofs.Common.{◌≡◌, ◌<◌, ◌+◌, ◌∷◌, ◌++◌, [], rules, refl, length, slice_get, ap, ◌∙◌, arith, length-append}
 use Rattle.std.proofs.lemmas.Option.{slice_get_read}
 use Rattle.log_client.proofs.AtHome.{set_elsewhere}
 use Rattle.lawful_run.proofs.CallerLemmas.{get-append}

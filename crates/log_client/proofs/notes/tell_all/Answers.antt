@@ -1,4 +1,4 @@
-use Rattle.std.proofs.Common.{◌≡◌, ◌<◌, ◌∷◌, ◌++◌, [], rules, refl, length, slice_get, Some, ap, sym, subst, ◌∙◌, arith}
+use Rattle.std.proofs.Common.{◌≡◌, ◌<◌, rules, refl, length, slice_get, Some, ap, subst, ◌∙◌, arith}
 use Rattle.std.proofs.lemmas.Option.{slice_get_read}
 use Rattle.log_client.proofs.TellingAll.{holds_set, same_set, later_set, notes_more, tells_more, count_more}
 use Rattle.log_client.proofs.notes.tell_all.Goals as goal

@@ -1,4 +1,4 @@
-use Rattle.std.proofs.Common.{◌≡◌, ◌+◌, ◌<◌, ◌∷◌, ◌++◌, [], ℕ, List, rules, refl, length, slice_get, Some, get_or, ap, sym, subst, ◌∙◌, arith, length-append}
+use Rattle.std.proofs.Common.{◌≡◌, ◌+◌, ◌<◌, ◌∷◌, [], ℕ, List, rules, refl, length, slice_get, Some, get_or, ap, sym, subst, ◌∙◌, length-append}
 use Rattle.std.proofs.lemmas.Option.{slice_get-get_or}
 use Rattle.log_client.specs.declared.client.Client.{Client}
 use Rattle.log_client.specs.Opening.{IsFresh}

@@ -1,5 +1,3 @@
-use Rattle.std.proofs.Common.{◌≡◌, ℕ, Some, slice_get, length}
-use Rattle.log_client.specs.declared.track.Track.{Track}
 use Rattle.log_client.specs.Opening.{AreFreshTracks}
 use Rattle.log_client.proofs.opening.fresh_tracks.Given as goal
 

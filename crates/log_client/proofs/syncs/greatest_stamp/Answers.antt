@@ -1,4 +1,4 @@
-use Rattle.std.proofs.Common.{◌≡◌, ℕ, List, take, map, get_or, ap, ◌∙◌}
+use Rattle.std.proofs.Common.{◌≡◌, ℕ, get_or, ap, ◌∙◌}
 use Rattle.std.specs.Prelude.{max}
 use Rattle.std.proofs.lemmas.List.{take_all}
 use Rattle.log_node.specs.Seen.{PlacedNode}

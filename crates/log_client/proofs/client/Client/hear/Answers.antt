@@ -1,9 +1,7 @@
-use Rattle.std.proofs.Common.{◌≡◌, ◌<◌, List, length, refl, sym, subst, arith}
-use Rattle.chain_store.specs.declared.hold.Hold.{Hold}
+use Rattle.std.proofs.Common.{List, refl, subst}
 use Rattle.chain_store.specs.declared.region.Region.{Region}
-use Rattle.log_client.specs.declared.client.Client.{Client}
 use Rattle.log_client.specs.Ending.{AreHoldsIn}
-use Rattle.log_client.proofs.TellingAll.{told_all, heard_all}
+use Rattle.log_client.proofs.TellingAll.{heard_all}
 use Rattle.log_client.proofs.Everywhere.{client_along, all_gone_on, finished_along, nothing_along}
 use Rattle.log_client.proofs.client.Client.hear.Goals as goal
 

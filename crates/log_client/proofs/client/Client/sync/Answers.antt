@@ -1,6 +1,6 @@
-use Rattle.std.proofs.Common.{◌≡◌, ◌<◌, refl, sym, subst, ◌∙◌, arith, ap}
+use Rattle.std.proofs.Common.{refl, arith, ap}
 use Rattle.stamp_board.specs.declared.view.Size.{Size}
-use Rattle.log_client.proofs.SyncCalls.{colour_there, plays_from, rests_there, sync_goes, sync_finished, sync_client, sync_answer, sync_explained, sync_refused_client, sync_refused}
+use Rattle.log_client.proofs.SyncCalls.{colour_there, plays_from, sync_goes, sync_finished, sync_client, sync_answer, sync_explained, sync_refused_client, sync_refused}
 use Rattle.log_client.proofs.client.Client.sync.Goals as goal
 
 pub play_on-requires-clause-colour : goal.play_on-requires-clause-colour

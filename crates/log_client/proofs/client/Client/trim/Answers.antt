@@ -1,4 +1,4 @@
-use Rattle.std.proofs.Common.{refl, arith}
+use Rattle.std.proofs.Common.{arith}
 use Rattle.log_client.proofs.TrimReplies.{look_client, look_goes, look_finished, look_nothing, trim_client, trim_goes, trim_finished, trim_explained}
 use Rattle.log_client.proofs.client.Client.trim.Goals as goal
 

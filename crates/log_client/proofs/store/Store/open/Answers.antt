@@ -1,8 +1,6 @@
-use Rattle.std.proofs.Common.{◌≡◌, ◌+◌, ◌<◌, ◌∷◌, ◌++◌, [], ℕ, List, rules, refl, length, slice_get, Some, ap, sym, subst, ◌∙◌, arith, inl, inr, length-append}
-use Rattle.std.specs.List.{All}
+use Rattle.std.proofs.Common.{◌≡◌, ◌+◌, ◌<◌, ◌∷◌, [], ℕ, List, rules, refl, length, slice_get, ap, sym, subst, ◌∙◌, arith, inl, inr, length-append}
 use Rattle.std.proofs.lemmas.List.Elements.{All-contains}
 use Rattle.col_core.proofs.CallerLemmas.{contains_in, slice_in}
-use Rattle.stamp_board.specs.declared.view.Size.{Size}
 use Rattle.chain_store.specs.declared.hold.Hold.{Hold}
 use Rattle.chain_store.specs.declared.region.Region.{Region}
 use Rattle.chain_store.specs.Opening.{size_of}
