@@ -28,4 +28,5 @@ mod EndsRows
 mod Endings
 mod EndsClients
 mod TwoHolds
+mod BetweenHolds
 pub mod CallerLemmas

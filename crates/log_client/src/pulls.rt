@@ -1,5 +1,6 @@
 // Pulls.
 ghost use Rattle.std.specs.Prelude.{◌≡◌, ◌≢◌, ◌<◌, ◌↔◌, Err, IfOk, IfErr, length, slice_get, Some};
+ghost use Rattle.chain_store.specs.declared.hold.Hold.{Hold};
 ghost use Rattle.chain_store.specs.Holds.{IsHold};
 ghost use Rattle.region_pull.specs.Stores.{AreOfOneStore};
 ghost use Rattle.log_client.specs.Fits.{HaveGoneOn};
@@ -25,6 +26,7 @@ fn pull_between<R: Wait>(
 ) -> Result<Pulled, PullFault>
     requires store { AreOfOneStore from.now to.now colour }
     requires apart { from.now.number ≢ to.now.number }
+    requires within { (from.now.number < length holds.old.items) × (to.now.number < length holds.old.items) }
     requires from_hold { (h : Hold) × (slice_get holds.old.items from.now.number ≡ Some h) × IsHold from.now h }
     requires to_hold { (h : Hold) × (slice_get holds.old.items to.now.number ≡ Some h) × IsHold to.now h }
     ensures ok { IfOk result (PullsBetween from.now to.now colour holds.old.items holds.new.items) }
