@@ -29,4 +29,6 @@ mod Endings
 mod EndsClients
 mod TwoHolds
 mod BetweenHolds
+mod PullReplies
+mod PullCalls
 pub mod CallerLemmas

@@ -1,5 +1,5 @@
-//! Clients of a store, each on a thread of its own: what they see, play, trim and tell one another, and what explains their
-//! answers.
+//! Clients of a store, each on a thread of its own: what they see, play, pull, trim and tell one another, and what
+//! explains their answers.
 #![tactic(auto)]
 
 mod answers;
