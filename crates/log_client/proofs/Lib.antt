@@ -34,4 +34,8 @@ mod TrimReplies
 mod Everywhere
 mod TellingAll
 mod Dealing
+mod TwoHolds
+mod BetweenHolds
+mod PullReplies
+mod PullCalls
 pub mod CallerLemmas

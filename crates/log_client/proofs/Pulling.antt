@@ -101,7 +101,7 @@ module _ (gs hs : List Hold) (caller : Caller) (region colour : ℕ) (from to : 
         ∙ (ap (λ (n : ℕ). base region n (dated region (entries_in (before_gave (seen_in g' colour) x)))) regions_are
         ∙ ap (λ (l : List Entry). base region caller.regions (dated region l)) (before_there x))
 
-    too_low_there : (i : ℕ) (x : Gave) → slice_get gives i ≡ Some x → i + 1 < length gives
+    pub too_low_there : (i : ℕ) (x : Gave) → slice_get gives i ≡ Some x → i + 1 < length gives
         → GivesTooLow (log_of (seen_by hs) rest) caller region colour x.place
     too_low_there i x at lt = (
       x.from,

@@ -1,5 +1,6 @@
 -- What a client's calls answer, and what explains it.
-use Rattle.std.specs.Prelude.{◌≡◌, ◌≢◌, ◌⊎◌, ℕ, List, ◌++◌, length, drop}
+use Rattle.std.specs.Prelude.{◌≡◌, ◌≢◌, ◌⊎◌, ℕ, ◌≤◌, List, ◌++◌, length, drop}
+use Rattle.std.specs.List.{All}
 use Rattle.log_node.specs.declared.ids.Counts.{Counts}
 use Rattle.log_node.specs.declared.node.At.{At}
 use Rattle.log_node.specs.declared.node.At.TheVariants.{Event}
@@ -9,9 +10,12 @@ use Rattle.col_core.specs.Keeping.{Kept, kept_after_sync, kept_after_event}
 use Rattle.script_text.specs.declared.script.Object.{Object}
 use Rattle.lawful_run.specs.Callers.{Caller}
 use Rattle.lawful_run.specs.Reads.{Syncs, ShowsPlayed, IsTrimmed, greatest_stamp}
-use Rattle.lawful_run.specs.Moves.{Trims}
+use Rattle.lawful_run.specs.Moves.{GivesAt, GivesTooLow, Pulls, Trims, with_places, kept_after_pull}
 use Rattle.client_law.specs.Knowing.{Rest, log_of}
 use Rattle.playback.specs.declared.player.Snapshot.{Snapshot}
+use Rattle.region_pull.specs.declared.pulled.Pulled.{Pulled}
+use Rattle.region_pull.specs.declared.pulled.PullFault.{PullFault}
+use Rattle.region_pull.specs.declared.pulled.PullFault.TheVariants as pull_faults
 use Rattle.log_client.specs.declared.store.Store.{Store}
 use Rattle.log_client.specs.declared.client.Client.{Client}
 use Rattle.log_client.specs.declared.answers.Synced.{Synced}
@@ -82,3 +86,22 @@ abbrev pub TrimRefused : Store → Client → Client → ℕ → Snapshot → Tr
 TrimRefused s c d colour snapshot (trim_faults.OtherColumn region other) =
     (region ≡ snapshot.region) × (other ≡ snapshot.colour) × ((region ≢ c.region) ⊎ (other ≢ colour)) × (d ≡ c)
 TrimRefused s c d colour snapshot trim_faults.NoMemory = IsOfColumn c colour snapshot × DidNothing s c d
+
+-- The pull gave at the place, after gives that were too low, and carried.
+abbrev pub PullsAs : ℕ → ℕ → Pulled → Log → Caller → Kept → Kept → Type 0
+PullsAs region colour p log caller kept after =
+    (place : ℕ) × (too_low : List ℕ) × (p.give ≡ Event place)
+    × Pulls log caller kept region colour p.nodes place p.carry too_low
+    × (after ≡ kept_after_pull kept caller.own region colour place p.carry too_low)
+
+-- Gives were made, and nothing was carried.
+abbrev pub GaveAlone : ℕ → ℕ → Log → Caller → Kept → Kept → Type 0
+GaveAlone region colour log caller kept after =
+    (too_low gives : List ℕ) × All (GivesTooLow log caller region colour) too_low × (length gives ≤ 1)
+    × All (λ place. (from : ℕ) × GivesAt log caller region colour place from) gives
+    × (after ≡ with_places (with_places kept region colour too_low) region colour gives)
+
+-- Why nothing was pulled: both regions are one, and nothing was done; or memory was refused, and only gives were made.
+abbrev pub PullRefused : Store → Client → Client → ℕ → ℕ → PullFault → Type 0
+PullRefused s c d region colour pull_faults.SameRegion = (region ≡ c.region) × (d ≡ c)
+PullRefused s c d region colour pull_faults.NoMemory = (region ≢ c.region) × IsExplained s c d (GaveAlone region colour)

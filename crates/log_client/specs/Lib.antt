@@ -4,6 +4,7 @@ pub mod Ending
 pub mod Closing
 pub mod Clients
 pub mod Inside
+pub mod Between
 pub mod Calls
 pub mod Notes
 pub mod Opening

@@ -1,5 +1,5 @@
-//! Clients of a store, each on a thread of its own: what they see, play, trim and tell one another, and what explains their
-//! answers.
+//! Clients of a store, each on a thread of its own: what they see, play, pull, trim and tell one another, and what
+//! explains their answers.
 #![tactic(auto)]
 
 mod answers;
@@ -10,6 +10,7 @@ mod faults;
 mod notes;
 mod opening;
 mod played;
+mod pulls;
 mod store;
 mod syncs;
 mod track;
