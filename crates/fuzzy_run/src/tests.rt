@@ -10,8 +10,10 @@ use std::thread::Threads;
 
 mod edges;
 mod large;
+mod objects;
 mod refusals;
 mod regions;
+mod scans;
 mod several;
 mod singles;
 mod stops;

@@ -2,6 +2,7 @@ mod Prefixes
 mod LaterFacts
 mod LaterAppends
 mod LaterReads
+mod HiddenReads
 mod Later
 mod ReadItems
 mod Listed
@@ -23,4 +24,5 @@ mod Once
 mod ReadOrder
 mod Folds
 mod CausalGets
+mod ObjectAnswers
 pub mod CallerLemmas

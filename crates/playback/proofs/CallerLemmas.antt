@@ -12,6 +12,7 @@ use Rattle.playback.specs.Orders.{play_order}
 use Rattle.playback.specs.Playing.{items_of, ShowsChains, item_at, ArePlayed}
 use Rattle.playback.proofs.Playing.{count_all}
 use Rattle.playback.proofs.Steps.{order_ahead}
+pub use Rattle.playback.proofs.Merged.{order_is_merged}
 pub use Rattle.playback.proofs.Playing.{order_is_played}
 pub use Rattle.playback.proofs.Shown.{shown_at}
 pub use Rattle.playback.proofs.Steps.{IsAhead}

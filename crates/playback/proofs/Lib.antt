@@ -8,4 +8,6 @@ mod Shown
 mod ShownNext
 mod OneChain
 mod Steps
+mod Merged
+mod MergedLines
 pub mod CallerLemmas

@@ -5,8 +5,10 @@ mod faults;
 mod free;
 mod laws;
 mod lone;
+mod merging;
 mod player;
 
 pub use faults::PlayFault;
-pub use laws::play_order_is_lawful;
+pub use laws::{play_order_is_lawful, region_order_is_lawful};
+pub use merging::with_line;
 pub use player::{Played, Player, Snapshot, play};

@@ -117,7 +117,7 @@ clears_colour n by colour key a b is p =
     helps_as (λ grants h. helped_times n grants by colour key h) (λ grants h. cleared grants by key h colour) a b
     (λ grants count. ap (λ (k : ℕ). helped_times k grants by colour key (helping a count)) (sym is)) p
 
-fold_last : {A B : Type 0} (f : B → A → B) (b : B) (xs : List A) (x : A) → fold f b (xs ++ x ∷ []) ≡ f (fold f b xs) x
+pub fold_last : {A B : Type 0} (f : B → A → B) (b : B) (xs : List A) (x : A) → fold f b (xs ++ x ∷ []) ≡ f (fold f b xs) x
 fold_last f b [] x = refl
 fold_last f b (y ∷ ys) x = fold_last f (f b y) ys x
 
@@ -143,7 +143,15 @@ clears_same by key colours more a b is p =
 
 -- where memory was granted for a command's helps, and in its own marks
 abbrev pub found_with : (ℕ → Bool) → List (ℕ → Bool) → Grants
-found_with marks finds = record { start = true; marks = marks; helps = λ n. get_or finds n (λ _. true); carry = true }
+found_with marks finds = record {
+  start = true;
+  marks = marks;
+  helps = λ n. get_or finds n (λ _. true);
+  carry = true;
+  fold = true;
+  raises = λ _. true;
+  items = true;
+}
 
 finds_from : (marks : ℕ → Bool) (before finds : List (ℕ → Bool))
     → FindsNext (found_with marks (before ++ finds)) (length before) finds

@@ -6,6 +6,8 @@ mod Finals
 mod AppendsAndStops
 mod ListsChanged
 mod SyncPlays
+mod StampedSteps
+mod StampedWholes
 mod PullsAndTrims
 mod CommandKinds
 mod RunReplies
@@ -14,3 +16,5 @@ mod ListsShown
 mod RowsShown
 mod ColumnsShown
 mod MoveGuards
+mod ObjectSteps
+mod DequeueSteps

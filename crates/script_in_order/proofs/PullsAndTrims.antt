@@ -1,5 +1,5 @@
 -- Pulls and trims.
-use Rattle.std.proofs.Common.{◌≡◌, ◌≢◌, ℕ, ◌-◌, Bool, true, false, [], ◌∷◌, length, refl, ap, sym, ◌∙◌}
+use Rattle.std.proofs.Common.{◌≡◌, ◌≢◌, ℕ, ◌-◌, Bool, false, [], ◌∷◌, length, refl, ap, sym, ◌∙◌}
 use Rattle.std.specs.Prelude.{nat_lt, slice_index, if◌then◌else◌}
 use Rattle.std.proofs.lemmas.Bool.{eq-eqb, ne_eqb}
 use Rattle.log_node.specs.declared.ids.Counts.{Counts}
@@ -107,7 +107,7 @@ pulls_none command w given new region own colour held mine has is_given same = r
   is = λ replies. ap (λ (x : World). answered (with_replies w replies) command x answers.NoMemory []) (sym worlds);
 } where
   without : Grants
-  without = record { start = true; marks = λ _. true; helps = λ _ _. true; carry = false }
+  without = record all_granted { carry = false }
 
   client : ℕ
   client = command.client

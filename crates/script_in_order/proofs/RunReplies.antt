@@ -1,5 +1,5 @@
 -- The replies of a run, and the commands one after another.
-use Rattle.std.proofs.Common.{◌≡◌, ℕ, zero, suc, ◌<◌, true, false, List, [], ◌∷◌, ◌++◌, length, get_or, set, Result, Ok}
+use Rattle.std.proofs.Common.{◌≡◌, ℕ, zero, suc, ◌<◌, false, List, [], ◌∷◌, ◌++◌, length, get_or, set, Result, Ok}
 use Rattle.std.proofs.Common.{Err, refl, ap, sym, ◌∙◌, arith, get_or-set_same, get_or-set_other, eq-eqb}
 use Rattle.std.specs.Prelude.{MatchResult, IfOk, OnErr}
 use Rattle.std.specs.declared.alloc.AllocError.{AllocError}
@@ -10,11 +10,12 @@ use Rattle.col_core.specs.Keeping.{updated}
 use Rattle.world_laws.proofs.CallerLemmas.{at_updated}
 use Rattle.world_laws.specs.Worlds.{World}
 use Rattle.world_code.specs.WorldView.{WorldView, world_of}
+use Rattle.script_text.specs.declared.script.Object.{Object}
 use Rattle.script_text.specs.declared.script.Command.{Command}
 use Rattle.report_text.specs.declared.report.Answer.{Answer}
 use Rattle.report_text.specs.declared.report.Answer.TheVariants.{NoMemory}
 use Rattle.report_text.specs.declared.report.ReplyLine.{ReplyLine}
-use Rattle.script_meaning.specs.States.{Grants, answered}
+use Rattle.script_meaning.specs.States.{Grants, all_granted, answered}
 use Rattle.script_in_order.specs.Doing.{Does, with_replies}
 use Rattle.script_in_order.specs.Runs.{RepliesView, RunView, no_replies, with_reply, replies_at, state_of, reply_of, IsDone}
 
@@ -36,19 +37,19 @@ replied replies client reply low =
     (λ e. true≢false (sym (eq-eqb n client e) ∙ other)))))
 
 -- a command, with its reply
-pub command_done : (command : Command) (old : RunView) (world : WorldView) (given : Result (Answer × List PlacedNode)
+pub command_done : (objects : List Object) (command : Command) (old : RunView) (world : WorldView) (given : Result (Answer × List PlacedNode)
     AllocError)
     (reply : ReplyLine) → command.client < length old.replies
-    → IfOk given (λ g. Does command (world_of old.world) (world_of world) g.0 g.1)
+    → IfOk given (λ g. Does objects command (world_of old.world) (world_of world) g.0 g.1)
     → OnErr given (world_of world ≡ world_of old.world)
     → MatchResult given (λ g. reply ≡ reply_of command g.0 g.1) (λ _. reply ≡ reply_of command NoMemory [])
-    → IsDone command old
+    → IsDone objects command old
     (record {
       world = world;
       replies = set old.replies command.client
           (with_reply (replies_at old.replies command.client) reply);
     })
-command_done command old world given reply low ok err is = turn given ok err is where
+command_done objects command old world given reply low ok err is = turn given ok err is where
   next : List RepliesView
   next = set old.replies command.client (with_reply (replies_at old.replies command.client) reply)
 
@@ -64,10 +65,10 @@ command_done command old world given reply low ok err is = turn given ok err is 
       ∙ ap (λ (x : ReplyLine). updated lines command.client (lines command.client ++ x ∷ [])) e)
 
   turn : (given : Result (Answer × List PlacedNode) AllocError)
-      → IfOk given (λ g. Does command (world_of old.world) (world_of world) g.0 g.1)
+      → IfOk given (λ g. Does objects command (world_of old.world) (world_of world) g.0 g.1)
       → OnErr given (world_of world ≡ world_of old.world)
       → MatchResult given (λ g. reply ≡ reply_of command g.0 g.1) (λ _. reply ≡ reply_of command NoMemory [])
-      → IsDone command old (record { world = world; replies = next })
+      → IsDone objects command old (record { world = world; replies = next })
   turn (Ok g) ok err e = record {
     grants = ok.grants;
     reply = reply;
@@ -82,7 +83,7 @@ command_done command old world given reply low ok err is = turn given ok err is 
     replies = refl;
   } where
     none : Grants
-    none = record { start = false; marks = λ _. true; helps = λ _ _. true; carry = true }
+    none = record all_granted { start = false }
 
 pub any_default : {A : Type 0} (xs : List A) (i : ℕ) (d e : A) → i < length xs → get_or xs i d ≡ get_or xs i e
 any_default [] i d e lt = absurd (let f : ⊥ = omega (arith, lt) in f)

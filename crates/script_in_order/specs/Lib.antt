@@ -2,4 +2,6 @@ pub mod Helps
 pub mod Runs
 pub mod Doing
 pub mod Points
+pub mod Stamped
 pub mod Reports
+pub mod Reading

@@ -5,13 +5,18 @@ mod answers;
 mod appends;
 mod built;
 mod clears;
+mod homes;
 mod in_order;
 mod moves;
+mod object_appends;
 mod points;
+mod queues;
 mod replies;
 mod reports;
 mod rows;
 mod run;
+mod scans;
+mod stamped;
 mod stops;
 mod syncs;
 

@@ -34,8 +34,8 @@ fn player_of(world: &World, client: u8, region: u8, colour: u8) -> Player
     }
 }
 
-// The base of a colour's column of the client's region, where a node that the client has not played is trimmed.
-fn trimmed_base(world: &World, client: u8, colour: u8) -> Option<Counts>
+/// The base of a colour's column of the client's region, where a node that the client has not played is trimmed.
+pub fn trimmed_base(world: &World, client: u8, colour: u8) -> Option<Counts>
     requires client { client < length world.now.shape.homes }
     requires colour { colour < world.now.shape.colours }
     ensures some { let w = world_of world.now in IfSome result (λ base. (may_play w client colour ≡ false)

@@ -43,7 +43,7 @@ module _ (script : Script) (commands : List Command) (state : State) (command : 
   own_region : home_of w u < w.shape.regions
   own_region = subst (λ (s : Shape). slice_index s.homes u < s.regions) (sym runs.shape) fit.home
 
-  own_few : home_of w u < 4
+  pub own_few : home_of w u < 4
   own_few =
       let a : slice_index script.shape.homes u < 4 = let b = fit.home in let c = fit.few in omega (arith, b, c) in
       subst (λ (s : Shape). slice_index s.homes u < 4) (sym runs.shape) a

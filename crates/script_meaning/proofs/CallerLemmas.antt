@@ -1,28 +1,44 @@
 -- For those who do the commands: each state to which commands lead has a world of the script's shape that steps have
 -- made.
-use Rattle.std.proofs.Common.{◌≡◌, List, refl, subst, ◌∙◌, ap, sym}
+use Rattle.std.proofs.Common.{◌≡◌, ℕ, List, [], refl, subst, ◌∙◌, ap, sym}
 use Rattle.world_laws.specs.Worlds.{World}
 use Rattle.world_laws.specs.Laws.{IsReached}
 use Rattle.world_laws.proofs.CallerLemmas.{opened_reached, run_reached, run_grows}
 use Rattle.script_text.specs.declared.script.Command.{Command}
 use Rattle.script_text.specs.declared.script.Script.{Script}
-use Rattle.script_meaning.specs.States.{State}
+use Rattle.script_meaning.specs.States.{State, Grants}
 use Rattle.script_meaning.specs.Meaning.{LeadTo, nothing, next}
-use Rattle.script_meaning.proofs.GrantedCommands.{done_extends}
+use Rattle.script_meaning.specs.Appends.{with_single}
+use Rattle.script_meaning.proofs.GrantedCommands.{done_extends, single_runs}
 pub use Rattle.script_meaning.proofs.Lines.{final_stays}
 pub use Rattle.script_meaning.proofs.Rows.{standing_as}
+pub use Rattle.script_meaning.proofs.HelpGrants.{single_same}
+pub use Rattle.script_meaning.proofs.ChainNodes.{line_node}
+pub use Rattle.script_meaning.proofs.StampedEnds.{rising_line, keys_listed}
+pub use Rattle.script_meaning.proofs.StampedReads.{stamp_low}
+pub use Rattle.script_meaning.proofs.ShardSets.{keys_set, set_one, shard_members, set_has, shard_below, shards_below, shards_has}
+pub use Rattle.script_meaning.proofs.ObjectKinds.{object_has, queue_colour, queue_one, some_of}
+pub use Rattle.script_meaning.proofs.Playing.{at_or}
+pub use Rattle.script_meaning.proofs.ObjectForms.{key_is_word, key_some, pairs_are}
 
 pub lead_reached : (script : Script) {commands : List Command} {state : State} → LeadTo script commands state
     → IsReached state.world
 lead_reached script nothing = opened_reached script.shape
 lead_reached script (next {commands} {state} command grants leads) =
-    let more = (done_extends grants state command).world in
+    let more = (done_extends script.objects grants state command).world in
     subst IsReached more.run (run_reached state.world more.steps (lead_reached script leads))
 
 pub lead_shape : (script : Script) {commands : List Command} {state : State} → LeadTo script commands state
     → state.world.shape ≡ script.shape
 lead_shape script nothing = refl
 lead_shape script (next {commands} {state} command grants leads) =
-    let more = (done_extends grants state command).world in
+    let more = (done_extends script.objects grants state command).world in
     ap (λ (x : World). x.shape) (sym more.run)
     ∙ ((run_grows state.world more.steps).shape ∙ lead_shape script leads)
+
+-- an append to one colour leaves the shape
+pub single_shape : (grants : Grants) (w : World) (command : Command) (text : List ℕ) (c : ℕ)
+    → (with_single grants w command.client text c).shape ≡ w.shape
+single_shape grants w command text c =
+    let more = single_runs [] grants (record { world = w; replies = λ _. [] }) command text c in
+    ap (λ (x : World). x.shape) (sym more.run) ∙ (run_grows w more.steps).shape

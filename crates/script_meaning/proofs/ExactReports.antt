@@ -18,13 +18,12 @@ use Rattle.world_laws.proofs.CallerLemmas.{in_left, in_right, slice_in, colour_i
 use Rattle.script_text.specs.declared.script.Command.{Command}
 use Rattle.script_text.specs.declared.script.Script.{Script}
 use Rattle.script_text.specs.Fitting.{IsFitting}
-use Rattle.report_text.specs.declared.report.Answer.TheVariants as answers
 use Rattle.report_text.specs.declared.report.ReplyLine.{ReplyLine}
 use Rattle.report_text.specs.declared.report.ClientReport.{ClientReport}
 use Rattle.report_text.specs.declared.report.RowReport.{RowReport}
 use Rattle.lawful_run.specs.Columns.{row_report}
 use Rattle.script_meaning.specs.States.{State, all_granted, opening}
-use Rattle.script_meaning.specs.Meaning.{done, LeadTo, nothing, next, report_of, FindsMemory}
+use Rattle.script_meaning.specs.Meaning.{TellsNoWant, done, LeadTo, nothing, next, report_of, FindsMemory}
 use Rattle.script_meaning.specs.Laws.{RunsAreExact}
 use Rattle.script_meaning.proofs.Reached.{told_of}
 use Rattle.script_meaning.proofs.GrantedSteps.{IsClean, clean_from}
@@ -39,12 +38,12 @@ use Rattle.script_meaning.proofs.GrantedCommands.{done_extends, done_exact}
 -- no reply to a client of the script tells of want of memory
 abbrev TellsOfNone : Script → State → Type 0
 TellsOfNone script state =
-    (n : ℕ) → n < length script.shape.homes → (r : ReplyLine) → In r (state.replies n) → r.answer ≢ answers.NoMemory
+    (n : ℕ) → n < length script.shape.homes → (r : ReplyLine) → In r (state.replies n) → TellsNoWant r.answer
 
 module _ (script : Script) (fits : IsFitting script) where
   exact_leads : {commands : List Command} {state : State} → LeadTo script commands state → (rest : List Command)
       → script.commands ≡ commands ++ rest → IsClean state.world → TellsOfNone script state
-      → state ≡ fold (done all_granted) (opening script) commands
+      → state ≡ fold (done script.objects all_granted) (opening script) commands
   exact_leads nothing rest is clean tells = refl
   exact_leads (next {commands} {state} command grants leads) rest is clean tells =
       let whole : script.commands ≡ commands ++ command ∷ rest = is ∙ append_assoc commands (command ∷ []) rest in
@@ -52,13 +51,13 @@ module _ (script : Script) (fits : IsFitting script) where
       subst (λ (l : List Command). In command l) (sym whole) (in_right command commands (command ∷ rest) (inl refl)) in
       let caller = all_at (λ (c : Command). c.client < length script.shape.homes) script.commands fits.callers command
       there in
-      let more = done_extends grants state command in
+      let more = done_extends script.objects grants state command in
       let before = exact_leads leads (command ∷ rest) whole
-      (clean_from state.world (done grants state command).world more.world clean)
+      (clean_from state.world (done script.objects grants state command).world more.world clean)
       (λ n lt r i. tells n lt r (more.replies n r i)) in
-      done_exact grants state command clean (tells command.client caller)
-      ∙ (ap (λ (s : State). done all_granted s command) before
-      ∙ sym (fold-append (done all_granted) (opening script) commands (command ∷ [])))
+      done_exact script.objects grants state command clean (tells command.client caller)
+      ∙ (ap (λ (s : State). done script.objects all_granted s command) before
+      ∙ sym (fold-append (done script.objects all_granted) (opening script) commands (command ∷ [])))
 
   -- what the report says of replies and rows
   tells_none : (state : State) → FindsMemory (report_of script state) → TellsOfNone script state
@@ -72,10 +71,10 @@ module _ (script : Script) (fits : IsFitting script) where
       slice_get-map (λ (q : ℕ × List ℕ). record { name = q.1; replies = state.replies q.0 })
       (enumerate_from 0 script.clients) n
       ∙ ap (option_map (λ (q : ℕ × List ℕ). record { name = q.1; replies = state.replies q.0 })) p.1 in
-      let all = all_at (λ (c : ClientReport). All (λ (x : ReplyLine). x.answer ≢ answers.NoMemory) c.replies)
+      let all = all_at (λ (c : ClientReport). All (λ (x : ReplyLine). TellsNoWant x.answer) c.replies)
       (report_of script state).clients finds.replies shown
       (slice_in (report_of script state).clients n shown there) in
-      all_at (λ (x : ReplyLine). x.answer ≢ answers.NoMemory) (state.replies p.0.0) all r
+      all_at (λ (x : ReplyLine). TellsNoWant x.answer) (state.replies p.0.0) all r
       (subst (λ (k : ℕ). In r (state.replies k)) (sym same) i)
 
   is_clean : (state : State) → Runs script script.commands state → FindsMemory (report_of script state)

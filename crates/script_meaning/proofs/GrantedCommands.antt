@@ -1,10 +1,12 @@
 -- One command, where it finds memory, does what it does with memory granted everywhere.
-use Rattle.std.proofs.Common.{◌≡◌, ◌≢◌, inl, ℕ, zero, suc, List, [], ◌∷◌, ◌++◌, map, take, Some, None, refl, ap, sym, subst, ◌∙◌}
+use Rattle.std.proofs.Common.{◌≡◌, ◌≢◌, inl, ℕ, zero, suc, cond, List, [], ◌∷◌, ◌++◌, length, map, take, Option, Some, None, true, refl, ap, sym, subst, ◌∙◌}
 use Rattle.std.specs.Prelude.{◌==◌}
 use Rattle.log_node.specs.declared.ids.Row.{Row}
 use Rattle.log_node.specs.declared.ids.Colours.{Colours}
 use Rattle.log_node.specs.Seen.{PlacedNode}
 use Rattle.log_node.specs.Sets.{members}
+use Rattle.log_node.specs.declared.forms.Form.TheVariants as forms
+use Rattle.object_form.specs.Forms.{form_text}
 use Rattle.log_node.specs.declared.marks.Why.TheVariants.{Memory, StampEnd}
 use Rattle.log_node.specs.declared.marks.Outcome.{Outcome}
 use Rattle.log_node.specs.declared.marks.Outcome.TheVariants.{Open, Gone, Final}
@@ -13,18 +15,28 @@ use Rattle.col_core.proofs.CallerLemmas.{choice, by_test, if_true, if_false, In}
 use Rattle.world_laws.specs.declared.steps.Step.TheVariants.{Begin, Single, Give, Carry, Trim, Play, Seen}
 use Rattle.world_laws.specs.Worlds.{World, home_of, held_of, after, run_steps, row_of, next_id, next_row, may_single, single_stamp, may_play}
 use Rattle.world_laws.proofs.CallerLemmas.{at_updated, updated-here, in_left, in_right}
+use Rattle.script_text.specs.declared.script.Object.{Object}
 use Rattle.script_text.specs.declared.script.What.{What}
 use Rattle.script_text.specs.declared.script.What.TheVariants as whats
 use Rattle.script_text.specs.declared.script.Command.{Command}
 use Rattle.report_text.specs.declared.report.Answer.{Answer}
 use Rattle.report_text.specs.declared.report.Answer.TheVariants as answers
+use Rattle.report_text.specs.declared.report.PointPiece.{PointPiece}
 use Rattle.report_text.specs.declared.report.ReplyLine.{ReplyLine}
+use Rattle.object_fold.specs.Queues.{front_after}
 use Rattle.script_meaning.specs.States.{State, Grants, all_granted, answered}
 use Rattle.script_meaning.specs.Helping.{all_cleared}
 use Rattle.script_meaning.specs.Appends.{with_single, appended_one, appended_by, appended_several, appended, stopped, is_full, append_steps, ended_colour, point_in}
 use Rattle.script_meaning.specs.Moves.{nodes_played, synced, lacking, with_give, with_carry, pulled_from, pulled, trimmed}
+use Rattle.script_meaning.specs.Stamped.{ReadEnd, Whole, Refused, Unraised, StampedRead, stamped_read, shown_key, scanned_by, scanned}
+use Rattle.script_meaning.proofs.GrantedReads.{IsRaised, read_runs, read_exact}
 use Rattle.script_meaning.proofs.MoveCases.{play_answer, trimmed_answer, pull_answer, with_trim, base_answer, played, refused, synced_is, stayed, carried, given, pulled_is, from_is, from_all, trimmed_is}
-use Rattle.script_meaning.specs.Meaning.{done_one, done}
+use Rattle.script_text.specs.Items.{set_of}
+use Rattle.lawful_run.specs.Callers.{Caller}
+use Rattle.lawful_run.specs.Asks.{kind_of, colours_of, keys_of, put_form}
+use Rattle.script_meaning.specs.Objects.{caller_in, refusing_home, shard_set}
+use Rattle.script_meaning.specs.Dequeues.{first_nodes, sync_now, base_now, dequeued_at, dequeued_by}
+use Rattle.script_meaning.specs.Meaning.{done_one, done_from, done, TellsNoWant}
 use Rattle.script_meaning.proofs.GrantedSteps.{IsClean, RunsTo, stays_there, runs_on, clean_from, complete_exact, taken_exact, clears_run, clears_exact}
 use Rattle.script_meaning.proofs.Invariant.{line_of}
 
@@ -44,14 +56,17 @@ answer_extends state command w' answer nodes r = record {
       (λ _. i);
 }
 
-module _ (grants : Grants) (state : State) (command : Command) where
+module _ (objects : List Object) (grants : Grants) (state : State) (command : Command) where
   abbrev u : ℕ
   u = command.client
 
   abbrev w : World
   w = state.world
 
-  single_runs : (text : List ℕ) (c : ℕ) → RunsTo w (with_single grants w u text c)
+  abbrev caller : Caller
+  caller = caller_in w objects u
+
+  pub single_runs : (text : List ℕ) (c : ℕ) → RunsTo w (with_single grants w u text c)
   single_runs text c =
       runs_on w (after w (Single u c text)) (with_single grants w u text c)
       (record { steps = Single u c text ∷ []; run = refl })
@@ -144,31 +159,100 @@ module _ (grants : Grants) (state : State) (command : Command) where
       (answer_extends state command (with_trim w u c) (base_answer w (with_trim w u c) u c) []
       (record { steps = Trim u (home_of w u) c ((w.clients u).played c) ∷ []; run = refl }))
 
+  scan_extends : (colours : List ℕ) → Extends state (scanned grants state command colours)
+  scan_extends colours =
+      let read = stamped_read grants w u colours in
+      by_end read.world read.ends (read_runs grants w u colours) where
+        by_end : (v : World) (ends : ReadEnd) → RunsTo w v → Extends state (scanned_by grants state command v ends)
+        by_end v (Whole stamp raises syncs keys) r =
+            let answer = answers.Scanned stamp (length keys) raises syncs in
+            choice (Extends state) grants.items (answered state command v answer (map (shown_key v) keys))
+            (answered state command v answers.NoMemory [])
+            (λ _. answer_extends state command v answer (map (shown_key v) keys) r)
+            (λ _. answer_extends state command v answers.NoMemory [] r)
+        by_end v (Refused colour base) r = answer_extends state command v (answers.Trimmed colour base) [] r
+        by_end v Unraised r = answer_extends state command v answers.NoMemory [] r
+
   nothing_done : Extends state state
   nothing_done = record { world = stays_there w; replies = λ n r i. i }
 
-  one_command_extends : (what : What) → Extends state (done_one grants state command what)
+  at_extends : (v : World) (stamp : ℕ) (point : PointPiece) → RunsTo w v
+      → Extends state (dequeued_at grants state command v stamp point)
+  at_extends v stamp point r =
+      let v' = after v (Play u point.colour) in
+      let plays : RunsTo w v' = runs_on w v v' r (record { steps = Play u point.colour ∷ []; run = refl }) in
+      let answer = answers.Took (front_after (first_nodes v u point.colour point.position)) point
+      (sync_now v u point.colour) in
+      let base = answers.UnreadTrimmed stamp point.colour (base_now v u point.colour) in
+      choice (Extends state) (may_play v u point.colour)
+      (cond grants.fold (answered state command v' answer [])
+      (answered state command v' (answers.UnreadNoMemory stamp) [])) (answered state command v base [])
+      (λ _. choice (Extends state) grants.fold (answered state command v' answer [])
+      (answered state command v' (answers.UnreadNoMemory stamp) [])
+      (λ _. answer_extends state command v' answer [] plays)
+      (λ _. answer_extends state command v' (answers.UnreadNoMemory stamp) [] plays))
+      (λ _. answer_extends state command v base [] r)
+
+  at_runs : (v : World) (stamp : ℕ) (point : PointPiece) → RunsTo v (dequeued_at grants state command v stamp point).world
+  at_runs v stamp point =
+      let v' = after v (Play u point.colour) in
+      let plays : RunsTo v v' = record { steps = Play u point.colour ∷ []; run = refl } in
+      let answer = answers.Took (front_after (first_nodes v u point.colour point.position)) point
+      (sync_now v u point.colour) in
+      let base = answers.UnreadTrimmed stamp point.colour (base_now v u point.colour) in
+      choice (λ (s : State). RunsTo v s.world) (may_play v u point.colour)
+      (cond grants.fold (answered state command v' answer [])
+      (answered state command v' (answers.UnreadNoMemory stamp) [])) (answered state command v base [])
+      (λ _. choice (λ (s : State). RunsTo v s.world) grants.fold (answered state command v' answer [])
+      (answered state command v' (answers.UnreadNoMemory stamp) []) (λ _. plays) (λ _. plays))
+      (λ _. stays_there v)
+
+  deq_extends : (cs : List ℕ) → Extends state (dequeued_by grants state command cs)
+  deq_extends [] = nothing_done
+  deq_extends (c ∷ cs) =
+      let text = form_text forms.Dequeue in
+      let v = with_single grants w u text c in
+      let point = point_in w v u (next_id w u) c in
+      choice (Extends state) (may_single w u c) (dequeued_at grants state command v (single_stamp w u c) point)
+      (answered state command w (answers.StampEnd c) [])
+      (λ _. at_extends v (single_stamp w u c) point (single_runs text c))
+      (λ _. answer_extends state command w (answers.StampEnd c) [] (stays_there w))
+
+  one_command_extends : (what : What) → Extends state (done_one objects grants state command what)
   one_command_extends (whats.Append colours text) = append_extends colours text (members colours)
   one_command_extends (whats.Stop steps colours text) = stop_extends colours text steps
   one_command_extends (whats.Sync colour) = sync_extends colour
-  one_command_extends (whats.Scan colours) = nothing_done
+  one_command_extends (whats.Scan colours) = scan_extends (members colours)
   one_command_extends (whats.Pull region colour) = pull_extends region colour
   one_command_extends (whats.Trim colour) = trim_extends colour
-  one_command_extends (whats.Put object key value) = nothing_done
+  one_command_extends (whats.Put object key value) =
+      append_extends (shard_set (colours_of caller object) (key ∷ []))
+      (form_text (put_form (kind_of caller object) key value))
+      (members (shard_set (colours_of caller object) (key ∷ [])))
   one_command_extends (whats.Get object key) = nothing_done
-  one_command_extends (whats.Del object key) = nothing_done
-  one_command_extends (whats.PutAll object pairs) = nothing_done
+  one_command_extends (whats.Del object key) =
+      append_extends (shard_set (colours_of caller object) (key ∷ []))
+      (form_text (forms.Delete key)) (members (shard_set (colours_of caller object) (key ∷ [])))
+  one_command_extends (whats.PutAll object pairs) =
+      append_extends (shard_set (colours_of caller object) (keys_of pairs))
+      (form_text (forms.PutAll pairs)) (members (shard_set (colours_of caller object) (keys_of pairs)))
   one_command_extends (whats.GetAll object keys) = nothing_done
   one_command_extends (whats.Read object keys) = nothing_done
   one_command_extends (whats.Commit object pairs) = nothing_done
-  one_command_extends (whats.Enq object value) = nothing_done
-  one_command_extends (whats.Deq object) = nothing_done
+  one_command_extends (whats.Enq object value) =
+      append_extends (set_of (colours_of caller object)) (form_text (forms.Enqueue value))
+      (members (set_of (colours_of caller object)))
+  one_command_extends (whats.Deq object) = deq_extends (colours_of caller object)
 
-  pub done_extends : Extends state (done grants state command)
+  from_extends : (home : Option ℕ) → Extends state (done_from home objects grants state command)
+  from_extends None = one_command_extends command.what
+  from_extends (Some home) = answer_extends state command w (answers.NotHome home) [] (stays_there w)
+
+  pub done_extends : Extends state (done objects grants state command)
   done_extends =
-      choice (Extends state) grants.start (done_one grants state command command.what)
+      choice (Extends state) grants.start (done_from (refusing_home caller command.what) objects grants state command)
       (answered state command w answers.NoMemory [])
-      (λ _. one_command_extends command.what)
+      (λ _. from_extends (refusing_home caller command.what))
       (λ _. answer_extends state command w answers.NoMemory [] (stays_there w))
 
   -- The same with memory granted everywhere
@@ -254,15 +338,21 @@ module _ (grants : Grants) (state : State) (command : Command) where
 
   -- the client is nowhere answered with want of memory
   abbrev TellsNone : State → Type 0
-  TellsNone s = (r : ReplyLine) → In r (s.replies u) → r.answer ≢ answers.NoMemory
+  TellsNone s = (r : ReplyLine) → In r (s.replies u) → TellsNoWant r.answer
 
   -- what was answered so tells of it
-  told_so : (v : World) → TellsNone (answered state command v answers.NoMemory []) → ⊥
-  told_so v tells =
-      let line = line_of command answers.NoMemory [] in
+  told : (v : World) (answer : Answer) → TellsNone (answered state command v answer []) → TellsNoWant answer
+  told v answer tells =
+      let line = line_of command answer [] in
       tells line
       (subst (λ (l : List ReplyLine). In line l) (sym (updated-here state.replies u (state.replies u ++ line ∷ [])))
-      (in_right line (state.replies u) (line ∷ []) (inl refl))) refl
+      (in_right line (state.replies u) (line ∷ []) (inl refl)))
+
+  told_so : (v : World) → TellsNone (answered state command v answers.NoMemory []) → ⊥
+  told_so v tells = (told v answers.NoMemory tells).refused refl
+
+  told_unread : (v : World) (stamp : ℕ) → TellsNone (answered state command v (answers.UnreadNoMemory stamp) []) → ⊥
+  told_unread v stamp tells = (told v (answers.UnreadNoMemory stamp) tells).unread stamp refl
 
   pull_exact : (region c : ℕ) → TellsNone (pulled grants state command region c)
       → pulled grants state command region c ≡ pulled all_granted state command region c
@@ -287,31 +377,124 @@ module _ (grants : Grants) (state : State) (command : Command) where
       ∙ sym (if_false (region == own) (stayed grants state command) from_all_found f)))
       ∙ sym (pulled_is all_granted state command region c))
 
-  one_command_exact : (what : What) → IsClean (done_one grants state command what).world
-      → TellsNone (done_one grants state command what)
-      → done_one grants state command what ≡ done_one all_granted state command what
+  at_exact : (v : World) (stamp : ℕ) (point : PointPiece) → TellsNone (dequeued_at grants state command v stamp point)
+      → dequeued_at grants state command v stamp point ≡ dequeued_at all_granted state command v stamp point
+  at_exact v stamp point tells =
+      let v' = after v (Play u point.colour) in
+      let took : State = answered state command v' (answers.Took
+      (front_after (first_nodes v u point.colour point.position)) point (sync_now v u point.colour)) [] in
+      let unread : State = answered state command v' (answers.UnreadNoMemory stamp) [] in
+      let base : State = answered state command v
+      (answers.UnreadTrimmed stamp point.colour (base_now v u point.colour)) [] in
+      by_test _ (may_play v u point.colour)
+      (λ t. if_true (may_play v u point.colour) (cond grants.fold took unread) base t
+      ∙ (by_test _ grants.fold (λ g. if_true grants.fold took unread g)
+      (λ g. absurd (told_unread v' stamp (subst TellsNone
+      (if_true (may_play v u point.colour) (cond grants.fold took unread) base t
+      ∙ if_false grants.fold took unread g) tells)))
+      ∙ sym (if_true (may_play v u point.colour) took base t)))
+      (λ f. if_false (may_play v u point.colour) (cond grants.fold took unread) base f
+      ∙ sym (if_false (may_play v u point.colour) took base f))
+
+  deq_exact : (cs : List ℕ) → IsClean (dequeued_by grants state command cs).world
+      → TellsNone (dequeued_by grants state command cs)
+      → dequeued_by grants state command cs ≡ dequeued_by all_granted state command cs
+  deq_exact [] clean tells = refl
+  deq_exact (c ∷ cs) clean tells =
+      let text = form_text forms.Dequeue in
+      let stamp = single_stamp w u c in
+      let v = with_single grants w u text c in
+      let v' = with_single all_granted w u text c in
+      let at : World → State = λ x. dequeued_at grants state command x stamp (point_in w x u (next_id w u) c) in
+      let ended : State = answered state command w (answers.StampEnd c) [] in
+      by_test _ (may_single w u c)
+      (λ t. let is = if_true (may_single w u c) (at v) ended t in
+      let clean' : IsClean (at v).world = subst (λ (s : State). IsClean s.world) is clean in
+      let same : v ≡ v' = single_exact text c (clean_from v (at v).world
+      (at_runs v stamp (point_in w v u (next_id w u) c)) clean') in
+      is ∙ (at_exact v stamp (point_in w v u (next_id w u) c) (subst TellsNone is tells)
+      ∙ (ap (λ (x : World). dequeued_at all_granted state command x stamp (point_in w x u (next_id w u) c)) same
+      ∙ sym (if_true (may_single w u c)
+      (dequeued_at all_granted state command v' stamp (point_in w v' u (next_id w u) c)) ended t))))
+      (λ f. if_false (may_single w u c) (at v) ended f
+      ∙ sym (if_false (may_single w u c)
+      (dequeued_at all_granted state command v' stamp (point_in w v' u (next_id w u) c)) ended f))
+
+  -- the answer to a scan, by how its read ended
+  end_exact : (v : World) (ends : ReadEnd) → TellsNone (scanned_by grants state command v ends)
+      → IsRaised ends × (scanned_by grants state command v ends ≡ scanned_by all_granted state command v ends)
+  end_exact v (Whole stamp raises syncs keys) tells =
+      let shown : State = answered state command v (answers.Scanned stamp (length keys) raises syncs)
+      (map (shown_key v) keys) in
+      let refused : State = answered state command v answers.NoMemory [] in
+      let t : all_granted.items ≡ true = refl in (
+        tt,
+        by_test _ grants.items
+            (λ is. if_true grants.items shown refused is ∙ sym (if_true all_granted.items shown refused t))
+            (λ f. absurd (told_so v (subst TellsNone (if_false grants.items shown refused f) tells))),
+      )
+  end_exact v (Refused colour base) tells = (tt, refl)
+  end_exact v Unraised tells = absurd (told_so v tells)
+
+  scanned_world : (v : World) (ends : ReadEnd) → (scanned_by grants state command v ends).world ≡ v
+  scanned_world v (Whole stamp raises syncs keys) =
+      choice (λ (s : State). s.world ≡ v) grants.items
+      (answered state command v (answers.Scanned stamp (length keys) raises syncs) (map (shown_key v) keys))
+      (answered state command v answers.NoMemory []) (λ _. refl) (λ _. refl)
+  scanned_world v (Refused colour base) = refl
+  scanned_world v Unraised = refl
+
+  scan_exact : (colours : List ℕ) → IsClean (scanned grants state command colours).world
+      → TellsNone (scanned grants state command colours)
+      → scanned grants state command colours ≡ scanned all_granted state command colours
+  scan_exact colours clean tells =
+      let read = stamped_read grants w u colours in
+      let ended = end_exact read.world read.ends tells in
+      ended.1
+      ∙ ap (λ (r : StampedRead). scanned_by all_granted state command r.world r.ends)
+      (read_exact grants w u colours (subst IsClean (scanned_world read.world read.ends) clean) ended.0)
+
+  one_command_exact : (what : What) → IsClean (done_one objects grants state command what).world
+      → TellsNone (done_one objects grants state command what)
+      → done_one objects grants state command what ≡ done_one objects all_granted state command what
   one_command_exact (whats.Append colours text) clean tells = append_exact colours text (members colours) clean
   one_command_exact (whats.Stop steps colours text) clean tells = stop_exact colours text steps clean
   one_command_exact (whats.Sync colour) clean tells = refl
-  one_command_exact (whats.Scan colours) clean tells = refl
+  one_command_exact (whats.Scan colours) clean tells = scan_exact (members colours) clean tells
   one_command_exact (whats.Pull region colour) clean tells = pull_exact region colour tells
   one_command_exact (whats.Trim colour) clean tells = refl
-  one_command_exact (whats.Put object key value) clean tells = refl
+  one_command_exact (whats.Put object key value) clean tells =
+      append_exact (shard_set (colours_of caller object) (key ∷ []))
+      (form_text (put_form (kind_of caller object) key value))
+      (members (shard_set (colours_of caller object) (key ∷ []))) clean
   one_command_exact (whats.Get object key) clean tells = refl
-  one_command_exact (whats.Del object key) clean tells = refl
-  one_command_exact (whats.PutAll object pairs) clean tells = refl
+  one_command_exact (whats.Del object key) clean tells =
+      append_exact (shard_set (colours_of caller object) (key ∷ []))
+      (form_text (forms.Delete key)) (members (shard_set (colours_of caller object) (key ∷ []))) clean
+  one_command_exact (whats.PutAll object pairs) clean tells =
+      append_exact (shard_set (colours_of caller object) (keys_of pairs))
+      (form_text (forms.PutAll pairs)) (members (shard_set (colours_of caller object) (keys_of pairs))) clean
   one_command_exact (whats.GetAll object keys) clean tells = refl
   one_command_exact (whats.Read object keys) clean tells = refl
   one_command_exact (whats.Commit object pairs) clean tells = refl
-  one_command_exact (whats.Enq object value) clean tells = refl
-  one_command_exact (whats.Deq object) clean tells = refl
+  one_command_exact (whats.Enq object value) clean tells =
+      append_exact (set_of (colours_of caller object)) (form_text (forms.Enqueue value))
+      (members (set_of (colours_of caller object))) clean
+  one_command_exact (whats.Deq object) clean tells = deq_exact (colours_of caller object) clean tells
 
-  pub done_exact : IsClean (done grants state command).world → TellsNone (done grants state command)
-      → done grants state command ≡ done all_granted state command
+  from_exact : (home : Option ℕ) → IsClean (done_from home objects grants state command).world
+      → TellsNone (done_from home objects grants state command)
+      → done_from home objects grants state command ≡ done_from home objects all_granted state command
+  from_exact None clean tells = one_command_exact command.what clean tells
+  from_exact (Some home) clean tells = refl
+
+  pub done_exact : IsClean (done objects grants state command).world → TellsNone (done objects grants state command)
+      → done objects grants state command ≡ done objects all_granted state command
   done_exact clean tells =
-      let one : State = done_one grants state command command.what in
+      let home = refusing_home caller command.what in
+      let one : State = done_from home objects grants state command in
       let refused : State = answered state command w answers.NoMemory [] in
       by_test _ grants.start
-      (λ t. let is : done grants state command ≡ one = if_true grants.start one refused t in
-      is ∙ one_command_exact command.what (subst (λ (s : State). IsClean s.world) is clean) (subst TellsNone is tells))
+      (λ t. let is : done objects grants state command ≡ one = if_true grants.start one refused t in
+      is ∙ from_exact home (subst (λ (s : State). IsClean s.world) is clean) (subst TellsNone is tells))
       (λ f. absurd (told_so w (subst TellsNone (if_false grants.start one refused f) tells)))

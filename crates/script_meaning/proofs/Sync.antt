@@ -19,7 +19,7 @@ use Rattle.col_core.specs.Copies.{AreTrueCopies}
 use Rattle.col_core.specs.Log.{Log, first}
 use Rattle.col_core.specs.Keeping.{Kept, updated, kept_after_sync}
 use Rattle.col_core.specs.Rows.{BegunRow}
-use Rattle.col_core.specs.PlayOrder.{Place, Stands, IsPlayOrder}
+use Rattle.col_core.specs.PlayOrder.{Place, Stands, IsPlayOrder, greatest_between}
 use Rattle.col_core.proofs.CallerLemmas.{both, if_true, cut-is_greatest, In}
 use Rattle.world_laws.specs.declared.steps.Step.TheVariants.{Play}
 use Rattle.world_laws.specs.Worlds.{World, ClientState, home_of, after, base_after, may_play, played_cut, played_stamp, after_play, with_client, no_row, is_client, is_column}
@@ -29,6 +29,7 @@ use Rattle.playback.specs.Orders.{play_order}
 use Rattle.script_text.specs.declared.script.Object.{Object}
 use Rattle.script_text.specs.declared.script.What.TheVariants as whats
 use Rattle.report_text.specs.declared.report.Answer.TheVariants as answers
+use Rattle.lawful_run.specs.Reads as reads
 use Rattle.lawful_run.specs.Reads.{Syncs, ShowsNode, ShowsPlayed, greatest_stamp, IsTrimmed}
 use Rattle.lawful_run.specs.Explains.{Explains}
 use Rattle.script_meaning.specs.Moves.{placed, placed_at, no_head, home_chains, nodes_played}
@@ -48,7 +49,7 @@ and_second : (a b : Bool) → a ≡ true → (a && b) ≡ b
 and_second a b t = ap (λ (x : Bool). x && b) t
 
 -- a change of a client that begins no row leaves the log
-log_same : (w : World) (u : ℕ) (s : ClientState) → s.used ≡ (w.clients u).used
+pub log_same : (w : World) (u : ℕ) (s : ClientState) → s.used ≡ (w.clients u).used
     → log_of (with_client w u s) ≡ log_of w
 log_same w u s e =
     ap (λ (rows : ℕ → List BegunRow). record { histories = w.histories; nodes = w.nodes; rows = rows })
@@ -63,34 +64,34 @@ log_same w u s e =
 
 module _ (objects : List Object) (w : World) (reached : IsReached w) (u c : ℕ) (in_range : home_of w u < 4)
     (client_ok : is_client w u ≡ true) (column_ok : is_column w (home_of w u) c ≡ true) where
-  abbrev own : ℕ
+  abbrev pub own : ℕ
   own = home_of w u
 
-  abbrev h : List Entry
+  abbrev pub h : List Entry
   h = w.histories own c
 
-  abbrev ds : List Dated
+  abbrev pub ds : List Dated
   ds = dated own h
 
-  abbrev log : Log
+  abbrev pub log : Log
   log = log_of w
 
-  abbrev from : Counts
+  abbrev pub from : Counts
   from = (w.clients u).played c
 
-  abbrev snapshot : Counts
+  abbrev pub snapshot : Counts
   snapshot = played_cut w u c
 
-  abbrev trimmed : Counts
+  abbrev pub trimmed : Counts
   trimmed = base_after w.shape.regions own h
 
   -- the client may play just where no node that it has not played is trimmed
-  guard_is : may_play w u c ≡ is_within trimmed from
+  pub guard_is : may_play w u c ≡ is_within trimmed from
   guard_is =
       and_second (is_client w u) (is_column w own c && is_within trimmed from) client_ok
       ∙ and_second (is_column w own c) (is_within trimmed from) column_ok
 
-  all : first log own c (length h) ≡ ds
+  pub all : first log own c (length h) ≡ ds
   all = ap (dated own) (take_all (length h) h (omega arith))
 
   -- the sync is refused
@@ -119,26 +120,26 @@ module _ (objects : List Object) (w : World) (reached : IsReached w) (u c : ℕ)
   module _ (cuts : StaysWithinCuts w)
       (copies : AreTrueCopies w.shape.regions (λ region. dated region (w.histories region c)))
       (orders : PlayOrders) (ok : may_play w u c ≡ true) where
-    abbrev chains : Chains
+    abbrev pub chains : Chains
     chains = home_chains w u c
 
-    abbrev order : List Place
+    abbrev pub order : List Place
     order = play_order chains from snapshot
 
-    abbrev nodes : List PlacedNode
+    abbrev pub nodes : List PlacedNode
     nodes = map (placed_at w chains) order
 
     -- they are what the sync shows
     nodes_are : nodes_played w u c ≡ nodes
     nodes_are = refl
 
-    abbrev w' : World
+    abbrev pub w' : World
     w' = after_play w u c
 
-    up_to : at snapshot own ≡ length (line h)
+    pub up_to : at snapshot own ≡ length (line h)
     up_to = cuts.own_line own c in_range
 
-    is_order : IsPlayOrder chains from snapshot order
+    pub is_order : IsPlayOrder chains from snapshot order
     is_order = orders chains from snapshot (cut-is_greatest own ds).reached (cuts.played u c)
 
     home : own < w.shape.regions
@@ -169,21 +170,29 @@ module _ (objects : List Object) (w : World) (reached : IsReached w) (u c : ℕ)
         })
 
     -- the greatest stamp that is played is that of the node lines
-    stamp_is : greatest_stamp nodes ≡ played_stamp w u c
+    pub stamp_is : greatest_stamp nodes ≡ played_stamp w u c
     stamp_is = stamp_of chains from snapshot order is_order (cut-is_greatest own ds).reached (placed_at w chains)
         shown_head
 
-    mine : w'.clients u ≡ played_client w u c
+    pub mine : w'.clients u ≡ played_client w u c
     mine = updated-here w.clients u (played_client w u c)
 
     module _ (kept : Kept) (k : IsKeptBy w u kept) where
-      abbrev kept' : Kept
+      abbrev pub kept' : Kept
       kept' = kept_after_sync kept own c (length h) snapshot (greatest_stamp nodes)
 
-      start : kept.starts c ≡ from
+      pub start : kept.starts c ≡ from
       start = ap (λ (f : ℕ → Counts). f c) k.starts
 
-      syncs : Syncs log (caller_in w objects u) kept c (length h) snapshot
+      -- the greatest stamp that is played, as the log has it
+      pub piece_stamp : greatest_stamp nodes
+          ≡ reads.played_stamp log (caller_in w objects u) kept c (length h) snapshot
+      piece_stamp =
+          stamp_is
+          ∙ ap (λ (v : Counts). greatest_between chains v snapshot) (sym start)
+          ∙ ap (λ (x : List Dated). greatest_between (chain own x) (kept.starts c) snapshot) (sym all)
+
+      pub syncs : Syncs log (caller_in w objects u) kept c (length h) snapshot
       syncs = record {
         unseen = k.seen own c;
         there = omega arith;
@@ -201,7 +210,7 @@ module _ (objects : List Object) (w : World) (reached : IsReached w) (u c : ℕ)
         lines = beside (ShowsNode log (caller_in w objects u) c (length h)) (placed_at w chains) order shows;
       }
 
-      keeps : IsKeptBy w' u kept'
+      pub keeps : IsKeptBy w' u kept'
       keeps = record {
         floor = ap (λ (m : ℕ). max m (greatest_stamp nodes)) k.floor
             ∙ (ap (λ (m : ℕ). max (w.clients u).floor m) stamp_is ∙ ap (λ (x : ClientState). x.floor) (sym mine));

@@ -2,5 +2,8 @@ pub mod States
 pub mod Helping
 pub mod Appends
 pub mod Moves
+pub mod Stamped
+pub mod Objects
+pub mod Dequeues
 pub mod Meaning
 pub mod Laws

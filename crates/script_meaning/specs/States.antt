@@ -22,24 +22,24 @@ use Rattle.report_text.specs.declared.report.ReplyLine.{ReplyLine}
 unfoldable pub has_colours : ℕ → Colours → Bool
 has_colours count colours = not (nat_lt (length (members colours)) count) && nat_lt colours.0 (2 ^ 64)
 
--- The commands that are done so far: an append to any number of colours, a stop of an append to several, a sync, a pull
--- and a trim.
+-- The commands that are done so far: an append to any number of colours, a stop of an append to several, a sync, a scan,
+-- a pull, a trim, and what appends for an object: a put, a deletion, several puts at once, an enqueue and a dequeue.
 abbrev pub is_built : What → Bool
 is_built (whats.Append colours text) = has_colours 1 colours
 is_built (whats.Stop steps colours text) = has_colours 2 colours
 is_built (whats.Sync colour) = true
-is_built (whats.Scan colours) = false
+is_built (whats.Scan colours) = has_colours 1 colours
 is_built (whats.Pull region colour) = true
 is_built (whats.Trim colour) = true
-is_built (whats.Put object key value) = false
+is_built (whats.Put object key value) = true
 is_built (whats.Get object key) = false
-is_built (whats.Del object key) = false
-is_built (whats.PutAll object pairs) = false
+is_built (whats.Del object key) = true
+is_built (whats.PutAll object pairs) = true
 is_built (whats.GetAll object keys) = false
 is_built (whats.Read object keys) = false
 is_built (whats.Commit object pairs) = false
-is_built (whats.Enq object value) = false
-is_built (whats.Deq object) = false
+is_built (whats.Enq object value) = true
+is_built (whats.Deq object) = true
 
 -- no command of a client comes after its stop
 abbrev pub StopsAreLast : Script → Type 0
@@ -55,16 +55,28 @@ abbrev pub opening : Script → State
 opening script = record { world = opened script.shape; replies = λ _. [] }
 
 -- Which requests for memory are granted to a command: before it does anything, for the proposal of its own node in each
--- colour, for each of its helps, counted from 0, in each colour, and for what a pull carries.
+-- colour, for each of its helps, counted from 0, in each colour, for what a pull carries, for what an object's answer
+-- folds, for the raise of a stamped read in each colour, and for what is made of the nodes that it has read.
 pub record Grants : Type 0 where
   pub start : Bool
   pub marks : ℕ → Bool
   pub helps : ℕ → ℕ → Bool
   pub carry : Bool
+  pub fold : Bool
+  pub raises : ℕ → Bool
+  pub items : Bool
 
 -- memory is granted everywhere
 abbrev pub all_granted : Grants
-all_granted = record { start = true; marks = λ _. true; helps = λ _ _. true; carry = true }
+all_granted = record {
+  start = true;
+  marks = λ _. true;
+  helps = λ _ _. true;
+  carry = true;
+  fold = true;
+  raises = λ _. true;
+  items = true;
+}
 
 -- the world then, and one reply more, to the client that asked
 abbrev pub answered : State → Command → World → Answer → List PlacedNode → State

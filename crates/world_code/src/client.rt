@@ -101,6 +101,14 @@ impl Client {
         self.floor = self.floor.max(stamp);
     }
 
+    /// Its node of a number, counted from 0; `None` exactly where it has no more than `number` nodes.
+    pub fn node(&self, number: u64) -> Option<&Arc<Node>>
+        ensures some { IfSome result (λ node. slice_get self.now.nodes number ≡ Some node.now.value) }
+        ensures none { result ≡ None → length self.now.nodes ≤ number }
+    {
+        self.nodes.get(number as usize)
+    }
+
     /// The node of its row of a number; `None` exactly where it has begun no more than `number` rows.
     pub fn row_node(&self, number: u32) -> Option<&Arc<Node>>
         ensures some { IfSome result (λ node. slice_get self.now.begun number ≡ Some node.now.value) }

@@ -6,6 +6,7 @@ mod clearing;
 mod client;
 mod completing;
 mod moves;
+mod nodes;
 mod reading;
 mod region;
 mod replies;

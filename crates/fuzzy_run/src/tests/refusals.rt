@@ -2,7 +2,7 @@
 use super::*;
 
 /// Lines from line 8 on in one region, the line that is refused, and the reason.
-const REFUSED: [(&str, u32, &str); 12] = [
+const REFUSED: [(&str, u32, &str); 11] = [
     ("z append x hi", 8, "unknown client"),
     ("a fly x", 8, "unknown command"),
     ("a append z hi", 8, "unknown colour"),
@@ -12,7 +12,6 @@ const REFUSED: [(&str, u32, &str); 12] = [
     ("a append x \u{80}", 8, "not ascii"),
     ("a stop 0 x,y q\na sync x\n", 9, "client stopped"),
     ("a stop 1 x q", 8, "stop needs two colours"),
-    ("a append x hi\n\na scan x,y\na sync x\n", 10, "not built"),
     ("a scan x\na fly x\n", 9, "unknown command"),
     (
         "a append x \
@@ -24,17 +23,12 @@ const REFUSED: [(&str, u32, &str); 12] = [
     ),
 ];
 
-/// Commands on objects from line 12 on; none is done today.
-const OBJECTS: [&str; 9] = [
-    "a put m k v",
+/// Commands on objects from line 12 on that are not done today.
+const OBJECTS: [&str; 4] = [
     "a get m k",
-    "a del m k",
-    "a putall m k=v j=w",
     "a getall m k j",
     "a read t k",
     "a read t k\na commit t k=v",
-    "a enq q v",
-    "a deq q",
 ];
 
 /// The script is refused at that line for that reason.
@@ -59,7 +53,7 @@ fn a_line_that_is_not_done_is_refused_with_its_reason(rt: HostRuntime) -> Result
 }
 
 #[test]
-fn commands_on_objects_are_not_built(rt: HostRuntime) -> Result<(), Fail> {
+fn some_commands_on_objects_are_not_built(rt: HostRuntime) -> Result<(), Fail> {
     for lines in OBJECTS.iter() {
         let script = format!(in rt.alloc();
             "fuzzylog 1

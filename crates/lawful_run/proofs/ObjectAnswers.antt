@@ -1,0 +1,184 @@
+-- How the answers to commands of objects are explained, put together from their parts: appends, syncs and folds.
+use Rattle.std.proofs.Common.{◌≡◌, ◌≢◌, ◌⊎◌, cond, inl, inr, ℕ, zero, suc, ◌+◌, ◌<◌, ◌≤◌, Bool, true, false, List, [], ◌∷◌, Option, Some, None, refl, sym, subst, ap, ◌∙◌, arith, eq-eqb}
+use Rattle.std.specs.Prelude.{◌==◌, ◌||◌}
+use Rattle.std.specs.List.{AllZip, Contains, filter, range_with_len}
+use Rattle.std.proofs.lemmas.Bool.{eqb-true, cases_lt}
+use Rattle.log_node.specs.declared.ids.Colours.{Colours}
+use Rattle.log_node.specs.declared.ids.Counts.{Counts}
+use Rattle.object_fold.specs.Causal.{ChainNode, IsCausalAnswer}
+use Rattle.object_fold.specs.Maps.{Value, shard_value}
+use Rattle.object_fold.specs.Nodes.{ObjectNode, shard_of}
+use Rattle.col_core.specs.Cuts.{chain}
+use Rattle.col_core.specs.Log.{Log, first}
+use Rattle.col_core.specs.Keeping.{Kept}
+use Rattle.col_core.proofs.CallerLemmas.{by_test, apart, if_true, if_false}
+use Rattle.script_text.specs.declared.script.Kind.{Kind}
+use Rattle.script_text.specs.declared.script.Kind.TheVariants as kinds
+use Rattle.script_text.specs.declared.script.What.{What}
+use Rattle.script_text.specs.declared.script.What.TheVariants as whats
+use Rattle.report_text.specs.declared.report.Answer.TheVariants as answers
+use Rattle.report_text.specs.declared.report.PointPiece.{PointPiece}
+use Rattle.report_text.specs.declared.report.SyncPiece.{SyncPiece}
+use Rattle.lawful_run.specs.Callers.{Caller, node_of}
+use Rattle.lawful_run.specs.Asks.{kind_of, object_colours, home_asked, colours_synced, shards, AsksToAppend, Appending, Getting, Dequeuing, Manner, manner_of}
+use Rattle.lawful_run.specs.Appends.{Appends, AppendsUnshown}
+use Rattle.lawful_run.specs.Reads.{Syncs, IsTrimmed, HidesSyncs, kept_after_piece}
+use Rattle.lawful_run.specs.Objects.{AreObjectNodes, IsChainNode, GetsValue, GetsValues, Takes, own_played, places_within}
+use Rattle.lawful_run.specs.Refusals.{Hides, hidden}
+use Rattle.lawful_run.specs.Explains.{Explains}
+
+-- the one colour of a range
+none_above : (c a n : ℕ) → c < a → filter (λ x. (c == x) || false) (range_with_len a n) ≡ []
+none_above c a zero lt = refl
+none_above c a (suc n) lt =
+    by_test _ (c == a)
+    (λ t. let e = eqb-true c a t in absurd (let f : ⊥ = omega (arith, lt, e) in f))
+    (λ f. passed (c == a) a (filter (λ x. (c == x) || false) (range_with_len (a + 1) n)) f
+    ∙ none_above c (a + 1) n (omega (arith, lt))) where
+      passed : (b : Bool) (x : ℕ) (xs : List ℕ) → b ≡ false → cond (b || false) (x ∷ xs) xs ≡ xs
+      passed true x xs e = absurd (let g : ⊥ = cc in g)
+      passed false x xs e = refl
+
+one_here : (c a n : ℕ) → a ≤ c → c < a + n → filter (λ x. (c == x) || false) (range_with_len a n) ≡ c ∷ []
+one_here c a zero le lt = absurd (let f : ⊥ = omega (arith, le, lt) in f)
+one_here c a (suc n) le lt = step (λ e. one_here c (a + 1) n e (omega (arith, lt))) (c == a) refl where
+  step : (a + 1 ≤ c → filter (λ x. (c == x) || false) (range_with_len (a + 1) n) ≡ c ∷ []) → (b : Bool)
+      → (c == a) ≡ b
+      → cond (b || false) (a ∷ filter (λ x. (c == x) || false) (range_with_len (a + 1) n))
+      (filter (λ x. (c == x) || false) (range_with_len (a + 1) n)) ≡ c ∷ []
+  step rest true t =
+      let e = eqb-true c a t in
+      ap (λ (l : List ℕ). a ∷ l) (none_above c (a + 1) n (omega (arith, e))) ∙ ap (λ (x : ℕ). x ∷ []) (sym e)
+  step rest false f = rest (above (cases_lt a c)) where
+    above : (a < c) ⊎ (c ≤ a) → a + 1 ≤ c
+    above (inl less) = omega (arith, less)
+    above (inr more) = absurd (apart (c == a) (eq-eqb c a (omega (arith, le, more))) f)
+
+-- one key has one shard
+pub one_shard : (colours key : List ℕ) → shard_of colours key < 64
+    → shards colours (key ∷ []) ≡ shard_of colours key ∷ []
+one_shard colours key low = one_here (shard_of colours key) 0 64 (omega arith) (omega (arith, low))
+
+module _ (log : Log) (caller : Caller) (kept : Kept) where
+  -- A put, a deletion, several puts at once and an enqueue are explained by their append.
+  pub explains_append : (what : What) (colours : Colours) (text : List ℕ) (stamp : ℕ) (row : Option ℕ)
+      (points : List PointPiece) (after : Kept) → manner_of what ≡ Appending
+      → AsksToAppend caller kept what colours text
+      → Appends log caller kept (node_of caller kept colours text) stamp row points after
+      → Explains log caller kept what (answers.Stood stamp row points) [] after
+  explains_append what colours text stamp row points after appending asks appends =
+      (refl, appending, (colours, text, asks, appends))
+
+  -- A get of a map is explained by a sync of the key's shard, and the fold of the own nodes that its snapshot counts.
+  pub explains_get : (object home : ℕ) (colours key : List ℕ) (sync : SyncPiece) (nodes : List ObjectNode)
+      → kind_of caller object ≡ Some (kinds.Map home colours) → shard_of colours key < 64
+      → sync.colour ≡ shard_of colours key → Syncs log caller kept sync.colour sync.events sync.counts
+      → AreObjectNodes log (own_played log caller sync) nodes
+      → Explains log caller kept (whats.Get object key)
+      (answers.Got (shard_value colours sync.colour nodes key) sync) [] (kept_after_piece log caller kept sync)
+  explains_get object home colours key sync nodes kind low shard syncs played = (
+    refl,
+    object,
+    key,
+    refl,
+    home,
+    colours,
+    kind,
+    ap (λ (k : Option Kind). shards (object_colours k) (key ∷ [])) kind ∙ (one_shard colours key low ∙ ap (λ (c : ℕ). c ∷ []) (sym shard)),
+    syncs,
+    record { nodes = nodes; played = played; value_is = refl },
+    refl,
+  )
+
+  -- A get of a causal map is explained by a sync of its colour, and the answer over all nodes that its snapshot counts.
+  pub explains_values : (object : ℕ) (key : List ℕ) (sync : SyncPiece) (nodes : List ChainNode)
+      (values : List (List ℕ)) → kind_of caller object ≡ Some (kinds.Causal sync.colour)
+      → Syncs log caller kept sync.colour sync.events sync.counts
+      → AllZip (IsChainNode log (chain caller.own (first log caller.own sync.colour sync.events)))
+      (places_within sync.counts) nodes
+      → IsCausalAnswer nodes key values
+      → Explains log caller kept (whats.Get object key) (answers.GotMany values sync) []
+      (kept_after_piece log caller kept sync)
+  explains_values object key sync nodes values kind syncs played answer =
+      (refl, object, key, refl, kind, syncs, record { nodes = nodes; played = played; answer = answer }, refl)
+
+  -- A get that is refused, or finds no memory after its sync.
+  pub explains_get_trimmed : (what : What) (colour : ℕ) (base : Counts) (after : Kept) → manner_of what ≡ Getting
+      → Contains (colours_synced caller what) colour → IsTrimmed log caller kept colour base
+      → HidesSyncs log caller kept (colours_synced caller what) after
+      → Explains log caller kept what (answers.Trimmed colour base) [] after
+  explains_get_trimmed what colour base after getting has trimmed hides = (
+    refl,
+    inr (inl getting),
+    has,
+    trimmed,
+    subst (λ (m : Manner). Hides log caller kept (colours_synced caller what) m after) (sym getting) hides,
+  )
+
+  pub explains_get_without : (what : What) (after : Kept) → manner_of what ≡ Getting
+      → HidesSyncs log caller kept (colours_synced caller what) after
+      → Explains log caller kept what answers.NoMemory [] after
+  explains_get_without what after getting hides = (
+    refl,
+    hidden after
+        (subst (λ (m : Manner). Hides log caller kept (colours_synced caller what) m after) (sym getting) hides),
+  )
+
+  -- A dequeue is explained by its append, the sync behind it, and the front of the queue before its own node.
+  pub explains_take : (what : What) (colours : Colours) (text : List ℕ) (stamp : ℕ) (point : PointPiece)
+      (sync : SyncPiece) (value : Value) (stood : Kept) → manner_of what ≡ Dequeuing → sync.colour ≡ point.colour
+      → AsksToAppend caller kept what colours text
+      → Appends log caller kept (node_of caller kept colours text) stamp None (point ∷ []) stood
+      → Syncs log caller stood sync.colour sync.events sync.counts → Takes log caller point value
+      → Explains log caller kept what (answers.Took value point sync) [] (kept_after_piece log caller stood sync)
+  explains_take what colours text stamp point sync value stood dequeuing same asks appends syncs takes =
+      (refl, dequeuing, same, (colours, text, asks, (stamp, stood, appends, syncs, takes, refl)))
+
+  -- Its node stands, and the sync or the fold was refused.
+  pub explains_unread : (what : What) (colours : Colours) (text : List ℕ) (stamp colour : ℕ) (base : Counts)
+      (stood after : Kept) → manner_of what ≡ Dequeuing → Contains (colours_synced caller what) colour
+      → AsksToAppend caller kept what colours text
+      → AppendsUnshown log caller kept (node_of caller kept colours text) stamp stood
+      → IsTrimmed log caller stood colour base → HidesSyncs log caller stood (colours_synced caller what) after
+      → Explains log caller kept what (answers.UnreadTrimmed stamp colour base) [] after
+  explains_unread what colours text stamp colour base stood after dequeuing has asks appends trimmed hides = (
+    refl,
+    inr dequeuing,
+    has,
+    (
+      colours,
+      text,
+      asks,
+      (
+        stood,
+        appends,
+        trimmed,
+        subst (λ (m : Manner). Hides log caller stood (colours_synced caller what) m after) (sym dequeuing) hides,
+      ),
+    ),
+  )
+
+  pub explains_unread_without : (what : What) (colours : Colours) (text : List ℕ) (stamp : ℕ) (stood after : Kept)
+      → manner_of what ≡ Dequeuing → AsksToAppend caller kept what colours text
+      → AppendsUnshown log caller kept (node_of caller kept colours text) stamp stood
+      → HidesSyncs log caller stood (colours_synced caller what) after
+      → Explains log caller kept what (answers.UnreadNoMemory stamp) [] after
+  explains_unread_without what colours text stamp stood after dequeuing asks appends hides = (
+    refl,
+    inr dequeuing,
+    (
+      colours,
+      text,
+      asks,
+      (
+        stood,
+        appends,
+        subst (λ (m : Manner). Hides log caller stood (colours_synced caller what) m after) (sym dequeuing) hides,
+      ),
+    ),
+  )
+
+  -- Away from its object's home a client is refused.
+  pub explains_away : (what : What) (home : ℕ) → home_asked caller what ≡ Some home → caller.own ≢ home
+      → Explains log caller kept what (answers.NotHome home) [] kept
+  explains_away what home asked away = (refl, refl, asked, away)

@@ -1,0 +1,50 @@
+use Rattle.std.proofs.Common.{subst}
+use Rattle.log_node.specs.Sets.{members}
+use Rattle.world_code.specs.WorldView.{world_of}
+use Rattle.script_meaning.specs.Stamped.{keys_read}
+use Rattle.script_in_order.specs.declared.stamped.Stamped.{Stamped}
+use Rattle.script_in_order.specs.Stamped.{Reads, end_in}
+use Rattle.script_in_order.proofs.StampedWholes.{scans_whole, scans_without, scans_refused, scans_unraised}
+use Rattle.script_in_order.proofs.scans.scan.Goals as goal
+
+pub returns-in-Unraised-clause-ok : goal.returns-in-Unraised-clause-ok
+returns-in-Unraised-clause-ok c =
+    let old = world_of c.args.world.now in
+    let new = world_of c.stamped_read.new.world in
+    let command = c.args.command.now in
+    let cs = members c.args.colours in
+    scans_unraised old new command cs c.new.result
+    (subst (λ (s : Stamped). Reads old new command.client cs (end_in new command.client cs s)) c.in-Unraised.is
+    c.in_ok-stamped_read.ensures.ok) c.new.ensures
+
+pub returns-in-Refused-clause-ok : goal.returns-in-Refused-clause-ok
+returns-in-Refused-clause-ok c =
+    let old = world_of c.args.world.now in
+    let new = world_of c.stamped_read.new.world in
+    let command = c.args.command.now in
+    let cs = members c.args.colours in
+    scans_refused old new command cs c.in-Refused.colour c.in-Refused.base c.new-in-Refused.result
+    (subst (λ (s : Stamped). Reads old new command.client cs (end_in new command.client cs s)) c.in-Refused.is
+    c.in_ok-stamped_read.ensures.ok) c.new-in-Refused.ensures
+
+pub returns-in-Ok-clause-ok : goal.returns-in-Ok-clause-ok
+returns-in-Ok-clause-ok c =
+    let old = world_of c.args.world.now in
+    let new = world_of c.stamped_read.new.world in
+    let command = c.args.command.now in
+    let cs = members c.args.colours in
+    scans_whole old new command cs c.in-Whole.stamp c.len-nodes.result c.in-Whole.raises c.in-Whole.syncs
+    (keys_read new command.client c.in-Whole.stamp cs) c.in-Ok.items
+    (subst (λ (s : Stamped). Reads old new command.client cs (end_in new command.client cs s)) c.in-Whole.is
+    c.in_ok-stamped_read.ensures.ok) c.in-Ok.ensures c.len-nodes.ensures
+
+pub returns-in-Err-clause-ok : goal.returns-in-Err-clause-ok
+returns-in-Err-clause-ok c =
+    let old = world_of c.args.world.now in
+    let new = world_of c.stamped_read.new.world in
+    let command = c.args.command.now in
+    let cs = members c.args.colours in
+    scans_without old new command cs c.in-Whole.stamp c.in-Whole.raises c.in-Whole.syncs
+    (keys_read new command.client c.in-Whole.stamp cs) c.new-in-Err.result
+    (subst (λ (s : Stamped). Reads old new command.client cs (end_in new command.client cs s)) c.in-Whole.is
+    c.in_ok-stamped_read.ensures.ok) c.new-in-Err.ensures

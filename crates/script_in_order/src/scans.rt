@@ -1,0 +1,103 @@
+// Scans.
+ghost use Rattle.std.specs.Prelude.{◌≡◌, ◌≢◌, ◌<◌, None, IfOk, OnErr, length, map};
+ghost use Rattle.std.specs.List.{All};
+ghost use Rattle.log_node.specs.declared.ids.Key.{Key};
+ghost use Rattle.log_node.specs.Sets.{members};
+ghost use Rattle.script_text.specs.Fitting.{AreBelow};
+ghost use Rattle.world_code.specs.WorldView.{world_of};
+ghost use Rattle.script_meaning.specs.Helping.{node_with};
+ghost use Rattle.script_meaning.specs.Stamped.{shown_key, keys_read, scanned};
+ghost use Rattle.script_in_order.specs.Doing.{DoneBy};
+
+use crate::stamped::{Stamped, keys_read, stamped_read};
+use log_node::{Colours, Counts, Head, Item, Items, Key, ListOf};
+use report_text::Answer;
+use script_text::Command;
+use std::alloc::{AllocError, Global};
+use world_code::World;
+
+// A node that was read, whose needs are not looked up.
+fn shown_key(world: &World, key: Key) -> Result<Item, AllocError>
+    requires listed { node_with (world_of world.now) key.id ≢ None }
+    ensures { IfOk result (λ item. item ≡ shown_key (world_of world.now) key) }
+{
+    match world.node(key.id) {
+        Some(node) => Ok(Item {
+            head: Head {
+                key,
+                needs: Counts::zeros(),
+            },
+            node: node.clone()?,
+        }),
+        None => unreachable!(),
+    }
+}
+
+// The nodes with these keys.
+fn shown_keys(alloc: Global, world: &World, keys: &[Key]) -> Result<Items, AllocError>
+    requires listed { All (λ (key : Key). node_with (world_of world.now) key.id ≢ None) keys.now }
+    ensures { IfOk result (λ items. items ≡ map (shown_key (world_of world.now)) keys.now) }
+{
+    let mut items = Vec::with_capacity(alloc, keys.len())?;
+    for key in keys {
+        items.push(shown_key(world, *key)?)?;
+    }
+    Ok(ListOf::from(items))
+}
+
+// The nodes of the own lines of these colours up to a stamp, in rising key.
+fn items_read(
+    alloc: Global,
+    world: &World,
+    client: u8,
+    stamp: u64,
+    colours: Colours,
+) -> Result<Items, AllocError>
+    requires client { client < length world.now.shape.homes }
+    requires within { AreBelow world.now.shape.colours colours }
+    ensures { IfOk result (λ items. let w = world_of world.now in
+        items ≡ map (shown_key w) (keys_read w client stamp (members colours))) }
+{
+    world.agrees();
+    let keys = keys_read(alloc, world, client, stamp, colours)?;
+    shown_keys(alloc, world, keys.as_slice())
+}
+
+/// A stamped read, with its nodes in rising key; refused where a node that has to be played is trimmed. Where there is
+/// no memory for its nodes it is done all the same.
+pub fn scan(
+    alloc: Global,
+    command: &Command,
+    colours: Colours,
+    world: &mut World,
+) -> Result<(Answer, Items), AllocError>
+    requires caller { command.now.client < length world.old.shape.homes }
+    requires within { AreBelow world.old.shape.colours colours }
+    ensures ok { IfOk result (λ g. DoneBy (λ grants state. scanned grants state command.now (members colours))
+        command.now (world_of world.old) (world_of world.new) g.0 g.1) }
+    ensures err { OnErr result (world_of world.new ≡ world_of world.old) }
+{
+    match stamped_read(alloc, world, command.client, colours)? {
+        Stamped::Unraised => Ok((Answer::NoMemory, ListOf::new(alloc))),
+        Stamped::Refused { colour, base } => {
+            Ok((Answer::Trimmed { colour, base }, ListOf::new(alloc)))
+        }
+        Stamped::Whole {
+            stamp,
+            raises,
+            syncs,
+        } => match items_read(alloc, world, command.client, stamp, colours) {
+            Ok(items) => {
+                let nodes = items.len() as u64;
+                let answer = Answer::Scanned {
+                    stamp,
+                    nodes,
+                    raises,
+                    syncs,
+                };
+                Ok((answer, items))
+            }
+            Err(_) => Ok((Answer::NoMemory, ListOf::new(alloc))),
+        },
+    }
+}

@@ -1,0 +1,44 @@
+-- Of what is granted to a command, an append to one colour asks for its helps alone.
+use Rattle.std.proofs.Common.{◌≡◌, ℕ, zero, suc, ◌+◌, Bool, List, [], ◌∷◌, length, Option, Some, None, refl, ap, ◌∙◌}
+use Rattle.log_node.specs.declared.ids.Key.{Key}
+use Rattle.log_node.specs.declared.ids.Row.{Row}
+use Rattle.log_node.specs.declared.node.Node.{Node}
+use Rattle.log_node.specs.Standings.{Standing}
+use Rattle.col_core.specs.History.{entry_key}
+use Rattle.world_laws.specs.declared.steps.Step.TheVariants.{Single}
+use Rattle.world_laws.specs.Worlds.{World, home_history, run_steps, next_id, single_stamp, after}
+use Rattle.world_laws.specs.Completing.{complete_steps}
+use Rattle.script_meaning.specs.States.{Grants}
+use Rattle.script_meaning.specs.Helping.{Helping, node_with, open_below, helped_row, helped_node, helped_first, helped_times, cleared}
+use Rattle.script_meaning.specs.Appends.{with_single}
+
+module _ (g g' : Grants) (same : g.helps ≡ g'.helps) where
+  row_same : (by : ℕ) (h : Helping) (row : Option Row) → helped_row g by h row ≡ helped_row g' by h row
+  row_same by h None = refl
+  row_same by h (Some row) = ap (λ (f : ℕ → ℕ → Bool). let x : Helping = record {
+    world = run_steps h.world (complete_steps h.world by row (f h.helps));
+    helps = h.helps + 1;
+  } in x) same
+
+  node_same : (by : ℕ) (h : Helping) (node : Option Node) → helped_node g by h node ≡ helped_node g' by h node
+  node_same by h None = refl
+  node_same by h (Some node) = row_same by h node.row
+
+  first_same : (by : ℕ) (h : Helping) (es : List Standing) → helped_first g by h es ≡ helped_first g' by h es
+  first_same by h [] = refl
+  first_same by h (e ∷ es) = node_same by h (node_with h.world e.key.id)
+
+  times_same : (n by colour : ℕ) (key : Key) (h : Helping)
+      → helped_times n g by colour key h ≡ helped_times n g' by colour key h
+  times_same zero by colour key h = refl
+  times_same (suc n) by colour key h =
+      ap (helped_times n g by colour key) (first_same by h (open_below key (home_history h.world by colour)))
+      ∙ times_same n by colour key (helped_first g' by h (open_below key (home_history h.world by colour)))
+
+  pub single_same : (w : World) (client : ℕ) (text : List ℕ) (c : ℕ)
+      → with_single g w client text c ≡ with_single g' w client text c
+  single_same w client text c =
+      let key = entry_key (single_stamp w client c) (next_id w client) in
+      let h : Helping = record { world = after w (Single client c text); helps = 0 } in
+      ap (λ (x : Helping). x.world)
+      (times_same (length (open_below key (home_history h.world client c))) client c key h)
