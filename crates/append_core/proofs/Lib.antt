@@ -6,4 +6,14 @@ mod Cleared
 mod Places
 mod Placed
 mod Singles
+mod Members
+mod Keeping
+mod Pointing
+mod Proposed
+mod Decided
+mod Settling
+mod Pointed
+mod Staging
+mod Staged
+mod Finishing
 pub mod CallerLemmas

@@ -1,3 +1,5 @@
 pub mod Helping
 pub mod Settled
 pub mod Standing
+pub mod Several
+pub mod Inside

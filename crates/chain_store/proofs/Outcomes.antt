@@ -15,7 +15,7 @@ use Rattle.log_node.specs.Marks.{IsMark}
 use Rattle.log_node.specs.Outcomes.{outcome_of, is_missing, is_stamp_end_fence, is_memory_fence, number_of, greatest}
 use Rattle.log_node.specs.Sets.{has, members}
 use Rattle.col_core.specs.History.{last_stamp}
-use Rattle.col_core.proofs.CallerLemmas.{by_test, if_false, In, in_filter-back}
+use Rattle.col_core.proofs.CallerLemmas.{by_test, if_false, In, in_filter, in_filter-back}
 use Rattle.stamp_board.specs.declared.view.Size.{Size}
 use Rattle.stamp_board.specs.declared.view.View.{View}
 use Rattle.stamp_board.specs.Words.{row_at, row_word}
@@ -86,6 +86,46 @@ in_range (suc n) a c le lt = elim (cases_eq a c) [
 
 pub in_members : (set : Colours) (c : ℕ) → has set c ≡ true → c < 64 → In c (members set)
 in_members set c h lt = in_filter-back (has set) c (range_with_len 0 64) (in_range 64 0 c (omega arith) (omega (arith, lt))) h
+
+-- where the outcome of a set's marks is final, each of them is a number
+pub final_number : (mark : ℕ → Mark) (set : Colours) (c f : ℕ) → has set c ≡ true → c < 64
+    → outcome_of (map mark (members set)) ≡ Final f → (n : ℕ) × (mark c ≡ marks.Number n)
+final_number mark set c f h lt e =
+    let all = map mark (members set) in
+    let p = final_parts all f e in
+    let r = number_in all (mark c) (in_map mark (members set) c (in_members set c h lt)) p.0 p.1 p.2 in (r.0, r.1)
+
+end_fence : (all : List Mark) → outcome_of all ≡ Gone StampEnd → list_any is_stamp_end_fence all ≡ true
+end_fence all e = first (list_any is_missing all) (list_any is_stamp_end_fence all) (list_any is_memory_fence all) e where
+  first : (a b c : Bool) → (if a then Open else (if b then Gone StampEnd else (if c then Gone Memory
+      else Final (greatest (map number_of all))))) ≡ Gone StampEnd → b ≡ true
+  first true b c e = absurd (let g : ⊥ = cc (e) in g)
+  first false true c e = refl
+  first false false true e = absurd (let g : ⊥ = cc (e) in g)
+  first false false false e = absurd (let g : ⊥ = cc (e) in g)
+
+fence_of : (m : Mark) → is_stamp_end_fence m ≡ true → m ≡ marks.Fenced StampEnd
+fence_of marks.None e = absurd (let g : ⊥ = cc (e) in g)
+fence_of (marks.Number n) e = absurd (let g : ⊥ = cc (e) in g)
+fence_of (marks.Fenced Memory) e = absurd (let g : ⊥ = cc (e) in g)
+fence_of (marks.Fenced StampEnd) e = refl
+
+fence_in : (mark : ℕ → Mark) (cs : List ℕ) → list_any is_stamp_end_fence (map mark cs) ≡ true
+    → (c : ℕ) × In c cs × (mark c ≡ marks.Fenced StampEnd)
+fence_in mark [] e = absurd (let g : ⊥ = cc (e) in g)
+fence_in mark (c ∷ cs) e = by (is_stamp_end_fence (mark c)) refl e (fence_in mark cs) where
+  by : (b : Bool) → is_stamp_end_fence (mark c) ≡ b → (b || list_any is_stamp_end_fence (map mark cs)) ≡ true
+      → (list_any is_stamp_end_fence (map mark cs) ≡ true → (d : ℕ) × In d cs × (mark d ≡ marks.Fenced StampEnd))
+      → (d : ℕ) × In d (c ∷ cs) × (mark d ≡ marks.Fenced StampEnd)
+  by true is f rest = (c, inl refl, fence_of (mark c) is)
+  by false is f rest = let r = rest f in (r.0, inr r.1, r.2)
+
+-- it is gone for the stamps' end only where one of them is that fence
+pub no_end : (mark : ℕ → Mark) (set : Colours) → ((c : ℕ) → has set c ≡ true → mark c ≢ marks.Fenced StampEnd)
+    → outcome_of (map mark (members set)) ≡ Gone StampEnd → ⊥
+no_end mark set none e =
+    let r = fence_in mark (members set) (end_fence (map mark (members set)) e) in
+    none r.0 (in_filter (has set) r.0 (range_with_len 0 64) r.1).1 r.2
 
 not_zero : (n : ℕ) → n ≢ 0 → (n == 0) ≡ false
 not_zero n ne = by_test ((n == 0) ≡ false) (n == 0) (λ t. absurd (ne (eqb-true n 0 t))) (λ z. z)

@@ -84,12 +84,12 @@ pub given_stamped : (t : Tag) (log whole : List Told) (from : ℕ) (given : Give
 given_stamped t log whole from given p lawful shows n i at = (
   (shows.nodes n i at).of_id,
   (let history = entries_in log in
-  let line_of = chain t.region (dated_in t log) t.region in
-  let head = get_mapped (λ (j : PlacedNode). j.head) given.items n i at in
-  let there = ap (λ (l : List Head). slice_get l n) (sym shows.heads) ∙ head in
-  let dropped = get_taken (length (line history) - given.start) (drop given.start line_of) n i.head there in
-  let r = get_dropped given.start line_of n i.head dropped in
-  own_stamped t.region t.regions history (lawful_front t log whole p lawful) r.0 i.head r.1),
+      let line_of = chain t.region (dated_in t log) t.region in
+      let head = get_mapped (λ (j : PlacedNode). j.head) given.items n i at in
+      let there = ap (λ (l : List Head). slice_get l n) (sym shows.heads) ∙ head in
+      let dropped = get_taken (length (line history) - given.start) (drop given.start line_of) n i.head there in
+      let r = get_dropped given.start line_of n i.head dropped in
+      own_stamped t.region t.regions history (lawful_front t log whole p lawful) r.0 i.head r.1),
 )
 
 -- what a hold at rest has given

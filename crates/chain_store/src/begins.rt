@@ -6,6 +6,7 @@ ghost use Rattle.log_node.specs.Sets.{members};
 ghost use Rattle.stamp_board.specs.Rows.{IsRow, AreColours};
 ghost use Rattle.stamp_board.specs.Views.{KnowsAll, KnowsBegun, KnowsOutcome};
 ghost use Rattle.stamp_board.specs.Seats.{IsNext, IsFull, IsLater};
+ghost use Rattle.chain_store.specs.Rows.{OneNode};
 ghost use Rattle.chain_store.specs.Holds.{IsHold, view_of};
 ghost use Rattle.chain_store.specs.Beginning.{HasNextRow, BeginsRow, KnowsMarks};
 
@@ -62,6 +63,21 @@ impl Region {
         ensures stamp { IsOutcome result }
     {
         self.board.decide(&mut hold.seat, row);
+        self.board.last(&mut hold.seat, row)
+    }
+
+    /// The outcome that the row keeps; open while it is not decided.
+    pub fn kept(&self, hold: &mut Hold, row: Row) -> Outcome
+        requires hold { IsHold self.now hold.old }
+        requires row { IsRow self.now.board.size row }
+        ensures hold { IsHold self.now hold.new }
+        ensures same { (hold.new.passes ≡ hold.old.passes) × (hold.new.next ≡ hold.old.next) }
+        ensures seat { IsLater hold.old.seat hold.new.seat }
+        ensures known { result ≢ Outcome.Open → KnowsOutcome (view_of hold.new) row result }
+        ensures before { (o : Outcome) → KnowsOutcome (view_of hold.old) row o → result ≡ o }
+        // No row is known as begun for two nodes.
+        ensures one_node { (other : Row) → OneNode (view_of hold.new) other }
+    {
         self.board.last(&mut hold.seat, row)
     }
 }

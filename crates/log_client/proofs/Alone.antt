@@ -1,18 +1,15 @@
 -- Appends to one colour: from what a hold has seen and made to what a client knows.
-use Rattle.std.proofs.Common.{◌≡◌, ◌≢◌, ℕ, zero, suc, ◌+◌, ◌<◌, ◌≤◌, List, [], ◌∷◌, ◌++◌, length, map, Option, Some, None, Bool, true, false, slice_get, refl, ap, sym, subst, ◌∙◌, inl, inr, ◌⊎◌, arith}
-use Rattle.std.specs.Prelude.{◌==◌, ◌&&◌, IsTrue}
-use Rattle.std.specs.List.{Contains}
+use Rattle.std.proofs.Common.{◌≡◌, ◌≢◌, ℕ, ◌+◌, ◌≤◌, List, length, Some, true, slice_get, refl, ap, sym, subst, ◌∙◌, inl, inr, ◌⊎◌, arith}
+use Rattle.std.specs.Prelude.{◌==◌, IsTrue}
 use Rattle.std.proofs.lemmas.Bool.{and_from, eq-eqb, eqb-true, cases_eq}
 use Rattle.std.proofs.lemmas.List.{length-map}
-use mathlib.Core.List.{IsPrefix}
 use Rattle.log_node.specs.declared.ids.Id.{Id}
-use Rattle.log_node.specs.declared.ids.Counts.{Counts}
 use Rattle.log_node.specs.declared.node.Node.{Node}
 use Rattle.log_node.specs.Order.{same_id}
 use Rattle.col_core.specs.declared.Event as event_types
 use Rattle.col_core.specs.declared.Event.TheVariants as events
 use Rattle.col_core.specs.declared.Entry.{Entry}
-use Rattle.col_core.specs.History.{enters, entry_key, line}
+use Rattle.col_core.specs.History.{enters, line}
 use Rattle.col_core.specs.Rows.{node_wants}
 use Rattle.col_core.specs.Log.{is_own}
 use Rattle.col_core.specs.Keeping.{Kept}
@@ -21,16 +18,16 @@ use Rattle.chain_store.specs.declared.told.Told.{Told}
 use Rattle.chain_store.specs.declared.hold.Hold.{Hold}
 use Rattle.chain_store.specs.Histories.{Names}
 use Rattle.chain_store.specs.Columns.{told_single}
-use Rattle.chain_store.specs.Holds.{entries_seen, seen_in}
+use Rattle.chain_store.specs.Holds.{seen_in}
 use Rattle.append_core.specs.declared.stood.Stood.{Stood}
 use Rattle.append_core.specs.Standing.{IsSingleOf}
 use Rattle.append_core.specs.Standing.{StandsAlone as HoldStands}
-use Rattle.append_core.specs.Helping.{HelpsOpen}
+use Rattle.chain_store.specs.Going.{GoesOn}
 use Rattle.lawful_run.specs.Callers.{Caller}
-use Rattle.client_law.specs.Knowing.{Seen, Rest, SeesOn}
+use Rattle.client_law.specs.Knowing.{Rest, SeesOn}
 use Rattle.client_law.specs.Making.{is_own_step, own_steps, MakesOnly}
 use Rattle.client_law.specs.Appends.{EachStep, StandsAlone}
-use Rattle.log_client.specs.Fits.{entries_by, seen_by, Fits}
+use Rattle.log_client.specs.Fits.{seen_by, Fits}
 use Rattle.log_client.proofs.Lists.{mapped}
 use Rattle.log_client.proofs.Seeing.{seen_there}
 use Rattle.log_client.proofs.Fitting.{listed}
@@ -51,7 +48,7 @@ seen_at hs region h at colour place t there =
     ∙ mapped (λ (u : Told). u.entry) (seen_in h colour) place t there
 
 -- a single enters its id
-single_enters : (id : Id) (ev : event_types.Event) → IsSingleOf id ev → enters id ev ≡ true
+pub single_enters : (id : Id) (ev : event_types.Event) → IsSingleOf id ev → enters id ev ≡ true
 single_enters id (events.Single other floor wants) is = subst (λ (i : Id). same_id id i ≡ true) (sym is) (same_id-refl id)
 single_enters id (events.Propose other floor wants) is = absurd is
 single_enters id (events.Settle other outcome) is = absurd is
@@ -95,16 +92,17 @@ module _ (gs hs : List Hold) (caller : Caller) (g h : Hold) (at_g : slice_get gs
     stands = ap (λ (l : List Entry). slice_get (line l) a.position) (seen_there hs caller.own h at_h colour) ∙ a.stands;
   }
 
-  -- it is the client's only own step, where it helped none of its own appends
-  module _ (on : SeesOn caller (seen_by gs) (seen_by hs))
+  -- it is the client's only own step, where all else that it made is not its own
+  module _ (Foreign : event_types.Event → Type 0) (on : SeesOn caller (seen_by gs) (seen_by hs))
       (others : (region : ℕ) → region ≢ caller.own → slice_get hs region ≡ slice_get gs region)
-      (foreign : (e : event_types.Event) → HelpsOpen g h e → IsTrue (is_own caller.client e) → ⊥) where
+      (goes : GoesOn (λ c e. ((c ≡ colour) × IsSingleOf x.id e) ⊎ Foreign e) g h)
+      (foreign : (e : event_types.Event) → Foreign e → IsTrue (is_own caller.client e) → ⊥) where
     each : (c : ℕ) → EachStep caller (seen_by gs) (seen_by hs) c (λ e. (c ≡ colour) × IsSingleOf x.id e)
     each c =
         steps_of_goes gs hs caller g h at_g at_h is
-        (λ k e. ((k ≡ colour) × IsSingleOf x.id e) ⊎ HelpsOpen g h e) on a.goes
+        (λ k e. ((k ≡ colour) × IsSingleOf x.id e) ⊎ Foreign e) on goes
         (λ e. (c ≡ colour) × IsSingleOf x.id e) c
-        (λ e made own. elim made [ inl single ↦ single | inr helps ↦ absurd (foreign e helps own) ])
+        (λ e made own. elim made [ inl single ↦ single | inr other ↦ absurd (foreign e other own) ])
 
     own_at : (c place : ℕ) (e : Entry) → length (seen_by gs caller.own c) ≤ place
         → slice_get (seen_by hs caller.own c) place ≡ Some e → is_own_step caller.client e ≡ true

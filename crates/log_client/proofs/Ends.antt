@@ -1,27 +1,23 @@
 -- The log with which a store ends: whose its nodes are.
-use Rattle.std.proofs.Common.{◌≡◌, ◌≢◌, ℕ, zero, suc, ◌+◌, ◌<◌, ◌≤◌, List, [], ◌∷◌, ◌++◌, length, map, take, Option, Some, None, Bool, true, false, slice_get, refl, ap, sym, subst, ◌∙◌, inl, inr, ◌⊎◌, arith}
+use Rattle.std.proofs.Common.{◌≡◌, ℕ, ◌<◌, List, [], ◌∷◌, length, map, take, Option, Some, None, true, slice_get, refl, ap, sym, subst, ◌∙◌, inl, inr, ◌⊎◌, arith}
 use Rattle.std.specs.Prelude.{nat_lt, if◌then◌else◌}
 use Rattle.std.specs.List.{Contains}
-use Rattle.std.proofs.lemmas.Bool.{lt-ltb, ltb-true}
 use Rattle.std.proofs.lemmas.Option.{slice_get_within}
 use mathlib.Core.List.{IsPrefix}
 use Rattle.log_node.specs.declared.ids.Id.{Id}
 use Rattle.log_node.specs.declared.ids.Row.{Row}
 use Rattle.log_node.specs.declared.node.Node.{Node}
 use Rattle.log_node.specs.declared.node.Head.{Head}
-use Rattle.log_node.specs.Order.{same_id}
 use Rattle.log_node.specs.Seen.{PlacedNode}
 use Rattle.col_core.specs.declared.Event as event_types
 use Rattle.col_core.specs.declared.Event.TheVariants as events
-use Rattle.col_core.specs.declared.Entry.{Entry}
 use Rattle.col_core.specs.History.{enters}
 use Rattle.col_core.specs.Computed.{dated}
 use Rattle.col_core.specs.Legal.{IsLawfulEvent}
 use Rattle.col_core.specs.Cuts.{Dated}
 use Rattle.col_core.specs.Rows.{BegunRow}
-use Rattle.col_core.specs.Log.{Log}
-use Rattle.col_core.proofs.CallerLemmas.{if_true, in_contains, in_slice, same_id-refl}
-use Rattle.column.specs.Columns.{ColumnState, single_event, propose_event}
+use Rattle.col_core.proofs.CallerLemmas.{in_contains, in_slice, same_id-refl}
+use Rattle.column.specs.Columns.{ColumnState}
 use Rattle.stamp_board.specs.declared.seats.Seat.{Seat}
 use Rattle.stamp_board.specs.Views.{KnowsBegun}
 use Rattle.chain_store.specs.declared.told.Told.{Told}
@@ -31,7 +27,7 @@ use Rattle.chain_store.specs.declared.closed.ClosedRegion.{ClosedRegion}
 use Rattle.chain_store.specs.Histories.{entries_in, Names, EntersAs, Brings}
 use Rattle.chain_store.specs.Owning.{row_of}
 use Rattle.chain_store.specs.Regions.{tag_at}
-use Rattle.chain_store.specs.Holds.{IsHold, made_in, seen_in, view_of}
+use Rattle.chain_store.specs.Holds.{made_in, seen_in, view_of}
 use Rattle.chain_store.specs.Closing.{AreHoldsOf, Closed, ClosesColumn}
 use Rattle.chain_store.proofs.CallerLemmas.{row_place}
 use Rattle.append_core.specs.Standing.{IsSingleOf}
@@ -39,7 +35,7 @@ use Rattle.region_pull.specs.Origins.{IsOfOrigin, IsHeldFor}
 use Rattle.client_law.proofs.CallerLemmas.{lawful_at}
 use Rattle.lawful_run.proofs.CallerLemmas.{prefix_get}
 use Rattle.log_client.specs.Fits.{IsListed}
-use Rattle.log_client.specs.Ending.{AreRegions, AreHoldsIn, ArePair, PullsTruly, HasOwnNodes}
+use Rattle.log_client.specs.Ending.{AreRegions, AreHoldsIn, PullsTruly, HasOwnNodes}
 use Rattle.log_client.specs.Closing.{AreHoldsAt}
 use Rattle.log_client.proofs.Lists.{got, mapped, unmapped}
 

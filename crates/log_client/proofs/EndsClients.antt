@@ -1,18 +1,14 @@
 -- What the log with which a store ends is to each of its clients.
-use Rattle.std.proofs.Common.{◌≡◌, ◌≢◌, ℕ, zero, suc, ◌+◌, ◌<◌, ◌≤◌, List, [], ◌∷◌, ◌++◌, length, map, Option, Some, None, Bool, true, false, slice_get, refl, ap, sym, subst, ◌∙◌, inl, inr, ◌⊎◌, arith, append-nil, eqb-true, eq-eqb, length-append}
-use Rattle.std.specs.Prelude.{◌==◌}
-use Rattle.std.specs.List.{Contains, filter, range_with_len}
-use Rattle.std.proofs.lemmas.Bool.{cases_lt}
+use Rattle.std.proofs.Common.{◌≡◌, ℕ, zero, suc, ◌+◌, ◌<◌, ◌≤◌, List, [], ◌∷◌, ◌++◌, length, map, Some, slice_get, refl, ap, sym, subst, ◌∙◌, arith, append-nil, eqb-true, eq-eqb}
+use Rattle.std.specs.List.{filter, range_with_len}
 use Rattle.std.proofs.lemmas.List.{length-map}
-use Rattle.std.proofs.lemmas.List.FromFn.{length-range_with_len}
 use Rattle.std.proofs.lemmas.Option.{slice_get_within}
 use mathlib.Core.List.{IsPrefix}
-use Rattle.log_node.specs.declared.ids.Id.{Id}
 use Rattle.log_node.specs.declared.ids.Row.{Row}
 use Rattle.log_node.specs.declared.node.Node.{Node}
 use Rattle.col_core.specs.declared.Entry.{Entry}
-use Rattle.col_core.specs.Rows.{BegunRow, FitsRow, AreLawfulRows, is_of}
-use Rattle.col_core.proofs.CallerLemmas.{In, contains_in, in_contains, in_filter, in_filter-back, in_slice, slice_in}
+use Rattle.col_core.specs.Rows.{BegunRow, AreLawfulRows, is_of}
+use Rattle.col_core.proofs.CallerLemmas.{in_contains, in_filter, in_filter-back, in_slice, slice_in}
 use Rattle.stamp_board.specs.declared.seats.Seat.{Seat}
 use Rattle.stamp_board.specs.declared.view.Size.{Size}
 use Rattle.stamp_board.specs.Rows.{IsRow}
@@ -22,6 +18,7 @@ use Rattle.chain_store.specs.declared.hold.Hold.{Hold}
 use Rattle.chain_store.specs.declared.region.Region.{Region}
 use Rattle.chain_store.specs.Owning.{row_of}
 use Rattle.chain_store.specs.Holds.{IsHold, view_of}
+use Rattle.chain_store.specs.Closing.{AgreesWith}
 use Rattle.chain_store.proofs.CallerLemmas.{row_place}
 use Rattle.client_law.specs.Making.{made_of, own_steps}
 use Rattle.client_law.proofs.CallerLemmas.{steps_among_made}
@@ -95,21 +92,43 @@ module _ (region colours n : ℕ) (histories : ℕ → List Entry) (rows : List 
       let number = numbered j b at in
       omega (arith, used, so, number)
 
+  in_board : (j : ℕ) (x : Node) → slice_get nodes j ≡ Some x → IsRow (view_of h).size (row_of n j)
+  in_board j x at =
+      let is = numbers n h mine in
+      let lt = slice_get_within nodes j x at in
+      subst (λ (u : ℕ). IsRow (view_of h).size (row_of u j)) is.1
+      (subst (λ (k : Size). IsRow k (row_of h.passes.number j)) (sym is.0.seat.1)
+      (is.0.owns.fit j (omega (arith, lt, many))).on_board)
+
   -- the row of a node that it knows
   found : (j : ℕ) (x : Node) → slice_get nodes j ≡ Some x → slice_get (map (λ (b : BegunRow). b.node) own_rows) j ≡ Some x
   found j x at =
-      let is = numbers n h mine in
-      let lt = slice_get_within nodes j x at in
-      let in_board : IsRow (view_of h).size (row_of n j) =
-      subst (λ (u : ℕ). IsRow (view_of h).size (row_of u j)) is.1
-      (subst (λ (k : Size). IsRow k (row_of h.passes.number j)) (sym is.0.seat.1)
-      (is.0.owns.fit j (omega (arith, lt, many))).on_board) in
-      let b = known (row_of n j) x in_board (begun j x at) in
+      let b = known (row_of n j) x (in_board j x at) (begun j x at) in
       let place = in_slice own_rows b.0 (in_filter-back (is_of n) b.0 rows (in_contains rows b.0 b.1)
       (eq-eqb b.0.row.client n (ap (λ (w : Row). w.client) b.2))) in
       let number : place.0 ≡ j = sym (numbered place.0 b.0 place.1) ∙ ap (λ (w : Row). w.number) b.2 in
       ap (slice_get (map (λ (c : BegunRow). c.node) own_rows)) (sym number)
       ∙ (mapped (λ (c : BegunRow). c.node) own_rows place.0 b.0 place.1 ∙ ap (λ (y : Node). Some y) b.3)
+
+  -- each is the one that it knows
+  pub own_row_known : (j : ℕ) (b : BegunRow) → slice_get own_rows j ≡ Some b
+      → AgreesWith h b × (b.row ≡ row_of n j) × (slice_get nodes j ≡ Some b.node)
+  own_row_known j b at =
+      let lt = below j b at in
+      let x = got nodes j (omega (arith, lt, many)) in
+      let d = known (row_of n j) x.0 (in_board j x.0 x.1) (begun j x.0 x.1) in
+      let same = own_one j x.0 d b at in (
+        subst (AgreesWith h) same d.4,
+        sym (ap (λ (c : BegunRow). c.row) same) ∙ d.2,
+        x.1 ∙ ap (λ (y : Node). Some y) (sym d.3 ∙ ap (λ (c : BegunRow). c.node) same),
+      ) where
+        own_one : (j : ℕ) (x : Node) (d : HasRow rows h (row_of n j) x) (b : BegunRow) → slice_get own_rows j ≡ Some b
+            → d.0 ≡ b
+        own_one j x d b at =
+            let place = in_slice own_rows d.0 (in_filter-back (is_of n) d.0 rows (in_contains rows d.0 d.1)
+            (eq-eqb d.0.row.client n (ap (λ (w : Row). w.client) d.2))) in
+            let number : place.0 ≡ j = sym (numbered place.0 d.0 place.1) ∙ ap (λ (w : Row). w.number) d.2 in
+            same_items own_rows j d.0 b (ap (slice_get own_rows) (sym number) ∙ place.1) at
 
   few : length own_rows ≤ length nodes
   few = by_last (length own_rows) refl where

@@ -1,10 +1,9 @@
 -- The log with which a store ends: what its clients know of it, and that its rows are lawful and its copies true.
-use Rattle.std.proofs.Common.{◌≡◌, ◌≢◌, ℕ, zero, suc, ◌+◌, ◌<◌, ◌≤◌, List, [], ◌∷◌, ◌++◌, length, map, drop, take, Option, Some, None, Bool, true, false, slice_get, refl, ap, sym, subst, ◌∙◌, inl, inr, ◌⊎◌, arith}
-use Rattle.std.specs.Prelude.{nat_lt, if◌then◌else◌, ◌==◌}
-use Rattle.std.specs.List.{All, Contains}
-use Rattle.std.proofs.lemmas.Bool.{cases_lt, lt-ltb, ltb-true, le-ltb}
+use Rattle.std.proofs.Common.{◌≡◌, ℕ, ◌+◌, ◌<◌, ◌≤◌, List, [], length, map, drop, Option, Some, None, slice_get, refl, ap, sym, subst, ◌∙◌, inl, inr, ◌⊎◌, arith}
+use Rattle.std.specs.Prelude.{nat_lt}
+use Rattle.std.specs.List.{Contains}
+use Rattle.std.proofs.lemmas.Bool.{cases_lt, lt-ltb, le-ltb}
 use Rattle.std.proofs.lemmas.Option.{slice_get_within}
-use Rattle.std.proofs.lemmas.List.Elements.{All-contains, All-cons, All-nil}
 use mathlib.Core.List.{IsPrefix}
 use Rattle.log_node.specs.declared.ids.Id.{Id}
 use Rattle.log_node.specs.declared.ids.Row.{Row}
@@ -18,7 +17,6 @@ use Rattle.col_core.specs.Cuts.{chain}
 use Rattle.col_core.specs.Legal.{IsColumnHistory}
 use Rattle.col_core.specs.Copies.{AreTrueCopies}
 use Rattle.col_core.specs.Log.{Log}
-use Rattle.col_core.specs.Rows.{BegunRow}
 use Rattle.col_core.proofs.CallerLemmas.{contains_in, if_true, if_false, slice_in}
 use Rattle.stamp_board.specs.declared.view.Size.{Size}
 use Rattle.stamp_board.specs.Rows.{IsRow}
@@ -29,20 +27,17 @@ use Rattle.chain_store.specs.declared.hold.Hold.{Hold}
 use Rattle.chain_store.specs.declared.region.Region.{Region}
 use Rattle.chain_store.specs.declared.closed.ClosedRegion.{ClosedRegion}
 use Rattle.chain_store.specs.Histories.{entries_in, maker, Names}
-use Rattle.chain_store.specs.Regions.{tag_at}
-use Rattle.chain_store.specs.Holds.{IsHold, entries_seen, made_in, seen_in, view_of}
-use Rattle.chain_store.specs.Closing.{AgreesWith}
-use Rattle.region_pull.specs.Origins.{AreOfLine}
+use Rattle.chain_store.specs.Holds.{entries_seen, seen_in, view_of}
 use Rattle.client_law.specs.Knowing.{SeesMore, AreLawful}
 use Rattle.client_law.specs.Making.{made_of}
-use Rattle.client_law.specs.Origins.{IsOfOrigin, CarriesOfOrigins, GivesAreHeld}
+use Rattle.client_law.specs.Origins.{CarriesOfOrigins, GivesAreHeld}
 use Rattle.client_law.proofs.CallerLemmas.{copies_are_true}
-use Rattle.log_client.specs.Fits.{entries_by, seen_by, IsListed, HasRow, FitsHold, Fits}
+use Rattle.log_client.specs.Fits.{entries_by, seen_by, IsListed, HasRow}
 use Rattle.log_client.specs.Ending.{AreRegions, AreHoldsIn, PullsTruly, HasOwnNodes}
-use Rattle.log_client.specs.Closing.{AreHoldsAt, EndsClient}
+use Rattle.log_client.specs.Closing.{EndsClient}
 use Rattle.log_client.proofs.Lists.{got, got_dropped, prefix_by, same_items, unmapped}
 use Rattle.log_client.proofs.Fitting.{names_longer}
-use Rattle.log_client.proofs.Seeing.{entries_longer, made_entries, made_there, nothing_beyond, nothing_lawful, seen_there}
+use Rattle.log_client.proofs.Seeing.{entries_longer, made_entries, made_there, nothing_beyond, nothing_lawful}
 use Rattle.log_client.proofs.Ends.{Ended, IsEnd, told_at, rows_at, hold_at, carry_of, give_of, named_listed, row_node_listed}
 
 -- items that stand in a list from a number on are a stretch of it

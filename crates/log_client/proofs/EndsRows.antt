@@ -1,21 +1,21 @@
 -- The log with which a store ends: its rows are lawful beside its histories, and each id that enters is of a listed node.
-use Rattle.std.proofs.Common.{◌≡◌, ◌≢◌, ℕ, zero, suc, ◌+◌, ◌<◌, ◌≤◌, List, [], ◌∷◌, ◌++◌, length, map, Option, Some, None, Bool, true, false, slice_get, refl, ap, sym, subst, ◌∙◌, inl, inr, ◌⊎◌, arith}
-use Rattle.std.specs.List.{All, Contains}
+use Rattle.std.proofs.Common.{◌≡◌, ℕ, suc, ◌<◌, ◌≤◌, List, [], ◌∷◌, length, map, Option, Some, None, true, slice_get, refl, ap, sym, subst, ◌∙◌, inl, inr, arith}
+use Rattle.std.specs.List.Sorted.{IsNonDecreasing}
+use Rattle.std.specs.List.{All}
 use Rattle.std.proofs.lemmas.Option.{slice_get_within}
 use Rattle.std.proofs.lemmas.List.Elements.{All-contains, All-cons, All-nil}
 use Rattle.log_node.specs.declared.ids.Id.{Id}
 use Rattle.log_node.specs.declared.ids.Row.{Row}
 use Rattle.log_node.specs.declared.node.Node.{Node}
 use Rattle.log_node.specs.declared.marks.ColourMark.{ColourMark}
-use Rattle.log_node.specs.Sets.{has, members}
-use Rattle.log_node.specs.Order.{same_id}
+use Rattle.log_node.specs.Sets.{has}
 use Rattle.col_core.specs.declared.Event as event_types
 use Rattle.col_core.specs.declared.Event.TheVariants as events
 use Rattle.col_core.specs.declared.Entry.{Entry}
 use Rattle.col_core.specs.History.{enters}
 use Rattle.col_core.specs.Log.{Log}
 use Rattle.col_core.specs.Rows.{BegunRow, FitsRow, FitsRows, IsMarkOf, AreLawfulRows}
-use Rattle.col_core.proofs.CallerLemmas.{contains_in, same_id-refl, same_id-true, slice_in}
+use Rattle.col_core.proofs.CallerLemmas.{contains_in, same_id-true, slice_in}
 use Rattle.column.specs.Columns.{ColumnState, single_event, propose_event}
 use Rattle.stamp_board.specs.declared.seats.Seat.{Seat}
 use Rattle.stamp_board.specs.Views.{KnowsBegun}
@@ -23,18 +23,24 @@ use Rattle.chain_store.specs.declared.told.Told.{Told}
 use Rattle.chain_store.specs.declared.hold.Hold.{Hold}
 use Rattle.chain_store.specs.declared.region.Region.{Region}
 use Rattle.chain_store.specs.declared.closed.ClosedRegion.{ClosedRegion}
-use Rattle.chain_store.specs.Histories.{entries_in, Brings, EntersAs}
+use Rattle.chain_store.specs.Histories.{entries_in, Brings}
 use Rattle.chain_store.specs.Owning.{row_of}
-use Rattle.chain_store.specs.Holds.{IsHold, view_of}
+use Rattle.chain_store.specs.Holds.{view_of}
 use Rattle.chain_store.specs.Closing.{closed_of}
 use Rattle.chain_store.proofs.CallerLemmas.{member_has, row_place}
 use Rattle.stamp_board.specs.Closing.{all_begun}
 use Rattle.log_client.specs.Fits.{IsListed}
 use Rattle.log_client.specs.Ending.{AreRegions, AreHoldsIn, PullsTruly, HasOwnNodes}
-use Rattle.log_client.specs.Closing.{AreHoldsAt, EndsColumn, EndsRegion, Enters}
-use Rattle.log_client.proofs.Lists.{got, mapped, same_items, unmapped}
+use Rattle.log_client.specs.Closing.{EndsColumn, EndsRegion, Enters}
+use Rattle.log_client.proofs.Lists.{mapped, unmapped}
+use Rattle.log_client.proofs.ByClient.{rows_by_client}
 use Rattle.log_client.proofs.Ends.{Ended, IsEnd, brings, column, entered_listed, rows_at, row_node_listed}
 use Rattle.log_client.proofs.EndsLog.{found, log, told_is, told_of}
+
+clients_of : (bs : List BegunRow)
+    → map (λ (r : Row). r.client) (map (λ (b : BegunRow). b.row) bs) ≡ map (λ (b : BegunRow). b.row.client) bs
+clients_of [] = refl
+clients_of (b ∷ bs) = ap (λ (l : List ℕ). b.row.client ∷ l) (clients_of bs)
 
 -- what holds of each item, by place
 all_by : {A : Type 0} (P : A → Type 0) (xs : List A) → ((n : ℕ) (x : A) → slice_get xs n ≡ Some x → P x) → All P xs
@@ -118,6 +124,9 @@ module _ (rs : List Region) (regions colours : ℕ) (clients : List (List Hold))
         (λ i b at c of. row_within n x e i b at c of));
     in_order = subst (λ (l : List BegunRow). map (λ (b : BegunRow). b.row) l ≡ all_begun (map (λ (h : Hold). h.seat) x.ks))
         (sym rows_are) x.closed.in_order;
+    by_client = subst (λ (l : List BegunRow). IsNonDecreasing (map (λ (b : BegunRow). b.row.client) l)) (sym rows_are)
+        begun_by_client;
+    of_clients = λ i b at. begun_of_clients i b (ap (λ (l : List BegunRow). slice_get l i) (sym rows_are) ∙ at);
     listed = λ i b at. row_node_listed rs regions colours clients ends nodes are few sizes holds pulls own end_of is_end has_end
         n x e i b (ap (λ (l : List BegunRow). slice_get l i) (sym rows_are) ∙ at);
   } where
@@ -129,6 +138,28 @@ module _ (rs : List Region) (regions colours : ℕ) (clients : List (List Hold))
 
     rows_are : the_log.rows n ≡ x.closed.begun
     rows_are = ap rows_at e
+
+    numbers : (u : ℕ) (s : Seat) → slice_get (map (λ (h : Hold). h.seat) x.ks) u ≡ Some s → s.client ≡ u
+    numbers u s at =
+        let k = unmapped (λ (h : Hold). h.seat) x.ks u s at in
+        let is = x.are_of.1 u k.0 k.1 in
+        ap (λ (z : Seat). z.client) (sym k.2) ∙ (is.0.number ∙ is.1)
+
+    begun_by_client : IsNonDecreasing (map (λ (b : BegunRow). b.row.client) x.closed.begun)
+    begun_by_client = subst IsNonDecreasing
+        (ap (map (λ (r : Row). r.client)) (sym x.closed.in_order) ∙ clients_of x.closed.begun)
+        (rows_by_client (map (λ (h : Hold). h.seat) x.ks) numbers)
+
+    begun_of_clients : (i : ℕ) (b : BegunRow) → slice_get x.closed.begun i ≡ Some b → b.row.client < length x.ks
+    begun_of_clients i b at =
+        let p = row_place (map (λ (h : Hold). h.seat) x.ks) i b.row
+        (ap (λ (l : List Row). slice_get l i) (sym x.closed.in_order)
+        ∙ mapped (λ (d : BegunRow). d.row) x.closed.begun i b at) in
+        let k = unmapped (λ (h : Hold). h.seat) x.ks p.place p.seat p.there in
+        let lt = slice_get_within x.ks p.place k.0 k.1 in
+        let is = numbers p.place p.seat p.there in
+        let mine = p.mine in
+        omega (arith, lt, is, mine)
 
     lawful : AreLawfulRows n colours (λ (c : ℕ). entries_in (x.closed.logs c)) x.closed.begun
     lawful = subst (λ (k : ℕ). AreLawfulRows k colours (λ (c : ℕ). entries_in (x.closed.logs c)) x.closed.begun) mine.0

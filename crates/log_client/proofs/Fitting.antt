@@ -1,5 +1,5 @@
 -- What fits what is known later fits what was known, and what it says of nodes and rows.
-use Rattle.std.proofs.Common.{◌≡◌, ℕ, ◌<◌, List, [], ◌∷◌, length, Some, true, slice_get, refl, ap, sym, subst, ◌∙◌, arith}
+use Rattle.std.proofs.Common.{◌≡◌, ℕ, List, Some, true, slice_get, refl, sym, subst, arith}
 use Rattle.std.specs.List.{Contains}
 use Rattle.std.proofs.lemmas.Option.{slice_get_within}
 use mathlib.Core.List.{IsPrefix}
@@ -22,7 +22,7 @@ use Rattle.chain_store.specs.Holds.{seen_in, view_of}
 use Rattle.chain_store.specs.Closing.{AgreesWith}
 use Rattle.client_law.specs.Knowing.{Seen, Rest, log_of}
 use Rattle.lawful_run.proofs.CallerLemmas.{prefix_get}
-use Rattle.log_client.specs.Fits.{IsListed, HasRow, FitsHold, Fits, HasGoneOn, HaveGoneOn}
+use Rattle.log_client.specs.Fits.{FitsHold, Fits, HasGoneOn, HaveGoneOn}
 use Rattle.log_client.proofs.Lists.{got}
 
 pub names_longer : (old new : List Told) (id : Id) (x : Node) → IsPrefix old new → Names old id x → Names new id x

@@ -42,6 +42,13 @@ module _ {A : Type 0} where
       let is = r.1 in
       (r.0, omega (arith, is), r.2)
 
+  -- an item of the beginning
+  pub got_front : (xs more : List A) (n : ℕ) (x : A) → n < length xs → slice_get (xs ++ more) n ≡ Some x
+      → slice_get xs n ≡ Some x
+  got_front [] more n x lt e = absurd (let f : ⊥ = omega (arith, lt) in f)
+  got_front (y ∷ xs) more zero x lt e = e
+  got_front (y ∷ xs) more (suc n) x lt e = got_front xs more n x (omega (arith, lt)) e
+
   pub got_onward : (xs more : List A) (m : ℕ) (x : A) → slice_get more m ≡ Some x
       → slice_get (xs ++ more) (length xs + m) ≡ Some x
   got_onward [] more m x e = let is : m ≡ 0 + m = omega arith in subst (λ n. slice_get more n ≡ Some x) is e

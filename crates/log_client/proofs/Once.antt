@@ -1,8 +1,7 @@
 -- An id enters a lawful history once.
-use Rattle.std.proofs.Common.{◌≡◌, ℕ, ◌<◌, ◌≤◌, List, [], ◌∷◌, ◌++◌, length, map, take, Some, true, false, slice_get, refl, ap, sym, subst, ◌∙◌, inl, inr, ◌⊎◌, arith}
+use Rattle.std.proofs.Common.{◌≡◌, ℕ, ◌<◌, List, [], ◌∷◌, take, Some, true, slice_get, ap, sym, subst, ◌∙◌, inl, inr}
 use Rattle.std.proofs.lemmas.Bool.{cases_order, or_left, or_right, true≢false}
 use Rattle.log_node.specs.declared.ids.Id.{Id}
-use Rattle.log_node.specs.Order.{same_id}
 use Rattle.col_core.specs.declared.Entry.{Entry}
 use Rattle.col_core.specs.declared.Event as event_types
 use Rattle.col_core.specs.declared.Event.TheVariants as events
@@ -10,7 +9,7 @@ use Rattle.col_core.specs.History.{enters, has_entered}
 use Rattle.col_core.specs.Cuts.{Dated, entries_of}
 use Rattle.col_core.specs.Computed.{dated}
 use Rattle.col_core.specs.Legal.{IsColumnHistory, IsLawfulEvent}
-use Rattle.col_core.proofs.CallerLemmas.{In, dated-is_dated, entries_dated, same_id-true, slice_in}
+use Rattle.col_core.proofs.CallerLemmas.{In, dated-is_dated, same_id-true, slice_in}
 use Rattle.std.proofs.lemmas.List.{take-map}
 use Rattle.log_client.proofs.Lists.{unmapped, got_taken}
 

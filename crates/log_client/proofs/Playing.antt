@@ -1,9 +1,7 @@
 -- Syncs: what a hold's look shows and what is played of it, as what a client knows.
-use Rattle.std.proofs.Common.{◌≡◌, ◌≢◌, ℕ, zero, suc, ◌+◌, ◌-◌, ◌<◌, ◌≤◌, List, [], ◌∷◌, ◌++◌, length, map, Option, Some, None, true, false, slice_get, refl, ap, sym, subst, ◌∙◌, inl, inr, ◌⊎◌, arith}
+use Rattle.std.proofs.Common.{◌≡◌, ℕ, List, [], ◌∷◌, Some, slice_get, refl, sym, subst}
 use Rattle.std.specs.List.{AllZip}
-use mathlib.Core.List.{IsPrefix}
 use Rattle.log_node.specs.declared.ids.Counts.{Counts}
-use Rattle.log_node.specs.declared.node.Head.{Head}
 use Rattle.log_node.specs.Reach.{Chains}
 use Rattle.log_node.specs.Seen.{PlacedNode}
 use Rattle.col_core.specs.declared.Entry.{Entry}
@@ -11,9 +9,8 @@ use Rattle.col_core.specs.Cuts.{chain}
 use Rattle.col_core.specs.Computed.{dated}
 use Rattle.col_core.specs.Keeping.{Kept}
 use Rattle.col_core.specs.PlayOrder.{Place, Stands, IsPlayOrder}
-use Rattle.chain_store.specs.declared.told.Told.{Told}
 use Rattle.chain_store.specs.declared.hold.Hold.{Hold}
-use Rattle.chain_store.specs.Histories.{entries_in, Names}
+use Rattle.chain_store.specs.Histories.{Names}
 use Rattle.chain_store.specs.Holds.{entries_seen, seen_in}
 use Rattle.lawful_run.specs.Callers.{Caller}
 use Rattle.client_law.specs.Knowing.{Rest}

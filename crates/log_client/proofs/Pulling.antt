@@ -1,14 +1,10 @@
 -- Pulls: from what a pull says of two holds to what a client knows.
-use Rattle.std.proofs.Common.{◌≡◌, ◌≢◌, ℕ, zero, suc, ◌+◌, ◌<◌, ◌≤◌, min, List, [], ◌∷◌, ◌++◌, length, map, take, Option, Some, None, true, slice_get, refl, ap, sym, subst, ◌∙◌, inl, inr, ◌⊎◌, arith, length-append, take_all}
+use Rattle.std.proofs.Common.{◌≡◌, ◌≢◌, ℕ, suc, ◌+◌, ◌<◌, ◌≤◌, min, List, [], ◌∷◌, ◌++◌, length, map, take, Some, true, slice_get, refl, ap, sym, subst, ◌∙◌, inl, inr, ◌⊎◌, arith, length-append, take_all}
 use Rattle.std.specs.List.{All}
-use Rattle.std.proofs.lemmas.Bool.{cases_eq}
 use Rattle.std.proofs.lemmas.List.{length-map, map-append, take-map}
 use Rattle.std.proofs.lemmas.List.Elements.{All-nil, All-cons}
-use mathlib.Core.List.{IsPrefix}
 use Rattle.log_node.specs.declared.ids.Counts.{Counts}
 use Rattle.log_node.specs.declared.node.At.{At}
-use Rattle.log_node.specs.declared.node.At.TheVariants.{Event, Look}
-use Rattle.log_node.specs.declared.node.Head.{Head}
 use Rattle.log_node.specs.Seen.{PlacedNode}
 use Rattle.log_node.specs.Vectors.{at as number_at}
 use Rattle.col_core.specs.declared.Event.TheVariants as events
@@ -18,18 +14,15 @@ use Rattle.col_core.specs.Cuts.{base, chain}
 use Rattle.col_core.specs.Computed.{dated}
 use Rattle.col_core.specs.Log.{is_own}
 use Rattle.col_core.specs.Keeping.{seen_after}
-use Rattle.turn_cell.specs.Histories.{made_by}
-use Rattle.chain_store.specs.declared.told.Tag.{Tag}
 use Rattle.chain_store.specs.declared.told.Told.{Told}
 use Rattle.chain_store.specs.declared.hold.Hold.{Hold}
 use Rattle.chain_store.specs.declared.region.Region.{Region}
 use Rattle.chain_store.specs.Histories.{entries_in, maker}
-use Rattle.chain_store.specs.Columns.{told_carry}
 use Rattle.chain_store.specs.Moves.{base_in, held_in}
 use Rattle.chain_store.specs.Regions.{tag_at}
 use Rattle.chain_store.specs.Holds.{entries_seen, seen_in}
 use Rattle.region_pull.specs.declared.pulled.Pulled.{Pulled}
-use Rattle.region_pull.specs.Pulls.{Gave, Asks, MakesGives, before_gave, told_gave, CarriesLine}
+use Rattle.region_pull.specs.Pulls.{Gave, Asks, before_gave, told_gave, CarriesLine}
 use Rattle.region_pull.specs.Pulls.{Pulls as HoldPulls}
 use Rattle.lawful_run.specs.Callers.{Caller}
 use Rattle.lawful_run.specs.Moves.{GivesAt, GivesTooLow}
@@ -38,7 +31,7 @@ use Rattle.client_law.specs.Knowing.{Rest, log_of}
 use Rattle.client_law.specs.Making.{own_steps, RiseFrom}
 use Rattle.client_law.specs.Moves.{CarriesThere, PullsThere, MakesPull, carry_count}
 use Rattle.log_client.specs.Fits.{seen_by}
-use Rattle.log_client.proofs.Lists.{got_last, got_split, mapped}
+use Rattle.log_client.proofs.Lists.{got_last}
 use Rattle.log_client.proofs.Seeing.{seen_there}
 use Rattle.log_client.proofs.Steps.{all_made, none_made, made_last, stands_last, unseen_last, long_last}
 use Rattle.log_client.proofs.Alone.{seen_at, seen_long}

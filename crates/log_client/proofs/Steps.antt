@@ -1,18 +1,14 @@
 -- How many own steps what a client made is.
-use Rattle.std.proofs.Common.{◌≡◌, ◌≢◌, ℕ, zero, suc, ◌+◌, ◌<◌, ◌≤◌, List, [], ◌∷◌, ◌++◌, length, map, take, Option, Some, None, Bool, true, false, cond, slice_get, refl, ap, sym, subst, ◌∙◌, inl, inr, ◌⊎◌, arith, append-nil, length-append}
-use Rattle.std.specs.Prelude.{◌==◌, ◌&&◌, IsTrue}
+use Rattle.std.proofs.Common.{◌≡◌, ◌≢◌, ℕ, suc, ◌+◌, ◌≤◌, List, [], ◌∷◌, ◌++◌, length, Option, Some, None, Bool, true, cond, slice_get, refl, ap, sym, subst, ◌∙◌, arith, append-nil, length-append}
+use Rattle.std.specs.Prelude.{IsTrue}
 use Rattle.std.specs.List.{All, filter}
-use Rattle.std.proofs.lemmas.Bool.{and_from, eq-eqb, cases_eq, true≢false}
-use Rattle.std.proofs.lemmas.List.{length-map, map-append}
+use Rattle.std.proofs.lemmas.List.{length-map}
 use Rattle.std.proofs.lemmas.List.Elements.{All-map, All-weaker, filter-append}
 use mathlib.Core.List.{IsPrefix}
 use Rattle.log_node.specs.declared.node.At.{At}
-use Rattle.log_node.specs.declared.node.At.TheVariants.{Event}
 use Rattle.col_core.specs.declared.Event as event_types
-use Rattle.col_core.specs.declared.Event.TheVariants as events
 use Rattle.col_core.specs.declared.Entry.{Entry}
 use Rattle.col_core.specs.Log.{is_own}
-use Rattle.col_core.proofs.CallerLemmas.{both}
 use Rattle.turn_cell.specs.Histories.{made_by}
 use Rattle.chain_store.specs.declared.told.Told.{Told}
 use Rattle.chain_store.specs.declared.hold.Hold.{Hold}
@@ -24,13 +20,13 @@ use Rattle.chain_store.specs.Going.{GoesOn}
 use Rattle.append_core.proofs.CallerLemmas.{entries_split}
 use Rattle.chain_store.proofs.CallerLemmas.{prefix_with}
 use Rattle.lawful_run.specs.Callers.{Caller}
-use Rattle.client_law.specs.Knowing.{Seen, SeesOn}
-use Rattle.client_law.specs.Making.{made_of, is_own_step, own_steps, MakesNone, MakesOnly, MakesAtHome}
+use Rattle.client_law.specs.Knowing.{SeesOn}
+use Rattle.client_law.specs.Making.{made_of, is_own_step, own_steps, MakesNone, MakesAtHome}
 use Rattle.client_law.specs.Appends.{EachStep}
 use Rattle.client_law.proofs.CallerLemmas.{steps_among_made, steps_of_made}
 use Rattle.log_client.specs.Fits.{entries_by, seen_by}
 use Rattle.log_client.proofs.Lists.{apart_lengths, got_behind, got_last, got_onward, none_pass, one_passes}
-use Rattle.log_client.proofs.Seeing.{entries_longer, made_entries, made_there, seen_there}
+use Rattle.log_client.proofs.Seeing.{made_entries, made_there, seen_there}
 
 -- OF ONE HISTORY THAT GREW
 

@@ -1,10 +1,7 @@
 -- Trims and other single events of a hold, as what a client knows.
-use Rattle.std.proofs.Common.{◌≡◌, ◌≢◌, ℕ, ◌+◌, ◌<◌, ◌≤◌, List, [], ◌∷◌, ◌++◌, length, map, take, Option, Some, None, true, slice_get, refl, ap, sym, subst, ◌∙◌, inl, inr, ◌⊎◌, arith, take_all}
-use Rattle.std.specs.List.{All}
+use Rattle.std.proofs.Common.{◌≡◌, ◌≢◌, ℕ, ◌+◌, ◌≤◌, List, [], ◌∷◌, length, map, take, Some, true, slice_get, ap, sym, subst, ◌∙◌, inl, inr, ◌⊎◌, arith, take_all}
 use Rattle.std.proofs.lemmas.Bool.{cases_eq}
-use Rattle.std.proofs.lemmas.List.{length-map}
 use Rattle.std.proofs.lemmas.List.Elements.{All-nil, All-cons}
-use mathlib.Core.List.{IsPrefix}
 use Rattle.log_node.specs.declared.ids.Counts.{Counts}
 use Rattle.log_node.specs.declared.node.At.{At}
 use Rattle.log_node.specs.declared.node.At.TheVariants.{Event}
@@ -13,19 +10,16 @@ use Rattle.col_core.specs.declared.Entry.{Entry}
 use Rattle.col_core.specs.Cuts.{base}
 use Rattle.col_core.specs.Computed.{dated}
 use Rattle.col_core.specs.Log.{is_own}
-use Rattle.chain_store.specs.declared.told.Tag.{Tag}
 use Rattle.chain_store.specs.declared.told.Told.{Told}
 use Rattle.chain_store.specs.declared.hold.Hold.{Hold}
 use Rattle.chain_store.specs.declared.region.Region.{Region}
-use Rattle.chain_store.specs.Histories.{maker}
 use Rattle.chain_store.specs.Columns.{told_event}
-use Rattle.chain_store.specs.Passes.{MakesOne}
 use Rattle.chain_store.specs.Moves.{base_in}
 use Rattle.chain_store.specs.Regions.{tag_at}
 use Rattle.chain_store.specs.Holds.{SameBut, MakesOneIn, TrimsIn, entries_seen, seen_in}
 use Rattle.lawful_run.specs.Callers.{Caller}
 use Rattle.client_law.specs.Making.{own_steps, MakesOnly}
-use Rattle.log_client.specs.Fits.{entries_by, seen_by}
+use Rattle.log_client.specs.Fits.{seen_by}
 use Rattle.log_client.proofs.Seeing.{seen_there}
 use Rattle.log_client.proofs.Steps.{all_made, made_last, long_last, same_there, stands_last, unseen_last}
 use Rattle.log_client.proofs.Alone.{seen_at, seen_long}

@@ -1,6 +1,5 @@
 -- What a client carried and asked for stays true.
-use Rattle.std.proofs.Common.{◌≡◌, ◌≢◌, ℕ, ◌+◌, ◌<◌, ◌≤◌, List, [], ◌∷◌, ◌++◌, length, map, Some, slice_get, refl, ap, sym, subst, ◌∙◌, inl, inr, ◌⊎◌, arith}
-use Rattle.std.specs.List.{All}
+use Rattle.std.proofs.Common.{◌≡◌, ℕ, List, length, Some, slice_get, ap, sym, subst, ◌∙◌, inl, inr, ◌⊎◌, arith}
 use Rattle.std.proofs.lemmas.List.Elements.{All-contains}
 use Rattle.std.proofs.lemmas.Option.{slice_get_within}
 use mathlib.Core.List.{IsPrefix}
@@ -12,9 +11,9 @@ use Rattle.chain_store.specs.declared.told.Told.{Told}
 use Rattle.chain_store.specs.declared.hold.Hold.{Hold}
 use Rattle.chain_store.specs.declared.region.Region.{Region}
 use Rattle.chain_store.specs.Regions.{tag_at}
-use Rattle.chain_store.specs.Holds.{IsHold, made_in, seen_in}
+use Rattle.chain_store.specs.Holds.{made_in, seen_in}
 use Rattle.chain_store.specs.Going.{GoesOn}
-use Rattle.region_pull.specs.Origins.{IsOfOrigin, IsHeldFor, OfOrigin, AsksForHeld}
+use Rattle.region_pull.specs.Origins.{IsOfOrigin, IsHeldFor}
 use Rattle.region_pull.proofs.CallerLemmas.{origin_stays, held_stays}
 use Rattle.log_client.specs.Ending.{IsNoMove, AreHoldsIn, ArePair, PullsTruly}
 use Rattle.log_client.proofs.Lists.{got, got_split}
@@ -76,7 +75,7 @@ no_give : (ev : event_types.Event) (region from : ℕ) → IsNoMove ev → ev �
 no_give ev region from none is = subst IsNoMove is none
 
 -- an entry that a hold made, which goes on, it had made, or is one of those
-made_split : (Made : ℕ → event_types.Event → Type 0) (g h : Hold) (colour n : ℕ) (t : Told) → GoesOn Made g h
+pub made_split : (Made : ℕ → event_types.Event → Type 0) (g h : Hold) (colour n : ℕ) (t : Told) → GoesOn Made g h
     → slice_get (made_in h colour) n ≡ Some t → WasMade g colour t ⊎ Made colour t.entry.event
 made_split Made g h colour n t goes at = by_place (got_split (made_in g colour) (goes.made colour).0 n t
     (ap (λ (l : List Told). slice_get l n) (sym (goes.made colour).1) ∙ at)) where

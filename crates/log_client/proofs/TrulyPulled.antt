@@ -1,11 +1,9 @@
 -- What a client carried and asked for stays true of a pull, which makes carries and gives.
-use Rattle.std.proofs.Common.{◌≡◌, ◌≢◌, ℕ, zero, suc, ◌+◌, ◌<◌, ◌≤◌, List, [], ◌∷◌, ◌++◌, length, map, Some, slice_get, refl, ap, sym, subst, ◌∙◌, inl, inr, ◌⊎◌, arith, append-nil}
+use Rattle.std.proofs.Common.{◌≡◌, ◌≢◌, ℕ, zero, suc, ◌<◌, List, [], ◌∷◌, length, map, Some, slice_get, ap, sym, subst, ◌∙◌, inl, inr, ◌⊎◌, append-nil}
 use Rattle.std.proofs.lemmas.Bool.{cases_eq}
 use mathlib.Core.List.{IsPrefix}
 use Rattle.log_node.specs.declared.node.At.{At}
 use Rattle.log_node.specs.declared.node.Head.{Head}
-use Rattle.log_node.specs.Seen.{PlacedNode}
-use Rattle.col_core.specs.declared.Event as event_types
 use Rattle.col_core.specs.declared.Event.TheVariants as events
 use Rattle.turn_cell.specs.Histories.{made_by}
 use Rattle.chain_store.specs.declared.told.Tag.{Tag}

@@ -1,5 +1,6 @@
 -- What a store ends with. All is said of lists: its regions, each client's holds by region, and what each region ended with.
 use Rattle.std.specs.Prelude.{◌≡◌, ◌⊎◌, true, ℕ, ◌<◌, List, length, map, Some, slice_get}
+use Rattle.std.specs.List.Sorted.{IsNonDecreasing}
 use Rattle.log_node.specs.declared.ids.Id.{Id}
 use Rattle.log_node.specs.declared.node.Node.{Node}
 use Rattle.col_core.specs.declared.Event.{Event}
@@ -57,6 +58,8 @@ pub record EndsRegion (log : Log) (regions colours region : ℕ) (ks : List Hold
   pub rows : e.rows ≡ map closed_of (log.rows region)
   pub lawful_rows : AreLawfulRows region colours (log.histories region) (log.rows region)
   pub in_order : map (λ (b : BegunRow). b.row) (log.rows region) ≡ all_begun (map (λ (h : Hold). h.seat) ks)
+  pub by_client : IsNonDecreasing (map (λ (b : BegunRow). b.row.client) (log.rows region))
+  pub of_clients : (n : ℕ) (b : BegunRow) → slice_get (log.rows region) n ≡ Some b → b.row.client < length ks
   pub listed : (n : ℕ) (b : BegunRow) → slice_get (log.rows region) n ≡ Some b → IsListed log.nodes b.node
 
 -- A client in the end, which had these holds: what it has seen begins the log's histories, which have of it just what it

@@ -8,3 +8,5 @@ pub mod Between
 pub mod Calls
 pub mod Notes
 pub mod Opening
+pub mod Leaving
+pub mod Closes

@@ -4,6 +4,8 @@
 
 mod answers;
 mod client;
+mod closed;
+mod closing;
 mod faults;
 mod notes;
 mod opening;
@@ -16,6 +18,7 @@ mod trimming;
 
 pub use answers::Synced;
 pub use client::Client;
+pub use closed::{Closed, ClosedRegions, RowNodes};
 pub use faults::{SyncFault, TrimFault};
 pub use notes::Note;
 pub use opening::Clients;

@@ -2,11 +2,8 @@
 mod boards;
 mod columns;
 mod cuts;
-mod forms;
 mod nodes;
-mod objects;
 mod plays;
 mod queues;
-mod scripts;
 mod streams;
 mod worlds;

@@ -1,5 +1,5 @@
 -- The tables of the columns, one column more.
-use Rattle.std.proofs.Common.{◌≡◌, ℕ, ◌+◌, ◌<◌, ◌≤◌, ◌==◌, Bool, true, false, List, [], ◌∷◌, length, get_or, set, drop, replicate, Option, Some, None, slice_get, slice_index, refl, ap, sym, subst, ◌∙◌, arith, inl, inr, length-set, get_or-set_same, get_or-set_other, ◌≢◌, if◌then◌else◌}
+use Rattle.std.proofs.Common.{◌≡◌, ℕ, ◌+◌, ◌<◌, ◌==◌, Bool, List, [], ◌∷◌, length, get_or, set, drop, replicate, Some, None, slice_get, slice_index, refl, ap, sym, ◌∙◌, arith, inl, inr, length-set, get_or-set_same, get_or-set_other, ◌≢◌, if◌then◌else◌}
 use Rattle.std.proofs.lemmas.List.{drop_more, drop_all, get_or-replicate, length-replicate}
 use Rattle.std.proofs.lemmas.List.Sums.{sum_by-cons}
 use Rattle.std.proofs.lemmas.Option.{slice_get_read}

@@ -93,7 +93,7 @@ impl Printed for Answer {
                 out.put(b"ok ");
                 out.put_number(*stamp);
                 print_row(*row, out);
-                print_spaced(points, names, out);
+                points.print(names, out);
             }
             Answer::StampEnd { colour } => {
                 out.put(b"stampend ");

@@ -14,3 +14,4 @@ mod ListsShown
 mod RowsShown
 mod ColumnsShown
 mod MoveGuards
+mod ObjectSteps

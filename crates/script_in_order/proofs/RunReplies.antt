@@ -10,6 +10,7 @@ use Rattle.col_core.specs.Keeping.{updated}
 use Rattle.world_laws.proofs.CallerLemmas.{at_updated}
 use Rattle.world_laws.specs.Worlds.{World}
 use Rattle.world_code.specs.WorldView.{WorldView, world_of}
+use Rattle.script_text.specs.declared.script.Object.{Object}
 use Rattle.script_text.specs.declared.script.Command.{Command}
 use Rattle.report_text.specs.declared.report.Answer.{Answer}
 use Rattle.report_text.specs.declared.report.Answer.TheVariants.{NoMemory}
@@ -36,19 +37,19 @@ replied replies client reply low =
     (λ e. true≢false (sym (eq-eqb n client e) ∙ other)))))
 
 -- a command, with its reply
-pub command_done : (command : Command) (old : RunView) (world : WorldView) (given : Result (Answer × List PlacedNode)
+pub command_done : (objects : List Object) (command : Command) (old : RunView) (world : WorldView) (given : Result (Answer × List PlacedNode)
     AllocError)
     (reply : ReplyLine) → command.client < length old.replies
-    → IfOk given (λ g. Does command (world_of old.world) (world_of world) g.0 g.1)
+    → IfOk given (λ g. Does objects command (world_of old.world) (world_of world) g.0 g.1)
     → OnErr given (world_of world ≡ world_of old.world)
     → MatchResult given (λ g. reply ≡ reply_of command g.0 g.1) (λ _. reply ≡ reply_of command NoMemory [])
-    → IsDone command old
+    → IsDone objects command old
     (record {
       world = world;
       replies = set old.replies command.client
           (with_reply (replies_at old.replies command.client) reply);
     })
-command_done command old world given reply low ok err is = turn given ok err is where
+command_done objects command old world given reply low ok err is = turn given ok err is where
   next : List RepliesView
   next = set old.replies command.client (with_reply (replies_at old.replies command.client) reply)
 
@@ -64,10 +65,10 @@ command_done command old world given reply low ok err is = turn given ok err is 
       ∙ ap (λ (x : ReplyLine). updated lines command.client (lines command.client ++ x ∷ [])) e)
 
   turn : (given : Result (Answer × List PlacedNode) AllocError)
-      → IfOk given (λ g. Does command (world_of old.world) (world_of world) g.0 g.1)
+      → IfOk given (λ g. Does objects command (world_of old.world) (world_of world) g.0 g.1)
       → OnErr given (world_of world ≡ world_of old.world)
       → MatchResult given (λ g. reply ≡ reply_of command g.0 g.1) (λ _. reply ≡ reply_of command NoMemory [])
-      → IsDone command old (record { world = world; replies = next })
+      → IsDone objects command old (record { world = world; replies = next })
   turn (Ok g) ok err e = record {
     grants = ok.grants;
     reply = reply;

@@ -3,7 +3,7 @@ use Rattle.std.proofs.Common.{◌≡◌, inl, inr, ℕ, zero, suc, ◌+◌, ◌-
 use Rattle.std.proofs.Common.{length, map, take, drop, get_or, set, refl, ap, sym, subst, ◌∙◌, arith, zero-add}
 use Rattle.std.proofs.Common.{length-set, get_or-set_same, get_or-set_other}
 use Rattle.std.specs.Prelude.{◌==◌}
-use Rattle.std.specs.List.{range_with_len}
+use Rattle.std.specs.List.{All, range_with_len}
 use mathlib.Core.Path.{fun_ext}
 use Rattle.std.proofs.lemmas.Bool.Decides.{eqb_tells}
 use Rattle.std.proofs.lemmas.List.{take_more}
@@ -12,9 +12,10 @@ use Rattle.std.proofs.lemmas.List.FromFn.{length-map-range_with_len, get_or-map-
 use Rattle.log_node.specs.declared.node.Shape.{Shape}
 use Rattle.world_laws.specs.Worlds.{World, opened}
 use Rattle.world_code.specs.WorldView.{WorldView, world_of}
+use Rattle.script_text.specs.declared.script.Object.{Object}
 use Rattle.script_text.specs.declared.script.Command.{Command}
 use Rattle.script_text.specs.declared.script.Script.{Script}
-use Rattle.script_text.specs.Fitting.{IsFitting, IsWithin}
+use Rattle.script_text.specs.Fitting.{IsFitting, IsWithin, IsKindWithin, UsesObject}
 use Rattle.report_text.specs.declared.report.ReplyLine.{ReplyLine}
 use Rattle.script_meaning.specs.States.{State}
 use Rattle.script_meaning.specs.Meaning.{LeadTo, nothing, next}
@@ -31,12 +32,15 @@ module _ (script : Script) (fits : IsFitting script) (place : ℕ) (code : RunVi
   shape : (world_of code.world).shape ≡ script.shape
   shape = lead_shape script run.leads
 
-  pub next_fits : IsFit (world_of code.world) command.client command.what
+  pub next_fits : IsFit (world_of code.world) script.objects command.client command.what
   next_fits = record {
     caller = subst (λ (s : Shape). command.client < length s.homes) (sym shape) caller;
     within = subst (λ (s : Shape). IsWithin s.regions s.colours command.what) (sym shape)
         (subst (λ (c : Command). IsWithin script.shape.regions script.shape.colours c.what) (sym is)
         (fits.commands place command low));
+    kinds = subst (λ (s : Shape). All (λ (o : Object). IsKindWithin s.regions s.colours o.kind) script.objects)
+        (sym shape) fits.objects;
+    uses = subst (λ (c : Command). UsesObject script.objects c.what) (sym is) (fits.uses place command low);
   }
 
   pub next_client : command.client < length code.replies
@@ -61,7 +65,7 @@ module _ (script : Script) (fits : IsFitting script) (place : ℕ) (code : RunVi
   next_room = let e = own_asked in let r = run.rooms command.client caller in omega (arith, e, r)
 
   -- the run after the command
-  pub next_run : (new : RunView) → IsDone command code new → IsRunAt script (place + 1) new
+  pub next_run : (new : RunView) → IsDone script.objects command code new → IsRunAt script (place + 1) new
   next_run new d = record {
     leads = subst (λ (l : List Command). LeadTo script l (state_of new)) (sym more)
         (subst (LeadTo script (take place script.commands ++ command ∷ [])) (sym d.state)

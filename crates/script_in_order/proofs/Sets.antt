@@ -17,6 +17,16 @@ pub many_enough : (count many bits : ℕ) → bits < 2 ^ 64
     → nat_le count many ≡ (not (nat_lt many count) && nat_lt bits (2 ^ 64))
 many_enough count many bits few = grind (arith, nat_tests)
 
+-- the same of one, by the first
+pub first_is : (xs : List ℕ) (bits x : ℕ) → slice_get xs 0 ≡ Some x → bits < 2 ^ 64
+    → true ≡ (not (nat_lt (length xs) 1) && nat_lt bits (2 ^ 64))
+first_is [] bits x some few = absurd cc
+first_is (y ∷ ys) bits x some few = grind (arith, nat_tests)
+
+pub first_none : (xs : List ℕ) (bits : ℕ) → slice_get xs 0 ≡ None → false ≡ (not (nat_lt (length xs) 1) && nat_lt bits (2 ^ 64))
+first_none [] bits none = refl
+first_none (y ∷ ys) bits none = absurd cc
+
 below_any : (n c : ℕ) (xs : List ℕ) → All (λ d. d < n) xs → list_any (λ d. d == c) xs ≡ true → c < n
 below_any n c [] a m = absurd (true≢false (sym m))
 below_any n c (x ∷ xs) a m = elim (or_cases (x == c) (list_any (λ d. d == c) xs) m) [

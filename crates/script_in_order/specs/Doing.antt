@@ -1,14 +1,16 @@
 -- What a command does to a world, and what it is answered.
 use Rattle.std.specs.Prelude.{◌≡◌, ℕ, ◌<◌, true, List, length}
+use Rattle.std.specs.List.{All}
 use Rattle.log_node.specs.Seen.{PlacedNode}
 use Rattle.world_laws.specs.Worlds.{World}
 use Rattle.script_text.specs.declared.script.Command.{Command}
 use Rattle.script_text.specs.declared.script.What.{What}
-use Rattle.script_text.specs.Fitting.{IsWithin}
+use Rattle.script_text.specs.declared.script.Object.{Object}
+use Rattle.script_text.specs.Fitting.{IsWithin, IsKindWithin, UsesObject}
 use Rattle.report_text.specs.declared.report.Answer.{Answer}
 use Rattle.report_text.specs.declared.report.ReplyLine.{ReplyLine}
 use Rattle.script_meaning.specs.States.{State, Grants, answered}
-use Rattle.script_meaning.specs.Meaning.{done}
+use Rattle.script_meaning.specs.Meaning.{done_one, done}
 
 -- the world with these replies so far
 abbrev pub with_replies : World → (ℕ → List ReplyLine) → State
@@ -23,12 +25,19 @@ pub record DoneBy (meaning : Grants → State → State) (command : Command) (ol
   pub is : (replies : ℕ → List ReplyLine)
       → meaning grants (with_replies old replies) ≡ answered (with_replies old replies) command new answer nodes
 
--- it does so as a command
-abbrev pub Does : Command → World → World → Answer → List PlacedNode → Type 0
-Does command old new answer nodes =
-    DoneBy (λ grants state. done grants state command) command old new answer nodes
+-- it does so as a command, over these objects
+abbrev pub Does : List Object → Command → World → World → Answer → List PlacedNode → Type 0
+Does objects command old new answer nodes =
+    DoneBy (λ grants state. done objects grants state command) command old new answer nodes
 
--- the command's client is one of the world's, and it names colours and regions of the world
-pub record IsFit (w : World) (client : ℕ) (what : What) : Type 0 where
+-- it does so as a command that no home refuses
+abbrev pub DoesAtHome : List Object → Command → World → World → Answer → List PlacedNode → Type 0
+DoesAtHome objects command old new answer nodes =
+    DoneBy (λ grants state. done_one objects grants state command command.what) command old new answer nodes
+
+-- the command's client is one of the world's, and it names colours and regions of the world, and objects of these
+pub record IsFit (w : World) (objects : List Object) (client : ℕ) (what : What) : Type 0 where
   pub caller : client < length w.shape.homes
   pub within : IsWithin w.shape.regions w.shape.colours what
+  pub kinds : All (λ (o : Object). IsKindWithin w.shape.regions w.shape.colours o.kind) objects
+  pub uses : UsesObject objects what

@@ -2,6 +2,7 @@
 use Rattle.std.specs.Prelude.{◌≡◌, ℕ, ◌-◌, ◌<◌, ◌≤◌, ◌==◌, List, [], ◌∷◌, ◌++◌, length, take, drop}
 use Rattle.std.specs.Prelude.{slice_index_or, slice_set}
 use Rattle.std.specs.List.{count_by}
+use Rattle.script_text.specs.declared.script.Object.{Object}
 use Rattle.script_text.specs.declared.script.Command.{Command}
 use Rattle.script_text.specs.declared.script.Script.{Script}
 use Rattle.script_text.specs.Words.{word_of}
@@ -51,10 +52,10 @@ abbrev pub asks : ℕ → List Command → ℕ
 asks client commands = count_by (λ (c : Command). c.client == client) commands
 
 -- The command was done, wherever it is granted memory, and its client has one reply more.
-pub record IsDone (command : Command) (old new : RunView) : Type 0 where
+pub record IsDone (objects : List Object) (command : Command) (old new : RunView) : Type 0 where
   pub grants : Grants
   pub reply : ReplyLine
-  pub state : state_of new ≡ done grants (state_of old) command
+  pub state : state_of new ≡ done objects grants (state_of old) command
   pub replies : new.replies
       ≡ slice_set old.replies command.client (with_reply (replies_at old.replies command.client) reply)
 

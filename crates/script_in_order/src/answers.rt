@@ -5,28 +5,31 @@ ghost use Rattle.world_code.specs.WorldView.{world_of};
 ghost use Rattle.script_meaning.specs.States.{is_built};
 ghost use Rattle.script_meaning.specs.Appends.{appended, stopped};
 ghost use Rattle.script_meaning.specs.Moves.{synced};
-ghost use Rattle.script_in_order.specs.Doing.{IsFit, Does, DoneBy};
+ghost use Rattle.script_in_order.specs.Doing.{IsFit, DoesAtHome, DoneBy};
 ghost use Rattle.script_in_order.specs.Runs.{reply_of};
 
 use crate::appends::append;
 use crate::moves::{pull, trim};
+use crate::object_appends::{delete, enqueue, put, put_all};
 use crate::stops::stop;
 use crate::syncs::sync;
 use log_node::{Items, ListOf};
 use report_text::{Answer, ReplyLine};
-use script_text::{Command, What};
+use script_text::{Command, Object, What};
 use std::alloc::{AllocError, Global};
 use world_code::World;
 
-/// What a command is answered, and the nodes that it shows; `Err` means that it found no memory before it did anything.
+/// What a command is answered that no home refuses, and the nodes that it shows; `Err` means that it found no memory
+/// before it did anything.
 pub fn answer(
     alloc: Global,
+    objects: &[Object],
     command: &Command,
     world: &mut World,
 ) -> Result<(Answer, Items), AllocError>
     requires built { IsTrue (is_built command.now.what) }
-    requires fits { IsFit (world_of world.old) command.now.client command.now.what }
-    ensures ok { IfOk result (λ g. Does command.now (world_of world.old) (world_of world.new) g.0 g.1) }
+    requires fits { IsFit (world_of world.old) objects.now command.now.client command.now.what }
+    ensures ok { IfOk result (λ g. DoesAtHome objects.now command.now (world_of world.old) (world_of world.new) g.0 g.1) }
     ensures err { OnErr result (world_of world.new ≡ world_of world.old) }
 {
     match &command.what {
@@ -49,6 +52,22 @@ pub fn answer(
         }
         What::Trim { colour } => {
             let answer = trim(command, *colour, world)?;
+            Ok((answer, ListOf::new(alloc)))
+        }
+        What::Put { object, key, value } => {
+            let answer = put(alloc, objects, command, *object, key, value, world)?;
+            Ok((answer, ListOf::new(alloc)))
+        }
+        What::Del { object, key } => {
+            let answer = delete(alloc, objects, command, *object, key, world)?;
+            Ok((answer, ListOf::new(alloc)))
+        }
+        What::PutAll { object, pairs } => {
+            let answer = put_all(alloc, objects, command, *object, pairs, world)?;
+            Ok((answer, ListOf::new(alloc)))
+        }
+        What::Enq { object, value } => {
+            let answer = enqueue(alloc, objects, command, *object, value, world)?;
             Ok((answer, ListOf::new(alloc)))
         }
         _ => unreachable!(),

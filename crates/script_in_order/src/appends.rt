@@ -13,8 +13,8 @@ ghost use Rattle.script_in_order.specs.Points.{AreFinal, EndsAs};
 
 use crate::clears::{clear, clear_all};
 use crate::points::{only_member, places, position, with_positions};
-use log_node::{At, Colours, Id, Key, ListOf, MAX_COLOURS, Mark, Outcome, Row, Text, Why};
-use report_text::{Answer, PointPiece};
+use log_node::{At, Colours, Id, Key, MAX_COLOURS, Mark, Outcome, Row, Text, Why};
+use report_text::{Answer, PointPiece, Points};
 use script_text::Command;
 use std::alloc::{AllocError, Global};
 use world_code::World;
@@ -62,8 +62,6 @@ fn append_one(
     world.agrees();
     let client = command.client;
     let id = next_id(world, client);
-    // The memory for the answer is taken before the first step.
-    let mut points = Vec::with_capacity(alloc, 1)?;
     let text = Text::copied(alloc, text.as_bytes())?;
     let entered = world.single(alloc, client, colour, text)?;
     match entered {
@@ -73,15 +71,15 @@ fn append_one(
                 id,
             };
             clear(world, client, key, colour);
-            points.push_reserved(PointPiece {
+            let point = PointPiece {
                 colour,
                 at: At::Event(placed.place),
                 position: position(world, client, key, colour),
-            });
+            };
             Ok(Answer::Stood {
                 stamp: placed.stamp,
                 row: None,
-                points: ListOf::from(points),
+                points: Points::one(point),
             })
         }
         None => Ok(Answer::StampEnd { colour }),

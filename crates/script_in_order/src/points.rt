@@ -13,7 +13,7 @@ ghost use Rattle.script_in_order.specs.Points.{places_in, standing_in};
 
 use crate::clears::home;
 use log_node::{At, Colours, Key, ListOf, MAX_COLOURS};
-use report_text::PointPiece;
+use report_text::{PointPiece, Points};
 use std::alloc::{AllocError, Global};
 use world_code::World;
 use world_laws::one_outcome;
@@ -73,12 +73,7 @@ pub fn places(
 }
 
 /// The same points, each with the position of the node that is final under the key.
-pub fn with_positions(
-    world: &World,
-    client: u8,
-    key: Key,
-    mut points: Vec<PointPiece>,
-) -> ListOf<PointPiece>
+pub fn with_positions(world: &World, client: u8, key: Key, mut points: Vec<PointPiece>) -> Points
     requires client { client < length world.now.shape.homes }
     requires within { All (λ (p : PointPiece). p.colour < world.now.shape.colours) points.items }
     requires stamped { All (λ (p : PointPiece).
@@ -88,5 +83,5 @@ pub fn with_positions(
     for point in points.iter_mut() {
         point.position = position(world, client, key, point.colour);
     }
-    ListOf::from(points)
+    Points::many(ListOf::from(points))
 }

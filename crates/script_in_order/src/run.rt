@@ -9,10 +9,11 @@ ghost use Rattle.script_meaning.specs.States.{is_built};
 ghost use Rattle.script_in_order.specs.Doing.{IsFit};
 ghost use Rattle.script_in_order.specs.Runs.{no_replies, replies_at, asks, IsDone, IsRunAt};
 
-use crate::answers::{answer, reply_of};
+use crate::answers::reply_of;
+use crate::homes::answer_at_home;
 use crate::replies::Replies;
 use log_node::{ListOf, MAX_ROWS, Shape};
-use script_text::{Command, Script};
+use script_text::{Command, Object, Script};
 use std::alloc::{AllocError, Global};
 use world_code::World;
 
@@ -64,15 +65,21 @@ pub fn open_world(alloc: Global, script: &Script) -> Result<World, AllocError>
 }
 
 // Does one command; where it finds no memory before it has begun, it is answered so.
-fn do_command(alloc: Global, command: &Command, world: &mut World, replies: &mut Vec<Replies>)
+fn do_command(
+    alloc: Global,
+    objects: &[Object],
+    command: &Command,
+    world: &mut World,
+    replies: &mut Vec<Replies>,
+)
     requires built { IsTrue (is_built command.now.what) }
-    requires fits { IsFit (world_of world.old) command.now.client command.now.what }
+    requires fits { IsFit (world_of world.old) objects.now command.now.client command.now.what }
     requires client { command.now.client < length replies.old.items }
     requires room { 0 < (replies_at replies.old.items command.now.client).room }
-    ensures { IsDone command.now (record { world = world.old; replies = replies.old.items })
+    ensures { IsDone objects.now command.now (record { world = world.old; replies = replies.old.items })
         (record { world = world.new; replies = replies.new.items }) }
 {
-    let given = answer(alloc, command, world);
+    let given = answer_at_home(alloc, objects, command, world);
     let reply = reply_of(alloc, command, given);
     replies[command.client as usize].add(reply);
 }
@@ -91,5 +98,6 @@ pub fn do_next(
     requires run { IsRunAt script.now place (record { world = world.old; replies = replies.old.items }) }
     ensures { IsRunAt script.now (place + 1) (record { world = world.new; replies = replies.new.items }) }
 {
-    do_command(alloc, &script.commands.as_slice()[place], world, replies);
+    let command = &script.commands.as_slice()[place];
+    do_command(alloc, script.objects.as_slice(), command, world, replies);
 }

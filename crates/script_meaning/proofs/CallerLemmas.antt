@@ -11,18 +11,22 @@ use Rattle.script_meaning.specs.Meaning.{LeadTo, nothing, next}
 use Rattle.script_meaning.proofs.GrantedCommands.{done_extends}
 pub use Rattle.script_meaning.proofs.Lines.{final_stays}
 pub use Rattle.script_meaning.proofs.Rows.{standing_as}
+pub use Rattle.script_meaning.proofs.ShardSets.{keys_set, set_one, shard_members, set_has, shard_below, shards_below, shards_has}
+pub use Rattle.script_meaning.proofs.ObjectKinds.{object_has, queue_one, some_of}
+pub use Rattle.script_meaning.proofs.Playing.{at_or}
+pub use Rattle.script_meaning.proofs.ObjectForms.{key_is_word, key_some, pairs_are}
 
 pub lead_reached : (script : Script) {commands : List Command} {state : State} → LeadTo script commands state
     → IsReached state.world
 lead_reached script nothing = opened_reached script.shape
 lead_reached script (next {commands} {state} command grants leads) =
-    let more = (done_extends grants state command).world in
+    let more = (done_extends script.objects grants state command).world in
     subst IsReached more.run (run_reached state.world more.steps (lead_reached script leads))
 
 pub lead_shape : (script : Script) {commands : List Command} {state : State} → LeadTo script commands state
     → state.world.shape ≡ script.shape
 lead_shape script nothing = refl
 lead_shape script (next {commands} {state} command grants leads) =
-    let more = (done_extends grants state command).world in
+    let more = (done_extends script.objects grants state command).world in
     ap (λ (x : World). x.shape) (sym more.run)
     ∙ ((run_grows state.world more.steps).shape ∙ lead_shape script leads)

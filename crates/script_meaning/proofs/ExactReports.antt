@@ -44,7 +44,7 @@ TellsOfNone script state =
 module _ (script : Script) (fits : IsFitting script) where
   exact_leads : {commands : List Command} {state : State} → LeadTo script commands state → (rest : List Command)
       → script.commands ≡ commands ++ rest → IsClean state.world → TellsOfNone script state
-      → state ≡ fold (done all_granted) (opening script) commands
+      → state ≡ fold (done script.objects all_granted) (opening script) commands
   exact_leads nothing rest is clean tells = refl
   exact_leads (next {commands} {state} command grants leads) rest is clean tells =
       let whole : script.commands ≡ commands ++ command ∷ rest = is ∙ append_assoc commands (command ∷ []) rest in
@@ -52,13 +52,13 @@ module _ (script : Script) (fits : IsFitting script) where
       subst (λ (l : List Command). In command l) (sym whole) (in_right command commands (command ∷ rest) (inl refl)) in
       let caller = all_at (λ (c : Command). c.client < length script.shape.homes) script.commands fits.callers command
       there in
-      let more = done_extends grants state command in
+      let more = done_extends script.objects grants state command in
       let before = exact_leads leads (command ∷ rest) whole
-      (clean_from state.world (done grants state command).world more.world clean)
+      (clean_from state.world (done script.objects grants state command).world more.world clean)
       (λ n lt r i. tells n lt r (more.replies n r i)) in
-      done_exact grants state command clean (tells command.client caller)
-      ∙ (ap (λ (s : State). done all_granted s command) before
-      ∙ sym (fold-append (done all_granted) (opening script) commands (command ∷ [])))
+      done_exact script.objects grants state command clean (tells command.client caller)
+      ∙ (ap (λ (s : State). done script.objects all_granted s command) before
+      ∙ sym (fold-append (done script.objects all_granted) (opening script) commands (command ∷ [])))
 
   -- what the report says of replies and rows
   tells_none : (state : State) → FindsMemory (report_of script state) → TellsOfNone script state

@@ -1,10 +1,12 @@
 -- One command, where it finds memory, does what it does with memory granted everywhere.
-use Rattle.std.proofs.Common.{◌≡◌, ◌≢◌, inl, ℕ, zero, suc, List, [], ◌∷◌, ◌++◌, map, take, Some, None, refl, ap, sym, subst, ◌∙◌}
+use Rattle.std.proofs.Common.{◌≡◌, ◌≢◌, inl, ℕ, zero, suc, List, [], ◌∷◌, ◌++◌, map, take, Option, Some, None, refl, ap, sym, subst, ◌∙◌}
 use Rattle.std.specs.Prelude.{◌==◌}
 use Rattle.log_node.specs.declared.ids.Row.{Row}
 use Rattle.log_node.specs.declared.ids.Colours.{Colours}
 use Rattle.log_node.specs.Seen.{PlacedNode}
 use Rattle.log_node.specs.Sets.{members}
+use Rattle.log_node.specs.declared.forms.Form.TheVariants as forms
+use Rattle.object_form.specs.Forms.{form_text}
 use Rattle.log_node.specs.declared.marks.Why.TheVariants.{Memory, StampEnd}
 use Rattle.log_node.specs.declared.marks.Outcome.{Outcome}
 use Rattle.log_node.specs.declared.marks.Outcome.TheVariants.{Open, Gone, Final}
@@ -13,6 +15,7 @@ use Rattle.col_core.proofs.CallerLemmas.{choice, by_test, if_true, if_false, In}
 use Rattle.world_laws.specs.declared.steps.Step.TheVariants.{Begin, Single, Give, Carry, Trim, Play, Seen}
 use Rattle.world_laws.specs.Worlds.{World, home_of, held_of, after, run_steps, row_of, next_id, next_row, may_single, single_stamp, may_play}
 use Rattle.world_laws.proofs.CallerLemmas.{at_updated, updated-here, in_left, in_right}
+use Rattle.script_text.specs.declared.script.Object.{Object}
 use Rattle.script_text.specs.declared.script.What.{What}
 use Rattle.script_text.specs.declared.script.What.TheVariants as whats
 use Rattle.script_text.specs.declared.script.Command.{Command}
@@ -24,7 +27,11 @@ use Rattle.script_meaning.specs.Helping.{all_cleared}
 use Rattle.script_meaning.specs.Appends.{with_single, appended_one, appended_by, appended_several, appended, stopped, is_full, append_steps, ended_colour, point_in}
 use Rattle.script_meaning.specs.Moves.{nodes_played, synced, lacking, with_give, with_carry, pulled_from, pulled, trimmed}
 use Rattle.script_meaning.proofs.MoveCases.{play_answer, trimmed_answer, pull_answer, with_trim, base_answer, played, refused, synced_is, stayed, carried, given, pulled_is, from_is, from_all, trimmed_is}
-use Rattle.script_meaning.specs.Meaning.{done_one, done}
+use Rattle.script_text.specs.Items.{set_of}
+use Rattle.lawful_run.specs.Callers.{Caller}
+use Rattle.lawful_run.specs.Asks.{kind_of, colours_of, keys_of, put_form}
+use Rattle.script_meaning.specs.Objects.{caller_in, refusing_home, shard_set}
+use Rattle.script_meaning.specs.Meaning.{done_one, done_from, done}
 use Rattle.script_meaning.proofs.GrantedSteps.{IsClean, RunsTo, stays_there, runs_on, clean_from, complete_exact, taken_exact, clears_run, clears_exact}
 use Rattle.script_meaning.proofs.Invariant.{line_of}
 
@@ -44,12 +51,15 @@ answer_extends state command w' answer nodes r = record {
       (λ _. i);
 }
 
-module _ (grants : Grants) (state : State) (command : Command) where
+module _ (objects : List Object) (grants : Grants) (state : State) (command : Command) where
   abbrev u : ℕ
   u = command.client
 
   abbrev w : World
   w = state.world
+
+  abbrev caller : Caller
+  caller = caller_in w objects u
 
   single_runs : (text : List ℕ) (c : ℕ) → RunsTo w (with_single grants w u text c)
   single_runs text c =
@@ -147,28 +157,41 @@ module _ (grants : Grants) (state : State) (command : Command) where
   nothing_done : Extends state state
   nothing_done = record { world = stays_there w; replies = λ n r i. i }
 
-  one_command_extends : (what : What) → Extends state (done_one grants state command what)
+  one_command_extends : (what : What) → Extends state (done_one objects grants state command what)
   one_command_extends (whats.Append colours text) = append_extends colours text (members colours)
   one_command_extends (whats.Stop steps colours text) = stop_extends colours text steps
   one_command_extends (whats.Sync colour) = sync_extends colour
   one_command_extends (whats.Scan colours) = nothing_done
   one_command_extends (whats.Pull region colour) = pull_extends region colour
   one_command_extends (whats.Trim colour) = trim_extends colour
-  one_command_extends (whats.Put object key value) = nothing_done
+  one_command_extends (whats.Put object key value) =
+      append_extends (shard_set (colours_of caller object) (key ∷ []))
+      (form_text (put_form (kind_of caller object) key value))
+      (members (shard_set (colours_of caller object) (key ∷ [])))
   one_command_extends (whats.Get object key) = nothing_done
-  one_command_extends (whats.Del object key) = nothing_done
-  one_command_extends (whats.PutAll object pairs) = nothing_done
+  one_command_extends (whats.Del object key) =
+      append_extends (shard_set (colours_of caller object) (key ∷ []))
+      (form_text (forms.Delete key)) (members (shard_set (colours_of caller object) (key ∷ [])))
+  one_command_extends (whats.PutAll object pairs) =
+      append_extends (shard_set (colours_of caller object) (keys_of pairs))
+      (form_text (forms.PutAll pairs)) (members (shard_set (colours_of caller object) (keys_of pairs)))
   one_command_extends (whats.GetAll object keys) = nothing_done
   one_command_extends (whats.Read object keys) = nothing_done
   one_command_extends (whats.Commit object pairs) = nothing_done
-  one_command_extends (whats.Enq object value) = nothing_done
+  one_command_extends (whats.Enq object value) =
+      append_extends (set_of (colours_of caller object)) (form_text (forms.Enqueue value))
+      (members (set_of (colours_of caller object)))
   one_command_extends (whats.Deq object) = nothing_done
 
-  pub done_extends : Extends state (done grants state command)
+  from_extends : (home : Option ℕ) → Extends state (done_from home objects grants state command)
+  from_extends None = one_command_extends command.what
+  from_extends (Some home) = answer_extends state command w (answers.NotHome home) [] (stays_there w)
+
+  pub done_extends : Extends state (done objects grants state command)
   done_extends =
-      choice (Extends state) grants.start (done_one grants state command command.what)
+      choice (Extends state) grants.start (done_from (refusing_home caller command.what) objects grants state command)
       (answered state command w answers.NoMemory [])
-      (λ _. one_command_extends command.what)
+      (λ _. from_extends (refusing_home caller command.what))
       (λ _. answer_extends state command w answers.NoMemory [] (stays_there w))
 
   -- The same with memory granted everywhere
@@ -287,31 +310,47 @@ module _ (grants : Grants) (state : State) (command : Command) where
       ∙ sym (if_false (region == own) (stayed grants state command) from_all_found f)))
       ∙ sym (pulled_is all_granted state command region c))
 
-  one_command_exact : (what : What) → IsClean (done_one grants state command what).world
-      → TellsNone (done_one grants state command what)
-      → done_one grants state command what ≡ done_one all_granted state command what
+  one_command_exact : (what : What) → IsClean (done_one objects grants state command what).world
+      → TellsNone (done_one objects grants state command what)
+      → done_one objects grants state command what ≡ done_one objects all_granted state command what
   one_command_exact (whats.Append colours text) clean tells = append_exact colours text (members colours) clean
   one_command_exact (whats.Stop steps colours text) clean tells = stop_exact colours text steps clean
   one_command_exact (whats.Sync colour) clean tells = refl
   one_command_exact (whats.Scan colours) clean tells = refl
   one_command_exact (whats.Pull region colour) clean tells = pull_exact region colour tells
   one_command_exact (whats.Trim colour) clean tells = refl
-  one_command_exact (whats.Put object key value) clean tells = refl
+  one_command_exact (whats.Put object key value) clean tells =
+      append_exact (shard_set (colours_of caller object) (key ∷ []))
+      (form_text (put_form (kind_of caller object) key value))
+      (members (shard_set (colours_of caller object) (key ∷ []))) clean
   one_command_exact (whats.Get object key) clean tells = refl
-  one_command_exact (whats.Del object key) clean tells = refl
-  one_command_exact (whats.PutAll object pairs) clean tells = refl
+  one_command_exact (whats.Del object key) clean tells =
+      append_exact (shard_set (colours_of caller object) (key ∷ []))
+      (form_text (forms.Delete key)) (members (shard_set (colours_of caller object) (key ∷ []))) clean
+  one_command_exact (whats.PutAll object pairs) clean tells =
+      append_exact (shard_set (colours_of caller object) (keys_of pairs))
+      (form_text (forms.PutAll pairs)) (members (shard_set (colours_of caller object) (keys_of pairs))) clean
   one_command_exact (whats.GetAll object keys) clean tells = refl
   one_command_exact (whats.Read object keys) clean tells = refl
   one_command_exact (whats.Commit object pairs) clean tells = refl
-  one_command_exact (whats.Enq object value) clean tells = refl
+  one_command_exact (whats.Enq object value) clean tells =
+      append_exact (set_of (colours_of caller object)) (form_text (forms.Enqueue value))
+      (members (set_of (colours_of caller object))) clean
   one_command_exact (whats.Deq object) clean tells = refl
 
-  pub done_exact : IsClean (done grants state command).world → TellsNone (done grants state command)
-      → done grants state command ≡ done all_granted state command
+  from_exact : (home : Option ℕ) → IsClean (done_from home objects grants state command).world
+      → TellsNone (done_from home objects grants state command)
+      → done_from home objects grants state command ≡ done_from home objects all_granted state command
+  from_exact None clean tells = one_command_exact command.what clean tells
+  from_exact (Some home) clean tells = refl
+
+  pub done_exact : IsClean (done objects grants state command).world → TellsNone (done objects grants state command)
+      → done objects grants state command ≡ done objects all_granted state command
   done_exact clean tells =
-      let one : State = done_one grants state command command.what in
+      let home = refusing_home caller command.what in
+      let one : State = done_from home objects grants state command in
       let refused : State = answered state command w answers.NoMemory [] in
       by_test _ grants.start
-      (λ t. let is : done grants state command ≡ one = if_true grants.start one refused t in
-      is ∙ one_command_exact command.what (subst (λ (s : State). IsClean s.world) is clean) (subst TellsNone is tells))
+      (λ t. let is : done objects grants state command ≡ one = if_true grants.start one refused t in
+      is ∙ from_exact home (subst (λ (s : State). IsClean s.world) is clean) (subst TellsNone is tells))
       (λ f. absurd (told_so w (subst TellsNone (if_false grants.start one refused f) tells)))

@@ -1,6 +1,7 @@
 -- What holds of the state after each command.
-use Rattle.std.proofs.Common.{◌≡◌, ◌≢◌, ◌⊎◌, inl, inr, ℕ, ◌<◌, ◌≤◌, List, [], ◌∷◌, ◌++◌, length, None, true, refl, ap, sym, subst, ◌∙◌, arith, eq-eqb}
+use Rattle.std.proofs.Common.{◌≡◌, ◌≢◌, ◌⊎◌, inl, inr, ℕ, ◌<◌, ◌≤◌, List, [], ◌∷◌, ◌++◌, length, true, refl, ap, sym, subst, ◌∙◌, arith, eq-eqb}
 use Rattle.std.specs.Prelude.{IsTrue, nat_lt, slice_index, ◌==◌}
+use Rattle.std.specs.List.{All}
 use Rattle.std.proofs.lemmas.Bool.{eqb-true, ltb-true}
 use Rattle.log_node.specs.declared.ids.Row.{Row}
 use Rattle.log_node.specs.declared.node.Shape.{Shape}
@@ -13,19 +14,20 @@ use Rattle.world_laws.specs.Worlds.{World, home_of}
 use Rattle.world_laws.specs.Laws.{IsReached, log_of}
 use Rattle.world_laws.proofs.CallerLemmas.{at_updated, updated-here, in_append, in_left, in_right, opened_reached}
 use Rattle.world_laws.proofs.CallerLemmas.{run_reached}
+use Rattle.script_text.specs.declared.script.Object.{Object}
 use Rattle.script_text.specs.declared.script.What.{What}
 use Rattle.script_text.specs.declared.script.What.TheVariants as whats
 use Rattle.script_text.specs.declared.script.Command.{Command}
 use Rattle.script_text.specs.declared.script.Script.{Script}
 use Rattle.script_text.specs.Items.{is_stop}
 use Rattle.script_text.specs.Words.{word_of}
-use Rattle.script_text.specs.Fitting.{IsWithin}
+use Rattle.script_text.specs.Fitting.{IsWithin, IsKindWithin, UsesObject}
 use Rattle.report_text.specs.declared.report.Answer.{Answer}
 use Rattle.report_text.specs.declared.report.Answer.TheVariants as answers
 use Rattle.report_text.specs.declared.report.ReplyLine.{ReplyLine}
 use Rattle.lawful_run.specs.Callers.{Caller, caller_of}
 use Rattle.lawful_run.specs.Asks.{manner_of, may_help, home_asked}
-use Rattle.lawful_run.specs.Refusals.{IsAway, kept_before, kept_behind}
+use Rattle.lawful_run.specs.Refusals.{IsAway, IsHomeRefusal, kept_before, kept_behind}
 use Rattle.lawful_run.specs.Explains.{Explains, Answers, Explained, start, next}
 use Rattle.lawful_run.specs.Lawful.{IsHelp}
 use Rattle.lawful_run.proofs.CallerLemmas.{explained_later}
@@ -39,28 +41,27 @@ use Rattle.script_meaning.proofs.Lists.{asked_by, asked-own, asked-other}
 
 -- Replies
 
--- no read of an object begins or ends with the command, and no object's home refuses it
+-- no read of an object begins or ends with the command
 pub record IsPlain (what : What) : Type 0 where
   pub before : (kept : Kept) → kept_before what kept ≡ kept
   pub behind : (kept : Kept) → kept_behind what kept ≡ kept
-  pub home : (caller : Caller) → home_asked caller what ≡ None
 
 -- the commands that are built are such
 pub plain : (what : What) → is_built what ≡ true → IsPlain what
-plain (whats.Append colours text) b = record { before = λ k. refl; behind = λ k. refl; home = λ k. refl }
-plain (whats.Stop steps colours text) b = record { before = λ k. refl; behind = λ k. refl; home = λ k. refl }
-plain (whats.Sync colour) b = record { before = λ k. refl; behind = λ k. refl; home = λ k. refl }
+plain (whats.Append colours text) b = record { before = λ k. refl; behind = λ k. refl }
+plain (whats.Stop steps colours text) b = record { before = λ k. refl; behind = λ k. refl }
+plain (whats.Sync colour) b = record { before = λ k. refl; behind = λ k. refl }
 plain (whats.Scan colours) b = absurd (let f : ⊥ = cc in f)
-plain (whats.Pull region colour) b = record { before = λ k. refl; behind = λ k. refl; home = λ k. refl }
-plain (whats.Trim colour) b = record { before = λ k. refl; behind = λ k. refl; home = λ k. refl }
-plain (whats.Put object key value) b = absurd (let f : ⊥ = cc in f)
+plain (whats.Pull region colour) b = record { before = λ k. refl; behind = λ k. refl }
+plain (whats.Trim colour) b = record { before = λ k. refl; behind = λ k. refl }
+plain (whats.Put object key value) b = record { before = λ k. refl; behind = λ k. refl }
 plain (whats.Get object key) b = absurd (let f : ⊥ = cc in f)
-plain (whats.Del object key) b = absurd (let f : ⊥ = cc in f)
-plain (whats.PutAll object pairs) b = absurd (let f : ⊥ = cc in f)
+plain (whats.Del object key) b = record { before = λ k. refl; behind = λ k. refl }
+plain (whats.PutAll object pairs) b = record { before = λ k. refl; behind = λ k. refl }
 plain (whats.GetAll object keys) b = absurd (let f : ⊥ = cc in f)
 plain (whats.Read object keys) b = absurd (let f : ⊥ = cc in f)
 plain (whats.Commit object pairs) b = absurd (let f : ⊥ = cc in f)
-plain (whats.Enq object value) b = absurd (let f : ⊥ = cc in f)
+plain (whats.Enq object value) b = record { before = λ k. refl; behind = λ k. refl }
 plain (whats.Deq object) b = absurd (let f : ⊥ = cc in f)
 
 -- a reply line of a command
@@ -71,15 +72,16 @@ line_of command answer nodes =
 -- the answer to such a command, where the log explains it
 pub answers_plainly : (log : Log) (caller : Caller) (kept : Kept) (command : Command) (answer : Answer)
     (nodes : List PlacedNode) (after : Kept) → IsPlain command.what
+    → (IsAway caller (home_asked caller command.what) → IsHomeRefusal answer)
     → Explains log caller kept command.what answer nodes after
     → Answers log caller kept command (line_of command answer nodes) after
-answers_plainly log caller kept command answer nodes after is e = record {
+answers_plainly log caller kept command answer nodes after is away e = record {
   line = refl;
   word = refl;
   answered = after;
   explained = subst (λ (k : Kept). Explains log caller k command.what answer nodes after) (sym (is.before kept)) e;
   after_is = sym (is.behind after);
-  away = λ a. absurd (subst (IsAway caller) (is.home caller) a);
+  away = away;
 }
 
 -- What holds
@@ -122,14 +124,22 @@ pub record Runs (script : Script) (commands : List Command) (state : State) : Ty
       → IsFitHelp script commands state.world r e
   pub finished : Finished (IsStopped commands state.replies) state.world
 
--- a command of a client of the script that has not stopped
-pub record IsFit (script : Script) (commands : List Command) (command : Command) : Type 0 where
+-- a command of a client of the script that has not stopped; what follows where the client is away from its object's home
+pub record IsFitWhere (script : Script) (commands : List Command) (command : Command) (Away : Type 0) : Type 0 where
   pub caller : command.client < length script.shape.homes
   pub home : slice_index script.shape.homes command.client < script.shape.regions
   pub few : script.shape.regions ≤ 4
   pub within : IsWithin script.shape.regions script.shape.colours command.what
   pub built : is_built command.what ≡ true
   pub going : (c : Command) → In c commands → c.client ≡ command.client → IsTrue (is_stop c.what) → ⊥
+  pub uses : UsesObject script.objects command.what
+  pub kinds : All (λ (o : Object). IsKindWithin script.shape.regions script.shape.colours o.kind) script.objects
+  pub few_colours : script.shape.colours ≤ 16
+  pub away : IsAway (caller_of script command.client) (home_asked (caller_of script command.client) command.what) → Away
+
+-- the client is not away
+abbrev pub IsFit : Script → List Command → Command → Type 0
+IsFit script commands command = IsFitWhere script commands command ⊥
 
 pub runs_opening : (script : Script) → Runs script [] (opening script)
 runs_opening script = record {
@@ -156,8 +166,8 @@ runs_opening script = record {
   none n b = let x = ltb-true n 0 b in omega (arith, x)
 
 module _ (script : Script) (commands : List Command) (state : State) (command : Command)
-    (runs : Runs script commands state)
-    (fit : IsFit script commands command) where
+    (runs : Runs script commands state) {Away : Type 0}
+    (fit : IsFitWhere script commands command Away) where
   abbrev u : ℕ
   u = command.client
 
@@ -180,7 +190,7 @@ module _ (script : Script) (commands : List Command) (state : State) (command : 
     }
 
   module _ (w' : World) (answer : Answer) (nodes : List PlacedNode)
-      (does : Does script.objects u command.what w w' answer nodes) where
+      (does : Does script.objects u command.what w w' answer nodes) (refusal : Away → IsHomeRefusal answer) where
     abbrev state' : State
     state' = answered state command w' answer nodes
 
@@ -208,7 +218,7 @@ module _ (script : Script) (commands : List Command) (state : State) (command : 
               (next command (line_of command answer nodes)
               (explained_later (log_of w) (log_of w') later (caller_of script u) c.explained)
               (answers_plainly (log_of w') (caller_of script u) c.kept command answer nodes d.after
-              (plain command.what fit.built)
+              (plain command.what fit.built) (λ a. refusal (fit.away a))
               (subst (λ (x : Caller). Explains
               (log_of w') x c.kept command.what answer nodes d.after) called d.explains)));
           keeps = d.keeps;
@@ -325,13 +335,13 @@ module _ (script : Script) (commands : List Command) (state : State) (command : 
     }
 
     -- where no row is left open that was done
-    pub runs_done : Finished (IsStopped commands state.replies) w' → Runs script commands' state'
-    runs_done f = runs_next (finished_still f)
+    pub runs_answered : Finished (IsStopped commands state.replies) w' → Runs script commands' state'
+    runs_answered f = runs_next (finished_still f)
 
     -- where the client stopped, its own rows may be left open
-    pub runs_stopped : (steps : ℕ) → answer ≡ answers.Stopped steps → IsTrue (is_stop command.what)
+    pub runs_stopped_so : (steps : ℕ) → answer ≡ answers.Stopped steps → IsTrue (is_stop command.what)
         → Finished (λ n. IsStopped commands state.replies n ⊎ (n ≡ u)) w' → Runs script commands' state'
-    runs_stopped steps is stop f = runs_next (λ row b. turn row (f row b)) where
+    runs_stopped_so steps is stop f = runs_next (λ row b. turn row (f row b)) where
       now : IsStopped commands' state'.replies u
       now = record {
         command = command;
@@ -350,3 +360,16 @@ module _ (script : Script) (commands : List Command) (state : State) (command : 
       turn row (inl (inl s)) = inl (stopped_still row.client s)
       turn row (inl (inr e)) = inl (subst (IsStopped commands' state'.replies) (sym e) now)
       turn row (inr d) = inr d
+
+-- the same of a client that is not away
+module _ (script : Script) (commands : List Command) (state : State) (command : Command)
+    (runs : Runs script commands state) (fit : IsFit script commands command) (w' : World) (answer : Answer)
+    (nodes : List PlacedNode) (does : Does script.objects command.client command.what state.world w' answer nodes) where
+  pub runs_done : Finished (IsStopped commands state.replies) w'
+      → Runs script (commands ++ command ∷ []) (answered state command w' answer nodes)
+  runs_done = runs_answered script commands state command runs fit w' answer nodes does (λ a. absurd a)
+
+  pub runs_stopped : (steps : ℕ) → answer ≡ answers.Stopped steps → IsTrue (is_stop command.what)
+      → Finished (λ n. IsStopped commands state.replies n ⊎ (n ≡ command.client)) w'
+      → Runs script (commands ++ command ∷ []) (answered state command w' answer nodes)
+  runs_stopped = runs_stopped_so script commands state command runs fit w' answer nodes does (λ a. absurd a)

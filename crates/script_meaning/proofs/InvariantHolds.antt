@@ -1,11 +1,14 @@
 -- Each state to which a fitting script's commands lead keeps what `Runs` says.
-use Rattle.std.proofs.Common.{◌≡◌, ◌⊎◌, inl, inr, ℕ, zero, suc, ◌+◌, ◌^◌, ◌<◌, ◌≤◌, List, [], ◌∷◌, ◌++◌, length, take, Some, None, Bool, true, false, refl, ap, sym, subst, ◌∙◌, arith, append-nil, append_assoc, length-append, map}
-use Rattle.std.specs.Prelude.{IsTrue, not, nat_lt, slice_get, slice_index, slice_index_or}
-use Rattle.std.specs.List.{All, list_all}
-use Rattle.std.proofs.lemmas.Bool.{and_from, ltb-true, lt-ltb, cases_lt}
+use Rattle.std.proofs.Common.{◌≡◌, ◌⊎◌, inl, inr, ℕ, zero, suc, ◌+◌, ◌^◌, ◌<◌, ◌≤◌, List, [], ◌∷◌, ◌++◌, length, take, Option, Some, None, Bool, true, false, refl, ap, sym, subst, ◌∙◌, arith, append-nil, append_assoc, length-append, map}
+use Rattle.std.specs.Prelude.{IsTrue, not, nat_lt, ◌==◌, slice_get, slice_index, slice_index_or}
+use Rattle.std.specs.List.{All, list_all, list_any}
+use Rattle.std.proofs.lemmas.Bool.{and_from, leb-true, ltb-true, lt-ltb, cases_lt}
 use Rattle.log_node.specs.declared.ids.Row.{Row}
 use Rattle.log_node.specs.declared.ids.Colours.{Colours}
+use Rattle.log_node.specs.declared.forms.Form.TheVariants as forms
 use Rattle.log_node.specs.Sets.{members}
+use Rattle.object_form.specs.Forms.{form_text}
+use Rattle.object_fold.specs.Nodes.{shard_of}
 use Rattle.log_node.specs.declared.marks.Why.TheVariants.{Memory, StampEnd}
 use Rattle.log_node.specs.declared.marks.Outcome.{Outcome}
 use Rattle.log_node.specs.declared.marks.Outcome.TheVariants.{Open, Gone, Final}
@@ -14,22 +17,32 @@ use Rattle.world_laws.specs.declared.steps.Step.TheVariants.{Seen}
 use Rattle.world_laws.specs.Worlds.{World, home_of, after, run_steps, row_of, next_row, is_client, is_column, may_begin, may_single, after_begin, single_stamp, next_id}
 use Rattle.world_laws.specs.Completing.{complete_steps}
 use Rattle.world_laws.proofs.CallerLemmas.{contains_in, in_slice, in_right}
+use Rattle.script_text.specs.declared.script.Kind.{Kind}
 use Rattle.script_text.specs.declared.script.What.{What}
 use Rattle.script_text.specs.declared.script.What.TheVariants as whats
 use Rattle.script_text.specs.declared.script.Command.{Command}
 use Rattle.script_text.specs.declared.script.Script.{Script}
-use Rattle.script_text.specs.Items.{is_stop}
-use Rattle.script_text.specs.Fitting.{IsFitting, IsWithin}
+use Rattle.script_text.specs.Items.{is_stop, set_of}
+use Rattle.script_text.specs.Fitting.{IsFitting, IsWithin, is_queue, HasObject, UsesObject}
+use Rattle.report_text.specs.declared.report.Answer.{Answer}
 use Rattle.report_text.specs.declared.report.Answer.TheVariants as answers
 use Rattle.col_core.specs.History.{entry_key}
+use Rattle.lawful_run.specs.Callers.{Caller, caller_of}
+use Rattle.lawful_run.specs.Asks.{kind_of, colours_of, home_asked, shards, keys_of, put_form, AsksToAppend, Appending, manner_of}
+use Rattle.lawful_run.specs.Refusals.{IsAway}
 use Rattle.lawful_run.proofs.CallerLemmas.{get_within, get-append}
 use Rattle.script_meaning.specs.States.{State, Grants, has_colours, is_built, StopsAreLast, answered}
 use Rattle.script_meaning.specs.Helping.{all_cleared}
 use Rattle.script_meaning.specs.Appends.{appended_one, appended_by, appended_several, appended, stopped, is_full, append_steps, with_single, point_in, ended_colour}
-use Rattle.script_meaning.specs.Meaning.{done_one, done, LeadTo, nothing, next}
+use Rattle.script_meaning.specs.Objects.{caller_in, refusing_home, shard_set}
+use Rattle.script_meaning.specs.Meaning.{done_one, done_from, done, LeadTo, nothing, next}
 use Rattle.script_meaning.proofs.Clearing.{Finished}
 use Rattle.script_meaning.proofs.Kept.{Does, did_nothing}
 use Rattle.script_meaning.proofs.Sets.{one_is_power}
+use Rattle.script_meaning.proofs.ShardSets.{shard_members, set_has, shards_below, shards_has}
+use Rattle.script_meaning.proofs.Playing.{at_or}
+use Rattle.script_meaning.proofs.ObjectAppends.{AsksIn, does_as}
+use Rattle.script_meaning.proofs.ObjectKinds.{some_of, object_has, queue_one, not_away, is_away, did_stay_away}
 use Rattle.script_meaning.proofs.AppendOne as one
 use Rattle.script_meaning.proofs.AfterMoves as moving
 use Rattle.script_meaning.proofs.BeginRow as begun
@@ -37,15 +50,10 @@ use Rattle.script_meaning.proofs.AppendSeveral as several
 use Rattle.script_meaning.proofs.AppendFinal as final
 use Rattle.script_meaning.proofs.Refusing.{did_end_one, did_full, did_stop_at_once}
 use Rattle.script_meaning.proofs.Stopping as stopping
-use Rattle.script_meaning.proofs.Invariant.{IsStopped, Runs, IsFit, runs_opening, runs_done, runs_stopped, free}
+use Rattle.script_meaning.proofs.Invariant.{IsStopped, Runs, IsFitWhere, IsFit, runs_opening, runs_answered, runs_done, runs_stopped, free, caller_is}
 
 pub all_at : {A : Type 0} (P : A → Type 0) (xs : List A) → All P xs → (x : A) → In x xs → P x
 all_at P xs all x i = let c = contains_in xs x i in subst P c.2 (all c.0 x c.1)
-
-at_or : {A : Type 0} (xs : List A) (i : ℕ) (x d : A) → slice_get xs i ≡ Some x → slice_index_or xs i d ≡ x
-at_or [] i x d e = absurd (let f : ⊥ = cc in f)
-at_or (y ∷ xs) zero x d e = cc
-at_or (y ∷ xs) (suc i) x d e = at_or xs i x d e
 
 each_true : (test : ℕ → Bool) (xs : List ℕ) → ((x : ℕ) → In x xs → test x ≡ true) → list_all test xs ≡ true
 each_true test [] h = refl
@@ -74,8 +82,14 @@ module _ (script : Script) (commands : List Command) (state : State) (command : 
   column_ok : (c : ℕ) → c < script.shape.colours → is_column w (home_of w u) c ≡ true
   column_ok = moving.column_ok script commands state command runs fit
 
+  -- what an append does, the command does
+  abbrev IsAppend : Colours → List ℕ → Type 0
+  IsAppend colours text =
+      (w' : World) (answer : Answer) → Does script.objects u (whats.Append colours text) w w' answer []
+      → Does script.objects u command.what w w' answer []
+
   -- an append to one colour
-  runs_one_colour : (colours : Colours) (text : List ℕ) (c : ℕ) → command.what ≡ whats.Append colours text
+  runs_one_colour : (colours : Colours) (text : List ℕ) (c : ℕ) → IsAppend colours text
       → members colours ≡ c ∷ [] → colours.0 < 2 ^ 64 → c < script.shape.colours
       → Runs script commands' (appended_one grants state command text c)
   runs_one_colour colours text c asked only low lt =
@@ -85,14 +99,14 @@ module _ (script : Script) (commands : List Command) (state : State) (command : 
       (answered state command w (answers.StampEnd c) [])
       (λ ok. runs_done script commands state command runs fit (with_single grants w u text c)
       (answers.Stood (single_stamp w u c) None (point_in w (with_single grants w u text c) u (next_id w u) c ∷ [])) []
-      (subst (λ (what : What). Does script.objects u what w (with_single grants w u text c)
-      (answers.Stood (single_stamp w u c) None (point_in w (with_single grants w u text c) u (next_id w u) c ∷ [])) [])
-      (sym asked) (one.does script.objects S grants w runs.reached runs.finished u c text going ok colours only
+      (asked (with_single grants w u text c)
+      (answers.Stood (single_stamp w u c) None (point_in w (with_single grants w u text c) u (next_id w u) c ∷ []))
+      (one.does script.objects S grants w runs.reached runs.finished u c text going ok colours only
       (one_is_power colours c only low)))
       (subst (Finished S) (sym (one.after_is script.objects S grants w runs.reached runs.finished u c text going ok))
       (one.finished2 script.objects S grants w runs.reached runs.finished u c text going ok)))
       (λ refused. runs_done script commands state command runs fit w (answers.StampEnd c) []
-      (subst (λ (what : What). Does script.objects u what w w (answers.StampEnd c) []) (sym asked)
+      (asked w (answers.StampEnd c)
       (did_end_one script.objects u c colours text w only client_ok (column_ok c lt) refused)) runs.finished)
 
   -- the row of an append to several colours may begin
@@ -109,7 +123,7 @@ module _ (script : Script) (commands : List Command) (state : State) (command : 
         left false e = absurd (let f : ⊥ = cc in f)
 
   -- an append to several colours
-  module _ (colours : Colours) (text : List ℕ) (asked : command.what ≡ whats.Append colours text)
+  module _ (colours : Colours) (text : List ℕ) (asked : IsAppend colours text)
       (many : 1 < length (members colours)) (below : (c : ℕ) → In c (members colours) → c < script.shape.colours) where
     abbrev row : Row
     row = next_row w u
@@ -123,21 +137,20 @@ module _ (script : Script) (commands : List Command) (state : State) (command : 
         absurd ((several.done3 script.objects S grants w runs.reached runs.finished u colours text going ok).decided e)
     by_outcome ok (Gone Memory) e =
         runs_done script commands state command runs fit w3 answers.NoMemory []
-        (subst (λ (what : What). Does script.objects u what w w3 answers.NoMemory []) (sym asked)
+        (asked w3 answers.NoMemory
         (several.does_gone_memory script.objects S grants w runs.reached runs.finished u colours text going ok e))
         (several.finished3 script.objects S grants w runs.reached runs.finished u colours text going ok)
     by_outcome ok (Gone StampEnd) e =
         runs_done script commands state command runs fit w3 (answers.StampEnd
         (ended_colour w3 row (members colours))) []
-        (subst (λ (what : What). Does script.objects u what w w3
-        (answers.StampEnd (ended_colour w3 row (members colours))) []) (sym asked)
+        (asked w3 (answers.StampEnd (ended_colour w3 row (members colours)))
         (several.does_gone_end script.objects S grants w runs.reached runs.finished u colours text going ok e))
         (several.finished3 script.objects S grants w runs.reached runs.finished u colours text going ok)
     by_outcome ok (Final f) e =
         let after_all = all_cleared grants u (entry_key f (next_id w u)) (members colours) (after w3 (Seen u f)) in
         let answer = answers.Stood f (Some row.number) (map (point_in w after_all u (next_id w u)) (members colours)) in
         runs_done script commands state command runs fit after_all answer []
-        (subst (λ (what : What). Does script.objects u what w after_all answer []) (sym asked)
+        (asked after_all answer
         (final.does_final script.objects S grants w runs.reached runs.finished u colours text going ok f e))
         (subst (Finished S) (sym
         (final.after_is script.objects S grants w runs.reached runs.finished u colours text going ok f e))
@@ -155,7 +168,7 @@ module _ (script : Script) (commands : List Command) (state : State) (command : 
         (appended_by grants state command (run_steps w (append_steps grants w u colours text)) row (members colours)
         (row_of (run_steps w (append_steps grants w u colours text)) row).last)
         (λ full. runs_done script commands state command runs fit w (answers.Full (w.clients u).used) []
-        (subst (λ (what : What). Does script.objects u what w w (answers.Full (w.clients u).used) []) (sym asked)
+        (asked w (answers.Full (w.clients u).used)
         (did_full script.objects u (whats.Append colours text) colours text w runs.reached (λ caller kept. (refl, refl))
         (λ a b e. absurd (let f : ⊥ = cc in f)) many full)) runs.finished)
         (λ room. let ok = begins colours many below room in
@@ -212,8 +225,8 @@ module _ (script : Script) (commands : List Command) (state : State) (command : 
         enough (inr le) f = le
 
   runs_append : (colours : Colours) (text : List ℕ) (ms : List ℕ) → members colours ≡ ms
-      → command.what ≡ whats.Append colours text → has_colours 1 colours ≡ true
-      → All (λ c. c < script.shape.colours) (members colours)
+      → IsAppend colours text → has_colours 1 colours ≡ true
+      → ((c : ℕ) → In c (members colours) → c < script.shape.colours)
       → Runs script commands' (appended grants state command colours text ms)
   runs_append colours text [] is asked b all =
       let n = (has_low 1 colours b).0 in
@@ -221,53 +234,137 @@ module _ (script : Script) (commands : List Command) (state : State) (command : 
       absurd (let f : ⊥ = omega (arith, n, z) in f)
   runs_append colours text (c ∷ []) is asked b all =
       runs_one_colour colours text c asked is (has_low 1 colours b).1
-      (all_at (λ d. d < script.shape.colours) (members colours) all c
-      (subst (λ (l : List ℕ). In c l) (sym is) (inl refl)))
+      (all c (subst (λ (l : List ℕ). In c l) (sym is) (inl refl)))
   runs_append colours text (c ∷ d ∷ ms) is asked b all =
       runs_several colours text asked
-      (let z : length (members colours) ≡ suc (suc (length ms)) = ap length is in omega (arith, z))
-      (λ x i. all_at (λ y. y < script.shape.colours) (members colours) all x i)
+      (let z : length (members colours) ≡ suc (suc (length ms)) = ap length is in omega (arith, z)) all
+
+  abbrev caller : Caller
+  caller = caller_in w script.objects u
+
+  -- an append of an object's command
+  runs_form : (set : Colours) (colours : List ℕ) (text : List ℕ) → manner_of command.what ≡ Appending
+      → AsksIn script.objects u command.what set text → has_colours 1 set ≡ true
+      → members set ≡ colours → ((c : ℕ) → In c colours → c < script.shape.colours)
+      → Runs script commands' (appended grants state command set text (members set))
+  runs_form set colours text appending asks has is below =
+      runs_append set text (members set) refl
+      (λ w' answer d. does_as script.objects u command.what set text appending asks w w' answer [] d) has
+      (λ c i. below c (subst (λ (l : List ℕ). In c l) is i))
+
+  runs_shards : {test : Kind → Bool} (object : ℕ) (keys : List (List ℕ)) (key : List ℕ) → In key keys
+      → (text : List ℕ) → HasObject script.objects object test → manner_of command.what ≡ Appending
+      → AsksIn script.objects u command.what (shard_set (colours_of caller object) keys) text
+      → Runs script commands' (appended grants state command (shard_set (colours_of caller object) keys) text
+      (members (shard_set (colours_of caller object) keys)))
+  runs_shards {test} object keys key i text has appending asks =
+      let c = object_has script.objects script.shape.regions script.shape.colours fit.kinds object test has in
+      let colours = colours_of caller object in
+      runs_form (shard_set colours keys) (shards colours keys) text appending asks
+      (shards_has script.shape.colours fit.few_colours colours c.some c.below keys key i) (shard_members colours keys)
+      (shards_below script.shape.colours fit.few_colours colours c.some c.below keys)
+
+  runs_queue : (object : ℕ) (text : List ℕ) → HasObject script.objects object is_queue
+      → manner_of command.what ≡ Appending
+      → (members (set_of (colours_of caller object)) ≡ colours_of caller object
+      → AsksIn script.objects u command.what (set_of (colours_of caller object)) text)
+      → Runs script commands' (appended grants state command (set_of (colours_of caller object)) text
+      (members (set_of (colours_of caller object))))
+  runs_queue object text has appending asks =
+      let c = object_has script.objects script.shape.regions script.shape.colours fit.kinds object is_queue has in
+      let is = queue_one script.objects script.shape.regions script.shape.colours fit.kinds object is_queue has
+      fit.few_colours (λ kind t. t) in
+      let colours = colours_of caller object in
+      let low : (d : ℕ) → In d colours → d < script.shape.colours =
+      all_at (λ (d : ℕ). d < script.shape.colours) colours c.below in
+      runs_form (set_of colours) colours text appending (asks is)
+      (set_has colours (λ d i. let x = low d i in let y = fit.few_colours in omega (arith, x, y))
+      (subst (λ (l : List ℕ). 1 ≤ length l) (sym is) c.some)) is low
 
   runs_what : (what : What) → command.what ≡ what → is_built what ≡ true
-      → IsWithin script.shape.regions script.shape.colours what
-      → Runs script commands' (done_one grants state command what)
-  runs_what (whats.Append colours text) asked b within =
-      runs_append colours text (members colours) refl asked b within
-  runs_what (whats.Stop steps colours text) asked b within =
+      → IsWithin script.shape.regions script.shape.colours what → UsesObject script.objects what
+      → Runs script commands' (done_one script.objects grants state command what)
+  runs_what (whats.Append colours text) asked b within uses =
+      runs_append colours text (members colours) refl
+      (λ w' answer d. subst (λ (what : What). Does script.objects u what w w' answer []) (sym asked) d) b
+      (λ c i. all_at (λ d. d < script.shape.colours) (members colours) within c i)
+  runs_what (whats.Stop steps colours text) asked b within uses =
       runs_stop colours text (let n = (has_low 2 colours b).0 in omega (arith, n))
       (λ x i. all_at (λ y. y < script.shape.colours) (members colours) within x i) steps asked
-  runs_what (whats.Sync colour) asked b within =
+  runs_what (whats.Sync colour) asked b within uses =
       moving.runs_sync script commands state command runs fit colour asked within
-  runs_what (whats.Scan colours) asked b within = absurd (let f : ⊥ = cc in f)
-  runs_what (whats.Pull region colour) asked b within =
+  runs_what (whats.Scan colours) asked b within uses = absurd (let f : ⊥ = cc in f)
+  runs_what (whats.Pull region colour) asked b within uses =
       moving.runs_pull script commands state command runs fit grants region colour asked within.0 within.1
-  runs_what (whats.Trim colour) asked b within =
+  runs_what (whats.Trim colour) asked b within uses =
       moving.runs_trim script commands state command runs fit colour asked within
-  runs_what (whats.Put object key value) asked b within = absurd (let f : ⊥ = cc in f)
-  runs_what (whats.Get object key) asked b within = absurd (let f : ⊥ = cc in f)
-  runs_what (whats.Del object key) asked b within = absurd (let f : ⊥ = cc in f)
-  runs_what (whats.PutAll object pairs) asked b within = absurd (let f : ⊥ = cc in f)
-  runs_what (whats.GetAll object keys) asked b within = absurd (let f : ⊥ = cc in f)
-  runs_what (whats.Read object keys) asked b within = absurd (let f : ⊥ = cc in f)
-  runs_what (whats.Commit object pairs) asked b within = absurd (let f : ⊥ = cc in f)
-  runs_what (whats.Enq object value) asked b within = absurd (let f : ⊥ = cc in f)
-  runs_what (whats.Deq object) asked b within = absurd (let f : ⊥ = cc in f)
+  runs_what (whats.Put object key value) asked b within uses =
+      runs_shards object (key ∷ []) key (inl refl) (form_text (put_form (kind_of caller object) key value))
+      uses.0 (ap manner_of asked)
+      (λ w' kept. subst (λ (what : What). AsksToAppend (caller_in w' script.objects u) kept what
+      (shard_set (colours_of caller object) (key ∷ []))
+      (form_text (put_form (kind_of caller object) key value))) (sym asked)
+      (shard_members (colours_of caller object) (key ∷ []), refl))
+  runs_what (whats.Get object key) asked b within uses = absurd (let f : ⊥ = cc in f)
+  runs_what (whats.Del object key) asked b within uses =
+      runs_shards object (key ∷ []) key (inl refl) (form_text (forms.Delete key)) uses.0 (ap manner_of asked)
+      (λ w' kept. subst (λ (what : What). AsksToAppend (caller_in w' script.objects u) kept what
+      (shard_set (colours_of caller object) (key ∷ [])) (form_text (forms.Delete key))) (sym asked)
+      (shard_members (colours_of caller object) (key ∷ []), refl))
+  runs_what (whats.PutAll object pairs) asked b within uses =
+      let key = some_of (keys_of pairs) (leb-true 1 _ (both _ _ (both _ _ (both _ _ uses.1).0).0).0) in
+      runs_shards object (keys_of pairs) key.0 key.1 (form_text (forms.PutAll pairs)) uses.0 (ap manner_of asked)
+      (λ w' kept. subst (λ (what : What). AsksToAppend (caller_in w' script.objects u) kept what
+      (shard_set (colours_of caller object) (keys_of pairs)) (form_text (forms.PutAll pairs))) (sym asked)
+      (shard_members (colours_of caller object) (keys_of pairs), refl))
+  runs_what (whats.GetAll object keys) asked b within uses = absurd (let f : ⊥ = cc in f)
+  runs_what (whats.Read object keys) asked b within uses = absurd (let f : ⊥ = cc in f)
+  runs_what (whats.Commit object pairs) asked b within uses = absurd (let f : ⊥ = cc in f)
+  runs_what (whats.Enq object value) asked b within uses =
+      runs_queue object (form_text (forms.Enqueue value)) uses.0 (ap manner_of asked)
+      (λ is w' kept. subst (λ (what : What). AsksToAppend (caller_in w' script.objects u) kept what
+      (set_of (colours_of caller object)) (form_text (forms.Enqueue value))) (sym asked) (is, refl))
+  runs_what (whats.Deq object) asked b within uses = absurd (let f : ⊥ = cc in f)
 
-  pub runs_command : Runs script commands' (done grants state command)
-  runs_command =
-      choice (Runs script commands') grants.start (done_one grants state command command.what)
-      (answered state command w answers.NoMemory [])
-      (λ _. runs_what command.what refl fit.built fit.within)
-      (λ _. runs_done script commands state command runs fit w answers.NoMemory []
-      (did_nothing script.objects u command.what w) runs.finished)
+module _ (script : Script) (commands : List Command) (state : State) (command : Command) (grants : Grants)
+    (runs : Runs script commands state) where
+  abbrev caller_now : Caller
+  caller_now = caller_in state.world script.objects command.client
+
+  -- where the home of the command's object refuses it, and where it does not
+  runs_from : (IsFitWhere script commands command (Unit {0})) → (home : Option ℕ)
+      → refusing_home caller_now command.what ≡ home
+      → ((IsAway caller_now (home_asked caller_now command.what) → ⊥) → IsFit script commands command)
+      → Runs script (commands ++ command ∷ []) (done_from home script.objects grants state command)
+  runs_from any None is fit =
+      let near = fit (not_away caller_now (home_asked caller_now command.what) is) in
+      runs_what script commands state command grants runs near command.what refl near.built near.within near.uses
+  runs_from any (Some home) is fit =
+      let away = is_away caller_now (home_asked caller_now command.what) home is in
+      runs_answered script commands state command runs any state.world (answers.NotHome home) []
+      (did_stay_away script.objects command.client command.what state.world home away.0 away.1)
+      (λ _. inr (home, refl)) runs.finished
+
+  pub runs_command : (IsFitWhere script commands command (Unit {0}))
+      → ((IsAway caller_now (home_asked caller_now command.what) → ⊥) → IsFit script commands command)
+      → Runs script (commands ++ command ∷ []) (done script.objects grants state command)
+  runs_command any fit =
+      choice (Runs script (commands ++ command ∷ [])) grants.start
+      (done_from (refusing_home caller_now command.what) script.objects grants state command)
+      (answered state command state.world answers.NoMemory [])
+      (λ _. runs_from any (refusing_home caller_now command.what) refl fit)
+      (λ _. runs_answered script commands state command runs any state.world answers.NoMemory []
+      (did_nothing script.objects command.client command.what state.world) (λ _. inl refl) runs.finished)
 
 -- The commands of a script
 
 module _ (script : Script) (fits : IsFitting script)
     (built : All (λ (c : Command). IsTrue (is_built c.what)) script.commands) (last : StopsAreLast script) where
   fit_at : (commands : List Command) (command : Command) (rest : List Command)
-      → script.commands ≡ commands ++ command ∷ rest → IsFit script commands command
-  fit_at commands command rest is =
+      → script.commands ≡ commands ++ command ∷ rest → (Away : Type 0)
+      → (IsAway (caller_of script command.client) (home_asked (caller_of script command.client) command.what) → Away)
+      → IsFitWhere script commands command Away
+  fit_at commands command rest is Away away =
       let there : In command script.commands =
       subst (λ (l : List Command). In command l) (sym is) (in_right command commands (command ∷ rest) (inl refl)) in
       record {
@@ -297,6 +394,10 @@ module _ (script : Script) (fits : IsFitting script)
             (subst (λ (d : Command). (slice_index_or script.commands (length commands) command).client ≡ d.client → ⊥)
             first (pair (subst (λ (d : Command). IsTrue (is_stop d.what)) (sym first) stop)))
             (sym same);
+        uses = all_at (λ (c : Command). UsesObject script.objects c.what) script.commands fits.uses command there;
+        kinds = fits.objects;
+        few_colours = fits.shape.few_colours;
+        away = away;
       } where
         home_at : (n : ℕ) → n < length script.shape.homes → slice_index script.shape.homes n < script.shape.regions
         home_at n lt = fits.shape.homes n 0 lt
@@ -306,8 +407,12 @@ module _ (script : Script) (fits : IsFitting script)
   runs_lead nothing rest is = runs_opening script
   runs_lead (next {commands} {state} command grants leads) rest is =
       let whole : script.commands ≡ commands ++ command ∷ rest = is ∙ append_assoc commands (command ∷ []) rest in
-      runs_command script commands state command grants (runs_lead leads (command ∷ rest) whole)
-      (fit_at commands command rest whole)
+      let runs = runs_lead leads (command ∷ rest) whole in
+      let any = fit_at commands command rest whole (Unit {0}) (λ _. tt) in
+      let same = caller_is script commands state command runs any command.client in
+      runs_command script commands state command grants runs any
+      (λ near. fit_at commands command rest whole ⊥
+      (subst (λ (c : Caller). IsAway c (home_asked c command.what) → ⊥) same near))
 
   pub runs_all : {state : State} → LeadTo script script.commands state → Runs script script.commands state
   runs_all leads = runs_lead leads [] (sym (append-nil script.commands))

@@ -17,26 +17,16 @@ use Rattle.script_text.specs.declared.script.What.{What}
 use Rattle.script_text.specs.declared.script.Object.{Object}
 use Rattle.report_text.specs.declared.report.Answer.{Answer}
 use Rattle.report_text.specs.declared.report.Answer.TheVariants as answers
-use Rattle.lawful_run.specs.Callers.{Caller}
 use Rattle.lawful_run.specs.Asks.{manner_of, may_help}
 use Rattle.col_core.specs.Ids.{IsStepOf}
 use Rattle.lawful_run.specs.Explains.{Explains}
 use Rattle.lawful_run.specs.Lawful.{IsHelp}
 use Rattle.lawful_run.specs.Refusals.{nothing}
 use Rattle.lawful_run.proofs.CallerLemmas.{prefix_length}
+pub use Rattle.script_meaning.specs.Objects.{caller_in}
 use Rattle.script_meaning.proofs.StaysComplete.{OfDone, own_no_help}
 use Rattle.script_meaning.proofs.Additions.{Adds, adds_none, adds_map, others_places, HelpIn}
 use Rattle.script_meaning.proofs.Reached.{held_of, told_of}
-
--- a client of a world, and where it calls from
-abbrev pub caller_in : World → List Object → ℕ → Caller
-caller_in w objects client = record {
-  client = client;
-  own = home_of w client;
-  regions = w.shape.regions;
-  rows = w.shape.rows;
-  objects = objects;
-}
 
 -- what a client keeps is what the world has of it
 pub record IsKeptBy (w : World) (client : ℕ) (kept : Kept) : Type 0 where

@@ -11,6 +11,8 @@ mod Lines
 mod Kept
 mod AppendOne
 mod Lists
+mod ShardSets
+mod ObjectAppends
 mod Playing
 mod ChainNodes
 mod Sync
@@ -27,6 +29,8 @@ mod Settled
 mod AppendSeveral
 mod AppendFinal
 mod Refusing
+mod ObjectKinds
+mod ObjectForms
 mod CompletionParts
 mod Stopping
 mod Invariant

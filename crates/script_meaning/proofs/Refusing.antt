@@ -31,7 +31,7 @@ abbrev pub AsksOf : What → Colours → List ℕ → Type 0
 AsksOf what colours text = (caller : Caller) (kept : Kept) → AsksToAppend caller kept what colours text
 
 -- what changes nothing
-same_world : (objects : List Object) (u : ℕ) (what : What) (w : World) (answer : Answer)
+pub same_world : (objects : List Object) (u : ℕ) (what : What) (w : World) (answer : Answer)
     → ((kept : Kept) → IsKeptBy w u kept → Explains (log_of w) (caller_in w objects u) kept what answer [] kept)
     → Does objects u what w w answer []
 same_world objects u what w answer explains = record {

@@ -72,7 +72,7 @@ abbrev asks : ℕ → ℕ → What → Command
 asks line client what = record { line = line; client = client; what = what }
 
 abbrev in_end : Script → State
-in_end script = fold (done all_granted) (opening script) script.commands
+in_end script = fold (done script.objects all_granted) (opening script) script.commands
 
 abbrev answers_to : State → ℕ → List Answer
 answers_to state client = map (λ (r : ReplyLine). r.answer) (state.replies client)
@@ -172,7 +172,7 @@ trimmed_once-d = refl
 
 -- a pull that finds no memory has given and carries nothing; one from the own region does nothing
 abbrev gave_alone : State
-gave_alone = fold (done all_granted) (done (record all_granted { carry = false })
+gave_alone = fold (done [] all_granted) (done [] (record all_granted { carry = false })
     (in_end (two_regions (asks 8 a (Append on_x (codes "one")) ∷ []))) (asks 9 b (Pull e x)))
     (asks 10 b (Pull w x) ∷ asks 11 b (Pull e x) ∷ [])
 

@@ -69,7 +69,7 @@ abbrev asks : ℕ → ℕ → What → Command
 asks line client what = record { line = line; client = client; what = what }
 
 abbrev in_end : ℕ → List Command → State
-in_end rows commands = fold (done all_granted) (opening (script rows commands)) commands
+in_end rows commands = fold (done [] all_granted) (opening (script rows commands)) commands
 
 -- what a client was answered
 abbrev answers_to : State → ℕ → List Answer
@@ -237,7 +237,7 @@ synced_twice-texts = refl
 
 -- an append to both colours whose second proposal finds no memory is gone
 abbrev forgotten : State
-forgotten = done (record all_granted { marks = λ colour. colour == x }) (opening (script 4 []))
+forgotten = done [] (record all_granted { marks = λ colour. colour == x }) (opening (script 4 []))
     (asks 8 a (Append on_both (codes "p")))
 
 forgotten-a : answers_to forgotten a ≡ NoMemory ∷ []
@@ -248,7 +248,7 @@ forgotten-row = refl
 
 -- where a colour's clock stands at the last stamp, an append to both is gone, and stands in neither
 abbrev ended : State
-ended = done all_granted (record {
+ended = done [] all_granted (record {
   world = run_steps (opened (script 4 []).shape) (Raise b 0 x last_stamp ∷ []);
   replies = λ _. [];
 }) (asks 8 a (Append on_both (codes "p")))

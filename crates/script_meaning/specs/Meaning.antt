@@ -1,5 +1,5 @@
 -- What it means to do a script's commands in the order of the file, over the world of core steps.
-use Rattle.std.specs.Prelude.{◌≡◌, ◌≢◌, ℕ, List, [], ◌∷◌, ◌++◌, map, unwrap_or, slice_get, if◌then◌else◌}
+use Rattle.std.specs.Prelude.{◌≡◌, ◌≢◌, ℕ, List, [], ◌∷◌, ◌++◌, map, Option, Some, None, unwrap_or, slice_get, if◌then◌else◌}
 use Rattle.std.specs.List.{All, fold, flat_map, range_with_len, enumerate_from}
 use Rattle.log_node.specs.Sets.{members}
 use Rattle.log_node.specs.declared.marks.Why.TheVariants.{Memory}
@@ -9,6 +9,7 @@ use Rattle.log_node.specs.Standings.{Standing, queue_of}
 use Rattle.col_core.specs.History.{clock, entries, line}
 use Rattle.world_laws.specs.Worlds.{World, cut_after, base_after}
 use Rattle.world_laws.specs.Laws.{rows_of_region}
+use Rattle.script_text.specs.declared.script.Object.{Object}
 use Rattle.script_text.specs.declared.script.What.{What}
 use Rattle.script_text.specs.declared.script.What.TheVariants as whats
 use Rattle.script_text.specs.declared.script.Command.{Command}
@@ -23,38 +24,49 @@ use Rattle.lawful_run.specs.Columns.{row_report}
 use Rattle.script_meaning.specs.States.{State, opening, Grants, all_granted, answered}
 use Rattle.script_meaning.specs.Appends.{appended, stopped}
 use Rattle.script_meaning.specs.Moves.{synced, pulled, trimmed}
+use Rattle.script_meaning.specs.Objects.{caller_in, refusing_home, put_into, deleted_from, put_all_into, enqueued_in}
 
 -- the state after a command that is built and was granted memory before it did anything; another changes nothing
-abbrev pub done_one : Grants → State → Command → What → State
-done_one grants state command (whats.Append colours text) =
+abbrev pub done_one : List Object → Grants → State → Command → What → State
+done_one objects grants state command (whats.Append colours text) =
     appended grants state command colours text (members colours)
-done_one grants state command (whats.Stop steps colours text) = stopped grants state command colours text steps
-done_one grants state command (whats.Sync colour) = synced state command colour
-done_one grants state command (whats.Scan colours) = state
-done_one grants state command (whats.Pull region colour) = pulled grants state command region colour
-done_one grants state command (whats.Trim colour) = trimmed state command colour
-done_one grants state command (whats.Put object key value) = state
-done_one grants state command (whats.Get object key) = state
-done_one grants state command (whats.Del object key) = state
-done_one grants state command (whats.PutAll object pairs) = state
-done_one grants state command (whats.GetAll object keys) = state
-done_one grants state command (whats.Read object keys) = state
-done_one grants state command (whats.Commit object pairs) = state
-done_one grants state command (whats.Enq object value) = state
-done_one grants state command (whats.Deq object) = state
+done_one objects grants state command (whats.Stop steps colours text) = stopped grants state command colours text steps
+done_one objects grants state command (whats.Sync colour) = synced state command colour
+done_one objects grants state command (whats.Scan colours) = state
+done_one objects grants state command (whats.Pull region colour) = pulled grants state command region colour
+done_one objects grants state command (whats.Trim colour) = trimmed state command colour
+done_one objects grants state command (whats.Put object key value) =
+    put_into objects grants state command object key value
+done_one objects grants state command (whats.Get object key) = state
+done_one objects grants state command (whats.Del object key) =
+    deleted_from objects grants state command object key
+done_one objects grants state command (whats.PutAll object pairs) =
+    put_all_into objects grants state command object pairs
+done_one objects grants state command (whats.GetAll object keys) = state
+done_one objects grants state command (whats.Read object keys) = state
+done_one objects grants state command (whats.Commit object pairs) = state
+done_one objects grants state command (whats.Enq object value) =
+    enqueued_in objects grants state command object value
+done_one objects grants state command (whats.Deq object) = state
+
+-- the same, unless the home of the command's object refuses it
+abbrev pub done_from : Option ℕ → List Object → Grants → State → Command → State
+done_from None objects grants state command = done_one objects grants state command command.what
+done_from (Some home) objects grants state command = answered state command state.world (answers.NotHome home) []
 
 -- The state after a command, by where it finds memory: where it finds none before it does anything it is answered so,
 -- and nothing else changes.
-abbrev pub done : Grants → State → Command → State
-done grants state command =
-    if grants.start then done_one grants state command command.what
+abbrev pub done : List Object → Grants → State → Command → State
+done objects grants state command =
+    if grants.start then done_from (refusing_home (caller_in state.world objects command.client) command.what) objects
+    grants state command
     else answered state command state.world answers.NoMemory []
 
 -- the states to which the first commands lead, wherever each finds memory
 pub data LeadTo (script : Script) : List Command → State → Type 0 where
   nothing : LeadTo script [] (opening script)
   next : {commands : List Command} {state : State} (command : Command) (grants : Grants)
-      → LeadTo script commands state → LeadTo script (commands ++ command ∷ []) (done grants state command)
+      → LeadTo script commands state → LeadTo script (commands ++ command ∷ []) (done script.objects grants state command)
 
 -- the column in the end
 abbrev pub column_report : Script → World → ℕ → ℕ → ColumnReport
@@ -87,7 +99,7 @@ report_of script state = record {
 
 -- the report of the commands done one after another, with memory granted everywhere
 abbrev pub step_report : Script → Report
-step_report script = report_of script (fold (done all_granted) (opening script) script.commands)
+step_report script = report_of script (fold (done script.objects all_granted) (opening script) script.commands)
 
 -- the report is that of a state to which the commands lead
 pub record IsStepReport (script : Script) (report : Report) : Type 0 where

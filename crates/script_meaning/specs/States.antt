@@ -22,8 +22,8 @@ use Rattle.report_text.specs.declared.report.ReplyLine.{ReplyLine}
 unfoldable pub has_colours : ℕ → Colours → Bool
 has_colours count colours = not (nat_lt (length (members colours)) count) && nat_lt colours.0 (2 ^ 64)
 
--- The commands that are done so far: an append to any number of colours, a stop of an append to several, a sync, a pull
--- and a trim.
+-- The commands that are done so far: an append to any number of colours, a stop of an append to several, a sync, a pull,
+-- a trim, and what appends for an object: a put, a deletion, several puts at once and an enqueue.
 abbrev pub is_built : What → Bool
 is_built (whats.Append colours text) = has_colours 1 colours
 is_built (whats.Stop steps colours text) = has_colours 2 colours
@@ -31,14 +31,14 @@ is_built (whats.Sync colour) = true
 is_built (whats.Scan colours) = false
 is_built (whats.Pull region colour) = true
 is_built (whats.Trim colour) = true
-is_built (whats.Put object key value) = false
+is_built (whats.Put object key value) = true
 is_built (whats.Get object key) = false
-is_built (whats.Del object key) = false
-is_built (whats.PutAll object pairs) = false
+is_built (whats.Del object key) = true
+is_built (whats.PutAll object pairs) = true
 is_built (whats.GetAll object keys) = false
 is_built (whats.Read object keys) = false
 is_built (whats.Commit object pairs) = false
-is_built (whats.Enq object value) = false
+is_built (whats.Enq object value) = true
 is_built (whats.Deq object) = false
 
 -- no command of a client comes after its stop

@@ -1,4 +1,4 @@
--- What the two commands that are most ask for, said without the table.
+-- What the four commands that are most ask for, said without the table.
 use Rattle.std.proofs.Common.{◌≡◌, ℕ, List, [], ◌∷◌, length, Result, Ok, Err, refl, arith}
 use Rattle.std.proofs.lemmas.Bool.{ne_eqb}
 use Rattle.log_node.specs.declared.ids.Colours.{Colours}
@@ -10,7 +10,7 @@ use Rattle.script_text.specs.declared.known.Known.{Known}
 use Rattle.script_text.specs.Pieces.{names_in}
 use Rattle.script_text.specs.Table.{nothing, what_of}
 use Rattle.script_text.specs.Readings.{◌>>=◌, number_at, colours_set_at, text_at, with_one, with_two}
-use Rattle.script_text.specs.CommandReadings.{taken_at, given_at, ended_well, what_at, append_at, sync_at}
+use Rattle.script_text.specs.CommandReadings.{taken_at, given_at, ended_well, what_at, append_at, sync_at, trim_at, pull_at}
 
 append_of : (set : Result (Colours × ℕ) Reason) (text : Result (List ℕ) Reason)
     → (((set >>= λ s. Ok (record nothing { colours = s.0; count = s.1 })) >>= λ next. (text >>= λ t. Ok (record next { text = t })) >>= λ last. Ok last)
@@ -36,3 +36,28 @@ unfolding what_at given_at taken_at ended_well sync_at
 sync_is known client [] = refl
 sync_is known client (field ∷ []) = sync_of (number_at reasons.UnknownColour known.script.colours field)
 sync_is known client (a ∷ b ∷ later) = rw (ne_eqb (length (b ∷ later)) 0 (λ e. absurd (omega (arith, e)))) refl
+
+trim_of : (colour : Result ℕ Reason)
+    → (((colour >>= λ c. Ok (record nothing { colour = c })) >>= λ last. Ok last) >>= λ given. Ok given >>= λ ended. Ok (what_of words.Trim ended)) ≡ (colour >>= λ c. Ok (whats.Trim c))
+trim_of (Ok c) = refl
+trim_of (Err why) = refl
+
+pub trim_is : (known : Known) (client : ℕ) (args : List (List ℕ)) → what_at known client words.Trim args ≡ with_one (trim_at known) args
+unfolding what_at given_at taken_at ended_well trim_at
+trim_is known client [] = refl
+trim_is known client (field ∷ []) = trim_of (number_at reasons.UnknownColour known.script.colours field)
+trim_is known client (a ∷ b ∷ later) = rw (ne_eqb (length (b ∷ later)) 0 (λ e. absurd (omega (arith, e)))) refl
+
+pull_of : (region colour : Result ℕ Reason)
+    → (((region >>= λ r. Ok (record nothing { region = r })) >>= λ next. (colour >>= λ c. Ok (record next { colour = c })) >>= λ last. Ok last)
+    >>= λ given. Ok given >>= λ ended. Ok (what_of words.Pull ended)) ≡ (region >>= λ r. colour >>= λ c. Ok (whats.Pull r c))
+pull_of (Ok r) (Ok c) = refl
+pull_of (Ok r) (Err why) = refl
+pull_of (Err why) colour = refl
+
+pub pull_is : (known : Known) (client : ℕ) (args : List (List ℕ)) → what_at known client words.Pull args ≡ with_two (pull_at known) args
+unfolding what_at given_at taken_at ended_well pull_at
+pull_is known client [] = refl
+pull_is known client (a ∷ []) = refl
+pull_is known client (name ∷ field ∷ []) = pull_of (number_at reasons.UnknownRegion known.script.regions name) (number_at reasons.UnknownColour known.script.colours field)
+pull_is known client (a ∷ b ∷ c ∷ later) = rw (ne_eqb (length (c ∷ later)) 0 (λ e. absurd (omega (arith, e)))) refl

@@ -1,10 +1,9 @@
 -- The numbers in a script name what there is.
-use Rattle.std.proofs.Common.{◌≡◌, inl, inr, ℕ, zero, suc, ◌^◌, ◌<◌, ◌≤◌, cond, Bool, true, false, List, [], ◌∷◌, ◌++◌, length, map, Option, Some, None, refl, ap, sym, subst, ◌∙◌, arith, append-nil, append_assoc, length-append, eqb-true, leb-true, ltb-true}
-use Rattle.std.specs.Prelude.{IsTrue, ◌&&◌, nat_lt, not, codes, bit_or}
+use Rattle.std.proofs.Common.{◌≡◌, inl, inr, ℕ, zero, suc, ◌^◌, ◌<◌, ◌≤◌, cond, Bool, true, false, List, [], ◌∷◌, ◌++◌, length, map, Option, Some, None, refl, ap, sym, subst, ◌∙◌, arith, length-append, eqb-true, leb-true, ltb-true}
+use Rattle.std.specs.Prelude.{IsTrue, ◌&&◌, nat_lt, codes, bit_or}
 use Rattle.std.specs.Int.{bit_at}
-use Rattle.std.specs.List.{All, cons_option, filter, filter_map, fold, last_or, list_all, range_with_len, enumerate_from}
+use Rattle.std.specs.List.{All, cons_option, filter, filter_map, fold, last_or, list_all, range_with_len}
 use Rattle.std.proofs.lemmas.List.{map-append, length-map}
-use Rattle.std.proofs.lemmas.List.FromFn.{length-enumerate_from}
 use Rattle.std.proofs.lemmas.List.Elements.{All-nil, All-append}
 use Rattle.std.proofs.lemmas.Nat.Bits.{bit_at_or, bit_at-zero, bit_at-pow_other}
 use Rattle.std.proofs.lemmas.Bool.Decides.{eqb_tells}
@@ -20,17 +19,16 @@ use Rattle.script_text.specs.declared.given.Given.{Given}
 use Rattle.script_text.specs.Table.{row_fields, own_fields, later_fields, nothing, what_of, sort_text, sort_of}
 use Rattle.script_text.specs.Words.{word_of}
 use Rattle.script_text.specs.declared.script.Command.{Command}
-use Rattle.script_text.specs.declared.script.Script.{Script}
 use Rattle.script_text.specs.declared.item.Item.{Item}
 use Rattle.script_text.specs.declared.item.Item.TheVariants as items
 use Rattle.script_text.specs.declared.item.Stage.{Stage}
 use Rattle.script_text.specs.declared.item.Stage.TheVariants as stages
-use Rattle.script_text.specs.Pieces.{lines_of, fields_of, is_among, is_between}
-use Rattle.script_text.specs.Items.{stage_after, stage_of, header_words, may_come, is_begun, has_begun, regions_in, colours_in, clients_in, commands_in, last_said, region_names, colour_names, client_names, client_homes, commands, script_of, set_of}
-use Rattle.script_text.specs.Grammar.{said_lines, is_passed_over, may_follow, is_region, Spells, SpellAll, SpellsWhat, Says, Say, AreLines, IsScript}
-use Rattle.script_text.specs.Fitting.{AreBelow, IsWithin, IsFitting}
+use Rattle.script_text.specs.Pieces.{is_among, is_between}
+use Rattle.script_text.specs.Items.{stage_after, stage_of, header_words, may_come, is_begun, has_begun, regions_in, colours_in, clients_in, commands_in, last_said, region_names, colour_names, client_names, client_homes, commands, set_of}
+use Rattle.script_text.specs.Grammar.{may_follow, is_region, Spells, SpellAll, SpellsWhat, Says}
+use Rattle.script_text.specs.Fitting.{AreBelow, IsWithin}
 
-and-left : (a b : Bool) → (a && b) ≡ true → a ≡ true
+pub and-left : (a b : Bool) → (a && b) ≡ true → a ≡ true
 and-left true b e = refl
 and-left false b e = e
 
@@ -52,7 +50,7 @@ set_below count bits (k ∷ ks) below all c is =
         | inr t ↦ (let e = sym (bit_at_or bits (2 ^ k) d) ∙ one in let z = bit_at-pow_other k d t.1 in below d (omega arith))
       ]
 
-All-cons : {A : Type 0} (P : A → Type 0) (x : A) (xs : List A) → P x → All P xs → All P (x ∷ xs)
+pub All-cons : {A : Type 0} (P : A → Type 0) (x : A) (xs : List A) → P x → All P xs → All P (x ∷ xs)
 All-cons P x xs one rest zero d lt = one
 All-cons P x xs one rest (suc k) d lt = rest k d (omega arith)
 
@@ -68,18 +66,18 @@ set-below count order all = filter-all (λ c. c < count) (has (set_of order)) (r
     (λ c is. set_below count 0 order (λ d one. let z = bit_at-zero d in absurd (omega arith)) all c (eqb-true _ _ is))
 
 -- WHAT ONE MORE ITEM SAYS
-last-more : {A : Type 0} (o : Option A) (xs : List A) (x : A) → last_or o (xs ++ x ∷ []) ≡ Some x
+pub last-more : {A : Type 0} (o : Option A) (xs : List A) (x : A) → last_or o (xs ++ x ∷ []) ≡ Some x
 last-more o [] x = refl
 last-more o (y ∷ ys) x = last-more (Some y) ys x
 
-filter_map-more : {A B : Type 0} (h : A → Option B) (xs : List A) (x : A) → h x ≡ None → filter_map h (xs ++ x ∷ []) ≡ filter_map h xs
+pub filter_map-more : {A B : Type 0} (h : A → Option B) (xs : List A) (x : A) → h x ≡ None → filter_map h (xs ++ x ∷ []) ≡ filter_map h xs
 filter_map-more h [] x e = none (h x) e where
   none : {B : Type 0} (o : Option B) → o ≡ None → cons_option o [] ≡ []
   none None f = refl
   none (Some y) f = absurd (let g : ⊥ = cc in g)
 filter_map-more h (y ∷ ys) x e = ap (cons_option (h y)) (filter_map-more h ys x e)
 
-filter_map-said : {A B : Type 0} (h : A → Option B) (xs : List A) (x : A) (y : B) → h x ≡ Some y → filter_map h (xs ++ x ∷ []) ≡ filter_map h xs ++ y ∷ []
+pub filter_map-said : {A B : Type 0} (h : A → Option B) (xs : List A) (x : A) (y : B) → h x ≡ Some y → filter_map h (xs ++ x ∷ []) ≡ filter_map h xs ++ y ∷ []
 filter_map-said h [] x y e = ap (λ o. cons_option o []) e
 filter_map-said {A} {B} h (z ∷ zs) x y e = ap (cons_option (h z)) (filter_map-said h zs x y e) ∙ out (h z) where
   out : (o : Option B) → cons_option o (filter_map h zs ++ y ∷ []) ≡ cons_option o (filter_map h zs) ++ y ∷ []
@@ -90,11 +88,11 @@ pub said-last : {X : Type 0} (d : X) (xs : List X) (x : X) → last_said d (xs +
 said-last d [] x = refl
 said-last d (y ∷ ys) x = said-last y ys x
 
-one-more : {A : Type 0} (P : A → Type 0) (xs : List A) (x : A) → All P xs → P x → All P (xs ++ x ∷ [])
+pub one-more : {A : Type 0} (P : A → Type 0) (xs : List A) (x : A) → All P xs → P x → All P (xs ++ x ∷ [])
 one-more P xs x all one = All-append P xs (x ∷ []) all (All-cons P x [] one (All-nil P))
 
 -- what the stage tells of how much was said
-Early : Stage → ℕ → ℕ → List ℕ → List Command → Type 0
+unfoldable pub Early : Stage → ℕ → ℕ → List ℕ → List Command → Type 0
 Early stages.Nothing regions colours homes asked = (homes ≡ []) × (asked ≡ [])
 Early stages.Version regions colours homes asked = (homes ≡ []) × (asked ≡ [])
 Early stages.Regions regions colours homes asked = (0 < regions) × (homes ≡ []) × (asked ≡ [])
@@ -104,20 +102,20 @@ Early stages.Clients regions colours homes asked = (0 < regions) × (0 < colours
 Early stages.Objects regions colours homes asked = (0 < regions) × (0 < colours) × (0 < length homes) × (asked ≡ [])
 Early stages.Commands regions colours homes asked = (0 < regions) × (0 < colours) × (0 < length homes)
 
-record Fits (regions colours : ℕ) (homes : List ℕ) (asked : List Command) (stage : Stage) : Type 0 where
-  few_regions : regions ≤ 4
-  few_colours : colours ≤ 16
-  few_clients : length homes ≤ 16
-  are_homes : All (λ home. home < regions) homes
-  callers : All (λ (c : Command). c.client < length homes) asked
-  within : All (λ (c : Command). IsWithin regions colours c.what) asked
-  early : Early stage regions colours homes asked
+pub record Fits (regions colours : ℕ) (homes : List ℕ) (asked : List Command) (stage : Stage) : Type 0 where
+  pub few_regions : regions ≤ 4
+  pub few_colours : colours ≤ 16
+  pub few_clients : length homes ≤ 16
+  pub are_homes : All (λ home. home < regions) homes
+  pub callers : All (λ (c : Command). c.client < length homes) asked
+  pub within : All (λ (c : Command). IsWithin regions colours c.what) asked
+  pub early : Early stage regions colours homes asked
 
-Fit : List Item → Type 0
+unfoldable pub Fit : List Item → Type 0
 Fit before = Fits (length (region_names before)) (length (colour_names before)) (client_homes before) (commands before) (stage_of before)
 
 -- nothing is said at first
-fit_nothing : Fit []
+pub fit_nothing : Fit []
 unfolding Fit Early
 fit_nothing = record {
   few_regions = omega arith;
@@ -164,10 +162,10 @@ module _ (before : List Item) (fit : Fits (length (region_names before)) (length
       (record { few_regions = fit.few_regions; few_colours = fit.few_colours; few_clients = fit.few_clients; are_homes = fit.are_homes; callers = fit.callers; within = fit.within; early = early })
 
 -- which stage a word may come at
-no : {A : Type 0} → false ≡ true → A
+pub no : {A : Type 0} → false ≡ true → A
 no e = absurd (let f : ⊥ = cc in f)
 
-at_fuzzylog : (s : Stage) → is_among (header_words s) (codes "fuzzylog") ≡ true → s ≡ stages.Nothing
+pub at_fuzzylog : (s : Stage) → is_among (header_words s) (codes "fuzzylog") ≡ true → s ≡ stages.Nothing
 at_fuzzylog stages.Nothing e = refl
 at_fuzzylog stages.Version e = no e
 at_fuzzylog stages.Regions e = no e
@@ -177,7 +175,7 @@ at_fuzzylog stages.Clients e = no e
 at_fuzzylog stages.Objects e = no e
 at_fuzzylog stages.Commands e = no e
 
-at_regions : (s : Stage) → is_among (header_words s) (codes "regions") ≡ true → s ≡ stages.Version
+pub at_regions : (s : Stage) → is_among (header_words s) (codes "regions") ≡ true → s ≡ stages.Version
 at_regions stages.Nothing e = no e
 at_regions stages.Version e = refl
 at_regions stages.Regions e = no e
@@ -187,7 +185,7 @@ at_regions stages.Clients e = no e
 at_regions stages.Objects e = no e
 at_regions stages.Commands e = no e
 
-at_colours : (s : Stage) → is_among (header_words s) (codes "colours") ≡ true → s ≡ stages.Regions
+pub at_colours : (s : Stage) → is_among (header_words s) (codes "colours") ≡ true → s ≡ stages.Regions
 at_colours stages.Nothing e = no e
 at_colours stages.Version e = no e
 at_colours stages.Regions e = refl
@@ -197,7 +195,7 @@ at_colours stages.Clients e = no e
 at_colours stages.Objects e = no e
 at_colours stages.Commands e = no e
 
-at_rows : (s : Stage) → is_among (header_words s) (codes "rows") ≡ true → s ≡ stages.Colours
+pub at_rows : (s : Stage) → is_among (header_words s) (codes "rows") ≡ true → s ≡ stages.Colours
 at_rows stages.Nothing e = no e
 at_rows stages.Version e = no e
 at_rows stages.Regions e = no e
@@ -220,7 +218,7 @@ at_client stages.Objects r c h k e f = no e
 at_client stages.Commands r c h k e f = no e
 
 -- and of where objects are, and the header ends
-at_end : (word : List ℕ) → is_among (header_words stages.Nothing) word ≡ false → is_among (header_words stages.Version) word ≡ false → is_among (header_words stages.Regions) word ≡ false → is_among (header_words stages.Colours) word ≡ false → is_among (header_words stages.Rows) word ≡ false
+pub at_end : (word : List ℕ) → is_among (header_words stages.Nothing) word ≡ false → is_among (header_words stages.Version) word ≡ false → is_among (header_words stages.Regions) word ≡ false → is_among (header_words stages.Colours) word ≡ false → is_among (header_words stages.Rows) word ≡ false
     → (s : Stage) (r c : ℕ) (h : List ℕ) (k : List Command) → is_among (header_words s) word ≡ true → Early s r c h k → (0 < r) × (0 < c) × (0 < length h) × (k ≡ [])
 unfolding Early
 at_end word n0 n1 n2 n3 n4 stages.Nothing r c h k e f = no (sym n0 ∙ e)
@@ -232,7 +230,7 @@ at_end word n0 n1 n2 n3 n4 stages.Clients r c h k e f = f
 at_end word n0 n1 n2 n3 n4 stages.Objects r c h k e f = f
 at_end word n0 n1 n2 n3 n4 stages.Commands r c h k e f = no e
 
-at_commands : (s : Stage) (r c : ℕ) (h : List ℕ) (k : List Command) → is_begun s ≡ true → Early s r c h k → (0 < r) × (0 < c) × (0 < length h)
+pub at_commands : (s : Stage) (r c : ℕ) (h : List ℕ) (k : List Command) → is_begun s ≡ true → Early s r c h k → (0 < r) × (0 < c) × (0 < length h)
 unfolding Early
 at_commands stages.Nothing r c h k e f = no e
 at_commands stages.Version r c h k e f = no e
@@ -414,7 +412,7 @@ module _ (before : List Item) (fit : Fits (length (region_names before)) (length
         early = early;
       })
 
-  more_item : (number : ℕ) (fields : List (List ℕ)) (item : Item) → Says before number fields item → may_follow before item ≡ true → Fit (before ++ item ∷ [])
+  pub more_item : (number : ℕ) (fields : List (List ℕ)) (item : Item) → Says before number fields item → may_follow before item ≡ true → Fit (before ++ item ∷ [])
   more_item number fields items.Version says ok = more_version ok
   more_item number fields (items.Regions names) says ok = more_regions names (and-left _ _ (and-left _ _ ok)) (and-right _ _ (and-left _ _ ok))
   more_item number fields (items.Colours names) says ok = more_colours names (and-left _ _ (and-left _ _ ok)) (and-right _ _ (and-left _ _ ok))
@@ -429,64 +427,3 @@ module _ (before : List Item) (fit : Fits (length (region_names before)) (length
   more_item number fields items.Begin says ok = more_begin ok
   more_item number fields (items.Asks command) says ok =
       let ab = and-left _ _ ok in more_command command says.1 (and-left _ _ ab) (and-right _ _ ab) says.2
-
--- the items of some lines, one after another
-all_fit : (before : List Item) (lines : List (ℕ × List ℕ)) (said : List Item) → Fit before → Say before lines said → Fit (before ++ said)
-unfolding Fit
-all_fit before [] [] fit say = subst (λ (l : List Item). Fit l) (sym (append-nil before)) fit
-all_fit before [] (item ∷ later) fit say = absurd say
-all_fit before (line ∷ lines) [] fit say = absurd say
-all_fit before (line ∷ lines) (item ∷ later) fit say =
-    subst (λ (l : List Item). Fit l) (append_assoc before (item ∷ []) later) (all_fit (before ++ item ∷ []) lines later (more_item before fit line.0 (fields_of line.1) item say.0 say.1) say.2)
-
--- there are no more commands than lines
-commands_few : (said : List Item) → length (commands said) ≤ length said
-commands_few [] = omega arith
-commands_few (item ∷ later) = let r = commands_few later in of (commands_in item) r where
-  of : (o : Option Command) → length (commands later) ≤ length later → length (cons_option o (commands later)) ≤ length (item ∷ later)
-  of None r = omega arith
-  of (Some c) r = omega arith
-
-items_few : (before : List Item) (lines : List (ℕ × List ℕ)) (said : List Item) → Say before lines said → length said ≤ length lines
-items_few before [] [] say = omega arith
-items_few before [] (item ∷ later) say = absurd say
-items_few before (line ∷ lines) [] say = omega arith
-items_few before (line ∷ lines) (item ∷ later) say = let r = items_few (before ++ item ∷ []) lines later say.2 in omega arith
-
-said_few : (p : ℕ × List ℕ → Bool) (lines : List (ℕ × List ℕ)) → length (filter p lines) ≤ length lines
-said_few p [] = omega arith
-said_few p (line ∷ lines) = let r = said_few p lines in of (p line) r where
-  of : (b : Bool) → length (filter p lines) ≤ length lines → length (cond b (line ∷ filter p lines) (filter p lines)) ≤ length (line ∷ lines)
-  of true r = omega arith
-  of false r = omega arith
-
-fitting : (said : List Item) (lines : List (List ℕ)) → Fit said → has_begun said ≡ true → AreLines lines said → IsFitting (script_of said)
-unfolding Fit
-fitting said lines fit begun are =
-    let early = at_commands (stage_of said) (length (region_names said)) (length (colour_names said)) (client_homes said) (commands said) begun fit.early in
-    let asked = commands_few said in
-    let many = items_few [] (said_lines (enumerate_from 1 lines)) said are.say in
-    let here = said_few (λ line. not (is_passed_over line)) (enumerate_from 1 lines) in
-    let numbered = length-enumerate_from 1 lines in
-    let few = are.few in record {
-      shape = record {
-        a_region = early.0;
-        few_regions = fit.few_regions;
-        a_colour = early.1;
-        few_colours = fit.few_colours;
-        a_client = early.2;
-        few_clients = fit.few_clients;
-        homes = fit.are_homes;
-      };
-      regions = refl;
-      colours = refl;
-      clients = length-map (filter_map clients_in said) (λ (c : List ℕ × ℕ). c.0) ∙ sym (length-map (filter_map clients_in said) (λ (c : List ℕ × ℕ). c.1));
-      callers = fit.callers;
-      commands = fit.within;
-      few = omega arith;
-    }
-
--- what is read as a script has numbers that name what there is
-pub script_fits : (bytes : List ℕ) (script : Script) → IsScript bytes script → IsFitting script
-script_fits bytes script is = subst (λ (s : Script). IsFitting s) (sym is.same)
-    (fitting is.said (lines_of bytes) (all_fit [] (said_lines (enumerate_from 1 (lines_of bytes))) is.said fit_nothing is.lines.say) is.begun is.lines)

@@ -55,7 +55,7 @@ what_at known client word args = refuse (not (fits (row_fields word) args)) reas
   ended ← ended_well known client (last_of word) given
   Ok (what_of word ended))
 
--- what an append and a sync ask for, by their fields
+-- what an append, a sync, a trim and a pull ask for, by their fields
 unfoldable pub append_at : Known → List ℕ → List ℕ → Result What Reason
 append_at known cols text = do
   set ← colours_set_at known.script.colours (names_in cols)
@@ -64,6 +64,15 @@ append_at known cols text = do
 
 unfoldable pub sync_at : Known → List ℕ → Result What Reason
 sync_at known field = number_at reasons.UnknownColour known.script.colours field >>= λ colour. Ok (whats.Sync colour)
+
+unfoldable pub trim_at : Known → List ℕ → Result What Reason
+trim_at known field = number_at reasons.UnknownColour known.script.colours field >>= λ colour. Ok (whats.Trim colour)
+
+unfoldable pub pull_at : Known → List ℕ → List ℕ → Result What Reason
+pull_at known name field = do
+  region ← number_at reasons.UnknownRegion known.script.regions name
+  colour ← number_at reasons.UnknownColour known.script.colours field
+  Ok (whats.Pull region colour)
 
 unfoldable pub worded_at : Known → ℕ → Option Word → List (List ℕ) → Result What Reason
 worded_at known client None args = Err reasons.UnknownCommand

@@ -1,7 +1,8 @@
 -- What is known of the lines so far, which later lines read.
-use Rattle.std.specs.Prelude.{◌≤◌, ℕ, List, [], ◌∷◌, ◌++◌, length, Option, Some, None, if◌then◌else◌}
+use Rattle.std.specs.Prelude.{◌≡◌, false, ◌≤◌, ℕ, List, [], ◌∷◌, ◌++◌, length, Option, Some, None, if◌then◌else◌}
 use Rattle.std.specs.List.{filter_map}
 use Rattle.script_text.specs.declared.script.Command.{Command}
+use Rattle.script_text.specs.declared.script.What.{What}
 use Rattle.script_text.specs.declared.script.Script.{Script}
 use Rattle.script_text.specs.declared.item.Item.{Item}
 use Rattle.script_text.specs.declared.item.Item.TheVariants as items
@@ -54,6 +55,11 @@ known_after known item = record {
 abbrev pub known_with : Known → Option Item → Known
 known_with known None = known
 known_with known (Some item) = known_after known item
+
+-- neither stops its client nor has to do with a read
+pub record IsPlain (what : What) : Type 0 where
+  pub goes-on : is_stop what ≡ false
+  pub reads-none : (held : List HeldRead) (client : ℕ) → reads_after held client what ≡ held
 
 -- names are few enough to be numbered by a byte
 pub record IsSmall (known : Known) : Type 0 where

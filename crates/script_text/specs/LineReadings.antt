@@ -1,7 +1,8 @@
 -- What a line gives, and what the bytes give line after line.
-use Rattle.std.specs.Prelude.{◌≡◌, ℕ, ◌+◌, ◌==◌, nat_lt, nat_le, not, ◌&&◌, List, [], ◌∷◌, length, Option, Some, None, Result, Ok, Err, codes, if◌then◌else◌}
+use Rattle.std.specs.Prelude.{◌≡◌, ℕ, ◌+◌, ◌==◌, nat_lt, nat_le, true, false, not, ◌&&◌, List, [], ◌∷◌, length, Option, Some, None, Result, Ok, Err, codes, if◌then◌else◌}
 use Rattle.std.specs.List.{list_any}
 use Rattle.std.specs.Str.{bytes_eq}
+use Rattle.script_text.specs.declared.script.What.{What}
 use Rattle.script_text.specs.declared.script.Script.{Script}
 use Rattle.script_text.specs.declared.script.Reason.{Reason}
 use Rattle.script_text.specs.declared.script.Reason.TheVariants as reasons
@@ -18,7 +19,7 @@ use Rattle.script_text.specs.Grammar.{is_passed_over}
 use Rattle.script_text.specs.Known.{known_with, known_of}
 use Rattle.script_text.specs.Readings.{◌>>=◌, refuse}
 use Rattle.script_text.specs.HeaderReadings.{header_at}
-use Rattle.script_text.specs.CommandReadings.{command_at}
+use Rattle.script_text.specs.CommandReadings.{asked_at, command_at}
 
 -- what a line's fields say
 unfoldable pub item_at : Known → ℕ → List (List ℕ) → Result Item Reason
@@ -36,6 +37,16 @@ full_item_at known number fields = refuse (list_any (λ (field : List ℕ). leng
 unfoldable pub said_at : Known → ℕ → List ℕ → Result (Option Item) Reason
 said_at known number line =
     if is_passed_over (number, line) then Ok None else full_item_at known number (fields_of line) >>= λ item. Ok (Some item)
+
+-- bytes that a line may have, with no empty field among them
+pub record IsFull (bytes : List ℕ) : Type 0 where
+  pub ascii : is_ascii_line bytes ≡ true
+  pub full : list_any (λ (field : List ℕ). length field == 0) (fields_of bytes) ≡ false
+
+-- these bytes, behind a client's name, ask for this
+pub record IsAsked (known : Known) (bytes : List ℕ) (what : What) : Type 0 where
+  pub whole : IsFull bytes
+  pub asks : (client : ℕ) → asked_at known client (fields_of bytes) ≡ Ok what
 
 unfoldable pub line_at : Known → ℕ → List ℕ → Result (Option Item) Reason
 line_at known number line =

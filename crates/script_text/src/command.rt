@@ -3,14 +3,14 @@ ghost use Rattle.std.specs.Prelude.{◌≡◌, ◌≤◌, ◌==◌};
 ghost use Rattle.std.specs.List.{list_any};
 ghost use Rattle.script_text.specs.declared.limits.TheConstants.{VERSION_1};
 ghost use Rattle.script_text.specs.Known.{IsSmall};
-ghost use Rattle.script_text.specs.Readings.{Gives, Takes, fields_in, with_one, with_two};
-ghost use Rattle.script_text.specs.CommandReadings.{ended_well, append_at, sync_at, what_at, worded_at, asked_at, caller_at, command_at};
+ghost use Rattle.script_text.specs.Readings.{Gives, Takes, fields_in};
+ghost use Rattle.script_text.specs.CommandReadings.{ended_well, what_at, worded_at, asked_at, caller_at, command_at};
 
 use crate::fault::Fault;
 use crate::given::Given;
 use crate::item::Item;
 use crate::known::Known;
-use crate::names::{colour_set, number_at, text_at};
+use crate::names::number_at;
 use crate::reads::HeldRead;
 use crate::script::{Command, Reason, What, Word};
 use crate::table::{Last, fits};
@@ -42,7 +42,7 @@ fn ended_well(known: &Known, client: u8, last: Last, given: &Given) -> Result<()
     Ok(())
 }
 
-// What a command asks for, by its word's row.
+/// What a command asks for, by its word's row.
 #[tactic(auto, unfolding(crate::specs::CommandReadings::what_at))]
 fn by_row(
     alloc: Global,
@@ -63,71 +63,6 @@ fn by_row(
     Ok(given.into_what(word))
 }
 
-// What an append asks for, by its two fields.
-#[tactic(auto, unfolding(crate::specs::CommandReadings::append_at))]
-#[inline(always)]
-fn append_at(alloc: Global, known: &Known, cols: &[u8], text: &[u8]) -> Result<What, Fault>
-    requires { IsSmall known.now }
-    ensures { Gives result (append_at known.now cols.now text.now) }
-{
-    let (colours, _) = colour_set(known.script.colours.as_slice(), cols)?;
-    let text = text_at(alloc, text)?;
-    Ok(What::Append { colours, text })
-}
-
-#[inline(always)]
-fn append(alloc: Global, known: &Known, args: &[&[u8]]) -> Result<What, Fault>
-    requires { IsSmall known.now }
-    ensures { Gives result (with_two (append_at known.now) (fields_in args.now)) }
-{
-    match args {
-        [cols, text] => append_at(alloc, known, cols, text),
-        _ => Err(Fault::Refused(Reason::BadForm)),
-    }
-}
-
-// What a sync asks for, by its field.
-#[tactic(auto, unfolding(crate::specs::CommandReadings::sync_at))]
-#[inline(always)]
-fn sync_at(known: &Known, field: &[u8]) -> Result<What, Fault>
-    requires { IsSmall known.now }
-    ensures { Gives result (sync_at known.now field.now) }
-{
-    let colour = known.colour_at(field)?;
-    Ok(What::Sync { colour })
-}
-
-#[inline(always)]
-fn sync(known: &Known, args: &[&[u8]]) -> Result<What, Fault>
-    requires { IsSmall known.now }
-    ensures { Gives result (with_one (sync_at known.now) (fields_in args.now)) }
-{
-    match args {
-        [field] => sync_at(known, field),
-        _ => Err(Fault::Refused(Reason::BadForm)),
-    }
-}
-
-/// What a command asks for, by its word. The two that are most are read without a table.
-#[tactic(auto, using(crate::proofs::DirectLaws::append_is, crate::proofs::DirectLaws::sync_is))]
-#[inline(always)]
-fn what_of(
-    alloc: Global,
-    known: &Known,
-    client: u8,
-    word: Word,
-    args: &[&[u8]],
-) -> Result<What, Fault>
-    requires { IsSmall known.now }
-    ensures { Gives result (what_at known.now client word (fields_in args.now)) }
-{
-    match word {
-        Word::Append => append(alloc, known, args),
-        Word::Sync => sync(known, args),
-        _ => by_row(alloc, known, client, word, args),
-    }
-}
-
 #[tactic(auto, unfolding(crate::specs::CommandReadings::asked_at, crate::specs::CommandReadings::worded_at))]
 fn asked(alloc: Global, known: &Known, client: u8, fields: &[&[u8]]) -> Result<What, Fault>
     requires { IsSmall known.now }
@@ -136,7 +71,7 @@ fn asked(alloc: Global, known: &Known, client: u8, fields: &[&[u8]]) -> Result<W
     match fields {
         [] => Err(Fault::Refused(Reason::UnknownCommand)),
         [field, args @ ..] => match Word::of_bytes(field) {
-            Some(word) => what_of(alloc, known, client, word, args),
+            Some(word) => by_row(alloc, known, client, word, args),
             None => Err(Fault::Refused(Reason::UnknownCommand)),
         },
     }
@@ -148,8 +83,9 @@ fn is_stopped(stopped: &[u8], client: u8) -> bool
     stopped.iter().any(|c| *c == client)
 }
 
+/// The client whose command a line is, by its name.
 #[tactic(auto, unfolding(crate::specs::CommandReadings::caller_at))]
-fn caller(known: &Known, name: &[u8]) -> Result<u8, Fault>
+pub fn caller(known: &Known, name: &[u8]) -> Result<u8, Fault>
     requires { IsSmall known.now }
     ensures { Gives result (caller_at known.now name.now) }
 {

@@ -1,7 +1,8 @@
 // What is known of the lines so far.
 ghost use Rattle.std.specs.Prelude.{◌≡◌, [], OnOk};
 ghost use Rattle.script_text.specs.declared.script.Reason.TheVariants as reasons;
-ghost use Rattle.script_text.specs.Known.{known_of, known_after, known_with, IsSmall};
+ghost use Rattle.script_text.specs.declared.item.Item.TheVariants.{Asks};
+ghost use Rattle.script_text.specs.Known.{known_of, known_after, known_with, IsSmall, IsPlain};
 ghost use Rattle.script_text.specs.Readings.{Gives, number_at};
 
 use crate::fault::Fault;
@@ -9,7 +10,7 @@ use crate::item::{Item, Stage};
 use crate::limits::VERSION_1;
 use crate::names::number_at;
 use crate::reads::HeldReads;
-use crate::script::{Reason, Script, What};
+use crate::script::{Command, Reason, Script, What};
 use log_node::{ListOf, Shape};
 use std::alloc::{AllocError, Global};
 
@@ -106,6 +107,16 @@ impl Known {
             }
         }
         Ok(())
+    }
+
+    /// What is known after a command that neither stops its client nor has to do with a read.
+    #[inline(always)]
+    pub fn ask(&mut self, command: Command) -> Result<(), AllocError>
+        requires { IsPlain command.what }
+        ensures { OnOk result (self.new ≡ known_after self.old (Asks command)) }
+    {
+        self.stage = Stage::Commands;
+        self.script.commands.push(command)
     }
 
     /// What is known after a line, which may say nothing.

@@ -38,6 +38,7 @@ pub fn new_names(alloc: Global, fields: &[&[u8]]) -> Result<Names, Fault>
 
 /// The number of a name among these, or else the reason.
 #[tactic(auto, unfolding(crate::specs::Readings::number_at))]
+#[inline(always)]
 pub fn number_at(names: &[Text], field: &[u8], why: Reason) -> Result<u8, Fault>
     requires { length names.now ≤ 256 }
     ensures { Gives result (number_at why names.now field.now) }
@@ -97,6 +98,7 @@ fn new_colour(names: &[Text], set: Colours, field: &[u8]) -> Result<u8, Fault>
 
 /// The set of the colours whose names stand between commas, and their number.
 #[tactic(auto, unfolding(crate::specs::Readings::colours_set_at))]
+#[inline]
 pub fn colour_set(names: &[Text], cols: &[u8]) -> Result<(Colours, usize), Fault>
     requires { length names.now ≤ VERSION_1.colours }
     ensures value { Gives result (colours_set_at names.now (names_in cols.now)) }

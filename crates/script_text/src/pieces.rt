@@ -31,8 +31,8 @@ pub type Fields<'a> = SmallVec<&'a [u8], PLACES>;
 // As many fields as a command has at most, and one more.
 const PLACES: usize = 8;
 
-// How many bytes at the front are visible, where the first that is not is near.
-fn short_front(bytes: &[u8]) -> usize
+/// How many bytes at the front are visible: none is a blank, a control or beyond ASCII.
+pub fn visible_front(bytes: &[u8]) -> usize
     ensures within { result ≤ length bytes.now }
     ensures front { (k : ℕ) → k < result → is_between 33 126 (slice_index_or bytes.now k 0) ≡ true }
     ensures stop { result < length bytes.now → is_between 33 126 (slice_index_or bytes.now result 0) ≡ false }
@@ -43,21 +43,6 @@ fn short_front(bytes: &[u8]) -> usize
         }
     }
     bytes.len()
-}
-
-// So many fields of a line are mostly short. After them comes the text of an append, to the end of the line.
-const SHORT: usize = 3;
-
-/// How many bytes at the front are visible: none is a blank, a control or beyond ASCII. So many fields stand before.
-fn visible_front(before: usize, bytes: &[u8]) -> usize
-    ensures within { result ≤ length bytes.now }
-    ensures front { (k : ℕ) → k < result → is_between 33 126 (slice_index_or bytes.now k 0) ≡ true }
-    ensures stop { result < length bytes.now → is_between 33 126 (slice_index_or bytes.now result 0) ≡ false }
-{
-    if before >= SHORT && are_visible(bytes) {
-        return bytes.len();
-    }
-    short_front(bytes)
 }
 
 /// The bytes behind a place.
@@ -76,7 +61,7 @@ pub fn cut_line<'a>(fields: &mut Fields<'a>, line: &'a [u8]) -> Result<bool, All
 {
     let mut rest = line;
     loop {
-        let end = visible_front(fields.len(), rest);
+        let end = visible_front(rest);
         if end >= rest.len() {
             fields.push(rest)?;
             return Ok(true);

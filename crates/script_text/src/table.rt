@@ -205,25 +205,11 @@ impl Word {
         self.row().1
     }
 
-    // The first word of all that this is.
-    fn among_all(field: &[u8]) -> Option<Word>
-        ensures { result ≡ word_at field.now }
-    {
-        WORDS.iter().copied().find(|word| field == word.as_bytes())
-    }
-
-    /// The command with this word. The two that are most are tested first.
-    #[inline(always)]
+    /// The command with this word.
     pub fn of_bytes(field: &[u8]) -> Option<Word>
         ensures { result ≡ word_at field.now }
     {
-        if field == Word::Append.as_bytes() {
-            return Some(Word::Append);
-        }
-        if field == Word::Sync.as_bytes() {
-            return Some(Word::Sync);
-        }
-        Word::among_all(field)
+        WORDS.iter().copied().find(|word| field == word.as_bytes())
     }
 }
 

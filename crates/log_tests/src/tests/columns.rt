@@ -8,6 +8,7 @@ ghost use Rattle.column.specs.Views.{IsOfTwo};
 
 mod moves;
 
+use crate::made::{first_id, first_key};
 use col_core::View;
 use column::{Column, ColumnFault, Given};
 use log_node::{
@@ -17,19 +18,6 @@ use std::alloc::{AllocError, Global};
 use std::process::Abort;
 use std::sync::Arc;
 use std::test::Fail;
-
-fn id(client: u8) -> Id
-    ensures { result ≡ record { client = client; count = 0 } }
-{
-    Id { client, count: 0 }
-}
-
-fn key(stamp: u64, client: u8) -> Key {
-    Key {
-        stamp,
-        id: id(client),
-    }
-}
 
 // The column of the region 0 and the colour 0.
 fn open(alloc: Global) -> Result<Column, AllocError>
@@ -64,7 +52,7 @@ fn node(alloc: Global, client: u8, wanted: u64) -> Result<Arc<Node>, AllocError>
     wants.push(Counts([wanted, 0, 0, 0]))?;
     wants.push(Counts([0; 4]))?;
     let node = Node {
-        id: id(client),
+        id: first_id(client),
         region: 0,
         colours: Colours(3),
         text: Text::copied(alloc, b"p")?,
@@ -127,10 +115,13 @@ fn a_single_waits_behind_a_proposal(rt: HostRuntime) -> Result<(), Fail> {
     assert_eq!(rt; seen.line, [None, None]);
     assert_eq!(rt;
         seen.waiting,
-        [Some((key(1, 1), false)), Some((key(2, 0), true))]
+        [
+            Some((first_key(1, 1), false)),
+            Some((first_key(2, 0), true))
+        ]
     );
-    let below = below(pair(&rt, rt.alloc())?, key(2, 0));
-    assert_eq!(rt; below, (2, 1, Some(id(1))));
+    let below = below(pair(&rt, rt.alloc())?, first_key(2, 0));
+    assert_eq!(rt; below, (2, 1, Some(first_id(1))));
     Ok(())
 }
 
@@ -168,7 +159,7 @@ fn none_enters_after_the_last_stamp(rt: HostRuntime) -> Result<(), Fail> {
 fn settled(mut column: Column, outcome: Outcome) -> (At, Seen)
     requires { MaySettle (record { client = 1; count = 0 }) outcome (entries column.journal) last_stamp }
 {
-    let at = column.settle(0, id(1), outcome);
+    let at = column.settle(0, first_id(1), outcome);
     (at, seen_of(column))
 }
 
@@ -176,7 +167,7 @@ fn settled(mut column: Column, outcome: Outcome) -> (At, Seen)
 fn a_greater_number_reorders(rt: HostRuntime) -> Result<(), Fail> {
     let (at, seen) = settled(pair(&rt, rt.alloc())?, Outcome::Final(3));
     assert_eq!(rt; at, At::Event(2));
-    assert_eq!(rt; seen.line, [Some(key(2, 0)), Some(key(3, 1))]);
+    assert_eq!(rt; seen.line, [Some(first_key(2, 0)), Some(first_key(3, 1))]);
     assert_eq!(rt; seen.clock, 3);
     assert_eq!(rt;
         (seen.cut, seen.held),
@@ -192,7 +183,7 @@ fn a_gone_proposal_leaves_the_queue(rt: HostRuntime) -> Result<(), Fail> {
     assert_eq!(rt; at, At::Look(2));
     let (at, seen) = settled(pair(&rt, rt.alloc())?, Outcome::Gone(Why::Memory));
     assert_eq!(rt; at, At::Event(2));
-    assert_eq!(rt; seen.line, [Some(key(2, 0)), None]);
+    assert_eq!(rt; seen.line, [Some(first_key(2, 0)), None]);
     assert_eq!(rt; seen.waiting, [None, None]);
     Ok(())
 }
@@ -201,7 +192,7 @@ fn a_gone_proposal_leaves_the_queue(rt: HostRuntime) -> Result<(), Fail> {
 fn a_tie_is_broken_by_ids(rt: HostRuntime) -> Result<(), Fail> {
     let (at, seen) = settled(pair(&rt, rt.alloc())?, Outcome::Final(2));
     assert_eq!(rt; at, At::Event(2));
-    assert_eq!(rt; seen.line, [Some(key(2, 0)), Some(key(2, 1))]);
+    assert_eq!(rt; seen.line, [Some(first_key(2, 0)), Some(first_key(2, 1))]);
     Ok(())
 }
 
@@ -234,9 +225,9 @@ fn first_shown(view: &View) -> Option<&Item> {
 #[test]
 fn places_count_from_0(rt: HostRuntime) -> Result<(), Fail> {
     for (wanted, place) in [
-        (key(1, 1), Some(0)),
-        (key(2, 0), Some(1)),
-        (key(1, 0), None),
+        (first_key(1, 1), Some(0)),
+        (first_key(2, 0), Some(1)),
+        (first_key(1, 0), None),
     ] {
         assert_eq!(rt; line_of_two(&rt, rt.alloc())?.place(wanted), place);
     }
@@ -261,7 +252,7 @@ fn a_look_shows_what_may_be_played(rt: HostRuntime) -> Result<(), Fail> {
 fn a_look_shows_the_nodes_with_what_they_need(rt: HostRuntime) -> Result<(), Fail> {
     let view = second_seen(&rt, rt.alloc())?;
     let item = first_shown(&view).ok_or("no node")?;
-    assert_eq!(rt; item.head.key, key(2, 0));
+    assert_eq!(rt; item.head.key, first_key(2, 0));
     assert_eq!(rt; item.head.needs, Counts([1, 0, 0, 0]));
     assert_eq!(rt; item.node().text.as_bytes(), b"p".as_slice());
     Ok(())

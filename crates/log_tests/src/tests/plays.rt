@@ -3,8 +3,9 @@ ghost use Rattle.std.specs.Prelude.{◌≡◌, ◌≤◌};
 ghost use Rattle.log_node.specs.Vectors.{IsWithin};
 ghost use Rattle.playback.specs.Playing.{IsLookedFrom};
 
+use crate::made::{first_id, first_key};
 use col_core::{Chains, View};
-use log_node::{Colours, Counts, Head, Id, Item, Items, Key, ListOf, Node, Text, Wants};
+use log_node::{Colours, Counts, Head, Item, Items, ListOf, Node, Text, Wants};
 use playback::{PlayFault, Played, Player, Snapshot, play};
 use std::alloc::{AllocError, Global};
 use std::process::Abort;
@@ -19,7 +20,7 @@ const NONE: [u64; 4] = [0; 4];
 // The node of a region and a client.
 fn node(alloc: Global, region: u8, client: u8) -> Result<Arc<Node>, AllocError> {
     let node = Node {
-        id: Id { client, count: 0 },
+        id: first_id(client),
         region,
         colours: Colours(1),
         text: Text::copied(alloc, b"p")?,
@@ -32,9 +33,8 @@ fn node(alloc: Global, region: u8, client: u8) -> Result<Arc<Node>, AllocError> 
 
 fn item(alloc: Global, region: u8, row: Row) -> Result<Item, AllocError> {
     let (client, stamp, needs) = row;
-    let id = Id { client, count: 0 };
     let head = Head {
-        key: Key { stamp, id },
+        key: first_key(stamp, client),
         needs: Counts(needs),
     };
     let node = node(alloc, region, client)?;

@@ -2,7 +2,8 @@
 ghost use Rattle.std.specs.Prelude.{◌≡◌, ◌∷◌, [], IfOk, Some};
 ghost use Rattle.skeen_core.specs.Boards.{fresh_row};
 
-use log_node::{Colours, Full, Id, Key, Mark, Marked, Node, Outcome, Row, Text, Wants, Why};
+use crate::made::{first_id, first_key};
+use log_node::{Colours, Full, Mark, Marked, Node, Outcome, Row, Text, Wants, Why};
 use skeen_core::{Queue, Rows, StampEnd, outcome};
 use std::alloc::{AllocError, Global};
 use std::sync::Arc;
@@ -13,28 +14,15 @@ const ROW: Row = Row {
     number: 0,
 };
 
-fn id(client: u8) -> Id
-    ensures { (result.client ≡ client) × (result.count ≡ 0) }
-{
-    Id { client, count: 0 }
-}
-
-fn key(stamp: u64, client: u8) -> Key {
-    Key {
-        stamp,
-        id: id(client),
-    }
-}
-
 #[test]
 fn a_tie_is_broken_by_ids(rt: HostRuntime) -> Result<(), Fail> {
     let mut queue = Queue::open(rt.alloc());
     queue.room()?;
-    assert_eq!(rt; queue.propose(id(0), 0, 'a'), 1);
+    assert_eq!(rt; queue.propose(first_id(0), 0, 'a'), 1);
     queue.room()?;
-    assert_eq!(rt; queue.enter(id(1), 0, 'b'), 2);
-    assert!(rt; queue.settle(id(0), Outcome::Final(2)));
-    assert_eq!(rt; queue.line(), [key(2, 0), key(2, 1)].as_slice());
+    assert_eq!(rt; queue.enter(first_id(1), 0, 'b'), 2);
+    assert!(rt; queue.settle(first_id(0), Outcome::Final(2)));
+    assert_eq!(rt; queue.line(), [first_key(2, 0), first_key(2, 1)].as_slice());
     assert_eq!(rt; queue.kept().1, ['a', 'b'].as_slice());
     Ok(())
 }
@@ -43,16 +31,16 @@ fn a_tie_is_broken_by_ids(rt: HostRuntime) -> Result<(), Fail> {
 fn a_final_entry_waits_behind_a_smaller_open_one(rt: HostRuntime) -> Result<(), Fail> {
     let mut queue = Queue::open(rt.alloc());
     queue.room()?;
-    assert_eq!(rt; queue.propose(id(1), 0, 'a'), 1);
+    assert_eq!(rt; queue.propose(first_id(1), 0, 'a'), 1);
     queue.room()?;
-    assert_eq!(rt; queue.propose(id(0), 0, 'b'), 2);
-    assert!(rt; queue.settle(id(0), Outcome::Final(3)));
+    assert_eq!(rt; queue.propose(first_id(0), 0, 'b'), 2);
+    assert!(rt; queue.settle(first_id(0), Outcome::Final(3)));
     assert!(rt; queue.line().is_empty());
     assert_eq!(rt; queue.waiting().len(), 2);
-    assert_eq!(rt; queue.waiting()[0].key, key(1, 1));
+    assert_eq!(rt; queue.waiting()[0].key, first_key(1, 1));
     assert!(rt; queue.waiting()[1].settled);
-    assert!(rt; queue.settle(id(1), Outcome::Gone(Why::Memory)));
-    assert_eq!(rt; queue.line(), [key(3, 0)].as_slice());
+    assert!(rt; queue.settle(first_id(1), Outcome::Gone(Why::Memory)));
+    assert_eq!(rt; queue.line(), [first_key(3, 0)].as_slice());
     assert!(rt; queue.waiting().is_empty());
     Ok(())
 }
@@ -61,16 +49,16 @@ fn a_final_entry_waits_behind_a_smaller_open_one(rt: HostRuntime) -> Result<(), 
 fn dropped_things_leave_their_keys(rt: HostRuntime) -> Result<(), Fail> {
     let mut queue = Queue::open(rt.alloc());
     queue.room()?;
-    assert_eq!(rt; queue.enter(id(0), 0, 'a'), 1);
+    assert_eq!(rt; queue.enter(first_id(0), 0, 'a'), 1);
     assert!(rt; queue.raise(5));
     assert!(rt; !queue.raise(4));
     assert_eq!(rt; queue.next(7), Ok(8));
     queue.room()?;
-    assert_eq!(rt; queue.enter(id(1), 7, 'b'), 8);
+    assert_eq!(rt; queue.enter(first_id(1), 7, 'b'), 8);
     queue.drop_to(1);
     assert_eq!(rt; queue.kept().0, 1);
     assert_eq!(rt; queue.kept().1, ['b'].as_slice());
-    assert_eq!(rt; queue.line(), [key(1, 0), key(8, 1)].as_slice());
+    assert_eq!(rt; queue.line(), [first_key(1, 0), first_key(8, 1)].as_slice());
     assert_eq!(rt; queue.clock(), 8);
     Ok(())
 }
@@ -113,7 +101,7 @@ fn node(alloc: Global) -> Result<Arc<Node, Global>, AllocError>
     ensures row { IfOk result (λ node. node.value.row ≡ Some (record { client = 0; number = 0 })) }
 {
     let node = Node {
-        id: id(0),
+        id: first_id(0),
         region: 0,
         colours: Colours(3),
         text: Text::copied(alloc, b"p")?,

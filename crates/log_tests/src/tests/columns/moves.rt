@@ -94,7 +94,7 @@ fn what_is_carried_is_shown(rt: HostRuntime) -> Result<(), Fail> {
     let view = carried_seen(rt.alloc())?;
     assert_eq!(rt; shown(&view, 0), Some(1));
     let item = first_shown(&view).ok_or("no node")?;
-    assert_eq!(rt; item.head.key, key(1, 1));
+    assert_eq!(rt; item.head.key, first_key(1, 1));
     Ok(())
 }
 
@@ -109,7 +109,7 @@ fn needing(alloc: Global, count: u64, needed: u64) -> Result<Given, AllocError> 
 
 fn needing_item(alloc: Global, stamp: u64, needed: u64) -> Result<Item, AllocError> {
     let head = Head {
-        key: key(stamp, 1),
+        key: first_key(stamp, 1),
         needs: Counts([0, needed, 0, 0]),
     };
     let node = node(alloc, 1, 0)?;
@@ -166,7 +166,7 @@ fn a_node_is_trimmed_when_all_have_asked_past_it(rt: HostRuntime) -> Result<(), 
         [(At::Event(1), Counts([0; 4])), (At::Event(3), all)]
     );
     assert_eq!(rt; seen.base, all);
-    assert_eq!(rt; seen.line, [Some(key(1, 1)), None]);
+    assert_eq!(rt; seen.line, [Some(first_key(1, 1)), None]);
     assert_eq!(rt; (given.start, given.items.len()), (1, 0));
     Ok(())
 }

@@ -91,15 +91,8 @@ returns-in-Some-clause-ok c =
     let e = entered w client c.args.colour c.in_ok-text.text c.in-Some.placed.place c.in-Some.placed.stamp
     (ap placed_reply (sym c.in-Some.is) ∙ c.in_ok-entered.ensures.reply) in
     subst (λ (t : List ℕ). DoneBy (λ grants state. appended_one grants state c.args.command.now t c.args.colour)
-    c.args.command.now w new (answers.Stood c.in-Some.placed.stamp None c.from.result) [])
+    c.args.command.now w new (answers.Stood c.in-Some.placed.stamp None c.one.result) [])
     (c.in_ok-text.ensures ∙ c.as_bytes.ensures)
     (stands_alone c.args.command.now c.in_ok-text.text c.args.colour c.in-Some.placed.place c.in-Some.placed.stamp c.position.result
     c.next_id-id.result w (world_of c.single.new.self) new e.0 e.1 e.2 c.next_id-id.ensures c.in_ok-entered.ensures.ok
-    c.clear.ensures.helps c.position.ensures c.from.result
-    (c.from.ensures ∙ (c.push_reserved.ensures.items
-    ∙ ap (λ (l : List PointPiece). l ++ record {
-      colour = c.args.colour;
-      at = ats.Event c.in-Some.placed.place;
-      position = c.position.result;
-    } ∷ [])
-    c.in_ok-points.ensures.items)))
+    c.clear.ensures.helps c.position.ensures c.one.result c.one.ensures)

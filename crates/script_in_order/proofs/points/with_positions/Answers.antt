@@ -63,8 +63,8 @@ returns c =
     let ok = c.args.points.ok in
     let same = ap length c.deref_mut-point-items.ensures.value in
     let long = c.loop-point.auto.point-items in
-    c.from.ensures ∙ (take_front c.loop-point.point-items _ c.args.points.len (omega (arith, ok, same, long))
+    c.many.ensures ∙ (c.from.ensures ∙ (take_front c.loop-point.point-items _ c.args.points.len (omega (arith, ok, same, long))
     ∙ (c.loop-point.invariant
     ∙ changed_all (standing_in (world_of c.args.world.now) c.args.client c.args.key.id) c.loop-point.point-index
     c.args.points.items (beyond c.loop-point.point-index c.deref_mut-point-items.result.now c.args.points.items
-    c.loop-point-test.false c.deref_mut-point-items.ensures.value)))
+    c.loop-point-test.false c.deref_mut-point-items.ensures.value))))

@@ -15,10 +15,10 @@ returns c =
     let is = c.index_mut.ensures.value ∙ any_default c.args.replies.now.items c.args.command.now.client
     c.index_mut.result.now
     (no_replies 0) c.requires.client in
-    subst (λ (r : RepliesView). IsDone c.args.command.now
+    subst (λ (r : RepliesView). IsDone c.args.objects.now c.args.command.now
     (record { world = c.args.world.now; replies = c.args.replies.now.items })
-    (record { world = c.answer-given.new.world; replies = set c.args.replies.now.items c.args.command.now.client r }))
+    (record { world = c.answer_at_home-given.new.world; replies = set c.args.replies.now.items c.args.command.now.client r }))
     (sym (c.add.ensures ∙ ap (λ (r : RepliesView). with_reply r c.reply_of-reply.result) is))
-    (command_done c.args.command.now (record { world = c.args.world.now; replies = c.args.replies.now.items })
-    c.answer-given.new.world c.answer-given.result c.reply_of-reply.result c.requires.client c.answer-given.ensures.ok
-    c.answer-given.ensures.err c.reply_of-reply.ensures)
+    (command_done c.args.objects.now c.args.command.now (record { world = c.args.world.now; replies = c.args.replies.now.items })
+    c.answer_at_home-given.new.world c.answer_at_home-given.result c.reply_of-reply.result c.requires.client c.answer_at_home-given.ensures.ok
+    c.answer_at_home-given.ensures.err c.reply_of-reply.ensures)

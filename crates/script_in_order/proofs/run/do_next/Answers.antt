@@ -2,7 +2,10 @@ use Rattle.std.proofs.Common.{◌∙◌, sym, subst, ap, get_or, List}
 use Rattle.std.specs.Prelude.{IsTrue}
 use Rattle.script_text.specs.declared.script.Command.{Command}
 use Rattle.script_meaning.specs.States.{is_built}
-use Rattle.script_in_order.specs.Runs.{RunView}
+use Rattle.script_text.specs.declared.script.Object.{Object}
+use Rattle.world_code.specs.WorldView.{world_of}
+use Rattle.script_in_order.specs.Doing.{IsFit}
+use Rattle.script_in_order.specs.Runs.{RunView, IsDone}
 use Rattle.script_in_order.proofs.RunSteps.{next_fits, next_client, next_room, next_run}
 use Rattle.script_in_order.proofs.run.do_next.Goals as goal
 
@@ -15,7 +18,8 @@ do_command-requires c =
     record {
       built = subst (λ (x : Command). IsTrue (is_built x.what)) (sym is) (c.requires.built c.args.place command
           c.requires.place);
-      fits = next_fits script c.requires.fits c.args.place code c.requires.place c.requires.run command is;
+      fits = subst (λ (os : List Object). IsFit (world_of c.args.world.now) os command.client command.what)
+          (sym c.as_slice-2.ensures) (next_fits script c.requires.fits c.args.place code c.requires.place c.requires.run command is);
       client = next_client script c.requires.fits c.args.place code c.requires.place c.requires.run command is;
       room = next_room script c.requires.fits c.args.place code c.requires.place c.requires.run command is;
     }
@@ -26,5 +30,6 @@ returns c =
     let code : RunView = record { world = c.args.world.now; replies = c.args.replies.now.items } in
     let command = c.index-as_slice-place.result in
     let is = c.index-as_slice-place.is ∙ ap (λ (l : List Command). get_or l c.args.place command) c.as_slice.ensures in
+    let new : RunView = record { world = c.do_command.new.world; replies = c.do_command.new.replies.items } in
     next_run script c.requires.fits c.args.place code c.requires.place c.requires.run command is
-    (record { world = c.do_command.new.world; replies = c.do_command.new.replies.items }) c.do_command.ensures
+    new (subst (λ (os : List Object). IsDone os command code new) c.as_slice-2.ensures c.do_command.ensures)

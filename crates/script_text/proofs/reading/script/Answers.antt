@@ -1,4 +1,5 @@
-use Rattle.std.proofs.Common.{[], length, refl, sym, ap, ◌∙◌, arith}
+use Rattle.std.proofs.Common.{[], Some, length, refl, sym, ap, ◌∙◌, arith}
+use Rattle.script_text.specs.declared.item.Item.TheVariants.{Asks}
 use Rattle.script_text.specs.Pieces.{lines_of}
 use Rattle.script_text.specs.Known.{known_of, known_with}
 use Rattle.script_text.proofs.KnownLaws.{lawful_start}
@@ -28,6 +29,22 @@ returns-in-Err c =
     let so_far = rw c.first_line.ensures.line at i.same in
     rw c.at_line-in-Err.ensures
     (stops_at (known_of i.before) c.loop-rest.number c.first_line.result.0.now (lines_of c.first_line.result.1.now) c.args.bytes.now c.in-Err.fault (omega arith) c.if-number-ge-MAX_LINES.false failed so_far)
+
+pub loop-rest-preserved-in-Some : goal.loop-rest-preserved-in-Some
+loop-rest-preserved-in-Some c =
+    let i = c.loop-rest.invariant in
+    let command = c.in-Some.command in
+    let said = Some (Asks command) in
+    let read = rw i.known-is at (rw c.in-Some.is at c.in_ok-command.ensures.said) in
+    let so_far = rw c.first_line.ensures.line at i.same in
+    record {
+      before = said_with i.before said;
+      known-is = c.in_ok-ask.ensures ∙ ap (λ k. known_with k said) i.known-is ∙ sym (known_said i.before said);
+      lawful = next_lawful i.before c.loop-rest.number c.first_line.result.0.now said i.lawful read;
+      few = omega arith;
+      count = omega (arith, i.count, ap length c.first_line.ensures.line);
+      same = next_same i.before c.loop-rest.number c.first_line.result.0.now (lines_of c.first_line.result.1.now) said _ c.if-number-ge-MAX_LINES.false read so_far;
+    }
 
 pub follow-requires : goal.follow-requires
 follow-requires c =

@@ -1,4 +1,4 @@
-use Rattle.std.proofs.Common.{refl, append-nil, rules, ◌∙◌, sym, ap, ◌++◌}
+use Rattle.std.proofs.Common.{refl, rules, ap, ◌++◌}
 use Rattle.report_text.proofs.Outputs.{writes}
 use Rattle.report_text.proofs.page.Page.begin.Goals as goal
 

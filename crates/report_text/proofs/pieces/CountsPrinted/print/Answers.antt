@@ -1,7 +1,6 @@
-use Rattle.std.proofs.Common.{◌<◌, sym, subst, ap, List, ℕ, arith}
+use Rattle.std.proofs.Common.{◌<◌, arith}
 use Rattle.std.specs.Prelude.{decimal}
 use Rattle.log_node.specs.Vectors.{at}
-use Rattle.report_text.specs.Output.{Adds}
 use Rattle.report_text.proofs.Outputs.{adds_then}
 use Rattle.report_text.proofs.Joins.{join_more}
 use Rattle.report_text.proofs.pieces.CountsPrinted.print.Goals as goal

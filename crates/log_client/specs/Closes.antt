@@ -1,0 +1,49 @@
+-- What a store ends with, for each of its clients.
+use Rattle.std.specs.Prelude.{◌≡◌, ℕ, ◌<◌, List, length, map, Some, None, slice_get}
+use Rattle.std.specs.List.{Contains, filter}
+use Rattle.log_node.specs.declared.ids.Id.{Id}
+use Rattle.log_node.specs.Standings.{open_entry}
+use Rattle.col_core.specs.History.{entries}
+use Rattle.col_core.specs.Keeping.{Kept}
+use Rattle.col_core.specs.Log.{Log, places_of}
+use Rattle.col_core.specs.Rows.{BegunRow, is_of}
+use Rattle.script_text.specs.declared.script.Object.{Object}
+use Rattle.client_law.specs.Knowing.{SeesOn}
+use Rattle.log_client.specs.declared.store.Store.{Store}
+use Rattle.log_client.specs.declared.client.Client.{Client}
+use Rattle.log_client.specs.declared.closed.Closed.{Closed}
+use Rattle.log_client.specs.Fits.{Fits}
+use Rattle.log_client.specs.Clients.{IsClient, Keeps, Finished, caller_of, holds_of, rows_of, seen_of}
+use Rattle.log_client.specs.Closing.{EndsStore}
+
+-- they are all clients of the store, by number
+abbrev pub AreClients : Store → List Client → Type 0
+AreClients s clients =
+    (length clients ≡ s.size.clients)
+    × ((n : ℕ) (c : Client) → slice_get clients n ≡ Some c → IsClient s c × (c.number ≡ n))
+
+-- What the log with which the store ended is to a client. It goes on from what the client has seen, and its own nodes and
+-- rows fit what the client knows; so it explains the client's replies. The client's own steps in it are those that its
+-- replies name, and its nodes and rows are those that it counts.
+pub record EndsFor (s : Store) (log : Log) (c : Client) : Type 0 where
+  pub on : (objects : List Object) → SeesOn (caller_of s c objects) (seen_of c) log.histories
+  pub fits : Fits (holds_of c) (record { nodes = log.nodes; rows = log.rows })
+  pub steps : (objects : List Object) (kept : Kept) → Keeps s c objects kept → (region colour : ℕ)
+      → places_of c.number (log.histories region colour) ≡ kept.made region colour
+  pub ids : length (log.nodes c.number) ≡ c.count
+  pub rows : map (λ (b : BegunRow). b.node) (filter (is_of c.number) (log.rows c.region)) ≡ rows_of c
+  -- it has begun rows of its own region alone, and has left open none of its ids where it has finished
+  pub rows_at_home : (region : ℕ) (b : BegunRow) → region < length s.regions → Contains (log.rows region) b
+      → b.row.client ≡ c.number → region ≡ c.region
+  pub closed : Finished c → (region colour : ℕ) (id : Id) → region < length s.regions → colour < s.size.colours
+      → id.client ≡ c.number → open_entry id (entries (log.histories region colour)) ≡ None
+  pub row_nodes : (b : BegunRow) → Contains (log.rows c.region) b → b.row.client ≡ c.number
+      → slice_get (log.nodes c.number) b.node.id.count ≡ Some b.node
+
+-- What the store of these clients ends with: a log, with what it is to each of them; and the nodes of each one's rows are
+-- those that it had.
+pub record Closes (s : Store) (clients : List Client) (closed : Closed) : Type 0 where
+  pub log : Log
+  pub ends : EndsStore (length s.regions) s.size.colours (map holds_of clients) closed.regions log
+  pub each : (n : ℕ) (c : Client) → slice_get clients n ≡ Some c → EndsFor s log c
+  pub nodes : closed.nodes ≡ map (λ (c : Client). c.rows.items) clients

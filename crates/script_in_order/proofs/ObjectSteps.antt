@@ -1,0 +1,190 @@
+-- What commands of objects append, by the calls that do it.
+use Rattle.std.proofs.Common.{◌≡◌, inl, inr, ℕ, zero, suc, ◌<◌, ◌≤◌, ◌^◌, Bool, true, List, [], ◌∷◌, length, map, take, ◌+◌, ◌*◌, Option, Some, Result, get_or, refl, ap, sym, subst, ◌∙◌, arith, bit_or}
+use Rattle.std.specs.Int.Bits.{or_zero_l}
+use Rattle.std.specs.Prelude.{IfOk, ◌%◌, slice_get}
+use Rattle.std.specs.List.{All}
+use Rattle.std.specs.Option.{option_map}
+use Rattle.std.specs.declared.alloc.AllocError.{AllocError}
+use Rattle.std.proofs.Math.Nat.{mod-eq_of_lt}
+use Rattle.std.proofs.Math.Pow.{pow-lt}
+use Rattle.std.proofs.lemmas.List.{map-append, take_more, take_all}
+use Rattle.std.proofs.lemmas.List.Sums.{fold-append}
+use Rattle.log_node.specs.declared.ids.Colours.{Colours}
+use Rattle.log_node.specs.declared.forms.Pair.{Pair}
+use Rattle.log_node.specs.declared.forms.Form.{Form}
+use Rattle.log_node.specs.Sets.{members}
+use Rattle.object_form.specs.Forms.{IsForm, form_text}
+use Rattle.object_fold.specs.Nodes.{shard_of}
+use Rattle.col_core.proofs.CallerLemmas.{In}
+use Rattle.world_laws.specs.Worlds.{World}
+use Rattle.script_text.specs.declared.script.Kind.{Kind}
+use Rattle.script_text.specs.declared.script.Kind.TheVariants as kinds
+use Rattle.script_text.specs.declared.script.Object.{Object}
+use Rattle.script_text.specs.declared.script.Command.{Command}
+use Rattle.script_text.specs.Pieces.{is_key}
+use Rattle.script_text.specs.Items.{set_of}
+use Rattle.script_text.specs.Fitting.{AreBelow, AreObjectColours, IsKindWithin, is_queue, HasObject}
+use Rattle.report_text.specs.declared.report.Answer.{Answer}
+use Rattle.lawful_run.specs.Asks.{object_colours, keys_of, put_form}
+use Rattle.script_meaning.specs.States.{has_colours}
+use Rattle.script_meaning.specs.Appends.{appended}
+use Rattle.script_meaning.specs.Objects.{appended_form, shard_set}
+use Rattle.script_meaning.proofs.CallerLemmas.{at_or, keys_set, shard_below, key_is_word, object_has, queue_one, set_has, shard_members, shards_below, shards_has}
+use Rattle.script_in_order.specs.Doing.{DoneBy}
+
+-- the kind of an object by its number
+abbrev pub kind_at : List Object → ℕ → Option Kind
+kind_at objects object = option_map (λ (o : Object). o.kind) (slice_get objects object)
+
+-- the object that stands at a place is the one that a command uses
+pub kind_is : {test : Kind → Bool} (objects : List Object) (object : ℕ) (other : Object)
+    → HasObject objects object test → Some (get_or objects object other).kind ≡ kind_at objects object
+kind_is objects object other has =
+    ap (λ (o : Object). Some o.kind) (at_or objects object has.found other has.there)
+    ∙ ap (λ (o : Option Object). option_map (λ (x : Object). x.kind) o) (sym has.there)
+
+-- a queue that a command uses is one
+pub queue_is : (objects : List Object) (object : ℕ) (other : Object) → HasObject objects object is_queue
+    → is_queue (get_or objects object other).kind ≡ true
+queue_is objects object other has =
+    ap (λ (o : Object). is_queue o.kind) (at_or objects object has.found other has.there) ∙ has.kind
+
+pub put_is_form : (kind : Kind) (key value : List ℕ) → is_key key ≡ true → is_key value ≡ true
+    → IsForm (put_form (Some kind) key value)
+put_is_form (kinds.Map home colours) key value k v = (key_is_word key k, key_is_word value v)
+put_is_form (kinds.Tx home colours) key value k v = (key_is_word key k, key_is_word value v)
+put_is_form (kinds.Causal colour) key value k v = (key_is_word key k, key_is_word value v)
+put_is_form (kinds.Queue home colour) key value k v = (key_is_word key k, key_is_word value v)
+
+in_at : (xs : List ℕ) (k d : ℕ) → k < length xs → In (get_or xs k d) xs
+in_at [] k d lt = absurd (let f : ⊥ = omega (arith, lt) in f)
+in_at (x ∷ xs) zero d lt = inl refl
+in_at (x ∷ xs) (suc k) d lt = inr (in_at xs k d (omega (arith, lt)))
+
+pub each_below : (count : ℕ) (set : Colours) → ((c : ℕ) → In c (members set) → c < count) → AreBelow count set
+each_below count set low k d lt = low (get_or (members set) k d) (in_at (members set) k d lt)
+
+-- the set of the shards of keys, of an object of a script
+module _ (regions count : ℕ) (few : count ≤ 16) (objects : List Object)
+    (all : All (λ (o : Object). IsKindWithin regions count o.kind) objects) (object : ℕ) (test : Kind → Bool)
+    (has : HasObject objects object test) (kind : Kind) (is : Some kind ≡ kind_at objects object) where
+  own : AreObjectColours count (object_colours (Some kind))
+  own = subst (λ (k : Option Kind). AreObjectColours count (object_colours k)) (sym is)
+      (object_has objects regions count all object test has)
+
+  pub small : AreObjectColours 16 (object_colours (Some kind))
+  small = record { some = own.some; below = λ k d lt. let x = own.below k d lt in omega (arith, x, few) }
+
+  pub has_some : (keys : List (List ℕ)) (key : List ℕ) → In key keys
+      → has_colours 1 (shard_set (object_colours (Some kind)) keys) ≡ true
+  has_some keys key i = shards_has count few (object_colours (Some kind)) own.some own.below keys key i
+
+  pub are_low : (keys : List (List ℕ)) → AreBelow count (shard_set (object_colours (Some kind)) keys)
+  are_low keys = each_below count (shard_set (object_colours (Some kind)) keys) (λ c i.
+      shards_below count few (object_colours (Some kind)) own.some own.below keys c
+      (subst (λ (l : List ℕ). In c l) (shard_members (object_colours (Some kind)) keys) i))
+
+-- an append of a form's text does what the command does
+pub form_done : (command : Command) (w new : World) (r : Result Answer AllocError) (set wanted : Colours)
+    (form asked : Form) → set ≡ wanted → form ≡ asked
+    → IfOk r (λ answer. DoneBy (λ grants state. appended grants state command set (form_text form) (members set))
+    command w new answer [])
+    → IfOk r (λ answer. DoneBy (λ grants state. appended_form grants state command wanted asked) command w new answer
+    [])
+form_done command w new r set wanted form asked is same d =
+    subst (λ (f : Form). IfOk r (λ answer. DoneBy (λ grants state. appended_form grants state command wanted f)
+    command w new answer [])) same
+    (subst (λ (s : Colours). IfOk r (λ answer. DoneBy
+    (λ grants state. appended grants state command s (form_text form) (members s)) command w new answer [])) is d)
+
+-- Sets made key by key
+
+abbrev pub pair_shard : List ℕ → Pair → ℕ
+pair_shard colours pair = shard_of colours pair.key
+
+one_bit : (c : ℕ) → c < 16 → 1 * 2 ^ c % 65536 ≡ 2 ^ c
+one_bit c lt =
+    let low : 2 ^ c < 2 ^ 16 = pow-lt lt in
+    let one : 1 * 2 ^ c ≡ 2 ^ c = omega arith in
+    ap (λ (n : ℕ). n % 65536) one ∙ mod-eq_of_lt low
+
+pub none_yet : (colours : List ℕ) (pairs : List Pair)
+    → record { 0 = 0 } ≡ set_of (map (pair_shard colours) (take 0 pairs))
+none_yet colours pairs = refl
+
+-- one pair more
+pub more_shards : (colours : List ℕ) → AreObjectColours 16 colours → (pairs : List Pair) (i : ℕ) (pair : Pair)
+    (set : Colours) (c : ℕ) → i < length pairs → c ≡ shard_of colours (get_or pairs i pair).key
+    → set ≡ set_of (map (pair_shard colours) (take i pairs))
+    → (let s : Colours = record { 0 = bit_or set.0 (1 * 2 ^ c % 65536) } in s)
+    ≡ set_of (map (pair_shard colours) (take (i + 1) pairs))
+more_shards colours are pairs i pair set c lt is e =
+    let low : c < 16 = subst (λ (x : ℕ). x < 16) (sym is)
+    (shard_below 16 colours are.some are.below (get_or pairs i pair).key) in
+    ap (λ (n : ℕ). let s : Colours = record { 0 = n } in s)
+    (ap (bit_or set.0) (one_bit c low)
+    ∙ (ap (λ (s : Colours). bit_or s.0 (2 ^ c)) e
+    ∙ (ap (λ (x : ℕ). bit_or (set_of (map (pair_shard colours) (take i pairs))).0 (2 ^ x)) is
+    ∙ (sym (fold-append (λ (n : ℕ) (x : ℕ). bit_or n (2 ^ x)) 0 (map (pair_shard colours) (take i pairs))
+    (pair_shard colours (get_or pairs i pair) ∷ []))
+    ∙ ap (λ (l : List ℕ). (set_of l).0)
+    (sym (map-append (pair_shard colours) (take i pairs) (get_or pairs i pair ∷ []))
+    ∙ ap (map (pair_shard colours)) (sym (take_more pairs i pair lt)))))))
+
+mapped : (colours : List ℕ) (pairs : List Pair)
+    → map (pair_shard colours) pairs ≡ map (shard_of colours) (map (λ (p : Pair). p.key) pairs)
+mapped colours [] = refl
+mapped colours (pair ∷ pairs) = ap (λ (l : List ℕ). pair_shard colours pair ∷ l) (mapped colours pairs)
+
+pub all_shards : (colours : List ℕ) → AreObjectColours 16 colours → (pairs : List Pair) (set : Colours) (i : ℕ)
+    → i ≡ length pairs → set ≡ set_of (map (pair_shard colours) (take i pairs))
+    → set ≡ shard_set colours (keys_of pairs)
+all_shards colours are pairs set i whole e =
+    e ∙ (ap (λ (l : List Pair). set_of (map (pair_shard colours) l)) (take_all i pairs (omega (arith, whole)))
+    ∙ (ap set_of (mapped colours pairs) ∙ keys_set colours are (keys_of pairs)))
+
+-- the set of one key's shard
+pub one_shard : (colours : List ℕ) → AreObjectColours 16 colours → (key : List ℕ) (c : ℕ) → c ≡ shard_of colours key
+    → (let s : Colours = record { 0 = 1 * 2 ^ c % 65536 } in s) ≡ shard_set colours (key ∷ [])
+one_shard colours are key c is =
+    let low : c < 16 = subst (λ (x : ℕ). x < 16) (sym is) (shard_below 16 colours are.some are.below key) in
+    ap (λ (n : ℕ). let s : Colours = record { 0 = n } in s)
+    (one_bit c low ∙ (ap (λ (x : ℕ). 2 ^ x) is ∙ sym (or_zero_l (2 ^ shard_of colours key))))
+    ∙ keys_set colours are (key ∷ [])
+
+-- the set of the colour of a queue
+pub queue_shard : (kind : Kind) → is_queue kind ≡ true → AreObjectColours 16 (object_colours (Some kind)) → (c : ℕ)
+    → c ≡ shard_of (object_colours (Some kind)) []
+    → (let s : Colours = record { 0 = 1 * 2 ^ c % 65536 } in s) ≡ set_of (object_colours (Some kind))
+queue_shard (kinds.Map home colours) q are c is = absurd (let f : ⊥ = cc in f)
+queue_shard (kinds.Tx home colours) q are c is = absurd (let f : ⊥ = cc in f)
+queue_shard (kinds.Causal colour) q are c is = absurd (let f : ⊥ = cc in f)
+queue_shard (kinds.Queue home colour) q are c is =
+    ap (λ (n : ℕ). let s : Colours = record { 0 = n } in s)
+    (one_bit c (subst (λ (x : ℕ). x < 16) (sym is) (shard_below 16 (colour ∷ []) are.some are.below []))
+    ∙ (ap (λ (x : ℕ). 2 ^ x) is ∙ sym (or_zero_l (2 ^ colour))))
+
+-- a queue's set of colours
+module _ (regions count : ℕ) (few : count ≤ 16) (objects : List Object)
+    (all : All (λ (o : Object). IsKindWithin regions count o.kind) objects) (object : ℕ)
+    (has : HasObject objects object is_queue) where
+  of_queue : members (set_of (object_colours (kind_at objects object))) ≡ object_colours (kind_at objects object)
+  of_queue = queue_one objects regions count all object is_queue has few (λ kind t. t)
+
+  low : (c : ℕ) → In c (object_colours (kind_at objects object)) → c < count
+  low c i = at_in (object_colours (kind_at objects object))
+      (object_has objects regions count all object is_queue has).below i where
+        at_in : (xs : List ℕ) → All (λ d. d < count) xs → In c xs → c < count
+        at_in [] all i = absurd i
+        at_in (x ∷ xs) all (inl e) = subst (λ (d : ℕ). d < count) e (all 0 0 (omega arith))
+        at_in (x ∷ xs) all (inr i) = at_in xs (λ k d lt. all (suc k) d (omega (arith, lt))) i
+
+  pub queue_low : AreBelow count (set_of (object_colours (kind_at objects object)))
+  queue_low = each_below count (set_of (object_colours (kind_at objects object)))
+      (λ c i. low c (subst (λ (l : List ℕ). In c l) of_queue i))
+
+  pub queue_some : has_colours 1 (set_of (object_colours (kind_at objects object))) ≡ true
+  queue_some = set_has (object_colours (kind_at objects object))
+      (λ c i. let lt = low c i in omega (arith, lt, few))
+      (subst (λ (l : List ℕ). 1 ≤ length l) (sym of_queue)
+      (object_has objects regions count all object is_queue has).some)

@@ -1,0 +1,29 @@
+use Rattle.std.proofs.Common.{◌∙◌, sym, List}
+use Rattle.std.proofs.lemmas.Result.{IfOk-weaker}
+use Rattle.log_node.specs.Seen.{PlacedNode}
+use Rattle.report_text.specs.declared.report.Answer.{Answer}
+use Rattle.report_text.specs.declared.report.Answer.TheVariants as answers
+use Rattle.world_code.specs.WorldView.{world_of}
+use Rattle.script_meaning.specs.Meaning.{done}
+use Rattle.script_in_order.specs.Doing.{Does, DoesAtHome}
+use Rattle.script_in_order.proofs.CommandKinds.{does_at_home, does_not_at_home, with_nodes}
+use Rattle.script_in_order.proofs.homes.answer_at_home.Goals as goal
+
+pub returns-in-Some-clause-ok : goal.returns-in-Some-clause-ok
+returns-in-Some-clause-ok c =
+    let w = world_of c.args.world.now in
+    with_nodes c.args.command.now (λ grants state. done c.args.objects.now grants state c.args.command.now) w w
+    (answers.NotHome c.in-Some.home) c.new.result c.new.ensures
+    (does_not_at_home c.args.objects.now c.args.command.now w c.in-Some.home
+    (sym c.refusing_home.ensures ∙ c.in-Some.is))
+
+pub returns-in-None-clause-ok : goal.returns-in-None-clause-ok
+returns-in-None-clause-ok c =
+    let w = world_of c.args.world.now in
+    let new = world_of c.answer.new.world in
+    IfOk-weaker c.answer.result
+    (λ (g : Answer × List PlacedNode). DoesAtHome c.args.objects.now c.args.command.now w new g.0 g.1)
+    (λ (g : Answer × List PlacedNode). Does c.args.objects.now c.args.command.now w new g.0 g.1)
+    (λ g d. does_at_home c.args.objects.now c.args.command.now w new g.0 g.1
+    (sym c.refusing_home.ensures ∙ c.in-None.is) d)
+    c.answer.ensures.ok

@@ -1,0 +1,89 @@
+// The homes of objects: a client of another region is refused there.
+ghost use Rattle.std.specs.Prelude.{◌≡◌, ◌<◌, IsTrue, IfOk, OnErr, length, slice_get};
+ghost use Rattle.std.specs.Option.{option_map};
+ghost use Rattle.lawful_run.specs.Asks.{object_home, home_asked};
+ghost use Rattle.lawful_run.specs.Callers.{Caller};
+ghost use Rattle.world_code.specs.WorldView.{world_of};
+ghost use Rattle.script_meaning.specs.States.{is_built};
+ghost use Rattle.script_meaning.specs.Objects.{caller_in, refusing_home};
+ghost use Rattle.script_in_order.specs.Doing.{IsFit, Does};
+
+use crate::answers::answer;
+use crate::clears::home;
+use log_node::{Items, ListOf};
+use report_text::Answer;
+use script_text::{Command, Kind, Object, What};
+use std::alloc::{AllocError, Global};
+use world_code::World;
+
+// The home of an object, where it has one.
+fn object_home(objects: &[Object], object: u8) -> Option<u8>
+    ensures { result ≡ object_home (option_map (λ (o : Object). o.kind) (slice_get objects.now object)) }
+{
+    match objects.get(object as usize) {
+        None => None,
+        Some(found) => match &found.kind {
+            Kind::Map { home, .. } => Some(*home),
+            Kind::Tx { home, .. } => Some(*home),
+            Kind::Causal { .. } => None,
+            Kind::Queue { home, .. } => Some(*home),
+        },
+    }
+}
+
+// The home of the object that a command is of.
+fn home_asked(objects: &[Object], what: &What) -> Option<u8>
+    ensures { (caller : Caller) → caller.objects ≡ objects.now → result ≡ home_asked caller what.now }
+{
+    match what {
+        What::Append { .. } => None,
+        What::Stop { .. } => None,
+        What::Sync { .. } => None,
+        What::Scan { .. } => None,
+        What::Pull { .. } => None,
+        What::Trim { .. } => None,
+        What::Put { object, .. } => object_home(objects, *object),
+        What::Get { object, .. } => object_home(objects, *object),
+        What::Del { object, .. } => object_home(objects, *object),
+        What::PutAll { object, .. } => object_home(objects, *object),
+        What::GetAll { object, .. } => object_home(objects, *object),
+        What::Read { object, .. } => object_home(objects, *object),
+        What::Commit { object, .. } => object_home(objects, *object),
+        What::Enq { object, .. } => object_home(objects, *object),
+        What::Deq { object } => object_home(objects, *object),
+    }
+}
+
+// The home of the command's object, where its client is away from it.
+fn refusing_home(objects: &[Object], command: &Command, world: &World) -> Option<u8>
+    requires { command.now.client < length world.now.shape.homes }
+    ensures { result ≡ refusing_home (caller_in (world_of world.now) objects.now command.now.client) command.now.what }
+{
+    match home_asked(objects, &command.what) {
+        None => None,
+        Some(asked) => if asked == home(world, command.client) {
+            None
+        } else {
+            Some(asked)
+        },
+    }
+}
+
+/// What a command is answered, and the nodes that it shows; `Err` means that it found no memory before it did anything.
+/// A client that is away from its object's home is refused.
+pub fn answer_at_home(
+    alloc: Global,
+    objects: &[Object],
+    command: &Command,
+    world: &mut World,
+) -> Result<(Answer, Items), AllocError>
+    requires built { IsTrue (is_built command.now.what) }
+    requires fits { IsFit (world_of world.old) objects.now command.now.client command.now.what }
+    ensures ok { IfOk result (λ g. Does objects.now command.now (world_of world.old) (world_of world.new) g.0 g.1) }
+    ensures err { OnErr result (world_of world.new ≡ world_of world.old) }
+{
+    match refusing_home(objects, command, world) {
+        Some(home) => Ok((Answer::NotHome { home }, ListOf::new(alloc))),
+        None => answer(alloc, objects, command, world),
+    }
+}

@@ -1,0 +1,230 @@
+-- The sets of the colours of shards.
+use Rattle.std.proofs.Common.{◌≡◌, ◌≢◌, ◌⊎◌, inl, inr, ℕ, zero, suc, ◌+◌, ◌<◌, ◌≤◌, ◌^◌, Bool, true, false, cond, List, [], ◌∷◌, length, map, refl, ap, sym, subst, ◌∙◌, arith, bit_or, eq-eqb}
+use Rattle.std.specs.Prelude.{◌==◌, ◌||◌, ◌%◌, not, nat_lt, sum}
+use Rattle.std.specs.List.{All, filter, fold, list_any, range_with_len}
+use Rattle.std.proofs.Math.Nat.{mod-lt}
+use Rattle.std.proofs.Math.Pow.{pow-lt}
+use Rattle.std.proofs.lemmas.Bool.{and_from, or_cases, eqb-true, ltb-true, lt-ltb, cases_lt}
+use Rattle.std.proofs.lemmas.Nat.{or_lt, pow_pos}
+use Rattle.std.proofs.lemmas.Nat.Bits.{same_from_bits_below, bit_at-lt}
+use Rattle.std.specs.Int.{bit_at}
+use Rattle.log_node.specs.Sets.{has, members}
+use Rattle.object_fold.specs.Nodes.{shard_of}
+use Rattle.col_core.proofs.CallerLemmas.{by_test, apart, if_true, if_false, In, in_filter, in_filter-back}
+use Rattle.script_text.specs.Items.{set_of}
+use Rattle.script_text.specs.Fitting.{AreObjectColours}
+use Rattle.script_text.proofs.CallerLemmas.{has_set}
+use Rattle.lawful_run.specs.Asks.{colours_where, shards}
+use Rattle.script_meaning.specs.States.{has_colours}
+use Rattle.script_meaning.specs.Objects.{shard_set}
+use Rattle.script_meaning.proofs.Lists.{range_in}
+
+-- Lists
+
+same_filter : (p q : ℕ → Bool) (xs : List ℕ) → ((x : ℕ) → In x xs → p x ≡ q x) → filter p xs ≡ filter q xs
+same_filter p q [] h = refl
+same_filter p q (x ∷ xs) h =
+    ap (λ (b : Bool). cond b (x ∷ filter p xs) (filter p xs)) (h x (inl refl))
+    ∙ ap (λ (l : List ℕ). cond (q x) (x ∷ l) l) (same_filter p q xs (λ y i. h y (inr i)))
+
+any_in : (c : ℕ) (xs : List ℕ) → In c xs → list_any (λ d. d == c) xs ≡ true
+any_in c [] i = absurd i
+any_in c (x ∷ xs) (inl e) = ap (λ (b : Bool). b || list_any (λ d. d == c) xs) (eq-eqb x c e)
+any_in c (x ∷ xs) (inr i) = ap (λ (b : Bool). (x == c) || b) (any_in c xs i) ∙ or_true (x == c) where
+  or_true : (b : Bool) → (b || true) ≡ true
+  or_true true = refl
+  or_true false = refl
+
+in_any : {A : Type 0} (test : A → Bool) (xs : List A) → list_any test xs ≡ true → (x : A) × In x xs × (test x ≡ true)
+in_any test [] e = absurd (let f : ⊥ = cc in f)
+in_any test (x ∷ xs) e = turn (or_cases (test x) (list_any test xs) e) (λ r. in_any test xs r) where
+  turn : (test x ≡ true) ⊎ (list_any test xs ≡ true)
+      → (list_any test xs ≡ true → (y : _) × In y xs × (test y ≡ true)) → (y : _) × In y (x ∷ xs) × (test y ≡ true)
+  turn (inl t) rest = (x, inl refl, t)
+  turn (inr t) rest = let r = rest t in (r.0, inr r.1, r.2)
+
+any_back : {A : Type 0} (test : A → Bool) (xs : List A) (x : A) → In x xs → test x ≡ true → list_any test xs ≡ true
+any_back test [] x i t = absurd i
+any_back test (y ∷ xs) x (inl e) t = ap (λ (b : Bool). b || list_any test xs) (ap test e ∙ t)
+any_back test (y ∷ xs) x (inr i) t = ap (λ (b : Bool). test y || b) (any_back test xs x i t) ∙ or_true (test y) where
+  or_true : (b : Bool) → (b || true) ≡ true
+  or_true true = refl
+  or_true false = refl
+
+-- Sets of listed colours
+
+-- a colour is in the set of those for which a test holds where it passes
+pub has_where : (test : ℕ → Bool) (x : ℕ) → In x (range_with_len 0 64) → has (set_of (colours_where test)) x ≡ test x
+has_where test x i =
+    has_set (colours_where test) x
+    ∙ by_test _ (test x)
+    (λ t. any_in x (colours_where test) (in_filter-back test x (range_with_len 0 64) i t) ∙ sym t)
+    (λ f. none f (list_any (λ d. d == x) (colours_where test)) refl) where
+      none : test x ≡ false → (b : Bool) → list_any (λ d. d == x) (colours_where test) ≡ b
+          → list_any (λ d. d == x) (colours_where test) ≡ test x
+      none f false e = e ∙ sym f
+      none f true e =
+          let r = in_any (λ d. d == x) (colours_where test) e in
+          let same = eqb-true r.0 x r.2 in
+          absurd (apart (test x)
+          (subst (λ (y : ℕ). test y ≡ true) same (in_filter test r.0 (range_with_len 0 64) r.1).1) f)
+
+-- the colours for which a test holds are the members of their set
+pub set_where : (test : ℕ → Bool) → members (set_of (colours_where test)) ≡ colours_where test
+set_where test = same_filter (has (set_of (colours_where test))) test (range_with_len 0 64) (has_where test)
+
+-- one colour of a range
+one_above : (c a n : ℕ) → c < a → filter (λ x. c == x) (range_with_len a n) ≡ []
+one_above c a zero lt = refl
+one_above c a (suc n) lt =
+    by_test _ (c == a)
+    (λ t. let e = eqb-true c a t in absurd (let f : ⊥ = omega (arith, lt, e) in f))
+    (λ f. if_false (c == a) (a ∷ filter (λ x. c == x) (range_with_len (a + 1) n))
+    (filter (λ x. c == x) (range_with_len (a + 1) n)) f ∙ one_above c (a + 1) n (omega (arith, lt)))
+
+one_here : (c a n : ℕ) → a ≤ c → c < a + n → filter (λ x. c == x) (range_with_len a n) ≡ c ∷ []
+one_here c a zero le lt = absurd (let f : ⊥ = omega (arith, le, lt) in f)
+one_here c a (suc n) le lt =
+    by_test _ (c == a)
+    (λ t. let e = eqb-true c a t in
+    if_true (c == a) (a ∷ filter (λ x. c == x) (range_with_len (a + 1) n))
+    (filter (λ x. c == x) (range_with_len (a + 1) n)) t
+    ∙ (ap (λ (l : List ℕ). a ∷ l) (one_above c (a + 1) n (omega (arith, e)))
+    ∙ ap (λ (x : ℕ). x ∷ []) (sym e)))
+    (λ f. let ne : c ≢ a = λ e. apart (c == a) (eq-eqb c a e) f in
+    if_false (c == a) (a ∷ filter (λ x. c == x) (range_with_len (a + 1) n))
+    (filter (λ x. c == x) (range_with_len (a + 1) n)) f
+    ∙ one_here c (a + 1) n (above (cases_lt a c) ne) (omega (arith, lt))) where
+      above : (a < c) ⊎ (c ≤ a) → c ≢ a → a + 1 ≤ c
+      above (inl less) ne = omega (arith, less)
+      above (inr more) ne = absurd (ne (omega (arith, le, more)))
+
+pub set_one : (c : ℕ) → c < 64 → members (set_of (c ∷ [])) ≡ c ∷ []
+set_one c low =
+    same_filter (has (set_of (c ∷ []))) (λ x. c == x) (range_with_len 0 64) (λ x i. has_set (c ∷ []) x ∙ or_no (c == x))
+    ∙ one_here c 0 64 (omega arith) (omega (arith, low)) where
+      or_no : (b : Bool) → (b || false) ≡ b
+      or_no true = refl
+      or_no false = refl
+
+-- the bits of small colours are few
+few_bits : (order : List ℕ) → ((c : ℕ) → In c order → c < 64) → (bits : ℕ) → bits < 2 ^ 64
+    → fold (λ set c. bit_or set (2 ^ c)) bits order < 2 ^ 64
+few_bits [] low bits lt = lt
+few_bits (c ∷ order) low bits lt =
+    few_bits order (λ d i. low d (inr i)) (bit_or bits (2 ^ c)) (or_lt 64 bits (2 ^ c) lt (pow-lt (low c (inl refl))))
+
+pub set_few : (order : List ℕ) → ((c : ℕ) → In c order → c < 64) → (set_of order).0 < 2 ^ 64
+set_few order low = few_bits order low 0 (pow_pos 64)
+
+-- such a set has a colour
+pub set_has : (order : List ℕ) → ((c : ℕ) → In c order → c < 64) → 1 ≤ length (members (set_of order))
+    → has_colours 1 (set_of order) ≡ true
+unfolding has_colours
+set_has order low some =
+    and_from (not (nat_lt (length (members (set_of order))) 1)) _ (enough (length (members (set_of order))) some)
+    (lt-ltb (set_of order).0 (2 ^ 64) (set_few order low)) where
+      enough : (n : ℕ) → 1 ≤ n → not (nat_lt n 1) ≡ true
+      enough n le =
+          by_test _ (nat_lt n 1) (λ t. let x = ltb-true n 1 t in absurd (let f : ⊥ = omega (arith, le, x) in f))
+          (λ f. ap not f)
+
+-- Shards
+
+-- a key's shard is one of the colours
+pub shard_below : (count : ℕ) (colours : List ℕ) → 1 ≤ length colours → All (λ c. c < count) colours
+    → (key : List ℕ) → shard_of colours key < count
+shard_below count colours some all key =
+    all (sum key % length colours) 0 (mod-lt (sum key) (omega (arith, some)))
+
+-- each colour of the shards is a key's
+pub of_key : (colours : List ℕ) (keys : List (List ℕ)) (c : ℕ) → In c (shards colours keys)
+    → (key : List ℕ) × In key keys × (shard_of colours key ≡ c)
+of_key colours keys c i =
+    let t = (in_filter (λ d. list_any (λ key. shard_of colours key == d) keys) c (range_with_len 0 64) i).1 in
+    let r = in_any (λ key. shard_of colours key == c) keys t in
+    (r.0, r.1, eqb-true (shard_of colours r.0) c r.2)
+
+-- and each key's is one
+pub key_in : (colours : List ℕ) (keys : List (List ℕ)) (key : List ℕ) → In key keys → shard_of colours key < 64
+    → In (shard_of colours key) (shards colours keys)
+key_in colours keys key i low =
+    in_filter-back (λ d. list_any (λ k. shard_of colours k == d) keys) (shard_of colours key) (range_with_len 0 64)
+    (range_in 0 64 (shard_of colours key) (omega arith) (omega (arith, low)))
+    (any_back (λ k. shard_of colours k == shard_of colours key) keys key i
+    (eq-eqb (shard_of colours key) (shard_of colours key) refl))
+
+in_some : (xs : List ℕ) (x : ℕ) → In x xs → 1 ≤ length xs
+in_some [] x i = absurd i
+in_some (y ∷ xs) x i = omega arith
+
+pub shard_members : (colours : List ℕ) (keys : List (List ℕ)) → members (shard_set colours keys) ≡ shards colours keys
+unfolding shard_set
+shard_members colours keys = set_where (λ c. list_any (λ key. shard_of colours key == c) keys)
+
+-- The set of the shards of keys, of an object with some colours, all of them below a number: it has a colour, and its
+-- colours are below that number.
+module _ (count : ℕ) (few : count ≤ 16) (colours : List ℕ) (some : 1 ≤ length colours)
+    (below : All (λ c. c < count) colours) (keys : List (List ℕ)) where
+  pub shards_below : (c : ℕ) → In c (shards colours keys) → c < count
+  shards_below c i =
+      let r = of_key colours keys c i in
+      subst (λ (x : ℕ). x < count) r.2 (shard_below count colours some below r.0)
+
+  pub shards_has : (key : List ℕ) → In key keys → has_colours 1 (shard_set colours keys) ≡ true
+  unfolding shard_set
+  shards_has key i =
+      let low = shard_below count colours some below key in
+      set_has (shards colours keys) (λ c j. let lt = shards_below c j in omega (arith, lt, few))
+      (subst (λ (l : List ℕ). 1 ≤ length l)
+      (sym (set_where (λ c. list_any (λ key. shard_of colours key == c) keys)))
+      (in_some (shards colours keys) (shard_of colours key) (key_in colours keys key i (omega (arith, low, few)))))
+
+-- a bit is as its test says
+same_bit : (a b : ℕ) → a < 2 → b < 2 → (a == 1) ≡ (b == 1) → a ≡ b
+same_bit a b lt less e =
+    by_test _ (a == 1)
+    (λ t. let x = eqb-true a 1 t in let y = eqb-true b 1 (sym e ∙ t) in x ∙ sym y)
+    (λ f. let x = zero_bit a lt f in let y = zero_bit b less (sym e ∙ f) in x ∙ sym y) where
+      zero_bit : (c : ℕ) → c < 2 → (c == 1) ≡ false → c ≡ 0
+      zero_bit zero lt f = refl
+      zero_bit (suc zero) lt f = absurd (let g : ⊥ = cc in g)
+      zero_bit (suc (suc c)) lt f = absurd (let g : ⊥ = omega (arith, lt) in g)
+
+any_map : (f : List ℕ → ℕ) (x : ℕ) (keys : List (List ℕ))
+    → list_any (λ m. m == x) (map f keys) ≡ list_any (λ k. f k == x) keys
+any_map f x [] = refl
+any_map f x (k ∷ keys) = ap (λ (b : Bool). (f k == x) || b) (any_map f x keys)
+
+in_mapped : (f : List ℕ → ℕ) (keys : List (List ℕ)) (c : ℕ) → In c (map f keys) → (k : List ℕ) × (f k ≡ c)
+in_mapped f [] c i = absurd i
+in_mapped f (k ∷ keys) c (inl e) = (k, e)
+in_mapped f (k ∷ keys) c (inr i) = in_mapped f keys c i
+
+-- the set of the keys' shards, as often as they come, is that of the shards
+pub keys_set : (colours : List ℕ) → AreObjectColours 16 colours → (keys : List (List ℕ))
+    → set_of (map (shard_of colours) keys) ≡ shard_set colours keys
+unfolding shard_set
+keys_set colours are keys =
+    ap (λ (n : ℕ). record { 0 = n }) (same_from_bits_below 64 (set_of (map (shard_of colours) keys)).0
+    (set_of (shards colours keys)).0 (set_few (map (shard_of colours) keys) low)
+    (set_few (shards colours keys) below) bits) where
+      low : (c : ℕ) → In c (map (shard_of colours) keys) → c < 64
+      low c i =
+          let r = in_mapped (shard_of colours) keys c i in
+          let lt = shard_below 16 colours are.some are.below r.0 in
+          subst (λ (x : ℕ). x < 64) r.1 (omega (arith, lt))
+
+      below : (c : ℕ) → In c (shards colours keys) → c < 64
+      below c i =
+          let lt = shards_below 16 (omega arith) colours are.some are.below keys c i in omega (arith, lt)
+
+      bits : (i : ℕ) → i < 64
+          → bit_at (set_of (map (shard_of colours) keys)).0 i ≡ bit_at (set_of (shards colours keys)).0 i
+      bits i less =
+          same_bit _ _ (bit_at-lt (set_of (map (shard_of colours) keys)).0 i)
+          (bit_at-lt (set_of (shards colours keys)).0 i)
+          (has_set (map (shard_of colours) keys) i
+          ∙ (any_map (shard_of colours) i keys
+          ∙ sym (has_where (λ c. list_any (λ key. shard_of colours key == c) keys) i
+          (range_in 0 64 i (omega arith) (omega (arith, less))))))
