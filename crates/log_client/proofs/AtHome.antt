@@ -12,7 +12,7 @@ use Rattle.stamp_board.specs.Seats.{seen as seat_seen}
 use Rattle.stamp_board.specs.Views.{Learns}
 use Rattle.chain_store.specs.declared.hold.Hold.{Hold}
 use Rattle.chain_store.specs.declared.region.Region.{Region}
-use Rattle.chain_store.specs.Holds.{IsHold, SameBut, seen_in, made_in, view_of}
+use Rattle.chain_store.specs.Holds.{IsHold, SameBut, seen_in, view_of}
 use Rattle.client_law.specs.Knowing.{SeesOn}
 use Rattle.log_client.specs.declared.store.Store.{Store}
 use Rattle.log_client.specs.declared.client.Client.{Client}

@@ -1,5 +1,5 @@
 -- What a pull leaves of a client's holds.
-use Rattle.std.proofs.Common.{Result, Ok, Err, ◌≡◌, ◌≢◌, ℕ, List, Some, refl, ap, sym, subst, ◌∙◌}
+use Rattle.std.proofs.Common.{Result, Ok, Err, ◌≡◌, ◌≢◌, ℕ, List, Some, refl, ap, sym, ◌∙◌}
 use Rattle.std.specs.Prelude.{IfOk, IfErr, ◌↔◌, slice_get, slice_set}
 use Rattle.std.proofs.lemmas.Result.{IfOk-weaker}
 use Rattle.chain_store.specs.declared.hold.Hold.{Hold}

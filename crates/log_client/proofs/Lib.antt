@@ -38,4 +38,6 @@ mod TwoHolds
 mod BetweenHolds
 mod PullReplies
 mod PullCalls
+mod StandsLater
+mod AppendReplies
 pub mod CallerLemmas

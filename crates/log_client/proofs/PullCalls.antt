@@ -1,5 +1,5 @@
 -- A pull as the client's call leaves it.
-use Rattle.std.proofs.Common.{Result, Ok, Err, ◌≡◌, ◌≢◌, ◌⊎◌, inl, inr, ℕ, ◌<◌, List, [], ◌∷◌, ◌++◌, length, Some, refl, ap, sym, subst, ◌∙◌, arith}
+use Rattle.std.proofs.Common.{Result, Ok, Err, ◌≡◌, ◌⊎◌, inl, ℕ, ◌<◌, List, [], ◌∷◌, ◌++◌, length, Some, ap, subst, ◌∙◌, arith}
 use Rattle.std.specs.Prelude.{IfOk, IfErr, slice_get}
 use Rattle.col_core.specs.declared.Event.TheVariants as events
 use Rattle.log_node.specs.declared.node.Head.{Head}

@@ -1,12 +1,11 @@
 -- What a pull of a client leaves, and what explains its answer.
-use Rattle.std.proofs.Common.{◌≡◌, ◌≢◌, ◌⊎◌, inl, inr, ℕ, zero, suc, ◌+◌, ◌<◌, ◌≤◌, List, [], ◌∷◌, ◌++◌, length, map, Option, Some, None, refl, ap, sym, subst, ◌∙◌, arith, append-nil, length-append}
+use Rattle.std.proofs.Common.{◌≡◌, ◌≢◌, ◌⊎◌, inl, inr, ℕ, zero, suc, ◌+◌, ◌<◌, ◌≤◌, List, [], ◌∷◌, ◌++◌, length, map, Some, refl, ap, sym, subst, ◌∙◌, arith, append-nil, length-append}
 use Rattle.std.specs.Prelude.{slice_get, slice_set}
 use Rattle.std.specs.List.{All}
 use Rattle.std.proofs.lemmas.Bool.{cases_eq}
 use Rattle.std.proofs.lemmas.List.{length-map, map-append}
 use Rattle.std.proofs.lemmas.List.Elements.{All-nil, All-cons}
 use Rattle.std.proofs.lemmas.Option.{same_Some, slice_get_within}
-use mathlib.Core.List.{IsPrefix}
 use Rattle.log_node.specs.declared.ids.Id.{Id}
 use Rattle.log_node.specs.declared.node.Node.{Node}
 use Rattle.log_node.specs.declared.node.Head.{Head}
@@ -41,16 +40,16 @@ use Rattle.client_law.specs.Kept.{IsKeptBy}
 use Rattle.client_law.proofs.CallerLemmas.{kept_after_gives, kept_after_pulling, pulls_stand}
 use Rattle.log_client.specs.declared.store.Store.{Store}
 use Rattle.log_client.specs.declared.client.Client.{Client}
-use Rattle.log_client.specs.Fits.{seen_by, entries_by, HasGoneOn, HaveGoneOn}
-use Rattle.log_client.specs.Ending.{AreHoldsIn, HasOwnNodes, PullsTruly}
+use Rattle.log_client.specs.Fits.{entries_by, HasGoneOn, HaveGoneOn}
+use Rattle.log_client.specs.Ending.{AreHoldsIn, HasOwnNodes}
 use Rattle.log_client.specs.Between.{ChangesTwo}
 use Rattle.log_client.specs.Clients.{holds_of, seen_of, rows_of, tracks_of, counts_in, caller_of, IsClient, IsHome, IsTrack, AreRows, Keeps, Finished, AllClosed}
 use Rattle.log_client.specs.Calls.{IsExplained, PullsAs, GaveAlone}
 use Rattle.log_client.proofs.Lists.{got}
 use Rattle.log_client.proofs.Seeing.{are_lawful, seen_there, sees_on}
-use Rattle.log_client.proofs.Steps.{none_made, same_there}
+use Rattle.log_client.proofs.Steps.{none_made}
 use Rattle.log_client.proofs.Truly.{WasMade}
-use Rattle.log_client.proofs.TrulyPulled.{gave_made, carried_made, looked_made, truly_pulled}
+use Rattle.log_client.proofs.TrulyPulled.{truly_pulled}
 use Rattle.log_client.proofs.Pulling.{place_of, places_of_gives, gives_at, too_low_there, rise_there, given_steps, pulls_there, makes_pull}
 use Rattle.log_client.proofs.OwnNodes.{Brings, own_nodes_on}
 use Rattle.log_client.proofs.AtHome.{set_there, set_elsewhere, set_long, gone_same, gone_looked, are_regions}

@@ -6,6 +6,7 @@ pub mod Clients
 pub mod Inside
 pub mod Between
 pub mod Calls
+pub mod Appends
 pub mod Notes
 pub mod Opening
 pub mod Leaving

@@ -1,8 +1,9 @@
-//! Clients of a store, each on a thread of its own: what they see, play, pull, trim and tell one another, and what
-//! explains their answers.
+//! Clients of a store, each on a thread of its own: what they append, see, play, pull, trim and tell one another, what
+//! explains their answers, and the store's end.
 #![tactic(auto)]
 
 mod answers;
+mod appends;
 mod client;
 mod closed;
 mod closing;
@@ -16,7 +17,7 @@ mod syncs;
 mod track;
 mod trimming;
 
-pub use answers::Synced;
+pub use answers::{Appended, Synced};
 pub use client::Client;
 pub use closed::{Closed, ClosedRegions, RowNodes};
 pub use faults::{SyncFault, TrimFault};

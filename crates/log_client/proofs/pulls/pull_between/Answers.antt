@@ -1,5 +1,4 @@
-use Rattle.std.proofs.Common.{◌≡◌, ◌≢◌, ◌<◌, ◌≤◌, ◌++◌, List, get_or, slice_get, slice_set, take, drop, length, rules, refl, ap, sym, subst, ◌∙◌, arith}
-use Rattle.chain_store.specs.declared.hold.Hold.{Hold}
+use Rattle.std.proofs.Common.{◌<◌, ◌++◌, get_or, slice_get, slice_set, take, drop, length, ap, sym, subst, ◌∙◌, arith}
 use Rattle.chain_store.specs.Holds.{IsHold}
 use Rattle.log_client.proofs.TwoHolds.{low_at, high_at, parts_left, set_apart}
 use Rattle.log_client.proofs.BetweenHolds.{changes_two, between_ok, between_err}

@@ -1,0 +1,387 @@
+-- What an append of a client to one colour leaves, and what explains its answer.
+use Rattle.std.proofs.Common.{◌≡◌, ◌⊎◌, inl, inr, ℕ, zero, suc, true, ◌+◌, ◌<◌, ◌≤◌, List, [], ◌∷◌, ◌++◌, length, map, take, Some, None, refl, ap, sym, subst, ◌∙◌, arith, eq-eqb, length-append}
+use Rattle.std.specs.Prelude.{IsTrue, replicate, slice_get, slice_index_or, max, ◌==◌}
+use Rattle.std.specs.Vec.{with_item}
+use Rattle.std.proofs.lemmas.Option.{slice_get_read}
+use Rattle.log_node.specs.declared.ids.Id.{Id}
+use Rattle.log_node.specs.declared.ids.Key.{Key}
+use Rattle.log_node.specs.declared.ids.Row.{Row}
+use Rattle.log_node.specs.declared.ids.Colours.{Colours}
+use Rattle.log_node.specs.declared.ids.Counts.{Counts}
+use Rattle.log_node.specs.declared.limits.TheConstants.{MAX_STAMP}
+use Rattle.log_node.specs.declared.node.At.TheVariants.{Event}
+use Rattle.log_node.specs.declared.node.Node.{Node}
+use Rattle.log_node.specs.Sets.{has, members}
+use Rattle.col_core.specs.declared.Event as event_types
+use Rattle.col_core.specs.declared.Event.TheVariants as events
+use Rattle.col_core.specs.declared.Entry.{Entry}
+use Rattle.col_core.specs.History.{IsAtEnd, line}
+use Rattle.col_core.specs.Computed.{dated}
+use Rattle.col_core.specs.Cuts.{entries_of}
+use Rattle.col_core.specs.Ids.{IsStepOf}
+use Rattle.col_core.specs.Rows.{node_wants, wants_of}
+use Rattle.col_core.specs.Log.{is_own}
+use Rattle.col_core.specs.Keeping.{Kept, kept_after_single}
+use Rattle.std.specs.List.{range_with_len}
+use Rattle.log_node.specs.Vectors.{zeros}
+use Rattle.col_core.specs.Legal.{MayEnter}
+use Rattle.col_core.proofs.CallerLemmas.{In, if_true, in_filter}
+use Rattle.column.specs.declared.faults.ColumnFault.{ColumnFault}
+use Rattle.column.specs.declared.faults.ColumnFault.TheVariants as faults
+use Rattle.script_text.specs.declared.script.Object.{Object}
+use Rattle.stamp_board.specs.Seats.{IsLater}
+use Rattle.chain_store.specs.declared.hold.Hold.{Hold}
+use Rattle.chain_store.specs.declared.region.Region.{Region}
+use Rattle.chain_store.specs.Going.{GoesOn}
+use Rattle.chain_store.specs.Histories.{FitsColumn}
+use Rattle.chain_store.specs.Columns.{told_single}
+use Rattle.chain_store.specs.Rows.{OneNode}
+use Rattle.chain_store.specs.Steps.{HasSingleCause}
+use Rattle.chain_store.specs.Holds.{IsHold, SameBut, SeesMoreIn, entries_seen, view_of}
+use Rattle.chain_store.proofs.CallerLemmas.{goes_weaken}
+use Rattle.append_core.specs.declared.stood.Stood.{Stood}
+use Rattle.append_core.specs.declared.stood.Point.{Point}
+use Rattle.append_core.specs.Helping.{HelpsOpen}
+use Rattle.append_core.specs.Standing.{IsSingleOf, StandsAlone}
+use Rattle.lawful_run.specs.Callers.{Caller, node_of, row_of}
+use Rattle.lawful_run.specs.Appends.{Appends, none_for_one}
+use Rattle.client_law.specs.Knowing.{Rest, log_of}
+use Rattle.client_law.specs.Making.{MakesOnly}
+use Rattle.client_law.specs.Appends.{StandsAlone as Stands}
+use Rattle.client_law.proofs.CallerLemmas.{appends_stand, kept_after_append, lawful_at, no_stamp_was_left}
+use Rattle.log_client.specs.declared.store.Store.{Store}
+use Rattle.log_client.specs.declared.client.Client.{Client}
+use Rattle.log_client.specs.declared.answers.Appended.{Appended}
+use Rattle.log_client.specs.Fits.{Fits, HaveGoneOn}
+use Rattle.log_client.specs.Ending.{IsNoMove}
+use Rattle.log_client.specs.Clients.{holds_of, seen_of, rows_of, starts_of, caller_of, IsClient, AreRows, Keeps, Finished}
+use Rattle.log_client.specs.Appends.{next_node, piece_of, AppendsAs, AppendRefused}
+use Rattle.log_client.specs.Calls.{IsExplained}
+use Rattle.log_client.proofs.Seeing.{seen_there}
+use Rattle.log_client.proofs.Alone.{seen_long, seen_at, stands_alone, alone_makes_only}
+use Rattle.log_client.proofs.OwnMore.{own_nodes_single}
+use Rattle.log_client.proofs.Foreign.{Accounted, goes_accounted, foreign}
+use Rattle.log_client.proofs.AtHome.{ChangesHome, gone_looked, have_gone_on, home_after, others_after, sees_after, client_after, are_regions}
+use Rattle.log_client.proofs.Looked.{lawful_after, rows_stay, finished_stays, pulls_stay, tracks_stay, made_looked, keeps_stay}
+use Rattle.log_client.proofs.TrimReplies.{look_nothing}
+
+-- what it made moves no nodes between regions
+single_moves : (id : Id) (e : event_types.Event) → IsSingleOf id e → IsNoMove e
+single_moves id (events.Single other floor wants) s = tt
+single_moves id (events.Propose other floor wants) s = absurd s
+single_moves id (events.Settle other outcome) s = absurd s
+single_moves id (events.Raise to) s = absurd s
+single_moves id (events.Give region from) s = absurd s
+single_moves id (events.Carry region start heads) s = absurd s
+single_moves id (events.Trim counts) s = absurd s
+
+step_moves : (id : Id) (e : event_types.Event) → IsStepOf id e → IsNoMove e
+step_moves id (events.Single other floor wants) s = absurd s
+step_moves id (events.Propose other floor wants) s = tt
+step_moves id (events.Settle other outcome) s = tt
+step_moves id (events.Raise to) s = absurd s
+step_moves id (events.Give region from) s = absurd s
+step_moves id (events.Carry region start heads) s = absurd s
+step_moves id (events.Trim counts) s = absurd s
+
+replicated : {A : Type 0} (x : A) (n : ℕ) → slice_get (replicate (suc n) x) n ≡ Some x
+replicated x zero = refl
+replicated x (suc n) = replicated x n
+
+-- the client's hold of its region, and how many rows it has begun
+module _ (s : Store) (c : Client) (r : Region) (g : Hold) (k : ℕ) (colours : Colours) (text : List ℕ) (x : Node)
+    (is : IsClient s c) (lt : k < s.size.colours) (one_colour : members colours ≡ k ∷ [])
+    (there : slice_get s.regions c.region ≡ Some r) (hold : g ≡ slice_index_or c.holds.items c.region g)
+    (x_is : x ≡ next_node c k colours text) where
+  at_g : slice_get (holds_of c) c.region ≡ Some g
+  at_g =
+      let many = is.holds.0 in
+      let within = is.region in
+      slice_get_read (holds_of c) (length (holds_of c)) c.region g refl (omega (arith, many, within)) hold
+
+  number : g.passes.number ≡ c.number
+  number = is.numbers c.region g at_g
+
+  rests : IsHold r g
+  rests = is.holds.1 c.region r g there at_g
+
+  few_rows : g.seat.used ≤ 4096
+  few_rows = by_used g.seat.used refl where
+    by_used : (u : ℕ) → g.seat.used ≡ u → g.seat.used ≤ 4096
+    by_used zero e = omega (arith, e)
+    by_used (suc u) e =
+        let on = (rests.owns.fit u (omega (arith, e))).on_board.1 in
+        let most = r.board.is_size.5 in
+        omega (arith, e, on, most)
+
+  pub counts_on : c.count + 1 < 9223372036854775808
+  counts_on =
+      let counted = (is.home g at_g).counted in
+      let low = is.floored in
+      let few = few_rows in
+      omega (arith, counted, low, few)
+
+  pub appends_next : (x.id.client ≡ g.passes.number) × (g.next ≤ x.id.count)
+  appends_next =
+      let id = ap (λ (y : Node). y.id) x_is in
+      let low = (is.home g at_g).next in
+      let at = ap (λ (i : Id). i.count) id in
+      (ap (λ (i : Id). i.client) id ∙ sym number, omega (arith, low, at))
+
+  coloured : has colours k ≡ true
+  coloured = (in_filter (has colours) k (range_with_len 0 64) (subst (In k) (sym one_colour) (inl refl))).1
+
+  pub fits_column : FitsColumn r.number k x
+  fits_column = record {
+    in_region = ap (λ (y : Node). y.region) x_is ∙ sym (are_regions s c.region r there).0;
+    coloured = subst (λ (y : Node). has y.colours k ≡ true) (sym x_is) coloured;
+    counted =
+        let few = counts_on in
+        let at = ap (λ (y : Node). y.id.count) x_is in
+        omega (arith, few, at);
+    floored = subst (λ (y : Node). y.floor ≤ MAX_STAMP) (sym x_is) is.floored;
+  }
+
+  -- IT STANDS
+
+  module _ (h : Hold) (st : Stood) (a : StandsAlone g h x k st) (later : IsLater g.seat h.seat)
+      (next : h.next ≡ x.id.count + 1) (now : IsHold r h) (one : (row : Row) → OneNode (view_of h) row) (floor : ℕ)
+      (raised : floor ≡ max st.key.stamp c.floor) where
+    abbrev after : Client
+    after = record c { holds = with_item c.holds c.region h; floor = floor; count = c.count + 1 }
+
+    changed : ChangesHome s c after r g h
+    changed = record {
+      number = refl;
+      region = refl;
+      there = there;
+      before = at_g;
+      changed = refl;
+      rests = now;
+      on = record {
+        number = a.goes.number;
+        more = a.goes.more;
+        size = later.grows.size;
+        learns = record { known = later.grows.known; begun = later.grows.begun };
+      };
+    }
+
+    at_h : slice_get (holds_of after) c.region ≡ Some h
+    at_h = home_after s c after r g h is changed
+
+    stamp_is : st.key.stamp ≡ a.stamp
+    stamp_is = ap (λ (q : Key). q.stamp) a.key
+
+    entered : slice_get (seen_of after c.region k) a.place ≡ Some (told_single k g.passes.number x a.stamp).entry
+    entered = seen_at (holds_of after) c.region h at_h k a.place (told_single k g.passes.number x a.stamp) a.entered
+
+    lawful : MayEnter (entries_of (take a.place (dated c.region (entries_seen h k)))) x.id x.floor a.stamp
+    lawful = lawful_at c.region (length s.regions) (entries_seen h k) a.place (told_single k g.passes.number x a.stamp).entry
+        (lawful_after s c after r g h is changed k)
+        (ap (λ (l : List Entry). slice_get l a.place) (sym (seen_there (holds_of after) c.region h at_h k)) ∙ entered)
+
+    above : c.floor < a.stamp
+    above =
+        let stamped = lawful.stamped in
+        let low = ap (λ (y : Node). y.floor) x_is in
+        omega (arith, stamped, low)
+
+    in_range : a.stamp ≤ MAX_STAMP
+    in_range = lawful.in_range
+
+    used : h.seat.used ≡ g.seat.used
+    used = later.used
+
+    still : GoesOn (λ i e. IsNoMove e) g h
+    still = goes_weaken (λ i e. ((i ≡ k) × IsSingleOf x.id e) ⊎ HelpsOpen g h e) g h (λ i e. IsNoMove e)
+        (λ i e m. elim m [ inl own ↦ single_moves x.id e own.1 | inr helps ↦ step_moves helps.0 e helps.1 ]) a.goes
+
+    id_is : x.id ≡ record { client = c.number; count = length is.nodes }
+    id_is = ap (λ (y : Node). y.id) x_is ∙ (λ i. record { client = c.number; count = sym is.nodes_count i })
+
+    pub append_client : IsClient s after
+    append_client =
+        let before = is.home g at_g in
+        let counted = before.counted in
+        let up = above in
+        let within = in_range in
+        let low = is.floored in
+        let stamp = stamp_is in
+        let same = used in
+        let at = ap (λ (y : Node). y.id.count) x_is in
+        client_after s c after r g h is changed
+        (record {
+          next = omega (arith, next, at);
+          counted = omega (arith, counted, up, stamp, raised, same);
+          rows = rows_stay s c after r g h is changed refl used;
+          tracks = tracks_stay s c after r g h is changed refl;
+        })
+        (omega (arith, raised, stamp, within, low)) is.colours (is.nodes ++ x ∷ [])
+        (length-append is.nodes (x ∷ []) ∙ ap (λ (n : ℕ). n + 1) is.nodes_count)
+        (own_nodes_single c.number c.region (holds_of c) (holds_of after) g h is.nodes x at_g at_h
+        (others_after s c after r g h is changed) changed.on id_is is.own_nodes r k st now
+        (subst (λ z. k < z.colours) (sym (s.fit.each c.region r there).size) lt) used a)
+        (pulls_stay s c after r g h is changed still)
+
+    pub append_goes : HaveGoneOn (holds_of c) (holds_of after)
+    append_goes = have_gone_on s c after r g h is changed
+
+    pub append_finished : Finished c → Finished after
+    append_finished = finished_stays s c after r g h is changed refl
+
+    -- WHAT EXPLAINS IT
+
+    abbrev Others : event_types.Event → Type 0
+    Others e = HelpsOpen g h e × Accounted r g h now e
+
+    goes_apart : GoesOn (λ i e. ((i ≡ k) × IsSingleOf x.id e) ⊎ Others e) g h
+    goes_apart =
+        goes_weaken (λ i e. (((i ≡ k) × IsSingleOf x.id e) ⊎ HelpsOpen g h e) × Accounted r g h now e) g h
+        (λ i e. ((i ≡ k) × IsSingleOf x.id e) ⊎ Others e)
+        (λ i e m. elim m.0 [ inl own ↦ inl own | inr helps ↦ inr (helps, m.1) ])
+        (goes_accounted r g h now (λ i e. ((i ≡ k) × IsSingleOf x.id e) ⊎ HelpsOpen g h e) a.goes)
+
+    none_own : Finished c → (e : event_types.Event) → Others e → IsTrue (is_own c.number e) → ⊥
+    none_own finished e made own =
+        foreign r g h now changed.on one (rows_of c)
+        (subst (λ (z : ℕ). AreRows z g (rows_of c)) (sym (a.goes.number ∙ number)) (is.home g at_g).rows)
+        (finished g at_g) used e made.0 made.1
+        (subst (λ (z : ℕ). IsTrue (is_own z e)) (sym (a.goes.number ∙ number)) own)
+
+    module _ (objects : List Object) (kept : Kept) (finished : Finished c) (keeps : Keeps s c objects kept) where
+      abbrev caller : Caller
+      caller = caller_of s c objects
+
+      wants_is : map kept.starts (members colours) ≡ starts_of c k ∷ []
+      wants_is = ap (map kept.starts) one_colour ∙ ap (λ (v : Counts). v ∷ []) (keeps.starts k)
+
+      row_is : row_of c.number kept.rows (members colours) ≡ None
+      row_is = ap (row_of c.number kept.rows) one_colour
+
+      node_is : node_of caller kept colours text ≡ x
+      node_is = (λ i. record {
+        id = record { client = c.number; count = keeps.ids i };
+        region = c.region;
+        colours = colours;
+        text = text;
+        floor = keeps.floor i;
+        wants = wants_is i;
+        row = row_is i;
+      }) ∙ sym x_is
+
+      wants_there : node_wants x k ≡ kept.starts k
+      wants_there =
+          ap (λ (y : Node). node_wants y k) x_is
+          ∙ (ap (λ (l : List ℕ). wants_of l (starts_of c k ∷ []) k) one_colour
+          ∙ (if_true (k == k) (starts_of c k) zeros (eq-eqb k k refl) ∙ sym (keeps.starts k)))
+
+      id_kept : x.id ≡ record { client = c.number; count = kept.ids }
+      id_kept = ap (λ (y : Node). y.id) x_is ∙ (λ i. record { client = c.number; count = sym keeps.ids i })
+
+      floor_kept : x.floor ≡ kept.floor
+      floor_kept = ap (λ (y : Node). y.floor) x_is ∙ sym keeps.floor
+
+      abbrev some_rest : Rest
+      some_rest = record { nodes = λ _. replicate (suc kept.ids) x; rows = λ _. [] }
+
+      stands_with : (rest : Rest) → slice_get (rest.nodes c.number) kept.ids ≡ Some x
+          → Stands (seen_of c) (seen_of after) rest caller kept x k a.stamp a.place a.position
+      stands_with rest listed = record {
+        next = listed;
+        unseen = let e = seen_long (holds_of c) c.region g at_g k in let le = a.unseen in omega (arith, e, le);
+        entered = entered ∙ (λ i. Some (record {
+          by = number i;
+          event = events.Single x.id (floor_kept i) (wants_there i);
+          stamp = a.stamp;
+        }));
+        stands = ap (λ (l : List Entry). slice_get (line l) a.position) (seen_there (holds_of after) c.region h at_h k)
+            ∙ a.stands;
+      }
+
+      only : MakesOnly c.number c.region k 1 (seen_of c) (seen_of after)
+      only = alone_makes_only (holds_of c) (holds_of after) caller g h at_g at_h number x k st a Others
+          (sees_after s c after r g h is changed objects) (others_after s c after r g h is changed) goes_apart
+          (none_own finished)
+
+      abbrev kept_then : Kept
+      kept_then = kept_after_single kept c.region k a.place a.stamp a.position
+
+      keeps_then : Keeps s after objects kept_then
+      keeps_then = record {
+        by = kept_after_append (seen_of c) (seen_of after) some_rest caller kept x k a.stamp a.place a.position
+            (sees_after s c after r g h is changed objects) keeps.by (stands_with some_rest (replicated x kept.ids)) only;
+        floor =
+            let low = keeps.floor in
+            let stamp = stamp_is in
+            omega (arith, low, stamp, raised);
+        ids = ap (λ (n : ℕ). n + 1) keeps.ids;
+        rows = keeps.rows;
+        starts = keeps.starts;
+      }
+
+      abbrev answer : Appended
+      answer = record { id = x.id; row = None; stood = st }
+
+      record_then : (rest : Rest) → Fits (holds_of after) rest
+          → AppendsAs colours text answer (log_of (seen_of after) rest) caller kept kept_then
+      record_then rest fits = (
+        ap (λ (y : Node). y.id) (sym node_is),
+        ap (λ (q : Key). q.id) a.key,
+        subst (λ (y : Node). Appends (log_of (seen_of after) rest) caller kept y st.key.stamp None (map piece_of st.points)
+            kept_then) (sym node_is)
+            (subst (λ (l : List Point). Appends (log_of (seen_of after) rest) caller kept x st.key.stamp None (map piece_of l)
+            kept_then) (sym a.point)
+            (subst (λ (z : ℕ). Appends (log_of (seen_of after) rest) caller kept x z None
+            (record { colour = k; at = Event a.place; position = a.position } ∷ []) kept_then) (sym stamp_is) (
+              ap (λ (y : Node). members y.colours) x_is ∙ one_colour,
+              a.place,
+              refl,
+              appends_stand (seen_of c) (seen_of after) rest caller kept x k a.stamp a.place a.position
+                  (sees_after s c after r g h is changed objects) keeps.by
+                  (stands_alone (holds_of c) (holds_of after) caller g h at_g at_h number x k st a rest kept fits id_kept
+                  floor_kept wants_there),
+              refl,
+            ))),
+      )
+
+    explained_so : IsExplained s c after (AppendsAs colours text (record { id = x.id; row = None; stood = st }))
+    explained_so objects kept finished keeps =
+        (kept_then objects kept finished keeps, keeps_then objects kept finished keeps, record_then objects kept finished keeps)
+
+    pub append_explained : (id : Id) → id ≡ x.id
+        → IsExplained s c after (AppendsAs colours text (record { id = id; row = None; stood = st }))
+    append_explained id same =
+        subst (λ (i : Id). IsExplained s c after (AppendsAs colours text (record { id = i; row = None; stood = st })))
+        (sym same) explained_so
+
+  -- IT IS REFUSED
+
+  module _ (h : Hold) (now : IsHold r h) (but : SameBut k g h) (same : (h.seat ≡ g.seat) × (h.next ≡ g.next))
+      (sees : SeesMoreIn k g h) where
+    abbrev left : Client
+    left = record c { holds = with_item c.holds c.region h }
+
+    looked : ChangesHome s c left r g h
+    looked = record {
+      number = refl;
+      region = refl;
+      there = there;
+      before = at_g;
+      changed = refl;
+      rests = now;
+      on = gone_looked k g h but sees.more same.0;
+    }
+
+    pub append_refused : (fault : ColumnFault) → HasSingleCause (entries_seen h k) x.floor fault
+        → AppendRefused s c left colours text k fault
+    append_refused (faults.StampEnd last) cause = λ objects kept finished keeps. (
+      kept,
+      keeps_stay s c left r g h is looked (made_looked k g h but sees) refl refl refl (λ m. refl) objects kept keeps,
+      λ rest fits. none_for_one one_colour
+          (no_stamp_was_left (seen_of c) (seen_of left) rest (caller_of s c objects) kept k
+          (sees_after s c left r g h is looked objects) keeps.by
+          (subst (λ (l : List Entry). IsAtEnd l kept.floor)
+          (sym (seen_there (holds_of left) c.region h (home_after s c left r g h is looked) k))
+          (subst (IsAtEnd (entries_seen h k)) (ap (λ (y : Node). y.floor) x_is ∙ sym keeps.floor) cause.1))),
+    )
+    append_refused faults.NoMemory cause = look_nothing s c r g h k is there hold now but same sees
