@@ -1,0 +1,5 @@
+// What clients of a store do, one after another.
+mod appends;
+mod notes;
+mod trims;
+mod two_regions;
