@@ -22,6 +22,7 @@ pub(crate) fn append<R: Wait>(
     requires store { IsSmall store.now }
     requires client { IsOf store.now client.old }
     ensures client { IsOf store.now client.new }
+    ensures number { client.new.number ≡ client.old.number }
 {
     let text = Text::copied(alloc, text)?;
     Ok(client.append_one(rt, alloc, store, 0, Colours(1), text)?)
