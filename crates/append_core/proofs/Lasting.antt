@@ -85,7 +85,7 @@ module _ (own regions : ℕ) (history more : List Entry) (id : Id)
         let g : x ≡ record { key = entry_key f id; settled = true } = cc in
         g
 
-    not_open : (o : Option Standing) → open_entry id (entries history) ≡ o → open_entry id (entries history) ≡ None
+    pub not_open : (o : Option Standing) → open_entry id (entries history) ≡ o → open_entry id (entries history) ≡ None
     not_open None is = is
     not_open (Some x) is =
         let p = open_is_proposed own regions history id x start is in

@@ -16,4 +16,5 @@ mod Pointed
 mod Staging
 mod Staged
 mod Finishing
+mod Closed
 pub mod CallerLemmas

@@ -1,5 +1,7 @@
 -- What a hold knows of an append stays known.
-use Rattle.std.proofs.Common.{◌≡◌, ◌≢◌, ◌<◌, ℕ, sym, subst, ◌∙◌}
+use Rattle.std.proofs.Common.{◌≡◌, ◌≢◌, ◌<◌, ℕ, Option, Result, Ok, Err, ap, sym, subst, ◌∙◌, inl, inr}
+use Rattle.std.specs.Prelude.{IfOk, IfErr}
+use Rattle.log_node.specs.declared.node.Node.{Node}
 use Rattle.log_node.specs.Seen.{BegunAppend}
 use Rattle.log_node.specs.declared.marks.Outcome.{Outcome}
 use Rattle.stamp_board.specs.declared.view.Size.{Size}
@@ -12,6 +14,10 @@ use Rattle.chain_store.specs.declared.region.Region.{Region}
 use Rattle.chain_store.specs.declared.telling.HoldNote.{HoldNote}
 use Rattle.chain_store.specs.Holds.{IsHold, KnowsAppend, view_of}
 use Rattle.chain_store.specs.Telling.{Tells, Hears, view_told}
+use Rattle.append_core.specs.declared.stood.Stood.{Stood}
+use Rattle.append_core.specs.declared.several.MultiFault.{MultiFault}
+use Rattle.append_core.specs.declared.several.MultiFault.TheVariants as faults
+use Rattle.append_core.specs.Several.{Leaves, StandsInAll}
 
 module _ (r : Region) (g h : Hold) (b : BegunAppend) where
   pub append_later : IsLater g.seat h.seat → h.passes.number ≡ g.passes.number → KnowsAppend r g b → KnowsAppend r h b
@@ -64,3 +70,22 @@ append_heard r teller g h note b of of' tells hears other k =
       );
       own = λ is. absurd (other (sym hears.number ∙ sym is));
     }
+
+-- an append to several colours is of the same client's hold, whatever comes
+fault_number : (r : Region) (g h : Hold) (x : Node) (stop : Option ℕ) (fault : MultiFault) → Leaves r g h x stop fault
+    → h.passes.number ≡ g.passes.number
+fault_number r g h x stop (faults.Full used) l = absurd l
+fault_number r g h x stop (faults.StampEnd colour) l = l.1.all.goes.number
+fault_number r g h x stop (faults.Stopped steps) l = elim l.1 [
+  | inl none ↦ ap (λ (k : Hold). k.passes.number) none.1
+  | inr some ↦ some.1.goes.number
+]
+fault_number r g h x stop faults.NoMemory l = elim l [
+  | inl same ↦ ap (λ (k : Hold). k.passes.number) same
+  | inr gone ↦ gone.1.goes.number
+]
+
+pub several_number : (r : Region) (g h : Hold) (x : Node) (stop : Option ℕ) (answer : Result Stood MultiFault)
+    → IfOk answer (StandsInAll r g h x) → IfErr answer (Leaves r g h x stop) → h.passes.number ≡ g.passes.number
+several_number r g h x stop (Ok s) ok err = ok.goes.number
+several_number r g h x stop (Err fault) ok err = fault_number r g h x stop fault err

@@ -29,7 +29,7 @@ pub(crate) const ROW: Row = Row {
 };
 
 // The first client's first node in both colours, with its row.
-fn pair(alloc: Global) -> Result<Arc<Node>, AllocError>
+pub(crate) fn pair(alloc: Global) -> Result<Arc<Node>, AllocError>
     ensures id { IfOk result (λ node. node.value.id ≡ record { client = 0; count = 0 }) }
     ensures row { IfOk result (λ node. node.value.row ≡ Some record { client = 0; number = 0 }) }
     ensures fits { IfOk result (λ node. (node.value.region ≡ 0) × (node.value.floor ≡ 0)) }

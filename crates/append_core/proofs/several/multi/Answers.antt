@@ -68,17 +68,5 @@ returns-in-Ok-begin-clause-err g c =
 
 pub returns-in-Ok-begin-clause-seat : goal.returns-in-Ok-begin-clause-seat
 returns-in-Ok-begin-clause-seat g c =
-    let r = c.args.region.now in
-    let x = c.args.node.now.value in
-    let h = c.args.hold.now in
-    let row = c.in-Ok-begin.row in
-    let e = c.in-Ok-begin.ensures in
-    knows_on r h c.perform.new.hold x c.args.stop c.perform.result
-    (ok_as c.perform.result _ _
-    (λ s f. f h x (record { rests = c.requires.hold; client = c.requires.id.0; fresh = c.requires.id.1 })
-    (c.begun_with-begun.ensures ∙ ap (λ (w : Row). begun_for x w) (next_is r h row c.requires.hold e.row))
-    (begins_one r h c.begin.new.hold x row c.requires.hold e.row e.begun e.passes c.requires.row)) c.perform.ensures.ok)
-    (err_as c.perform.result _ _
-    (λ s f. f h x (record { rests = c.requires.hold; client = c.requires.id.0; fresh = c.requires.id.1 })
-    (c.begun_with-begun.ensures ∙ ap (λ (w : Row). begun_for x w) (next_is r h row c.requires.hold e.row))
-    (begins_one r h c.begin.new.hold x row c.requires.hold e.row e.begun e.passes c.requires.row)) c.perform.ensures.err)
+    knows_on c.args.region.now c.args.hold.now c.perform.new.hold c.args.node.now.value c.args.stop c.perform.result
+    (returns-in-Ok-begin-clause-ok g c) (returns-in-Ok-begin-clause-err g c)
