@@ -1,4 +1,6 @@
+use Rattle.std.proofs.Common.{◌<◌, lit<, sym, subst}
 use Rattle.std.proofs.lemmas.Result.{IfOk-weaker}
+use Rattle.stamp_board.specs.declared.view.Size.{Size}
 use Rattle.chain_store.specs.Givens.{OfTheirHeads}
 use Rattle.chain_store.specs.Regions.{tag_at}
 use Rattle.chain_store.specs.Holds.{GivesIn}
@@ -11,4 +13,4 @@ returns-clause-heads g c =
     (λ r. GivesIn 0 c.args.hold.now c.give.new.hold (tag_at c.args.region.now 0) 0 c.args.from r.0 r.1)
     (λ r. OfTheirHeads r.1.items)
     (λ r gives. gives_stamped c.args.region.now 0 c.args.hold.now c.give.new.hold 0 c.args.from r.0 r.1
-    c.give.ensures.hold c.give.requires.colour gives) c.give.ensures.ok
+    c.give.ensures.hold (subst (λ (k : Size). 0 < k.colours) (sym c.requires.region.size) (lit< tt)) gives) c.give.ensures.ok
