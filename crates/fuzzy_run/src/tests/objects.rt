@@ -2,7 +2,7 @@
 use super::*;
 
 /// Scripts, and their reports.
-const REPORTS: [(&str, &str); 3] = [
+const REPORTS: [(&str, &str); 4] = [
     // Puts, deletions and enqueues are appends of their texts to the shards of their keys: that of `b` is x, those of `a`
     // and `d` are y and x. A client of another region is refused; a causal map has no home.
     (
@@ -140,6 +140,68 @@ column e x
 4 a single a.4 floor 4 wants 4 stamp 5
 5 a single a.5 floor 5 wants 5 stamp 6
 = clock 6 line a.0:1,a.1:2,a.2:3,a.3:4,a.4:5,a.5:6 queue - cut 6 base 0
+",
+    ),
+    // Texts that are appended by hand are read as those of a queue's own commands, unless they have none of its forms. A
+    // dequeue completes what stands before its node; one whose client has not played a trimmed node stands unread.
+    (
+        "fuzzylog 1
+regions r
+colours x y
+client a r
+client b r
+client c r
+queue q r x
+begin
+a append x e:v1
+a append x e:V
+a append x,y e:v2
+c stop 3 x,y e:v3
+b deq q
+b append x q:
+a sync x
+a trim x
+b deq q
+",
+        "report 1
+client a
+9 append ok 1 x!0@0
+10 append ok 2 x!1@1
+11 append ok 3 row 0 x!2@2 y!0@0
+15 sync ok x?8/6 plays 6
++ a.0 1 e:v1
++ a.1 2 e:V
++ a.2 3 e:v2
++ c.0 4 e:v3
++ b.0 5 q:
++ b.1 6 q:
+16 trim ok !8 base 6
+client b
+13 deq ok v1 x!5@4 x?7/5
+14 append ok 6 x!7@5
+17 deq unread 7 trimmed x 6
+client c
+12 stop stopped 3
+row r a.0 a.2 x=3 y=3 final 3
+row r c.0 c.0 x=4 y=4 final 4
+column r x
+0 a single a.0 floor 0 wants 0 stamp 1
+1 a single a.1 floor 1 wants 0 stamp 2
+2 a propose a.2 floor 2 wants 0 stamp 3
+3 a settle a.2 final 3
+4 c propose c.0 floor 0 wants 0 stamp 4
+5 b single b.0 floor 0 wants 0 stamp 5
+6 b settle c.0 final 4
+7 b single b.1 floor 5 wants 5 stamp 6
+8 a trim 6
+9 b single b.2 floor 6 wants 5 stamp 7
+= clock 7 line a.0:1,a.1:2,a.2:3,c.0:4,b.0:5,b.1:6,b.2:7 queue - cut 7 base 6
+column r y
+0 a propose a.2 floor 2 wants 0 stamp 3
+1 a settle a.2 final 3
+2 c propose c.0 floor 0 wants 0 stamp 4
+3 b settle c.0 final 4
+= clock 4 line a.2:3,c.0:4 queue - cut 2 base 0
 ",
     ),
 ];
