@@ -132,9 +132,9 @@ not_zero n ne = by_test ((n == 0) ≡ false) (n == 0) (λ t. absurd (ne (eqb-tru
 
 module _ (k : Size) (ws : List ℕ) (v : View) (may : MayBe k ws v) (row : Row) (x : Node) (begun : KnowsBegun v row x) where
   -- an outcome with which a row is decided is that of its marks
-  pub kept_of_marks : (o : Outcome) → o ≢ Open → decided_in k ws row ≡ o
+  pub decided_of_marks : (o : Outcome) → o ≢ Open → decided_in k ws row ≡ o
       → outcome_of (marks_at k ws (row_at k row) x.colours) ≡ o
-  kept_of_marks o shut decided =
+  decided_of_marks o shut decided =
       let shown = may.decided row (λ e. shut (sym decided ∙ e)) in
       let is : outcome_in k ws row ≡ o = sym shown ∙ decided in
       let b = may.begun row x begun in
@@ -147,7 +147,7 @@ module _ (k : Size) (ws : List ℕ) (v : View) (may : MayBe k ws v) (row : Row) 
     (f : ℕ) (known : KnowsOutcome v row (Final f)) where
   of_marks : outcome_of (marks_at k ws (row_at k row) x.colours) ≡ Final f
   of_marks =
-      kept_of_marks k ws v may row x begun (Final f) (λ e. let h : ⊥ = cc (e) in h)
+      decided_of_marks k ws v may row x begun (Final f) (λ e. let h : ⊥ = cc (e) in h)
       (may.outcomes row (Final f) known)
 
   -- where a row keeps a final outcome, the mark of each of its colours has a number at most the final one

@@ -47,8 +47,8 @@ impl Region {
     }
 
     /// The outcome of the row's marks, which stands from then on unless it is open: it is open where the row is not
-    /// begun, or a mark that this call looked for was missing. The outcome that was kept is loaded once more, which tells
-    /// that it is that of the marks that the hold knew.
+    /// begun, or a mark that this call looked for was missing. The outcome is loaded once more, which tells that it is that of
+    /// the marks that the hold knew.
     pub fn decide(&self, hold: &mut Hold, row: Row) -> Outcome
         requires hold { IsHold self.now hold.old }
         requires row { IsRow self.now.board.size row }
@@ -66,8 +66,8 @@ impl Region {
         self.board.last(&mut hold.seat, row)
     }
 
-    /// The outcome that the row keeps; open while it is not decided.
-    pub fn kept(&self, hold: &mut Hold, row: Row) -> Outcome
+    /// The outcome that the row has; open while it is not decided.
+    pub fn last(&self, hold: &mut Hold, row: Row) -> Outcome
         requires hold { IsHold self.now hold.old }
         requires row { IsRow self.now.board.size row }
         ensures hold { IsHold self.now hold.new }

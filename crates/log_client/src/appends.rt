@@ -53,7 +53,7 @@ fn stand<R: Wait>(
                 client: node.id.client,
                 number: 0,
             };
-            let _kept = region.kept(hold, first);
+            let _last = region.last(hold, first);
             Ok(stood)
         }
         Err(fault) => Err(fault),

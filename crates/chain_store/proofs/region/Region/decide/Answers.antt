@@ -31,7 +31,7 @@ returns-clause-marks c = λ x mark begun knows.
     let w = seen c.decide.new.seat in
     let u = seen c.last.new.seat in
     let shut = c.decide.ensures.closed (x, begun, λ k has_it. (mark k, knows k has_it)) in
-    let kept = c.last.ensures.before c.decide.result (c.decide.ensures.known shut) in
+    let same = c.last.ensures.before c.decide.result (c.decide.ensures.known shut) in
     decided_as c.args.self.now.board.size v u c.args.row c.last.result
-    (Grows-trans v w u c.decide.ensures.seat.grows c.last.ensures.seat.grows) (λ e. shut (sym kept ∙ e))
+    (Grows-trans v w u c.decide.ensures.seat.grows c.last.ensures.seat.grows) (λ e. shut (sym same ∙ e))
     c.last.ensures.value x begun mark knows

@@ -1,6 +1,6 @@
 use Rattle.std.proofs.Common.{refl}
 use Rattle.chain_store.proofs.Beginning.{hold_learnt}
-use Rattle.chain_store.proofs.region.Region.kept.Goals as goal
+use Rattle.chain_store.proofs.region.Region.last.Goals as goal
 
 pub returns-clause-hold : goal.returns-clause-hold
 returns-clause-hold c =
