@@ -32,7 +32,7 @@ const OBJECTS: [&str; 4] = [
 ];
 
 /// The script is refused at that line for that reason.
-fn refuses<R: Threads + Wait + Abort>(
+fn refuses<R: Threads + Wait + Sync + Abort>(
     alloc: Global,
     rt: &R,
     script: &[u8],

@@ -1,0 +1,10 @@
+// A script's clients on threads: each is served its commands beside the others.
+mod answers;
+mod beside;
+mod dealing;
+mod ending;
+mod run_beside;
+mod served;
+mod syncs;
+
+pub use run_beside::run_beside;
