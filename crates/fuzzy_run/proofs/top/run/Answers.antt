@@ -1,12 +1,1 @@
-use Rattle.fuzzy_io.specs.Causes.{Rose}
-use Rattle.fuzzy_run.proofs.TopLemmas.{completes}
 use Rattle.fuzzy_run.proofs.top.run.Goals as goal
-
-pub returns-in-Some-Step-clause-complete : goal.returns-in-Some-Step-clause-complete
-returns-in-Some-Step-clause-complete g c = λ asked no_read no_write doable.
-    completes c.perform.result (g.S.Source.left c.args.source.now) (g.K.Sink.holds c.args.sink.now)
-    (g.K.Sink.holds c.perform.new.sink)
-    (Rose (g.S.Source.faults c.args.source.now) (g.S.Source.faults c.perform.new.source))
-    (Rose (g.K.Sink.faults c.args.sink.now) (g.K.Sink.faults c.perform.new.sink))
-    c.perform.ensures.no_other c.perform.ensures.refused c.perform.ensures.read_fault c.perform.ensures.write_fault
-    no_read no_write doable
