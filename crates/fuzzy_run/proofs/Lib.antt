@@ -1,1 +1,5 @@
 mod TopLemmas
+mod ByPlace
+mod ServedClients
+mod CommandAnswers
+mod ClosingRuns

@@ -4,8 +4,9 @@ pub mod Built
 pub mod Refusals
 pub mod TopCall
 pub mod Reading
-pub mod Helps
 pub mod Serving
 pub mod Served
 pub mod Dealing
+pub mod Giving
 pub mod EndReports
+pub mod Showing

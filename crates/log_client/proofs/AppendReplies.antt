@@ -43,8 +43,10 @@ use Rattle.append_core.specs.declared.stood.Stood.{Stood}
 use Rattle.append_core.specs.declared.stood.Point.{Point}
 use Rattle.append_core.specs.Helping.{HelpsOpen}
 use Rattle.append_core.specs.Standing.{IsSingleOf, StandsAlone}
+use Rattle.append_core.proofs.CallerLemmas.{helped_complete}
 use Rattle.lawful_run.specs.Callers.{Caller, node_of, row_of}
 use Rattle.lawful_run.specs.Appends.{Appends, none_for_one}
+use Rattle.lawful_run.specs.Lawful.{IsHelp}
 use Rattle.client_law.specs.Knowing.{Rest, log_of}
 use Rattle.client_law.specs.Making.{MakesOnly}
 use Rattle.client_law.specs.Appends.{StandsAlone as Stands}
@@ -63,6 +65,7 @@ use Rattle.log_client.proofs.OwnMore.{own_nodes_single}
 use Rattle.log_client.proofs.Foreign.{Accounted, goes_accounted, foreign}
 use Rattle.log_client.proofs.AtHome.{ChangesHome, gone_looked, have_gone_on, home_after, others_after, sees_after, client_after, are_regions}
 use Rattle.log_client.proofs.Looked.{lawful_after, rows_stay, finished_stays, pulls_stay, tracks_stay, made_looked, keeps_stay}
+use Rattle.log_client.proofs.Helping.{helps_at_home}
 use Rattle.log_client.proofs.TrimReplies.{look_nothing}
 
 -- what it made moves no nodes between regions
@@ -83,6 +86,15 @@ step_moves id (events.Raise to) s = absurd s
 step_moves id (events.Give region from) s = absurd s
 step_moves id (events.Carry region start heads) s = absurd s
 step_moves id (events.Trim counts) s = absurd s
+
+single_no_help : (id : Id) (e : event_types.Event) (number : ℕ) → IsSingleOf id e → IsHelp number e → ⊥
+single_no_help id (events.Single other floor wants) number s h = h
+single_no_help id (events.Propose other floor wants) number s h = s
+single_no_help id (events.Settle other outcome) number s h = s
+single_no_help id (events.Raise to) number s h = h
+single_no_help id (events.Give region from) number s h = h
+single_no_help id (events.Carry region start heads) number s h = h
+single_no_help id (events.Trim counts) number s h = h
 
 replicated : {A : Type 0} (x : A) (n : ℕ) → slice_get (replicate (suc n) x) n ≡ Some x
 replicated x zero = refl
@@ -222,6 +234,11 @@ module _ (s : Store) (c : Client) (r : Region) (g : Hold) (k : ℕ) (colours : C
         (others_after s c after r g h is changed) changed.on id_is is.own_nodes r k st now
         (subst (λ z. k < z.colours) (sym (s.fit.each c.region r there).size) lt) used a)
         (pulls_stay s c after r g h is changed still)
+        (helps_at_home s c after r g h is changed (λ i e. ((i ≡ k) × IsSingleOf x.id e) ⊎ HelpsOpen g h e) a.goes
+        (λ i e m helps id step. elim m [
+          | inl own ↦ absurd (single_no_help x.id e c.number own.1 helps)
+          | inr opened ↦ helped_complete g h e opened id step
+        ]))
 
     pub append_goes : HaveGoneOn (holds_of c) (holds_of after)
     append_goes = have_gone_on s c after r g h is changed

@@ -28,6 +28,8 @@ mod Plays
 mod AtHome
 mod Staying
 mod Looked
+mod GoingOn
+mod Helping
 mod SyncReplies
 mod SyncCalls
 mod TrimReplies

@@ -11,13 +11,17 @@ use Rattle.chain_store.specs.declared.hold.Hold.{Hold}
 use Rattle.chain_store.specs.declared.hold.ColumnPasses.{ColumnPasses}
 use Rattle.chain_store.specs.Histories.{entries_in, maker}
 use Rattle.chain_store.specs.Columns.{told_single}
-use Rattle.chain_store.specs.Holds.{history_seen, seen_in, made_in}
-use Rattle.chain_store.proofs.CallerLemmas.{goes_weaken}
+use Rattle.stamp_board.specs.Views.{Grows}
+use Rattle.stamp_board.proofs.CallerLemmas.{Learns-from}
+use Rattle.chain_store.specs.Holds.{history_seen, seen_in, made_in, view_of}
+use Rattle.chain_store.proofs.CallerLemmas.{goes_weaken, prefix_same}
 use Rattle.append_core.specs.declared.stood.Stood.{Stood}
 use Rattle.append_core.specs.Helping.{HelpsOpen}
 use Rattle.append_core.specs.Standing.{IsSingleOf, StandsAlone}
+use Rattle.append_core.proofs.CallerLemmas.{complete_later}
 
-module _ (g h k : Hold) (x : Node) (colour : ℕ) (s : Stood) (same : k.passes ≡ h.passes) where
+module _ (g h k : Hold) (x : Node) (colour : ℕ) (s : Stood) (same : k.passes ≡ h.passes)
+    (grows : Grows (view_of h) (view_of k)) where
   seen_same : (c : ℕ) → seen_in h c ≡ seen_in k c
   seen_same c = ap (λ (p : ColumnPasses). history_seen (slice_get p.items.items c)) (sym same)
 
@@ -36,6 +40,8 @@ module _ (g h k : Hold) (x : Node) (colour : ℕ) (s : Stood) (same : k.passes �
       opened = m.2.opened;
       unfenced = m.2.unfenced;
     },
+    complete_later h k (λ c. prefix_same (seen_in h c) (seen_in k c) (sym (seen_same c))) grows.size
+        (Learns-from (view_of h) (view_of k) grows) m.0 m.3,
   )
 
   pub stands_by : StandsAlone g h x colour s → StandsAlone g k x colour s

@@ -2,7 +2,7 @@
 ghost use Rattle.std.specs.Prelude.{◌≡◌, ◌<◌, ◌++◌, IfOk, IfErr, OnErr};
 ghost use Rattle.chain_store.specs.Holds.{IsHold, SameBut, SeesMoreIn, seen_in};
 ghost use Rattle.log_client.specs.Fits.{HaveGoneOn};
-ghost use Rattle.log_client.specs.Clients.{IsClient, IsTrack, Finished, holds_of};
+ghost use Rattle.log_client.specs.Clients.{IsClient, IsTrack, Finished, Helps, holds_of};
 ghost use Rattle.log_client.specs.Inside.{PlaysOn, IsRefusedOn, Extends};
 ghost use Rattle.log_client.specs.Calls.{IsExplained, SyncsAs, AnswersSync, SyncRefused, IsSame, nodes_played};
 
@@ -106,6 +106,7 @@ impl Client {
         ensures same { IsSame self.old self.new }
         ensures goes { HaveGoneOn (holds_of self.old) (holds_of self.new) }
         ensures finished { Finished self.old → Finished self.new }
+        ensures idle { Helps self.new → Helps self.old }
         ensures answer { IfOk result (λ r. AnswersSync self.old self.new colour r.0) }
         ensures nodes { IfOk result (λ r. r.1 ≡ nodes_played self.new colour r.0) }
         ensures ok { IfOk result (λ r. IsExplained store.now self.old self.new (SyncsAs self.new colour r.0)) }

@@ -4,7 +4,8 @@ ghost use Rattle.script_text.specs.declared.script.Object.{Object};
 ghost use Rattle.script_text.specs.Fitting.{IsWithin};
 ghost use Rattle.log_client.specs.Clients.{IsClient};
 ghost use Rattle.fuzzy_run.specs.Built.{is_served};
-ghost use Rattle.fuzzy_run.specs.Serving.{Gives, IsAnswered};
+ghost use Rattle.fuzzy_run.specs.Serving.{IsAnswered};
+ghost use Rattle.fuzzy_run.specs.Giving.{Gives};
 ghost use Rattle.fuzzy_run.specs.Served.{IsServable};
 
 use crate::serving::syncs::sync;

@@ -1,9 +1,8 @@
 // The report of a store in the end, and of the replies to its clients.
-ghost use Rattle.std.specs.Prelude.{◌≡◌, ◌<◌, ◌≤◌, ◌++◌, ℕ, length, map, slice_get, Some, IfOk, OnOk};
+ghost use Rattle.std.specs.Prelude.{◌≡◌, ◌≤◌, ◌++◌, length, map, IfOk, OnOk};
 ghost use Rattle.std.specs.List.{flat_map, enumerate_from};
-ghost use Rattle.chain_store.specs.declared.closed.ClosedRegion.{ClosedRegion};
-ghost use Rattle.closing_report.specs.Columns.{column_shown, AreOfRegion};
-ghost use Rattle.fuzzy_run.specs.EndReports.{nodes_in, nodes_of, HaveNodes, row_shown, rows_shown, columns_shown, client_shown, CanShow, end_report};
+ghost use Rattle.fuzzy_run.specs.EndReports.{nodes_of, row_shown, end_report};
+ghost use Rattle.fuzzy_run.specs.Showing.{nodes_in, AreThere, rows_shown, columns_shown, client_shown, CanShow};
 
 use chain_store::ClosedRegion;
 use closing_report::push_columns;
@@ -42,7 +41,7 @@ fn push_rows(
     rows: ClosedRows,
     reports: &mut ListOf<RowReport>,
 ) -> Result<(), AllocError>
-    requires { HaveNodes (nodes_in nodes.now) rows }
+    requires { AreThere (nodes_in nodes.now) rows }
     ensures { OnOk result (reports.new ≡ reports.old ++ map (row_shown (nodes_in nodes.now) region) rows) }
 {
     for closed in rows.into_vec() {
