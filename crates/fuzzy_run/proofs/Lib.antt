@@ -3,3 +3,6 @@ mod ByPlace
 mod ServedClients
 mod CommandAnswers
 mod ClosingRuns
+mod Giving
+mod Yielding
+mod Dealing

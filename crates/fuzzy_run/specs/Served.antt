@@ -1,11 +1,10 @@
 -- A client before it is served its commands, and after.
-use Rattle.std.specs.Prelude.{◌≡◌, ℕ, ◌≤◌, ◌==◌, IsTrue, List, [], length, Some, slice_get, vec_capacity}
-use Rattle.std.specs.List.{All, filter}
+use Rattle.std.specs.Prelude.{◌≡◌, ◌≤◌, IsTrue, List, [], length, vec_capacity}
+use Rattle.std.specs.List.{All}
 use Rattle.script_text.specs.Fitting.{IsWithin}
 use Rattle.script_text.specs.declared.script.Object.{Object}
 use Rattle.script_text.specs.declared.script.Command.{Command}
 use Rattle.log_client.specs.declared.store.Store.{Store}
-use Rattle.log_client.specs.declared.client.Client.{Client}
 use Rattle.log_client.specs.Clients.{Finished}
 use Rattle.log_client.specs.Calls.{IsSame}
 use Rattle.fuzzy_run.specs.declared.serving.served.Served.{Served}
@@ -30,12 +29,3 @@ pub record CanServe (s : Store) (x : Served) : Type 0 where
 pub record IsServed (s : Store) (x y : Served) : Type 0 where
   pub same : IsSame x.client y.client
   pub serves : (objects : List Object) → Serves s objects y.client x.commands.items y.replies.items
-
--- each client with the commands that are its own, and with room for the replies
-pub record AreDealt (clients : List Client) (commands : List Command) (served : List Served) : Type 0 where
-  pub many : length served ≡ length clients
-  pub client : (n : ℕ) (x : Served) → slice_get served n ≡ Some x → slice_get clients n ≡ Some x.client
-  pub commands_are : (n : ℕ) (x : Served) → slice_get served n ≡ Some x
-      → x.commands.items ≡ filter (λ (c : Command). c.client == n) commands
-  pub replies : (n : ℕ) (x : Served) → slice_get served n ≡ Some x → x.replies.items ≡ []
-  pub room : (n : ℕ) (x : Served) → slice_get served n ≡ Some x → length x.commands.items ≤ vec_capacity x.replies

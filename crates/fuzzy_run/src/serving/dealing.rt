@@ -2,8 +2,7 @@
 ghost use Rattle.std.specs.Prelude.{◌≡◌, ◌<◌, length, map, IfOk};
 ghost use Rattle.std.specs.List.{All};
 ghost use Rattle.script_text.specs.declared.script.Command.{Command};
-ghost use Rattle.fuzzy_run.specs.Dealing.{AreIdle, HaveOwn, HaveRoom};
-ghost use Rattle.fuzzy_run.specs.Served.{AreDealt};
+ghost use Rattle.fuzzy_run.specs.Dealing.{AreIdle, HaveOwn, HaveRoom, AreDealt};
 
 use crate::serving::served::Served;
 use log_client::{Client, Clients};
