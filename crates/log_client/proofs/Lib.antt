@@ -39,5 +39,8 @@ mod BetweenHolds
 mod PullReplies
 mod PullCalls
 mod StandsLater
+mod NextNodes
+mod AppendsNothing
 mod AppendReplies
+mod RowReplies
 pub mod CallerLemmas
