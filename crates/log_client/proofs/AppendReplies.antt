@@ -1,13 +1,12 @@
 -- What an append of a client to one colour leaves, and what explains its answer.
-use Rattle.std.proofs.Common.{◌≡◌, ◌⊎◌, inl, inr, ℕ, zero, suc, true, ◌+◌, ◌<◌, ◌≤◌, List, [], ◌∷◌, ◌++◌, length, map, take, Some, None, refl, ap, sym, subst, ◌∙◌, arith, eq-eqb, length-append}
-use Rattle.std.specs.Prelude.{IsTrue, replicate, slice_get, slice_index_or, max, ◌==◌}
+use Rattle.std.proofs.Common.{◌≡◌, ◌≢◌, ◌⊎◌, inl, inr, ℕ, zero, suc, true, ◌+◌, ◌<◌, ◌≤◌, List, [], ◌∷◌, ◌++◌, length, map, take, Some, None, Ok, Err, refl, ap, sym, subst, ◌∙◌, arith, length-append}
+use Rattle.std.specs.Prelude.{IsTrue, replicate, slice_get, slice_index_or, max}
+use Rattle.std.specs.List.{range_with_len}
 use Rattle.std.specs.Vec.{with_item}
-use Rattle.std.proofs.lemmas.Option.{slice_get_read}
 use Rattle.log_node.specs.declared.ids.Id.{Id}
 use Rattle.log_node.specs.declared.ids.Key.{Key}
 use Rattle.log_node.specs.declared.ids.Row.{Row}
 use Rattle.log_node.specs.declared.ids.Colours.{Colours}
-use Rattle.log_node.specs.declared.ids.Counts.{Counts}
 use Rattle.log_node.specs.declared.limits.TheConstants.{MAX_STAMP}
 use Rattle.log_node.specs.declared.node.At.TheVariants.{Event}
 use Rattle.log_node.specs.declared.node.Node.{Node}
@@ -19,14 +18,11 @@ use Rattle.col_core.specs.History.{IsAtEnd, line}
 use Rattle.col_core.specs.Computed.{dated}
 use Rattle.col_core.specs.Cuts.{entries_of}
 use Rattle.col_core.specs.Ids.{IsStepOf}
-use Rattle.col_core.specs.Rows.{node_wants, wants_of}
+use Rattle.col_core.specs.Rows.{node_wants}
 use Rattle.col_core.specs.Log.{is_own}
 use Rattle.col_core.specs.Keeping.{Kept, kept_after_single}
-use Rattle.std.specs.List.{range_with_len}
-use Rattle.log_node.specs.Vectors.{zeros}
 use Rattle.col_core.specs.Legal.{MayEnter}
-use Rattle.col_core.proofs.CallerLemmas.{In, if_true, in_filter}
-use Rattle.column.specs.declared.faults.ColumnFault.{ColumnFault}
+use Rattle.col_core.proofs.CallerLemmas.{In, contains_in, in_filter}
 use Rattle.column.specs.declared.faults.ColumnFault.TheVariants as faults
 use Rattle.script_text.specs.declared.script.Object.{Object}
 use Rattle.stamp_board.specs.Seats.{IsLater}
@@ -41,10 +37,14 @@ use Rattle.chain_store.specs.Holds.{IsHold, SameBut, SeesMoreIn, entries_seen, v
 use Rattle.chain_store.proofs.CallerLemmas.{goes_weaken}
 use Rattle.append_core.specs.declared.stood.Stood.{Stood}
 use Rattle.append_core.specs.declared.stood.Point.{Point}
+use Rattle.append_core.specs.declared.several.MultiFault.{MultiFault}
+use Rattle.append_core.specs.declared.several.MultiFault.TheVariants as append_faults
 use Rattle.append_core.specs.Helping.{HelpsOpen}
+use Rattle.append_core.specs.Settled.{IsComplete}
 use Rattle.append_core.specs.Standing.{IsSingleOf, StandsAlone}
-use Rattle.lawful_run.specs.Callers.{Caller, node_of, row_of}
+use Rattle.lawful_run.specs.Callers.{Caller, node_of}
 use Rattle.lawful_run.specs.Appends.{Appends, none_for_one}
+use Rattle.lawful_run.specs.Lawful.{IsHelp}
 use Rattle.client_law.specs.Knowing.{Rest, log_of}
 use Rattle.client_law.specs.Making.{MakesOnly}
 use Rattle.client_law.specs.Appends.{StandsAlone as Stands}
@@ -52,18 +52,21 @@ use Rattle.client_law.proofs.CallerLemmas.{appends_stand, kept_after_append, law
 use Rattle.log_client.specs.declared.store.Store.{Store}
 use Rattle.log_client.specs.declared.client.Client.{Client}
 use Rattle.log_client.specs.declared.answers.Appended.{Appended}
-use Rattle.log_client.specs.Fits.{Fits, HaveGoneOn}
+use Rattle.log_client.specs.Fits.{Fits}
 use Rattle.log_client.specs.Ending.{IsNoMove}
-use Rattle.log_client.specs.Clients.{holds_of, seen_of, rows_of, starts_of, caller_of, IsClient, AreRows, Keeps, Finished}
+use Rattle.log_client.specs.Clients.{holds_of, seen_of, rows_of, caller_of, IsClient, AreRows, Keeps, Finished}
 use Rattle.log_client.specs.Appends.{next_node, piece_of, AppendsAs, AppendRefused}
 use Rattle.log_client.specs.Calls.{IsExplained}
+use Rattle.log_client.specs.Inside.{CallsAppend}
 use Rattle.log_client.proofs.Seeing.{seen_there}
 use Rattle.log_client.proofs.Alone.{seen_long, seen_at, stands_alone, alone_makes_only}
-use Rattle.log_client.proofs.OwnMore.{own_nodes_single}
+use Rattle.log_client.proofs.OwnMore.{own_nodes_single, step_no_single}
 use Rattle.log_client.proofs.Foreign.{Accounted, goes_accounted, foreign}
-use Rattle.log_client.proofs.AtHome.{ChangesHome, gone_looked, have_gone_on, home_after, others_after, sees_after, client_after, are_regions}
+use Rattle.log_client.proofs.AtHome.{ChangesHome, gone_looked, have_gone_on, home_after, others_after, sees_after, client_after}
 use Rattle.log_client.proofs.Looked.{lawful_after, rows_stay, finished_stays, pulls_stay, tracks_stay, made_looked, keeps_stay}
-use Rattle.log_client.proofs.TrimReplies.{look_nothing}
+use Rattle.log_client.proofs.TrimReplies.{look_client, look_goes, look_finished, look_nothing}
+use Rattle.log_client.proofs.NextNodes.{hold_read, number_is, counts_on, appends_next, fits_column, id_listed, node_is, id_kept, floor_kept, wants_kept}
+use Rattle.log_client.proofs.AppendsNothing.{one_takes_none, finds_nothing}
 
 -- what it made moves no nodes between regions
 single_moves : (id : Id) (e : event_types.Event) → IsSingleOf id e → IsNoMove e
@@ -165,8 +168,13 @@ module _ (s : Store) (c : Client) (r : Region) (g : Hold) (k : ℕ) (colours : C
     still = goes_weaken (λ i e. ((i ≡ k) × IsSingleOf x.id e) ⊎ HelpsOpen g h e) g h (λ i e. IsNoMove e)
         (λ i e m. elim m [ inl own ↦ single_moves x.id e own.1 | inr helps ↦ step_moves helps.0 e helps.1 ]) a.goes
 
-    pub append_client : IsClient s after
-    append_client =
+    whole : (i : ℕ) (e : event_types.Event) → ((i ≡ k) × IsSingleOf x.id e) ⊎ HelpsOpen g h e → IsHelp c.number e
+        → (id : Id) → IsStepOf id e → IsComplete h id
+    whole i e (inl own) help id step = absurd (step_no_single id x.id e step own.1)
+    whole i e (inr helps) help id step = subst (IsComplete h) (step_once helps.0 id e helps.1 step) helps.3
+
+    single_client : IsClient s after
+    single_client =
         let before = is.home g at_g in
         let counted = before.counted in
         let up = above in
@@ -188,12 +196,7 @@ module _ (s : Store) (c : Client) (r : Region) (g : Hold) (k : ℕ) (colours : C
         (others_after s c after r g h is changed) changed.on (id_listed s c r g colours text x is there at_g x_is) is.own_nodes r k st now
         (subst (λ z. k < z.colours) (sym (s.fit.each c.region r there).size) lt) used a)
         (pulls_stay s c after r g h is changed still)
-
-    pub append_goes : HaveGoneOn (holds_of c) (holds_of after)
-    append_goes = have_gone_on s c after r g h is changed
-
-    pub append_finished : Finished c → Finished after
-    append_finished = finished_stays s c after r g h is changed refl
+        (helps_after s c after r g h is changed (λ i e. ((i ≡ k) × IsSingleOf x.id e) ⊎ HelpsOpen g h e) a.goes whole)
 
     -- WHAT EXPLAINS IT
 
@@ -301,7 +304,7 @@ module _ (s : Store) (c : Client) (r : Region) (g : Hold) (k : ℕ) (colours : C
     pub single_stands : (id : Id) → id ≡ x.id
         → CallsAppend s c after colours text None (Ok (record { id = id; row = None; stood = st }))
     single_stands id same = record {
-      client = append_client;
+      client = single_client;
       same = (refl, refl);
       goes = have_gone_on s c after r g h is changed;
       finished = λ finished. inl (finished_stays s c after r g h is changed refl finished);
@@ -310,7 +313,7 @@ module _ (s : Store) (c : Client) (r : Region) (g : Hold) (k : ℕ) (colours : C
         subst (λ (i : Id). IsExplained s c after (AppendsAs colours text (record { id = i; row = None; stood = st })))
             (sym same) explained_so,
       );
-      full = λ used. (λ e. absurd (let f : ⊥ = cc (e) in f), λ no_row. one_no_row None used no_row);
+      full = λ used. (λ e. absurd (let f : ⊥ = cc (e) in f), λ no_row. one_takes_none s c colours k None used one_colour no_row);
     }
 
   -- IT IS REFUSED
@@ -339,7 +342,7 @@ module _ (s : Store) (c : Client) (r : Region) (g : Hold) (k : ℕ) (colours : C
       goes = look_goes s c r g h k is there hold now but same sees;
       finished = λ finished. inl (look_finished s c r g h k is there hold now but same sees finished);
       answer = why;
-      full = λ used. (λ e. absurd (not_full used (cc e)), λ no_row. one_no_row None used no_row);
+      full = λ used. (λ e. absurd (not_full used (cc e)), λ no_row. one_takes_none s c colours k None used one_colour no_row);
     }
 
     pub single_ended : (clock : ℕ) → HasSingleCause (entries_seen h k) x.floor (faults.StampEnd clock)
