@@ -42,6 +42,7 @@ use Rattle.append_core.specs.declared.several.MultiFault.TheVariants as append_f
 use Rattle.append_core.specs.Helping.{HelpsOpen}
 use Rattle.append_core.specs.Settled.{IsComplete}
 use Rattle.append_core.specs.Standing.{IsSingleOf, StandsAlone}
+use Rattle.append_core.proofs.CallerLemmas.{helped_complete}
 use Rattle.lawful_run.specs.Callers.{Caller, node_of}
 use Rattle.lawful_run.specs.Appends.{Appends, none_for_one}
 use Rattle.lawful_run.specs.Lawful.{IsHelp}
@@ -64,6 +65,7 @@ use Rattle.log_client.proofs.OwnMore.{own_nodes_single, step_no_single}
 use Rattle.log_client.proofs.Foreign.{Accounted, goes_accounted, foreign}
 use Rattle.log_client.proofs.AtHome.{ChangesHome, gone_looked, have_gone_on, home_after, others_after, sees_after, client_after}
 use Rattle.log_client.proofs.Looked.{lawful_after, rows_stay, finished_stays, pulls_stay, tracks_stay, made_looked, keeps_stay}
+use Rattle.log_client.proofs.Helping.{helps_at_home}
 use Rattle.log_client.proofs.TrimReplies.{look_client, look_goes, look_finished, look_nothing}
 use Rattle.log_client.proofs.NextNodes.{hold_read, number_is, counts_on, appends_next, fits_column, id_listed, node_is, id_kept, floor_kept, wants_kept}
 use Rattle.log_client.proofs.AppendsNothing.{one_takes_none, finds_nothing}
@@ -171,7 +173,7 @@ module _ (s : Store) (c : Client) (r : Region) (g : Hold) (k : ℕ) (colours : C
     whole : (i : ℕ) (e : event_types.Event) → ((i ≡ k) × IsSingleOf x.id e) ⊎ HelpsOpen g h e → IsHelp c.number e
         → (id : Id) → IsStepOf id e → IsComplete h id
     whole i e (inl own) help id step = absurd (step_no_single id x.id e step own.1)
-    whole i e (inr helps) help id step = subst (IsComplete h) (step_once helps.0 id e helps.1 step) helps.3
+    whole i e (inr helps) help id step = helped_complete g h e helps id step
 
     single_client : IsClient s after
     single_client =
@@ -196,7 +198,7 @@ module _ (s : Store) (c : Client) (r : Region) (g : Hold) (k : ℕ) (colours : C
         (others_after s c after r g h is changed) changed.on (id_listed s c r g colours text x is there at_g x_is) is.own_nodes r k st now
         (subst (λ z. k < z.colours) (sym (s.fit.each c.region r there).size) lt) used a)
         (pulls_stay s c after r g h is changed still)
-        (helps_after s c after r g h is changed (λ i e. ((i ≡ k) × IsSingleOf x.id e) ⊎ HelpsOpen g h e) a.goes whole)
+        (helps_at_home s c after r g h is changed (λ i e. ((i ≡ k) × IsSingleOf x.id e) ⊎ HelpsOpen g h e) a.goes whole)
 
     -- WHAT EXPLAINS IT
 

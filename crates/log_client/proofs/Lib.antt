@@ -28,6 +28,7 @@ mod Plays
 mod AtHome
 mod Staying
 mod Looked
+mod Helping
 mod SyncReplies
 mod SyncCalls
 mod TrimReplies

@@ -50,7 +50,7 @@ use Rattle.append_core.specs.declared.several.MultiFault.TheVariants as faults
 use Rattle.append_core.specs.Helping.{IsStepIn, HelpsOpen}
 use Rattle.append_core.specs.Settled.{IsComplete, IsSettledNow}
 use Rattle.append_core.specs.Several as core
-use Rattle.append_core.proofs.CallerLemmas.{stands_closed}
+use Rattle.append_core.proofs.CallerLemmas.{helped_complete, stands_closed}
 use Rattle.report_text.specs.declared.report.PointPiece.{PointPiece}
 use Rattle.lawful_run.specs.Callers.{Caller, node_of}
 use Rattle.lawful_run.specs.Appends.{Appends, HasNoStamp, IsGoneForMemory, none_for_several, kept_after_points}
@@ -76,6 +76,7 @@ use Rattle.log_client.proofs.OwnMore.{own_nodes_row, step_no_single}
 use Rattle.log_client.proofs.Foreign.{Accounted, goes_accounted, foreign_but}
 use Rattle.log_client.proofs.Several.{begun_so, ends_at_colour, settled_everywhere, settled_outcome, settled_begun, stops_begun, stops_there, stand_in_all, stand_so}
 use Rattle.log_client.proofs.AtHome.{ChangesHome, have_gone_on, home_after, others_after, sees_after, client_after}
+use Rattle.log_client.proofs.Helping.{helps_at_home, idle_at_home, idle_same}
 use Rattle.log_client.proofs.Looked.{IsPlain, client_looked, did_nothing, finished_stays, lawful_after, pulls_stay, tracks_stay}
 use Rattle.log_client.proofs.AppendReplies.{replicated, step_moves}
 use Rattle.log_client.proofs.AppendsNothing.{finds_nothing}
@@ -250,7 +251,7 @@ module _ (s : Store) (c e : Client) (r : Region) (g h : Hold) (colours : Colours
         b.used number b.knows)
         (pulls_stay s c after r g h is changed
         (goes_weaken Made g h (λ k ev. IsNoMove ev) (λ k ev m. let w = steps k ev m in step_moves w.0 ev w.1) goes))
-        (helps_after s c after r g h is changed Made goes whole)
+        (helps_at_home s c after r g h is changed Made goes whole)
 
     calls : (result : Result Appended MultiFault) → ((taken : ℕ) → result ≢ Err (faults.Full taken))
         → (Finished c → Finished after ⊎ HasStopped result)
@@ -444,7 +445,7 @@ module _ (s : Store) (c e : Client) (r : Region) (g h : Hold) (colours : Colours
     stands_whole : (k : ℕ) (ev : event_types.Event) → IsStepIn (core.own_append g x) k ev ⊎ HelpsOpen g h ev
         → IsHelp c.number ev → (id : Id) → IsStepOf id ev → IsComplete h id
     stands_whole k ev (inl own) = own_whole k ev own.1
-    stands_whole k ev (inr helps) help id step = subst (IsComplete h) (step_once helps.0 id ev helps.1 step) helps.3
+    stands_whole k ev (inr helps) help id step = helped_complete g h ev helps id step
 
     -- the colours are those of the region
     within : (k : ℕ) → has x.colours k ≡ true → k < r.board.size.colours
@@ -594,7 +595,7 @@ module _ (s : Store) (c d : Client) (r : Region) (g : Hold) (colours : Colours) 
   row_not_begun = record {
     client = client_looked s c d r g g is ch (goes_same (λ k ev. IsPlain ev) g g refl) refl refl (omega (arith, floor))
         (let low = is.floored in omega (arith, floor, low)) count rows (ap length tracks)
-        (tracks_stay s c d r g g is ch tracks);
+        (tracks_stay s c d r g g is ch tracks) (idle_at_home s c d r g g is ch (idle_same c.number g));
     same = (ch.number, ch.region);
     goes = have_gone_on s c d r g g is ch;
     finished = λ finished. inl (finished_stays s c d r g g is ch rows finished);
