@@ -315,6 +315,7 @@ module _ (s : Store) (c : Client) (r : Region) (g : Hold) (k : ℕ) (colours : C
         subst (λ (i : Id). IsExplained s c after (AppendsAs colours text (record { id = i; row = None; stood = st })))
             (sym same) explained_so,
       );
+      points = ap (map (λ (p : Point). p.colour)) a.point ∙ sym one_colour;
       full = λ used. (λ e. absurd (let f : ⊥ = cc (e) in f), λ no_row. one_takes_none s c colours k None used one_colour no_row);
     }
 
@@ -344,6 +345,7 @@ module _ (s : Store) (c : Client) (r : Region) (g : Hold) (k : ℕ) (colours : C
       goes = look_goes s c r g h k is there hold now but same sees;
       finished = λ finished. inl (look_finished s c r g h k is there hold now but same sees finished);
       answer = why;
+      points = tt;
       full = λ used. (λ e. absurd (not_full used (cc e)), λ no_row. one_takes_none s c colours k None used one_colour no_row);
     }
 

@@ -1,6 +1,6 @@
 -- What an append of a client to several colours leaves that has begun its row, and what explains its answer.
 use Rattle.std.proofs.Common.{◌≡◌, ◌≢◌, ◌⊎◌, inl, inr, ℕ, zero, suc, true, ◌+◌, ◌-◌, ◌<◌, ◌≤◌, List, [], ◌∷◌, ◌++◌, length, map, Some, None, Option, Ok, Err, Result, refl, ap, sym, subst, ◌∙◌, arith, eq-eqb, length-append}
-use Rattle.std.specs.Prelude.{IsTrue, MatchResult, replicate, slice_get, max, ◌==◌}
+use Rattle.std.specs.Prelude.{IsTrue, IfOk, MatchResult, replicate, slice_get, max, ◌==◌}
 use Rattle.std.specs.Vec.{with_item}
 use Rattle.std.proofs.lemmas.List.{length-map}
 use Rattle.std.proofs.lemmas.Option.{same_Some}
@@ -257,13 +257,15 @@ module _ (s : Store) (c e : Client) (r : Region) (g h : Hold) (colours : Colours
         → (Finished c → Finished after ⊎ HasStopped result)
         → MatchResult result (λ a. (stop ≡ None) × IsExplained s c after (AppendsAs colours text a))
         (AppendRefused s c after colours text stop)
+        → IfOk result (λ a. map (λ (p : Point). p.colour) a.stood.points ≡ members colours)
         → CallsAppend s c after colours text stop result
-    calls result not_full finished answer = record {
+    calls result not_full finished answer points = record {
       client = row_client;
       same = (refl, refl);
       goes = have_gone_on s c after r g h is changed;
       finished = finished;
       answer = answer;
+      points = points;
       full = λ taken. (λ full. absurd (not_full taken full), λ none. absurd (row_left taken none));
     }
 
@@ -340,7 +342,7 @@ module _ (s : Store) (c e : Client) (r : Region) (g h : Hold) (colours : Colours
     settled_calls fault not_full why =
         calls (IsStepIn (core.own_append g x)) a.goes (steps_in (core.own_append g x))
         (λ k ev m. own_whole k ev m.1) (omega (arith, still)) (let low = is.floored in omega (arith, low, still)) (Err fault)
-        (λ taken e. not_full taken (cc e)) (λ finished. inl (finished_then settled_closed finished)) why
+        (λ taken e. not_full taken (cc e)) (λ finished. inl (finished_then settled_closed finished)) why tt
 
     module _ (objects : List Object) (kept : Kept) (keeps : Keeps s c objects kept) (rest : Rest)
         (fits : Fits (holds_of after) rest) where
@@ -423,7 +425,7 @@ module _ (s : Store) (c e : Client) (r : Region) (g h : Hold) (colours : Colours
             (of_rows objects kept keeps) (size_is objects kept keeps))
             (stops_there (holds_of c) (holds_of after) (caller_of s c objects) r g h at_g at_h number now (on objects) x
             (ap (λ (y : Node). y.region) x_is) same rest fits steps a))),
-      )) where
+      )) tt where
         stops_so : (objects : List Object) (kept : Kept) (keeps : Keeps s c objects kept) (rest : Rest) (n : ℕ) → 0 < n
             → StopsAfter (log_of (seen_of after) rest) (caller_of s c objects) kept x n (places objects kept keeps)
             → Stops (log_of (seen_of after) rest) (caller_of s c objects) kept x n (kept_then objects kept keeps)
@@ -579,6 +581,7 @@ module _ (s : Store) (c e : Client) (r : Region) (g h : Hold) (colours : Colours
           keeps_stood objects kept finished keeps,
           stood_so objects kept finished keeps n n_is,
         )))
+        (a.colours ∙ ap (λ (y : Node). members y.colours) x_is)
 
 -- where no row was begun, and nothing done
 module _ (s : Store) (c d : Client) (r : Region) (g : Hold) (colours : Colours) (text : List ℕ) (stop : Option ℕ)
@@ -601,5 +604,6 @@ module _ (s : Store) (c d : Client) (r : Region) (g : Hold) (colours : Colours) 
     finished = λ finished. inl (finished_stays s c d r g g is ch rows finished);
     answer = finds_nothing s c d colours text stop (did_nothing s c d r g g is ch (λ k. refl) floor count rows
         (λ k. ap (λ (l : List Track). counts_in (slice_get l k)) tracks));
+    points = tt;
     full = λ taken. (λ full. absurd (let f : ⊥ = cc (full) in f), λ none. absurd (left_rows taken none));
   }

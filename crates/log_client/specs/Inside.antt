@@ -1,8 +1,9 @@
 -- What the functions of this crate say of each other: appends, and plays on a track.
-use Rattle.std.specs.Prelude.{◌≡◌, ◌⊎◌, ◌↔◌, ℕ, false, ◌≤◌, List, ◌++◌, length, Option, None, Result, Err, MatchResult}
+use Rattle.std.specs.Prelude.{◌≡◌, ◌⊎◌, ◌↔◌, ℕ, false, ◌≤◌, List, ◌++◌, length, map, Option, None, Result, Err, IfOk, MatchResult}
 use Rattle.log_node.specs.declared.ids.Colours.{Colours}
 use Rattle.log_node.specs.declared.limits.TheConstants.{MAX_STAMP}
 use Rattle.log_node.specs.Seen.{PlacedNode}
+use Rattle.log_node.specs.Sets.{members}
 use Rattle.log_node.specs.Vectors.{IsWithin, is_within}
 use Rattle.col_core.specs.Cuts.{Dated, base}
 use Rattle.col_core.specs.Computed.{cut, dated}
@@ -11,6 +12,7 @@ use Rattle.chain_store.specs.declared.region.Region.{Region}
 use Rattle.chain_store.specs.Holds.{seen_in, entries_seen}
 use Rattle.lawful_run.specs.Reads.{greatest_stamp}
 use Rattle.append_core.specs.declared.several.MultiFault.{MultiFault}
+use Rattle.append_core.specs.declared.stood.Point.{Point}
 use Rattle.append_core.specs.declared.several.MultiFault.TheVariants as append_faults
 use Rattle.playback.specs.declared.player.Played.{Played}
 use Rattle.log_client.specs.declared.store.Store.{Store}
@@ -35,6 +37,7 @@ pub record CallsAppend (s : Store) (c d : Client) (colours : Colours) (text : Li
   pub answer : MatchResult result
       (λ a. (stop ≡ None) × IsExplained s c d (AppendsAs colours text a))
       (AppendRefused s c d colours text stop)
+  pub points : IfOk result (λ a. map (λ (p : Point). p.colour) a.stood.points ≡ members colours)
   pub full : (used : ℕ) → (result ≡ Err (append_faults.Full used)) ↔ HasNoRow s c colours stop used
 
 -- the column of a colour, as the hold has seen it, with its cuts

@@ -11,6 +11,7 @@ ghost use Rattle.chain_store.specs.Histories.{FitsColumn};
 ghost use Rattle.chain_store.specs.Rows.{OneNode};
 ghost use Rattle.chain_store.specs.Steps.{HasSingleCause};
 ghost use Rattle.chain_store.specs.Holds.{IsHold, SameBut, SeesMoreIn, entries_seen, view_of};
+ghost use Rattle.append_core.specs.declared.stood.Point.{Point};
 ghost use Rattle.append_core.specs.Standing.{StandsAlone};
 ghost use Rattle.append_core.specs.Several.{IsStopOf, Leaves, StandsInAll, own_row};
 ghost use Rattle.lawful_run.specs.Callers.{row_of};
@@ -278,6 +279,7 @@ impl Client {
         ensures finished { Finished self.old → Finished self.new ⊎ HasStopped result }
         ensures ok { IfOk result (λ a. IsExplained store.now self.old self.new (AppendsAs colours text a)) }
         ensures whole { OnOk result (stop ≡ None) }
+        ensures points { IfOk result (λ a. map (λ (p : Point). p.colour) a.stood.points ≡ members colours) }
         ensures err { IfErr result (AppendRefused store.now self.old self.new colours text stop) }
         // Two answers come before memory is asked for.
         ensures at_once { stop ≡ Some 0 → (result ≡ Err (MultiFault.Stopped 0)) × (self.new ≡ self.old) }
