@@ -56,6 +56,17 @@ row_proposed region colours histories rows lawful colour lt id stamp p =
       member_has fits.1.node.colours fits.6 colour fits.7,
     )
 
+-- an open id is of a row
+pub open_row : (region regions colours : ℕ) (histories : ℕ → List Entry) (rows : List BegunRow)
+    → AreLawfulRows region colours histories rows → (colour : ℕ) → colour < colours
+    → IsColumnHistory region regions (dated region (histories colour)) → (id : Id) (e : Standing)
+    → open_entry id (entries (histories colour)) ≡ Some e
+    → Proposes (histories colour) id e.key.stamp
+    × (b : BegunRow) × Contains rows b × (b.node.id ≡ id) × (has b.node.colours colour ≡ true)
+open_row region regions colours histories rows lawful colour lt good id e found =
+    let p = (open_is_proposed region regions (histories colour) id e good found).proposed in
+    (p, row_proposed region colours histories rows lawful colour lt id e.key.stamp p)
+
 -- no two rows have nodes with one id
 pub one_row : (region colours : ℕ) (histories : ℕ → List Entry) (rows : List BegunRow)
     → AreLawfulRows region colours histories rows → (b d : BegunRow) → Contains rows b → Contains rows d
@@ -99,11 +110,10 @@ module _ (region regions colours : ℕ) (histories : ℕ → List Entry) (rows :
         → open_entry id (entries (histories colour)) ≡ None
     by_entry None e = e
     by_entry (Some e) found =
-        let p = (open_is_proposed region regions (histories colour) id e good found).proposed in
-        let row = row_proposed region colours histories rows lawful colour lt id e.key.stamp p in
-        absurd (not_open_row row.0 e.key.stamp e row.1
-        (subst (λ (i : Id). Proposes (histories colour) i e.key.stamp) (sym row.2) p)
-        (ap (λ (i : Id). open_entry i (entries (histories colour))) row.2 ∙ found) (closed row.0 row.1 row.2 row.3))
+        let o = open_row region regions colours histories rows lawful colour lt good id e found in
+        absurd (not_open_row o.1 e.key.stamp e o.2
+        (subst (λ (i : Id). Proposes (histories colour) i e.key.stamp) (sym o.3) o.0)
+        (ap (λ (i : Id). open_entry i (entries (histories colour))) o.3 ∙ found) (closed o.1 o.2 o.3 o.4))
 
   -- the id of a row that is closed is not open
   pub row_not_open : (b : BegunRow) → Contains rows b → (has b.node.colours colour ≡ true → ClosedBy b)

@@ -28,6 +28,7 @@ mod Plays
 mod AtHome
 mod Staying
 mod Looked
+mod GoingOn
 mod Helping
 mod SyncReplies
 mod SyncCalls
