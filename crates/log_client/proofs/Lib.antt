@@ -42,6 +42,7 @@ mod PullReplies
 mod PullCalls
 mod StandsLater
 mod NextNodes
+mod Wanting
 mod AppendsNothing
 mod AppendReplies
 mod RowReplies

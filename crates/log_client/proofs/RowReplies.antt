@@ -75,11 +75,11 @@ use Rattle.log_client.proofs.Steps.{made_at_home}
 use Rattle.log_client.proofs.OwnMore.{own_nodes_row, step_no_single}
 use Rattle.log_client.proofs.Foreign.{Accounted, goes_accounted, foreign_but}
 use Rattle.log_client.proofs.Several.{begun_so, ends_at_colour, settled_everywhere, settled_outcome, settled_begun, stops_begun, stops_there, stand_in_all, stand_so}
-use Rattle.log_client.proofs.AtHome.{ChangesHome, have_gone_on, home_after, others_after, sees_after, client_after}
+use Rattle.log_client.proofs.AtHome.{ChangesHome, gone_same, have_gone_on, home_after, others_after, sees_after, client_after}
 use Rattle.log_client.proofs.Helping.{helps_at_home, idle_at_home, idle_same}
 use Rattle.log_client.proofs.Looked.{IsPlain, client_looked, did_nothing, finished_stays, lawful_after, pulls_stay, tracks_stay}
 use Rattle.log_client.proofs.AppendReplies.{replicated, step_moves}
-use Rattle.log_client.proofs.AppendsNothing.{finds_nothing}
+use Rattle.log_client.proofs.AppendsNothing.{finds_nothing, no_memory_stays}
 use Rattle.log_client.proofs.Staying.{all_closed_longer}
 use Rattle.log_client.proofs.NextNodes.{number_is, used_is, on_board, id_listed, node_is, id_kept, floor_kept, rows_kept}
 
@@ -131,15 +131,19 @@ own_no_help client id (events.Give region from) step own help = step
 own_no_help client id (events.Carry region start heads) step own help = step
 own_no_help client id (events.Trim counts) step own help = step
 
+-- the client with its hold of its region, with the nodes of its rows that e has, with this floor, and one node more
+abbrev pub after_row : Client → Client → Hold → ℕ → Client
+after_row c e h floor =
+    record c { holds = with_item c.holds c.region h; rows = e.rows; floor = floor; count = c.count + 1 }
+
 module _ (s : Store) (c e : Client) (r : Region) (g h : Hold) (colours : Colours) (text : List ℕ) (stop : Option ℕ)
     (x : Node) (floor : ℕ) (is : IsClient s c) (there : slice_get s.regions c.region ≡ Some r)
     (at_g : slice_get (holds_of c) c.region ≡ Some g) (x_is : x ≡ next_node c colours text)
     (are : AreColours s.size colours) (now : IsHold r h) (b : core.HasBegun r g h x)
     (same : h.passes.number ≡ g.passes.number) (more : (k : ℕ) → IsPrefix (seen_in g k) (seen_in h k))
     (rows : rows_of e ≡ rows_of c ++ x ∷ []) where
-  -- the client afterwards
   abbrev after : Client
-  after = record c { holds = with_item c.holds c.region h; rows = e.rows; floor = floor; count = c.count + 1 }
+  after = after_row c e h floor
 
   changed : ChangesHome s c after r g h
   changed = record {
@@ -583,27 +587,97 @@ module _ (s : Store) (c e : Client) (r : Region) (g h : Hold) (colours : Colours
         )))
         (a.colours ∙ ap (λ (y : Node). members y.colours) x_is)
 
--- where no row was begun, and nothing done
-module _ (s : Store) (c d : Client) (r : Region) (g : Hold) (colours : Colours) (text : List ℕ) (stop : Option ℕ)
-    (is : IsClient s c) (ch : ChangesHome s c d r g g) (floor : d.floor ≡ c.floor) (count : d.count ≡ c.count)
-    (rows : rows_of d ≡ rows_of c) (tracks : tracks_of d ≡ tracks_of c) (room : g.seat.used < r.board.size.rows) where
+-- where no row was begun, nothing was done
+module _ (s : Store) (c e : Client) (r : Region) (g : Hold) (colours : Colours) (text : List ℕ) (stop : Option ℕ)
+    (is : IsClient s c) (there : slice_get s.regions c.region ≡ Some r) (at_g : slice_get (holds_of c) c.region ≡ Some g)
+    (room : g.seat.used < r.board.size.rows) where
   left_rows : (taken : ℕ) → HasNoRow s c colours stop taken → ⊥
   left_rows taken none =
       let all = none.all in
-      let many = (is.home g ch.before).rows.many in
-      let size = ap (λ (z : Size). z.rows) (s.fit.each c.region r ch.there).size in
+      let many = (is.home g at_g).rows.many in
+      let size = ap (λ (z : Size). z.rows) (s.fit.each c.region r there).size in
       omega (arith, room, all, many, size)
 
-  pub row_not_begun : CallsAppend s c d colours text stop (Err faults.NoMemory)
-  row_not_begun = record {
-    client = client_looked s c d r g g is ch (goes_same (λ k ev. IsPlain ev) g g refl) refl refl (omega (arith, floor))
-        (let low = is.floored in omega (arith, floor, low)) count rows (ap length tracks)
-        (tracks_stay s c d r g g is ch tracks) (idle_at_home s c d r g g is ch (idle_same c.number g));
-    same = (ch.number, ch.region);
-    goes = have_gone_on s c d r g g is ch;
-    finished = λ finished. inl (finished_stays s c d r g g is ch rows finished);
-    answer = finds_nothing s c d colours text stop (did_nothing s c d r g g is ch (λ k. refl) floor count rows
-        (λ k. ap (λ (l : List Track). counts_in (slice_get l k)) tracks));
-    points = tt;
-    full = λ taken. (λ full. absurd (let f : ⊥ = cc (full) in f), λ none. absurd (left_rows taken none));
-  }
+  -- no memory was left for its node, or for the place of its row's node
+  pub no_node : CallsAppend s c c colours text stop (Err faults.NoMemory)
+  no_node = no_memory_stays s c colours text stop is left_rows
+
+  module _ (d : Client) (ch : ChangesHome s c d r g g) (floor : d.floor ≡ c.floor) (count : d.count ≡ c.count)
+      (rows : rows_of d ≡ rows_of c) (tracks : tracks_of d ≡ tracks_of c) where
+    pub row_not_begun : CallsAppend s c d colours text stop (Err faults.NoMemory)
+    row_not_begun = record {
+      client = client_looked s c d r g g is ch (goes_same (λ k ev. IsPlain ev) g g refl) refl refl (omega (arith, floor))
+          (let low = is.floored in omega (arith, floor, low)) count rows (ap length tracks)
+          (tracks_stay s c d r g g is ch tracks) (idle_at_home s c d r g g is ch (idle_same c.number g));
+      same = (ch.number, ch.region);
+      goes = have_gone_on s c d r g g is ch;
+      finished = λ finished. inl (finished_stays s c d r g g is ch rows finished);
+      answer = finds_nothing s c d colours text stop (did_nothing s c d r g g is ch (λ k. refl) floor count rows
+          (λ k. ap (λ (l : List Track). counts_in (slice_get l k)) tracks));
+      points = tt;
+      full = λ taken. (λ full. absurd (let f : ⊥ = cc (full) in f), λ none. absurd (left_rows taken none));
+    }
+
+-- WHY IT DOES NOT STAND
+
+module _ (s : Store) (c e : Client) (r : Region) (g h : Hold) (colours : Colours) (text : List ℕ) (stop : Option ℕ)
+    (x : Node) (is : IsClient s c) (there : slice_get s.regions c.region ≡ Some r)
+    (at_g : slice_get (holds_of c) c.region ≡ Some g) (x_is : x ≡ next_node c colours text)
+    (are : AreColours s.size colours) (now : IsHold r h) where
+  -- its row was begun
+  module _ (begun : g.seat.used < h.seat.used) (rows : rows_of e ≡ rows_of c ++ x ∷ []) where
+    same_hold : h ≡ g → ⊥
+    same_hold same = let used = ap (λ (z : Hold). z.seat.used) same in omega (arith, begun, used)
+
+    pub row_left : (fault : MultiFault) → core.Leaves r g h x stop fault
+        → CallsAppend s c (after_row c e h c.floor) colours text stop (Err fault)
+    row_left (faults.Full used) why = absurd why
+    row_left (faults.StampEnd k) why =
+        row_ended s c e r g h colours text stop x c.floor is there at_g x_is are now why.1.all.begun why.1.all.goes.number
+        why.1.all.goes.more rows k why.1 why.0 refl
+    row_left (faults.Stopped steps) why = elim why.1 [
+      | inl none ↦ absurd (same_hold none.1)
+      | inr some ↦
+          row_stopped s c e r g h colours text stop x c.floor is there at_g x_is are now some.1.begun some.1.goes.number
+          some.1.goes.more rows steps some.1 some.0 why.0 refl
+    ]
+    row_left faults.NoMemory why = elim why [
+      | inl none ↦ absurd (same_hold none)
+      | inr some ↦
+          row_refused s c e r g h colours text stop x c.floor is there at_g x_is are now some.1.begun some.1.goes.number
+          some.1.goes.more rows some.1 some.0 refl
+    ]
+
+  -- it was not begun
+  module _ (none_begun : g.seat.used < h.seat.used → ⊥) (not_at_once : stop ≢ Some 0)
+      (room : g.seat.used < r.board.size.rows) (rows : rows_of e ≡ rows_of c) where
+    abbrev unchanged : Client
+    unchanged = record c { holds = with_item c.holds c.region h; rows = e.rows }
+
+    not_begun : core.HasBegun r g h x → ⊥
+    not_begun b = let used = b.used in none_begun (omega (arith, used))
+
+    as_it_was : h ≡ g → ChangesHome s c unchanged r g g
+    as_it_was same = record {
+      number = refl;
+      region = refl;
+      there = there;
+      before = at_g;
+      changed = ap (λ (z : Hold). holds_of (record c { holds = with_item c.holds c.region z })) same;
+      rests = subst (IsHold r) same now;
+      on = gone_same g;
+    }
+
+    pub row_kept : (fault : MultiFault) → core.Leaves r g h x stop fault
+        → CallsAppend s c unchanged colours text stop (Err fault)
+    row_kept (faults.Full used) why = absurd why
+    row_kept (faults.StampEnd k) why = absurd (not_begun why.1.all.begun)
+    row_kept (faults.Stopped steps) why = elim why.1 [
+      | inl none ↦ absurd (not_at_once (why.0 ∙ ap Some none.0))
+      | inr some ↦ absurd (not_begun some.1.begun)
+    ]
+    row_kept faults.NoMemory why = elim why [
+      | inl none ↦
+          row_not_begun s c e r g colours text stop is there at_g room unchanged (as_it_was none) refl refl rows refl
+      | inr some ↦ absurd (not_begun some.1.begun)
+    ]

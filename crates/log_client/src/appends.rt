@@ -1,9 +1,8 @@
 // Appends.
-ghost use Rattle.std.specs.Prelude.{◌≡◌, ◌≢◌, ◌⊎◌, ◌×◌, ◌↔◌, ◌<◌, ◌≤◌, ◌^◌, ◌+◌, ℕ, nat_lt, [], ◌∷◌, ◌++◌, length, map, None, Some, Err, IfErr, IfOk, IfSome, OnErr, OnOk};
-ghost use Rattle.std.specs.List.{All};
+ghost use Rattle.std.specs.Prelude.{◌≡◌, ◌≢◌, ◌⊎◌, ◌↔◌, ◌<◌, ◌≤◌, ◌^◌, ◌+◌, ℕ, true, nat_lt, [], ◌∷◌, ◌++◌, length, map, None, Some, Err, IfErr, IfOk, IfSome, OnErr, OnOk};
 ghost use Rattle.log_node.specs.declared.ids.Row.{Row};
 ghost use Rattle.log_node.specs.declared.limits.TheConstants.{MAX_STAMP};
-ghost use Rattle.log_node.specs.Sets.{members};
+ghost use Rattle.log_node.specs.Sets.{has, members};
 ghost use Rattle.stamp_board.specs.Rows.{AreColours};
 ghost use Rattle.stamp_board.specs.Seats.{IsLater};
 ghost use Rattle.stamp_board.specs.Views.{Grows};
@@ -70,6 +69,7 @@ fn stand<R: Wait>(
 }
 
 // Why an append to several colours does not stand, and whether its row was begun.
+#[derive(Clone, Copy)]
 struct Left {
     fault: MultiFault,
     begun: bool,
@@ -130,12 +130,12 @@ fn stand_in_all<R: Wait, G: Gate>(
 impl Client {
     // What the client has played of the colours.
     fn played_counts(&self, alloc: Global, colours: Colours) -> Result<Wants, AllocError>
-        requires { All (λ c. c < length (tracks_of self.now)) (members colours) }
+        requires { (c : ℕ) → has colours c ≡ true → c < length (tracks_of self.now) }
         ensures { IfOk result (λ wants. wants ≡ map (starts_of self.now) (members colours)) }
     {
         let mut wants = Wants::new(alloc);
         for colour in colours.members() {
-            wants.push(self.tracks[colour as usize].snapshot.counts)?;
+            wants.push(self.snapshot(colour).counts)?;
         }
         Ok(wants)
     }
@@ -148,7 +148,7 @@ impl Client {
         text: Text,
         row: Option<Row>,
     ) -> Result<Arc<Node>, AllocError>
-        requires colours { All (λ c. c < length (tracks_of self.now)) (members colours) }
+        requires colours { (c : ℕ) → has colours c ≡ true → c < length (tracks_of self.now) }
         requires row { row ≡ row_of self.now.number (length (rows_of self.now)) (members colours) }
         ensures { IfOk result (λ node. node.value ≡ next_node self.now colours text) }
     {
