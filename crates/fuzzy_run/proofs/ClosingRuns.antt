@@ -481,11 +481,11 @@ module _ (script : Script) (fits : IsFitting script) (s : Store) (clients : List
         (entries (log.histories region colour)) (λ k z at. settled_or region colour lt lc z
         (slice_in (entries (log.histories region colour)) k z at));
     rows = λ region lt. rows_in_range (λ (b : BegunRow). b.last ≡ Open → HasStopped report b.row.client) region lt
-        (λ b among open.
+        (λ b among undecided.
         let c = row_client region lt b among in
         elim (serves b.row.client c.0 c.1).finished [
           | inl done ↦ absurd ((ends_for b.row.client c.0 c.1).decided done b
-              (subst (λ (k : ℕ). Contains (log.rows k) b) c.3 among) (sym c.2) open)
+              (subst (λ (k : ℕ). Contains (log.rows k) b) c.3 among) (sym c.2) undecided)
           | inr stop ↦ shown_stopped b.row.client c.0 c.1 stop
         ]);
   }

@@ -225,12 +225,12 @@ module _ (s : Store) (clients : List Client) (all : AreClients s clients) (ends 
         (place.0, known.0, known.1 ∙ (λ i. row_of (sym (m.9 n m.3 m.7).1 i) place.0), known.2)
 
     own_decided : Finished c → (b : BegunRow) → Contains (log.rows c.region) b → b.row.client ≡ c.number → b.last ≢ Open
-    own_decided done b there mine open =
+    own_decided done b there mine undecided =
         let m = home in
         let own = own_row b there mine in
         let is = done m.3 m.8 own.0 b.node own.3 in
         is.shut
-        (sym (own.1.last is.outcome (subst (λ (r : Row). KnowsOutcome (view_of m.3) r is.outcome) (sym own.2) is.known)) ∙ open)
+        (sym (own.1.last is.outcome (subst (λ (r : Row). KnowsOutcome (view_of m.3) r is.outcome) (sym own.2) is.known)) ∙ undecided)
 
     -- none of its ids is left open at home, where it has finished, and none elsewhere
     closed_at_home : Finished c → (colour : ℕ) (id : Id) → colour < s.size.colours → id.client ≡ c.number
@@ -283,9 +283,9 @@ module _ (s : Store) (clients : List Client) (all : AreClients s clients) (ends 
         let agrees = subst (AgreesWith h) is d.4 in
         let row = ap (λ (y : BegunRow). y.row) (sym is) ∙ d.2 in
         let node = ap (λ (y : BegunRow). y.node) (sym is) ∙ d.3 in record {
-          decided = λ open. whole.shut
+          decided = λ undecided. whole.shut
               (sym (agrees.last whole.outcome (subst (λ (r : Row). KnowsOutcome (view_of h) r whole.outcome) (sym row) whole.known))
-              ∙ open);
+              ∙ undecided);
           open_nowhere = λ colour in_colours.
               row_not_open m (length s.regions) s.size.colours (log.histories m) (log.rows m) x.5.lawful_rows colour in_colours
               (store.lawful m colour) b there

@@ -65,7 +65,8 @@ pub open_row : (region regions colours : ℕ) (histories : ℕ → List Entry) (
     × (b : BegunRow) × Contains rows b × (b.node.id ≡ id) × (has b.node.colours colour ≡ true)
 open_row region regions colours histories rows lawful colour lt good id e found =
     let p = (open_is_proposed region regions (histories colour) id e good found).proposed in
-    (p, row_proposed region colours histories rows lawful colour lt id e.key.stamp p)
+    let row = row_proposed region colours histories rows lawful colour lt id e.key.stamp p in
+    (p, row.0, row.1, row.2, row.3)
 
 -- no two rows have nodes with one id
 pub one_row : (region colours : ℕ) (histories : ℕ → List Entry) (rows : List BegunRow)
