@@ -316,7 +316,7 @@ module _ (s : Store) (c : Client) (r : Region) (g : Hold) (k : ℕ) (colours : C
             (sym same) explained_so,
       );
       points = ap (map (λ (p : Point). p.colour)) a.point ∙ sym one_colour;
-      full = λ used. (λ e. absurd (let f : ⊥ = cc (e) in f), λ no_row. one_takes_none s c colours k None used one_colour no_row);
+      full = λ used. (λ e. absurd (let f : ⊥ = cc (e) in f), λ no_row. absurd (one_takes_none s c colours k None used one_colour no_row));
     }
 
   -- IT IS REFUSED
@@ -337,7 +337,7 @@ module _ (s : Store) (c : Client) (r : Region) (g : Hold) (k : ℕ) (colours : C
       on = gone_looked k g h but sees.more same.0;
     }
 
-    left_with : (fault : append_faults.MultiFault) → ((used : ℕ) → fault ≢ append_faults.Full used)
+    left_with : (fault : MultiFault) → ((used : ℕ) → fault ≢ append_faults.Full used)
         → AppendRefused s c left colours text None fault → CallsAppend s c left colours text None (Err fault)
     left_with fault not_full why = record {
       client = look_client s c r g h k is there hold now but same sees;
@@ -346,7 +346,7 @@ module _ (s : Store) (c : Client) (r : Region) (g : Hold) (k : ℕ) (colours : C
       finished = λ finished. inl (look_finished s c r g h k is there hold now but same sees finished);
       answer = why;
       points = tt;
-      full = λ used. (λ e. absurd (not_full used (cc e)), λ no_row. one_takes_none s c colours k None used one_colour no_row);
+      full = λ used. (λ e. absurd (not_full used (cc e)), λ no_row. absurd (one_takes_none s c colours k None used one_colour no_row));
     }
 
     pub single_ended : (clock : ℕ) → HasSingleCause (entries_seen h k) x.floor (faults.StampEnd clock)

@@ -46,4 +46,5 @@ mod Wanting
 mod AppendsNothing
 mod AppendReplies
 mod RowReplies
+mod RowCalls
 pub mod CallerLemmas

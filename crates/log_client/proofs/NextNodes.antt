@@ -1,7 +1,8 @@
 -- The node that a client appends next, beside the client's hold of its region and what the client keeps.
-use Rattle.std.proofs.Common.{◌≡◌, ℕ, zero, suc, ◌+◌, ◌<◌, ◌≤◌, List, [], ◌∷◌, length, map, Some, true, refl, ap, sym, subst, ◌∙◌, arith}
-use Rattle.std.specs.Prelude.{slice_get, slice_index_or}
+use Rattle.std.proofs.Common.{◌≡◌, ℕ, zero, suc, ◌+◌, ◌<◌, ◌≤◌, List, [], ◌∷◌, length, map, Some, None, true, refl, ap, sym, subst, ◌∙◌, arith}
+use Rattle.std.specs.Prelude.{nat_lt, slice_get, slice_index_or}
 use Rattle.std.specs.List.{Contains}
+use Rattle.std.proofs.lemmas.Bool.{lt-ltb}
 use Rattle.std.proofs.lemmas.Option.{slice_get_read}
 use Rattle.log_node.specs.declared.ids.Id.{Id}
 use Rattle.log_node.specs.declared.ids.Row.{Row}
@@ -45,9 +46,8 @@ map_alike f g same (x ∷ xs) = λ i. same x i ∷ map_alike f g same xs i
 -- several colours take a row
 pub row_on_several : (client rows : ℕ) (colours : List ℕ) → 2 ≤ length colours
     → row_on client rows colours ≡ Some (row_of client rows)
-row_on_several client rows [] two = absurd (let f : ⊥ = omega (arith, two) in f)
-row_on_several client rows (a ∷ []) two = absurd (let f : ⊥ = omega (arith, two) in f)
-row_on_several client rows (a ∷ b ∷ more) two = refl
+row_on_several client rows colours two =
+    if_true (nat_lt 1 (length colours)) (Some (row_of client rows)) None (lt-ltb 1 (length colours) (omega (arith, two)))
 
 module _ (s : Store) (c : Client) (r : Region) (g : Hold) (colours : Colours) (text : List ℕ) (x : Node)
     (is : IsClient s c) (there : slice_get s.regions c.region ≡ Some r)

@@ -21,9 +21,10 @@ use Rattle.log_node.specs.declared.marks.Why.TheVariants.{Memory, StampEnd}
 use Rattle.log_node.specs.Sets.{has, members}
 use Rattle.log_node.specs.Standings.{open_entry}
 use Rattle.col_core.specs.declared.Event as event_types
+use Rattle.col_core.specs.declared.Event.TheVariants as events
 use Rattle.col_core.specs.declared.Entry.{Entry}
 use Rattle.col_core.specs.Ids.{IsStepOf}
-use Rattle.col_core.specs.History.{entries, has_entered, line}
+use Rattle.col_core.specs.History.{entries, entry_key, has_entered, line}
 use Rattle.col_core.specs.Cuts.{chain}
 use Rattle.col_core.specs.Computed.{dated}
 use Rattle.col_core.specs.Legal.{IsColumnHistory}
@@ -98,8 +99,8 @@ points_leave own kept (p ∷ ps) =
 
 -- a key of a lawful line has a stamp that there is
 line_in_range : (own regions : ℕ) (history : List Entry) → IsColumnHistory own regions (dated own history)
-    → {position : ℕ} {key : Key} → slice_get (line history) position ≡ Some key → key.stamp ≤ MAX_STAMP
-line_in_range own regions history lawful {position} {key} at =
+    → (position : ℕ) (key : Key) → slice_get (line history) position ≡ Some key → key.stamp ≤ MAX_STAMP
+line_in_range own regions history lawful position key at =
     let is : chain own (dated own history) own ≡ map (head_with (dated own history)) (line history) =
     if_true (own == own) _ _ (eq-eqb own own refl)
     ∙ ap (λ (h : List Entry). map (head_with (dated own history)) (line h)) (entries_dated own history) in
@@ -213,8 +214,8 @@ module _ (s : Store) (c e : Client) (r : Region) (g h : Hold) (colours : Colours
             subst (IsClosed h j) last.1 (subst (λ (n : ℕ). IsClosed h n x) (sym last.0) closed)
 
   -- a row was left
-  row_left : (taken : ℕ) → HasNoRow s c colours stop taken → ⊥
-  row_left taken none =
+  has_row : (taken : ℕ) → HasNoRow s c colours stop taken → ⊥
+  has_row taken none =
       let room = b.room in
       let all = none.all in
       let before = used in
@@ -270,7 +271,7 @@ module _ (s : Store) (c e : Client) (r : Region) (g h : Hold) (colours : Colours
       finished = finished;
       answer = answer;
       points = points;
-      full = λ taken. (λ full. absurd (not_full taken full), λ none. absurd (row_left taken none));
+      full = λ taken. (λ full. absurd (not_full taken full), λ none. absurd (has_row taken none));
     }
 
   -- all that is made is of the client's own append
@@ -450,7 +451,7 @@ module _ (s : Store) (c e : Client) (r : Region) (g h : Hold) (colours : Colours
 
     stands_whole : (k : ℕ) (ev : event_types.Event) → IsStepIn (core.own_append g x) k ev ⊎ HelpsOpen g h ev
         → IsHelp c.number ev → (id : Id) → IsStepOf id ev → IsComplete h id
-    stands_whole k ev (inl own) = own_whole k ev own.1
+    stands_whole k ev (inl own) help id step = own_whole k ev own.1 help id step
     stands_whole k ev (inr helps) help id step = helped_complete g h ev helps id step
 
     -- the colours are those of the region
@@ -481,7 +482,8 @@ module _ (s : Store) (c e : Client) (r : Region) (g h : Hold) (colours : Colours
         let long = length-map st.points (λ (q : Point). q.colour) in
         let p = got st.points 0 (omega (arith, two, many, long)) in
         line_in_range r.number r.regions (entries_seen h p.0.colour)
-        (lawful_seen r h p.0.colour now (colour_in 0 p.0 p.1)) (a.each 0 p.0 p.1).stands where
+        (lawful_seen r h p.0.colour now (colour_in 0 p.0 p.1)) p.0.position (entry_key a.stamp x.id)
+        (a.each 0 p.0 p.1).stands where
           colour_in : (n : ℕ) (p : Point) → slice_get st.points n ≡ Some p → p.colour < r.board.size.colours
           colour_in n p at =
               within p.colour (member_has x.colours n p.colour
@@ -588,7 +590,7 @@ module _ (s : Store) (c e : Client) (r : Region) (g h : Hold) (colours : Colours
         (a.colours ∙ ap (λ (y : Node). members y.colours) x_is)
 
 -- where no row was begun, nothing was done
-module _ (s : Store) (c e : Client) (r : Region) (g : Hold) (colours : Colours) (text : List ℕ) (stop : Option ℕ)
+module _ (s : Store) (c : Client) (r : Region) (g : Hold) (colours : Colours) (text : List ℕ) (stop : Option ℕ)
     (is : IsClient s c) (there : slice_get s.regions c.region ≡ Some r) (at_g : slice_get (holds_of c) c.region ≡ Some g)
     (room : g.seat.used < r.board.size.rows) where
   left_rows : (taken : ℕ) → HasNoRow s c colours stop taken → ⊥
@@ -631,7 +633,7 @@ module _ (s : Store) (c e : Client) (r : Region) (g h : Hold) (colours : Colours
 
     pub row_left : (fault : MultiFault) → core.Leaves r g h x stop fault
         → CallsAppend s c (after_row c e h c.floor) colours text stop (Err fault)
-    row_left (faults.Full used) why = absurd why
+    row_left (faults.Full taken) why = absurd why
     row_left (faults.StampEnd k) why =
         row_ended s c e r g h colours text stop x c.floor is there at_g x_is are now why.1.all.begun why.1.all.goes.number
         why.1.all.goes.more rows k why.1 why.0 refl
@@ -670,7 +672,7 @@ module _ (s : Store) (c e : Client) (r : Region) (g h : Hold) (colours : Colours
 
     pub row_kept : (fault : MultiFault) → core.Leaves r g h x stop fault
         → CallsAppend s c unchanged colours text stop (Err fault)
-    row_kept (faults.Full used) why = absurd why
+    row_kept (faults.Full taken) why = absurd why
     row_kept (faults.StampEnd k) why = absurd (not_begun why.1.all.begun)
     row_kept (faults.Stopped steps) why = elim why.1 [
       | inl none ↦ absurd (not_at_once (why.0 ∙ ap Some none.0))
@@ -678,6 +680,6 @@ module _ (s : Store) (c e : Client) (r : Region) (g h : Hold) (colours : Colours
     ]
     row_kept faults.NoMemory why = elim why [
       | inl none ↦
-          row_not_begun s c e r g colours text stop is there at_g room unchanged (as_it_was none) refl refl rows refl
+          row_not_begun s c r g colours text stop is there at_g room unchanged (as_it_was none) refl refl rows refl
       | inr some ↦ absurd (not_begun some.1.begun)
     ]

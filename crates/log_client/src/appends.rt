@@ -250,6 +250,7 @@ impl Client {
                 if left.begun {
                     self.rows.push_reserved(node);
                     self.count += 1;
+                    return Err(left.fault);
                 }
                 Err(left.fault)
             }

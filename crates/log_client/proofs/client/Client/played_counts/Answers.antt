@@ -21,4 +21,4 @@ loop-colour-preserved c =
 pub returns : goal.returns
 returns c =
     wants_all c.args.self.now c.args.colours c.loop-colour.wants c.loop-colour.colour-iterator c.loop-colour.invariant
-    c.in-None.ensures.steps
+    c.in-None.ensures.steps.0
