@@ -15,6 +15,8 @@ use Rattle.col_core.proofs.CallerLemmas.{choice, by_test, if_true, if_false, In}
 use Rattle.world_laws.specs.declared.steps.Step.TheVariants.{Begin, Single, Give, Carry, Trim, Play, Seen}
 use Rattle.world_laws.specs.Worlds.{World, home_of, held_of, after, run_steps, row_of, next_id, next_row, may_single, single_stamp, may_play}
 use Rattle.world_laws.proofs.CallerLemmas.{at_updated, updated-here, in_left, in_right}
+use Rattle.script_text.specs.declared.script.Kind.{Kind}
+use Rattle.script_text.specs.declared.script.Kind.TheVariants as kinds
 use Rattle.script_text.specs.declared.script.Object.{Object}
 use Rattle.script_text.specs.declared.script.What.{What}
 use Rattle.script_text.specs.declared.script.What.TheVariants as whats
@@ -24,7 +26,7 @@ use Rattle.report_text.specs.declared.report.Answer.TheVariants as answers
 use Rattle.report_text.specs.declared.report.PointPiece.{PointPiece}
 use Rattle.report_text.specs.declared.report.ReplyLine.{ReplyLine}
 use Rattle.object_fold.specs.Queues.{front_after}
-use Rattle.script_meaning.specs.States.{State, Grants, all_granted, answered}
+use Rattle.script_meaning.specs.States.{State, Grants, all_granted, answered, kind_in}
 use Rattle.script_meaning.specs.Helping.{all_cleared}
 use Rattle.script_meaning.specs.Appends.{with_single, appended_one, appended_by, appended_several, appended, stopped, is_full, append_steps, ended_colour, point_in}
 use Rattle.script_meaning.specs.Moves.{nodes_played, synced, lacking, with_give, with_carry, pulled_from, pulled, trimmed}
@@ -36,6 +38,7 @@ use Rattle.lawful_run.specs.Callers.{Caller}
 use Rattle.lawful_run.specs.Asks.{kind_of, colours_of, keys_of, put_form}
 use Rattle.script_meaning.specs.Objects.{caller_in, refusing_home, shard_set}
 use Rattle.script_meaning.specs.Dequeues.{first_nodes, sync_now, base_now, dequeued_at, dequeued_by}
+use Rattle.script_meaning.specs.Gets.{got}
 use Rattle.script_meaning.specs.Meaning.{done_one, done_from, done, TellsNoWant}
 use Rattle.script_meaning.proofs.GrantedSteps.{IsClean, RunsTo, stays_there, runs_on, clean_from, complete_exact, taken_exact, clears_run, clears_exact}
 use Rattle.script_meaning.proofs.Invariant.{line_of}
@@ -218,6 +221,13 @@ module _ (objects : List Object) (grants : Grants) (state : State) (command : Co
       (λ _. at_extends v (single_stamp w u c) point (single_runs text c))
       (λ _. answer_extends state command w (answers.StampEnd c) [] (stays_there w))
 
+  got_extends : (kind : Option Kind) (key : List ℕ) → Extends state (got grants state command kind key)
+  got_extends None key = nothing_done
+  got_extends (Some (kinds.Map home colours)) key = nothing_done
+  got_extends (Some (kinds.Tx home colours)) key = nothing_done
+  got_extends (Some (kinds.Causal colour)) key = nothing_done
+  got_extends (Some (kinds.Queue home colour)) key = nothing_done
+
   one_command_extends : (what : What) → Extends state (done_one objects grants state command what)
   one_command_extends (whats.Append colours text) = append_extends colours text (members colours)
   one_command_extends (whats.Stop steps colours text) = stop_extends colours text steps
@@ -229,7 +239,7 @@ module _ (objects : List Object) (grants : Grants) (state : State) (command : Co
       append_extends (shard_set (colours_of caller object) (key ∷ []))
       (form_text (put_form (kind_of caller object) key value))
       (members (shard_set (colours_of caller object) (key ∷ [])))
-  one_command_extends (whats.Get object key) = nothing_done
+  one_command_extends (whats.Get object key) = got_extends (kind_in objects object) key
   one_command_extends (whats.Del object key) =
       append_extends (shard_set (colours_of caller object) (key ∷ []))
       (form_text (forms.Delete key)) (members (shard_set (colours_of caller object) (key ∷ [])))
@@ -454,6 +464,15 @@ module _ (objects : List Object) (grants : Grants) (state : State) (command : Co
       ∙ ap (λ (r : StampedRead). scanned_by all_granted state command r.world r.ends)
       (read_exact grants w u colours (subst IsClean (scanned_world read.world read.ends) clean) ended.0)
 
+  got_exact : (kind : Option Kind) (key : List ℕ) → IsClean (got grants state command kind key).world
+      → TellsNone (got grants state command kind key)
+      → got grants state command kind key ≡ got all_granted state command kind key
+  got_exact None key clean tells = refl
+  got_exact (Some (kinds.Map home colours)) key clean tells = refl
+  got_exact (Some (kinds.Tx home colours)) key clean tells = refl
+  got_exact (Some (kinds.Causal colour)) key clean tells = refl
+  got_exact (Some (kinds.Queue home colour)) key clean tells = refl
+
   one_command_exact : (what : What) → IsClean (done_one objects grants state command what).world
       → TellsNone (done_one objects grants state command what)
       → done_one objects grants state command what ≡ done_one objects all_granted state command what
@@ -467,7 +486,7 @@ module _ (objects : List Object) (grants : Grants) (state : State) (command : Co
       append_exact (shard_set (colours_of caller object) (key ∷ []))
       (form_text (put_form (kind_of caller object) key value))
       (members (shard_set (colours_of caller object) (key ∷ []))) clean
-  one_command_exact (whats.Get object key) clean tells = refl
+  one_command_exact (whats.Get object key) clean tells = got_exact (kind_in objects object) key clean tells
   one_command_exact (whats.Del object key) clean tells =
       append_exact (shard_set (colours_of caller object) (key ∷ []))
       (form_text (forms.Delete key)) (members (shard_set (colours_of caller object) (key ∷ []))) clean

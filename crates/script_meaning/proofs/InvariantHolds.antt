@@ -17,6 +17,7 @@ use Rattle.world_laws.specs.Worlds.{World, home_of, after, run_steps, row_of, ne
 use Rattle.world_laws.specs.Completing.{complete_steps}
 use Rattle.world_laws.proofs.CallerLemmas.{contains_in, in_slice, in_right}
 use Rattle.script_text.specs.declared.script.Kind.{Kind}
+use Rattle.script_text.specs.declared.script.Kind.TheVariants as kinds
 use Rattle.script_text.specs.declared.script.What.{What}
 use Rattle.script_text.specs.declared.script.What.TheVariants as whats
 use Rattle.script_text.specs.declared.script.Command.{Command}
@@ -30,7 +31,8 @@ use Rattle.lawful_run.specs.Callers.{Caller, caller_of}
 use Rattle.lawful_run.specs.Asks.{kind_of, colours_of, home_asked, shards, keys_of, put_form, AsksToAppend, Appending, manner_of}
 use Rattle.lawful_run.specs.Refusals.{IsAway}
 use Rattle.lawful_run.proofs.CallerLemmas.{get_within, get-append}
-use Rattle.script_meaning.specs.States.{State, Grants, has_colours, is_built, StopsAreLast, answered}
+use Rattle.script_meaning.specs.States.{State, Grants, has_colours, kind_in, is_get_built, is_built, StopsAreLast, answered}
+use Rattle.script_meaning.specs.Gets.{got}
 use Rattle.script_meaning.specs.Helping.{all_cleared}
 use Rattle.script_meaning.specs.Appends.{appended_one, appended_by, appended_several, appended, stopped, is_full, append_steps, with_single, point_in, ended_colour}
 use Rattle.script_meaning.specs.Stamped.{scanned}
@@ -296,7 +298,16 @@ module _ (script : Script) (commands : List Command) (state : State) (command : 
       scanning.runs_scan script commands state command grants runs fit colours asked
       (λ x i. all_at (λ y. y < script.shape.colours) (members colours) all x i) first.0 first.1
 
-  runs_what : (what : What) → command.what ≡ what → is_built what ≡ true
+  -- a get, by the kind of its object
+  runs_get : (kind : Option Kind) (key : List ℕ) → is_get_built kind ≡ true
+      → Runs script commands' (got grants state command kind key)
+  runs_get None key b = absurd (let f : ⊥ = cc in f)
+  runs_get (Some (kinds.Map home colours)) key b = absurd (let f : ⊥ = cc in f)
+  runs_get (Some (kinds.Tx home colours)) key b = absurd (let f : ⊥ = cc in f)
+  runs_get (Some (kinds.Causal colour)) key b = absurd (let f : ⊥ = cc in f)
+  runs_get (Some (kinds.Queue home colour)) key b = absurd (let f : ⊥ = cc in f)
+
+  runs_what : (what : What) → command.what ≡ what → is_built script.objects what ≡ true
       → IsWithin script.shape.regions script.shape.colours what → UsesObject script.objects what
       → Runs script commands' (done_one script.objects grants state command what)
   runs_what (whats.Append colours text) asked b within uses =
@@ -320,7 +331,7 @@ module _ (script : Script) (commands : List Command) (state : State) (command : 
       (shard_set (colours_of caller object) (key ∷ []))
       (form_text (put_form (kind_of caller object) key value))) (sym asked)
       (shard_members (colours_of caller object) (key ∷ []), refl))
-  runs_what (whats.Get object key) asked b within uses = absurd (let f : ⊥ = cc in f)
+  runs_what (whats.Get object key) asked b within uses = runs_get (kind_in script.objects object) key b
   runs_what (whats.Del object key) asked b within uses =
       runs_shards object (key ∷ []) key (inl refl) (form_text (forms.Delete key)) uses.0 (ap manner_of asked)
       (λ w' kept. subst (λ (what : What). AsksToAppend (caller_in w' script.objects u) kept what
@@ -375,7 +386,7 @@ module _ (script : Script) (commands : List Command) (state : State) (command : 
 -- The commands of a script
 
 module _ (script : Script) (fits : IsFitting script)
-    (built : All (λ (c : Command). IsTrue (is_built c.what)) script.commands) (last : StopsAreLast script) where
+    (built : All (λ (c : Command). IsTrue (is_built script.objects c.what)) script.commands) (last : StopsAreLast script) where
   fit_at : (commands : List Command) (command : Command) (rest : List Command)
       → script.commands ≡ commands ++ command ∷ rest → (Away : Type 0)
       → (IsAway (caller_of script command.client) (home_asked (caller_of script command.client) command.what) → Away)
@@ -391,7 +402,7 @@ module _ (script : Script) (fits : IsFitting script)
         few = fits.shape.few_regions;
         within = all_at (λ (c : Command). IsWithin script.shape.regions script.shape.colours c.what) script.commands
             fits.commands command there;
-        built = all_at (λ (c : Command). IsTrue (is_built c.what)) script.commands built command there;
+        built = all_at (λ (c : Command). IsTrue (is_built script.objects c.what)) script.commands built command there;
         going = λ c i same stop.
             let x = in_slice commands c i in
             let lt = get_within commands x.0 c x.1 in

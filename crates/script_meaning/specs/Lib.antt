@@ -5,5 +5,6 @@ pub mod Moves
 pub mod Stamped
 pub mod Objects
 pub mod Dequeues
+pub mod Gets
 pub mod Meaning
 pub mod Laws
