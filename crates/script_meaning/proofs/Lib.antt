@@ -15,6 +15,10 @@ mod ShardSets
 mod ObjectAppends
 mod Playing
 mod ChainNodes
+mod CausalAnswers
+mod CausalNodes
+mod CausalGetting
+mod CausalRuns
 mod Sync
 mod StampedRaises
 mod StampedPlays
