@@ -17,7 +17,6 @@ mod Playing
 mod ChainNodes
 mod CausalAnswers
 mod CausalNodes
-mod CausalGetting
 mod CausalRuns
 mod Sync
 mod StampedRaises
