@@ -1,6 +1,7 @@
 // Gets of causal maps: a sync, and the writes that no other write follows among all nodes up to the cut.
-ghost use Rattle.std.specs.Prelude.{◌≡◌, ◌<◌, ◌≤◌, ℕ, true, false, [], IfOk, IfSome, OnOk, OnErr, None, length};
+ghost use Rattle.std.specs.Prelude.{◌≡◌, ◌<◌, ℕ, true, false, [], IfOk, IfSome, OnOk, OnErr, Some, None, length, slice_get};
 ghost use Rattle.log_node.specs.Vectors.{at, vector, one_more};
+ghost use Rattle.col_core.specs.History.{line};
 ghost use Rattle.col_core.specs.Rows.{node_wants};
 ghost use Rattle.world_laws.specs.Worlds.{World as Meant, chains_after, home_of};
 ghost use Rattle.world_code.specs.WorldView.{world_of};
@@ -11,13 +12,13 @@ ghost use Rattle.script_in_order.specs.CausalFolds.{place_at, held_node, held_no
 use crate::clears::home;
 use crate::queues::sync_now;
 use crate::syncs::trimmed_base;
-use log_node::{Counts, MAX_REGIONS, Names, Node, Text};
+use log_node::{Counts, Key, MAX_REGIONS, Names, Node, Text};
 use object_fold::CausalMap;
 use report_text::Answer;
 use script_text::Command;
 use std::alloc::{AllocError, Global};
+use std::sync::Arc;
 use world_code::World;
-use world_laws::stays_within_cuts;
 
 /// A causal map, and how many nodes of each region's chain it was fed.
 #[derive(Drop)]
@@ -43,21 +44,31 @@ fn wants_of(node: &Node, colour: u8) -> Counts
     Counts::zeros()
 }
 
+// The key at a position of a region's own line.
+fn key_at(world: &World, colour: u8, region: u8, position: u64) -> Key
+    requires region { region < world.now.shape.regions }
+    requires colour { colour < world.now.shape.colours }
+    requires there { position < length (line ((world_of world.now).histories region colour)) }
+    ensures { slice_get (line ((world_of world.now).histories region colour)) position ≡ Some result }
+{
+    world.column(region, colour).line()[position as usize]
+}
+
 // The node at a place of the chains that a region's column holds: it stands in its region's own line, and needs all that
 // it wants.
-fn node_at(world: &World, own: u8, colour: u8, region: u8, position: u64) -> &Node
+fn node_at(world: &World, own: u8, colour: u8, region: u8, position: u64) -> &Arc<Node>
     requires own { own < world.now.shape.regions }
     requires colour { colour < world.now.shape.colours }
     requires held { position < length (chains_after own ((world_of world.now).histories own colour) region) }
     ensures { held_node (world_of world.now) own colour (place_at region position) ≡ record {
       region = region;
       position = position;
-      needs = vector (λ r. at (node_wants result.now colour) r);
-      text = result.now.text;
+      needs = vector (λ r. at (node_wants result.now.value colour) r);
+      text = result.now.value.text;
     } }
 {
     world.is_whole();
-    let key = world.column(region, colour).line()[position as usize];
+    let key = key_at(world, colour, region, position);
     match world.node(key.id) {
         Some(node) => node,
         None => unreachable!(),
@@ -72,6 +83,7 @@ fn is_next(world: &World, own: u8, colour: u8, counts: Counts, cut: Counts, regi
     requires region { region < 4 }
     ensures { result ≡ is_next (world_of world.now) own colour counts region }
 {
+    world.is_whole();
     let position = counts.of_region(region);
     if position >= cut.of_region(region) {
         return false;
@@ -116,20 +128,25 @@ impl CausalFold {
         world: &World,
         own: u8,
         colour: u8,
+        cut: Counts,
         region: u8,
     ) -> Result<(), AllocError>
         requires own { own < world.now.shape.regions }
         requires colour { colour < world.now.shape.colours }
+        requires cut { cut ≡ cut_of (world_of world.now) own colour }
         requires region { region < 4 }
         requires next { is_next (world_of world.now) own colour self.old.counts region ≡ true }
         requires fold { IsCausalFold (world_of world.now) own colour self.old }
         ensures fold { IsCausalFold (world_of world.now) own colour self.new }
         ensures counts { OnOk result (self.new.counts ≡ one_more self.old.counts region) }
     {
+        world.is_whole();
         let position = self.counts.of_region(region);
+        let _end = cut.of_region(region);
         let node = node_at(world, own, colour, region, position);
-        self.map
-            .feed(alloc, region, wants_of(node, colour), &node.text)?;
+        // It needs what it wants, all of which may be played.
+        let needs = wants_of(node, colour).least(cut);
+        self.map.feed(alloc, region, needs, &node.text)?;
         self.counts = self.counts.one_more(region);
         Ok(())
     }
@@ -149,9 +166,10 @@ impl CausalFold {
         ensures all { OnOk result ((region : ℕ) → region < 4
             → at self.new.counts region ≡ at (cut_of (world_of world.now) own colour) region) }
     {
+        world.is_whole();
         let cut = world.column(own, colour).cut();
         while let Some(region) = next_region(world, own, colour, self.counts, cut) {
-            self.feed(alloc, world, own, colour, region)?;
+            self.feed(alloc, world, own, colour, cut, region)?;
         }
         Ok(())
     }
@@ -172,6 +190,7 @@ impl CausalFold {
         ensures ok { let w = world_of world.now in IfOk result (λ values.
             values ≡ causal_values (held_nodes w own colour (cut_of w own colour)) key.now) }
     {
+        world.is_whole();
         self.feed_all(alloc, world, own, colour)?;
         self.map.get(alloc, key.as_bytes())
     }
@@ -196,6 +215,7 @@ pub fn get_values(
     ensures err { OnErr result (world_of world.new ≡ world_of world.old) }
     ensures fold { let w = world_of world.new in IsCausalFold w (home_of w command.now.client) colour fold.new }
 {
+    world.is_whole();
     let client = command.client;
     if let Some(base) = trimmed_base(world, client, colour) {
         return Ok(Answer::Trimmed { colour, base });
