@@ -41,5 +41,10 @@ mod BetweenHolds
 mod PullReplies
 mod PullCalls
 mod StandsLater
+mod NextNodes
+mod Wanting
+mod AppendsNothing
 mod AppendReplies
+mod RowReplies
+mod RowCalls
 pub mod CallerLemmas
