@@ -3,7 +3,7 @@ ghost use Rattle.std.specs.Prelude.{◌≡◌};
 ghost use Rattle.fuzzy_run.specs.Refusals.{cause_text, first_unbuilt};
 
 use script_in_order::is_built;
-use script_text::{Command, Reason};
+use script_text::{Command, Object, Reason};
 
 /// Why bytes were not done.
 #[derive(Clone, Copy, Debug, PartialEq, Eq)]
@@ -26,9 +26,12 @@ impl Cause {
     }
 }
 
-/// The line of the first command that is not done yet, where there is one.
-pub fn first_unbuilt(commands: &[Command]) -> Option<u32>
-    ensures { result ≡ first_unbuilt commands.now }
+/// The line of the first command over these objects that is not done yet, where there is one.
+pub fn first_unbuilt(objects: &[Object], commands: &[Command]) -> Option<u32>
+    ensures { result ≡ first_unbuilt objects.now commands.now }
 {
-    commands.iter().find(|c| !is_built(&c.what)).map(|c| c.line)
+    commands
+        .iter()
+        .find(|c| !is_built(objects, &c.what))
+        .map(|c| c.line)
 }

@@ -51,14 +51,14 @@ fn do_script<K: Sink>(alloc: Global, script: &Script, sink: &mut K) -> Status
     requires rows { script.now.shape.rows ≤ MAX_ROWS }
     requires stops { StopsAreLast script.now }
     ensures done { result ≡ Status.Done → Shows script.now (K.holds sink.old) (K.holds sink.new) }
-    ensures refused { result ≡ Status.Refused → (line : ℕ) × (first_unbuilt script.now.commands ≡ Some line)
+    ensures refused { result ≡ Status.Refused → (line : ℕ) × (first_unbuilt script.now.objects script.now.commands ≡ Some line)
         × Appends (K.holds sink.old) (K.holds sink.new) (refusal_bytes line (cause_text Cause.NotBuilt)) }
     ensures write_fault { result ≡ Status.WriteFault → Rose (K.faults sink.old) (K.faults sink.new) }
     ensures front { result ≡ Status.WriteFault → ShowsFront script.now (K.holds sink.old) (K.holds sink.new) }
     ensures no_memory { result ≡ Status.NoMemory → sink.new ≡ sink.old }
     ensures no_other { (result ≢ Status.BadWords) × (result ≢ Status.ReadFault) }
 {
-    if let Some(line) = first_unbuilt(script.commands.as_slice()) {
+    if let Some(line) = first_unbuilt(script.objects.as_slice(), script.commands.as_slice()) {
         return refuse(sink, line, Cause::NotBuilt);
     }
     let report = match run_in_order(alloc, script) {

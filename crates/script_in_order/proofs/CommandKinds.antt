@@ -5,13 +5,15 @@ use Rattle.log_node.specs.declared.ids.Colours.{Colours}
 use Rattle.log_node.specs.declared.forms.Pair.{Pair}
 use Rattle.log_node.specs.Seen.{PlacedNode}
 use Rattle.world_laws.specs.Worlds.{World}
+use Rattle.script_text.specs.declared.script.Kind.{Kind}
+use Rattle.script_text.specs.declared.script.Kind.TheVariants as kinds
 use Rattle.script_text.specs.declared.script.Object.{Object}
 use Rattle.script_text.specs.declared.script.Command.{Command}
 use Rattle.script_text.specs.declared.script.What.{What}
 use Rattle.script_text.specs.declared.script.What.TheVariants as whats
 use Rattle.report_text.specs.declared.report.Answer.{Answer}
 use Rattle.report_text.specs.declared.report.Answer.TheVariants as answers
-use Rattle.script_meaning.specs.States.{State, Grants, all_granted, answered, is_built}
+use Rattle.script_meaning.specs.States.{State, Grants, all_granted, answered, kind_in, is_get_built, is_built}
 use Rattle.script_meaning.specs.Objects.{caller_in, refusing_home}
 use Rattle.script_meaning.specs.Meaning.{done_one, done_from}
 use Rattle.script_in_order.specs.Doing.{DoneBy, Does, DoesAtHome, with_replies}
@@ -56,8 +58,15 @@ pub with_nodes : (command : Command) (meaning : Grants → State → State) (w n
 with_nodes command meaning w new answer nodes none d =
     subst (λ (l : List PlacedNode). DoneBy meaning command w new answer l) (sym none) d
 
+no_get : (kind : Option Kind) → is_get_built kind ≡ true → ⊥
+no_get None b = let f : ⊥ = cc in f
+no_get (Some (kinds.Map home colours)) b = let f : ⊥ = cc in f
+no_get (Some (kinds.Tx home colours)) b = let f : ⊥ = cc in f
+no_get (Some (kinds.Causal colour)) b = let f : ⊥ = cc in f
+no_get (Some (kinds.Queue home colour)) b = let f : ⊥ = cc in f
+
 -- no command of another kind is built
-pub built_kinds : (what : What) → is_built what ≡ true
+pub built_kinds : (objects : List Object) (what : What) → is_built objects what ≡ true
     → ((c : Colours) (t : List ℕ) → what ≡ whats.Append c t → ⊥)
     → ((n : ℕ) (c : Colours) (t : List ℕ) → what ≡ whats.Stop n c t → ⊥)
     → ((c : ℕ) → what ≡ whats.Sync c → ⊥) → ((c : Colours) → what ≡ whats.Scan c → ⊥)
@@ -65,18 +74,18 @@ pub built_kinds : (what : What) → is_built what ≡ true
     → ((c : ℕ) → what ≡ whats.Trim c → ⊥) → ((o : ℕ) (k v : List ℕ) → what ≡ whats.Put o k v → ⊥)
     → ((o : ℕ) (k : List ℕ) → what ≡ whats.Del o k → ⊥) → ((o : ℕ) (ps : List Pair) → what ≡ whats.PutAll o ps → ⊥)
     → ((o : ℕ) (v : List ℕ) → what ≡ whats.Enq o v → ⊥) → ((o : ℕ) → what ≡ whats.Deq o → ⊥) → ⊥
-built_kinds (whats.Append colours text) b p q r k s t u v x y z = p colours text refl
-built_kinds (whats.Stop steps colours text) b p q r k s t u v x y z = q steps colours text refl
-built_kinds (whats.Sync colour) b p q r k s t u v x y z = r colour refl
-built_kinds (whats.Scan colours) b p q r k s t u v x y z = k colours refl
-built_kinds (whats.Pull region colour) b p q r k s t u v x y z = s region colour refl
-built_kinds (whats.Trim colour) b p q r k s t u v x y z = t colour refl
-built_kinds (whats.Put object key value) b p q r k s t u v x y z = u object key value refl
-built_kinds (whats.Get object key) b p q r k s t u v x y z = let f : ⊥ = cc in f
-built_kinds (whats.Del object key) b p q r k s t u v x y z = v object key refl
-built_kinds (whats.PutAll object pairs) b p q r k s t u v x y z = x object pairs refl
-built_kinds (whats.GetAll object keys) b p q r k s t u v x y z = let f : ⊥ = cc in f
-built_kinds (whats.Read object keys) b p q r k s t u v x y z = let f : ⊥ = cc in f
-built_kinds (whats.Commit object pairs) b p q r k s t u v x y z = let f : ⊥ = cc in f
-built_kinds (whats.Enq object value) b p q r k s t u v x y z = y object value refl
-built_kinds (whats.Deq object) b p q r k s t u v x y z = z object refl
+built_kinds objects (whats.Append colours text) b p q r k s t u v x y z = p colours text refl
+built_kinds objects (whats.Stop steps colours text) b p q r k s t u v x y z = q steps colours text refl
+built_kinds objects (whats.Sync colour) b p q r k s t u v x y z = r colour refl
+built_kinds objects (whats.Scan colours) b p q r k s t u v x y z = k colours refl
+built_kinds objects (whats.Pull region colour) b p q r k s t u v x y z = s region colour refl
+built_kinds objects (whats.Trim colour) b p q r k s t u v x y z = t colour refl
+built_kinds objects (whats.Put object key value) b p q r k s t u v x y z = u object key value refl
+built_kinds objects (whats.Get object key) b p q r k s t u v x y z = no_get (kind_in objects object) b
+built_kinds objects (whats.Del object key) b p q r k s t u v x y z = v object key refl
+built_kinds objects (whats.PutAll object pairs) b p q r k s t u v x y z = x object pairs refl
+built_kinds objects (whats.GetAll object keys) b p q r k s t u v x y z = let f : ⊥ = cc in f
+built_kinds objects (whats.Read object keys) b p q r k s t u v x y z = let f : ⊥ = cc in f
+built_kinds objects (whats.Commit object pairs) b p q r k s t u v x y z = let f : ⊥ = cc in f
+built_kinds objects (whats.Enq object value) b p q r k s t u v x y z = y object value refl
+built_kinds objects (whats.Deq object) b p q r k s t u v x y z = z object refl

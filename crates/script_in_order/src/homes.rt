@@ -77,7 +77,7 @@ pub fn answer_at_home(
     command: &Command,
     world: &mut World,
 ) -> Result<(Answer, Items), AllocError>
-    requires built { IsTrue (is_built command.now.what) }
+    requires built { IsTrue (is_built objects.now command.now.what) }
     requires fits { IsFit (world_of world.old) objects.now command.now.client command.now.what }
     ensures ok { IfOk result (λ g. Does objects.now command.now (world_of world.old) (world_of world.new) g.0 g.1) }
     ensures err { OnErr result (world_of world.new ≡ world_of world.old) }

@@ -21,7 +21,7 @@ use std::alloc::{AllocError, Global};
 pub fn run_in_order(alloc: Global, script: &Script) -> Result<Report, AllocError>
     requires fits { IsFitting script.now }
     requires rows { script.now.shape.rows ≤ MAX_ROWS }
-    requires built { All (λ (c : Command). IsTrue (is_built c.what)) script.now.commands }
+    requires built { All (λ (c : Command). IsTrue (is_built script.now.objects c.what)) script.now.commands }
     requires stops { StopsAreLast script.now }
     ensures ok { IfOk result (IsStepReport script.now) }
     ensures lawful { IfOk result (LawfulRun script.now) }

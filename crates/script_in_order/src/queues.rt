@@ -72,7 +72,7 @@ fn front_after(
 }
 
 // The sync that a client makes now.
-fn sync_now(world: &World, client: u8, colour: u8) -> SyncPiece
+pub(crate) fn sync_now(world: &World, client: u8, colour: u8) -> SyncPiece
     requires client { client < length world.now.shape.homes }
     requires colour { colour < world.now.shape.colours }
     ensures { result ≡ sync_now (world_of world.now) client colour }

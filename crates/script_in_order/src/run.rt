@@ -72,7 +72,7 @@ fn do_command(
     world: &mut World,
     replies: &mut Vec<Replies>,
 )
-    requires built { IsTrue (is_built command.now.what) }
+    requires built { IsTrue (is_built objects.now command.now.what) }
     requires fits { IsFit (world_of world.old) objects.now command.now.client command.now.what }
     requires client { command.now.client < length replies.old.items }
     requires room { 0 < (replies_at replies.old.items command.now.client).room }
@@ -93,7 +93,7 @@ pub fn do_next(
     replies: &mut Vec<Replies>,
 )
     requires fits { IsFitting script.now }
-    requires built { All (λ (c : Command). IsTrue (is_built c.what)) script.now.commands }
+    requires built { All (λ (c : Command). IsTrue (is_built script.now.objects c.what)) script.now.commands }
     requires place { place < length script.now.commands }
     requires run { IsRunAt script.now place (record { world = world.old; replies = replies.old.items }) }
     ensures { IsRunAt script.now (place + 1) (record { world = world.new; replies = replies.new.items }) }

@@ -47,22 +47,22 @@ pub record IsPlain (what : What) : Type 0 where
   pub behind : (kept : Kept) → kept_behind what kept ≡ kept
 
 -- the commands that are built are such
-pub plain : (what : What) → is_built what ≡ true → IsPlain what
-plain (whats.Append colours text) b = record { before = λ k. refl; behind = λ k. refl }
-plain (whats.Stop steps colours text) b = record { before = λ k. refl; behind = λ k. refl }
-plain (whats.Sync colour) b = record { before = λ k. refl; behind = λ k. refl }
-plain (whats.Scan colours) b = record { before = λ k. refl; behind = λ k. refl }
-plain (whats.Pull region colour) b = record { before = λ k. refl; behind = λ k. refl }
-plain (whats.Trim colour) b = record { before = λ k. refl; behind = λ k. refl }
-plain (whats.Put object key value) b = record { before = λ k. refl; behind = λ k. refl }
-plain (whats.Get object key) b = absurd (let f : ⊥ = cc in f)
-plain (whats.Del object key) b = record { before = λ k. refl; behind = λ k. refl }
-plain (whats.PutAll object pairs) b = record { before = λ k. refl; behind = λ k. refl }
-plain (whats.GetAll object keys) b = absurd (let f : ⊥ = cc in f)
-plain (whats.Read object keys) b = absurd (let f : ⊥ = cc in f)
-plain (whats.Commit object pairs) b = absurd (let f : ⊥ = cc in f)
-plain (whats.Enq object value) b = record { before = λ k. refl; behind = λ k. refl }
-plain (whats.Deq object) b = record { before = λ k. refl; behind = λ k. refl }
+pub plain : (objects : List Object) (what : What) → is_built objects what ≡ true → IsPlain what
+plain objects (whats.Append colours text) b = record { before = λ k. refl; behind = λ k. refl }
+plain objects (whats.Stop steps colours text) b = record { before = λ k. refl; behind = λ k. refl }
+plain objects (whats.Sync colour) b = record { before = λ k. refl; behind = λ k. refl }
+plain objects (whats.Scan colours) b = record { before = λ k. refl; behind = λ k. refl }
+plain objects (whats.Pull region colour) b = record { before = λ k. refl; behind = λ k. refl }
+plain objects (whats.Trim colour) b = record { before = λ k. refl; behind = λ k. refl }
+plain objects (whats.Put object key value) b = record { before = λ k. refl; behind = λ k. refl }
+plain objects (whats.Get object key) b = record { before = λ k. refl; behind = λ k. refl }
+plain objects (whats.Del object key) b = record { before = λ k. refl; behind = λ k. refl }
+plain objects (whats.PutAll object pairs) b = record { before = λ k. refl; behind = λ k. refl }
+plain objects (whats.GetAll object keys) b = record { before = λ k. refl; behind = λ k. refl }
+plain objects (whats.Read object keys) b = absurd (let f : ⊥ = cc in f)
+plain objects (whats.Commit object pairs) b = absurd (let f : ⊥ = cc in f)
+plain objects (whats.Enq object value) b = record { before = λ k. refl; behind = λ k. refl }
+plain objects (whats.Deq object) b = record { before = λ k. refl; behind = λ k. refl }
 
 -- a reply line of a command
 abbrev pub line_of : Command → Answer → List PlacedNode → ReplyLine
@@ -130,7 +130,7 @@ pub record IsFitWhere (script : Script) (commands : List Command) (command : Com
   pub home : slice_index script.shape.homes command.client < script.shape.regions
   pub few : script.shape.regions ≤ 4
   pub within : IsWithin script.shape.regions script.shape.colours command.what
-  pub built : is_built command.what ≡ true
+  pub built : is_built script.objects command.what ≡ true
   pub going : (c : Command) → In c commands → c.client ≡ command.client → IsTrue (is_stop c.what) → ⊥
   pub uses : UsesObject script.objects command.what
   pub kinds : All (λ (o : Object). IsKindWithin script.shape.regions script.shape.colours o.kind) script.objects
@@ -218,7 +218,7 @@ module _ (script : Script) (commands : List Command) (state : State) (command : 
               (next command (line_of command answer nodes)
               (explained_later (log_of w) (log_of w') later (caller_of script u) c.explained)
               (answers_plainly (log_of w') (caller_of script u) c.kept command answer nodes d.after
-              (plain command.what fit.built) (λ a. refusal (fit.away a))
+              (plain script.objects command.what fit.built) (λ a. refusal (fit.away a))
               (subst (λ (x : Caller). Explains
               (log_of w') x c.kept command.what answer nodes d.after) called d.explains)));
           keeps = d.keeps;

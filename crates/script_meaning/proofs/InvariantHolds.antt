@@ -17,12 +17,13 @@ use Rattle.world_laws.specs.Worlds.{World, home_of, after, run_steps, row_of, ne
 use Rattle.world_laws.specs.Completing.{complete_steps}
 use Rattle.world_laws.proofs.CallerLemmas.{contains_in, in_slice, in_right}
 use Rattle.script_text.specs.declared.script.Kind.{Kind}
+use Rattle.script_text.specs.declared.script.Kind.TheVariants as kinds
 use Rattle.script_text.specs.declared.script.What.{What}
 use Rattle.script_text.specs.declared.script.What.TheVariants as whats
 use Rattle.script_text.specs.declared.script.Command.{Command}
 use Rattle.script_text.specs.declared.script.Script.{Script}
 use Rattle.script_text.specs.Items.{is_stop, set_of}
-use Rattle.script_text.specs.Fitting.{IsFitting, IsWithin, is_queue, HasObject, UsesObject}
+use Rattle.script_text.specs.Fitting.{IsFitting, IsWithin, is_queue, HasObject, UsesObject, is_any_map}
 use Rattle.report_text.specs.declared.report.Answer.{Answer}
 use Rattle.report_text.specs.declared.report.Answer.TheVariants as answers
 use Rattle.col_core.specs.History.{entry_key}
@@ -30,7 +31,8 @@ use Rattle.lawful_run.specs.Callers.{Caller, caller_of}
 use Rattle.lawful_run.specs.Asks.{kind_of, colours_of, home_asked, shards, keys_of, put_form, AsksToAppend, Appending, manner_of}
 use Rattle.lawful_run.specs.Refusals.{IsAway}
 use Rattle.lawful_run.proofs.CallerLemmas.{get_within, get-append}
-use Rattle.script_meaning.specs.States.{State, Grants, has_colours, is_built, StopsAreLast, answered}
+use Rattle.script_meaning.specs.States.{State, Grants, has_colours, kind_in, is_get_built, is_built, StopsAreLast, answered}
+use Rattle.script_meaning.specs.Gets.{got}
 use Rattle.script_meaning.specs.Helping.{all_cleared}
 use Rattle.script_meaning.specs.Appends.{appended_one, appended_by, appended_several, appended, stopped, is_full, append_steps, with_single, point_in, ended_colour}
 use Rattle.script_meaning.specs.Stamped.{scanned}
@@ -43,7 +45,9 @@ use Rattle.script_meaning.proofs.ShardSets.{shard_members, set_has, shards_below
 use Rattle.script_meaning.proofs.Playing.{at_or}
 use Rattle.script_meaning.proofs.ObjectAppends.{AsksIn, does_as}
 use Rattle.script_meaning.proofs.DequeueRuns as dequeues
-use Rattle.script_meaning.proofs.ObjectKinds.{some_of, object_has, queue_one, not_away, is_away, did_stay_away}
+use Rattle.script_meaning.proofs.CausalRuns as causal
+use Rattle.script_meaning.proofs.GetRuns as gets
+use Rattle.script_meaning.proofs.ObjectKinds.{some_of, causal_colour, object_has, queue_one, not_away, is_away, did_stay_away}
 use Rattle.script_meaning.proofs.AppendOne as one
 use Rattle.script_meaning.proofs.AfterMoves as moving
 use Rattle.script_meaning.proofs.AfterScan as scanning
@@ -296,7 +300,20 @@ module _ (script : Script) (commands : List Command) (state : State) (command : 
       scanning.runs_scan script commands state command grants runs fit colours asked
       (λ x i. all_at (λ y. y < script.shape.colours) (members colours) all x i) first.0 first.1
 
-  runs_what : (what : What) → command.what ≡ what → is_built what ≡ true
+  -- a get, by the kind of its object
+  runs_get : (object : ℕ) (key : List ℕ) → command.what ≡ whats.Get object key
+      → HasObject script.objects object is_any_map → (kind : Option Kind) → kind_in script.objects object ≡ kind
+      → is_get_built kind ≡ true → Runs script commands' (got grants state command kind key)
+  runs_get object key asked has None is b = absurd (let f : ⊥ = cc in f)
+  runs_get object key asked has (Some (kinds.Map home colours)) is b =
+      gets.runs_get_value script commands state command grants runs fit object home colours key asked is has
+  runs_get object key asked has (Some (kinds.Tx home colours)) is b = absurd (let f : ⊥ = cc in f)
+  runs_get object key asked has (Some (kinds.Causal colour)) is b =
+      causal.runs_got_values script commands state command grants runs fit object colour key asked is
+      (causal_colour script.objects script.shape.regions script.shape.colours fit.kinds object has colour is)
+  runs_get object key asked has (Some (kinds.Queue home colour)) is b = absurd (let f : ⊥ = cc in f)
+
+  runs_what : (what : What) → command.what ≡ what → is_built script.objects what ≡ true
       → IsWithin script.shape.regions script.shape.colours what → UsesObject script.objects what
       → Runs script commands' (done_one script.objects grants state command what)
   runs_what (whats.Append colours text) asked b within uses =
@@ -320,7 +337,8 @@ module _ (script : Script) (commands : List Command) (state : State) (command : 
       (shard_set (colours_of caller object) (key ∷ []))
       (form_text (put_form (kind_of caller object) key value))) (sym asked)
       (shard_members (colours_of caller object) (key ∷ []), refl))
-  runs_what (whats.Get object key) asked b within uses = absurd (let f : ⊥ = cc in f)
+  runs_what (whats.Get object key) asked b within uses =
+      runs_get object key asked uses.0 (kind_in script.objects object) refl b
   runs_what (whats.Del object key) asked b within uses =
       runs_shards object (key ∷ []) key (inl refl) (form_text (forms.Delete key)) uses.0 (ap manner_of asked)
       (λ w' kept. subst (λ (what : What). AsksToAppend (caller_in w' script.objects u) kept what
@@ -332,7 +350,9 @@ module _ (script : Script) (commands : List Command) (state : State) (command : 
       (λ w' kept. subst (λ (what : What). AsksToAppend (caller_in w' script.objects u) kept what
       (shard_set (colours_of caller object) (keys_of pairs)) (form_text (forms.PutAll pairs))) (sym asked)
       (shard_members (colours_of caller object) (keys_of pairs), refl))
-  runs_what (whats.GetAll object keys) asked b within uses = absurd (let f : ⊥ = cc in f)
+  runs_what (whats.GetAll object keys) asked b within uses =
+      let key = some_of keys (leb-true 1 _ (both _ _ (both _ _ uses.1).0).0) in
+      gets.runs_get_keys script commands state command grants runs fit object keys key.0 key.1 asked uses.0
   runs_what (whats.Read object keys) asked b within uses = absurd (let f : ⊥ = cc in f)
   runs_what (whats.Commit object pairs) asked b within uses = absurd (let f : ⊥ = cc in f)
   runs_what (whats.Enq object value) asked b within uses =
@@ -375,7 +395,7 @@ module _ (script : Script) (commands : List Command) (state : State) (command : 
 -- The commands of a script
 
 module _ (script : Script) (fits : IsFitting script)
-    (built : All (λ (c : Command). IsTrue (is_built c.what)) script.commands) (last : StopsAreLast script) where
+    (built : All (λ (c : Command). IsTrue (is_built script.objects c.what)) script.commands) (last : StopsAreLast script) where
   fit_at : (commands : List Command) (command : Command) (rest : List Command)
       → script.commands ≡ commands ++ command ∷ rest → (Away : Type 0)
       → (IsAway (caller_of script command.client) (home_asked (caller_of script command.client) command.what) → Away)
@@ -391,7 +411,7 @@ module _ (script : Script) (fits : IsFitting script)
         few = fits.shape.few_regions;
         within = all_at (λ (c : Command). IsWithin script.shape.regions script.shape.colours c.what) script.commands
             fits.commands command there;
-        built = all_at (λ (c : Command). IsTrue (is_built c.what)) script.commands built command there;
+        built = all_at (λ (c : Command). IsTrue (is_built script.objects c.what)) script.commands built command there;
         going = λ c i same stop.
             let x = in_slice commands c i in
             let lt = get_within commands x.0 c x.1 in

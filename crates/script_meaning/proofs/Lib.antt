@@ -15,6 +15,9 @@ mod ShardSets
 mod ObjectAppends
 mod Playing
 mod ChainNodes
+mod CausalAnswers
+mod CausalNodes
+mod CausalRuns
 mod Sync
 mod StampedRaises
 mod StampedPlays
@@ -41,7 +44,10 @@ mod CompletionParts
 mod Stopping
 mod Invariant
 mod DequeueRuns
+mod AfterRead
 mod AfterScan
+mod Getting
+mod GetRuns
 mod InvariantHolds
 mod RowsOfClients
 mod LawfulReports

@@ -1,6 +1,7 @@
 -- The state of a run in the order of the file, where a command finds memory, and how it is answered.
-use Rattle.std.specs.Prelude.{◌≢◌, Bool, true, false, IsTrue, ℕ, ◌+◌, ◌^◌, nat_lt, ◌&&◌, not, List, [], ◌∷◌, ◌++◌, length, if◌then◌else◌}
+use Rattle.std.specs.Prelude.{◌≢◌, Bool, true, false, IsTrue, ℕ, ◌+◌, ◌^◌, nat_lt, ◌&&◌, not, List, [], ◌∷◌, ◌++◌, length, Option, Some, None, slice_get, if◌then◌else◌}
 use Rattle.std.specs.List.{AllPairs}
+use Rattle.std.specs.Option.{option_map}
 use Rattle.log_node.specs.declared.ids.Id.{Id}
 use Rattle.log_node.specs.declared.ids.Key.{Key}
 use Rattle.log_node.specs.declared.ids.Colours.{Colours}
@@ -9,6 +10,9 @@ use Rattle.log_node.specs.Seen.{PlacedNode}
 use Rattle.log_node.specs.Sets.{members}
 use Rattle.col_core.specs.Keeping.{updated}
 use Rattle.world_laws.specs.Worlds.{World, opened}
+use Rattle.script_text.specs.declared.script.Kind.{Kind}
+use Rattle.script_text.specs.declared.script.Kind.TheVariants as kinds
+use Rattle.script_text.specs.declared.script.Object.{Object}
 use Rattle.script_text.specs.declared.script.What.{What}
 use Rattle.script_text.specs.declared.script.What.TheVariants as whats
 use Rattle.script_text.specs.declared.script.Command.{Command}
@@ -22,24 +26,36 @@ use Rattle.report_text.specs.declared.report.ReplyLine.{ReplyLine}
 unfoldable pub has_colours : ℕ → Colours → Bool
 has_colours count colours = not (nat_lt (length (members colours)) count) && nat_lt colours.0 (2 ^ 64)
 
+-- the kind of the object with a number
+abbrev pub kind_in : List Object → ℕ → Option Kind
+kind_in objects object = option_map (λ (o : Object). o.kind) (slice_get objects object)
+
+-- whether a get is done of an object of this kind
+abbrev pub is_get_built : Option Kind → Bool
+is_get_built None = false
+is_get_built (Some (kinds.Map home colours)) = true
+is_get_built (Some (kinds.Tx home colours)) = false
+is_get_built (Some (kinds.Causal colour)) = true
+is_get_built (Some (kinds.Queue home colour)) = false
+
 -- The commands that are done so far: an append to any number of colours, a stop of an append to several, a sync, a scan,
 -- a pull, a trim, and what appends for an object: a put, a deletion, several puts at once, an enqueue and a dequeue.
-abbrev pub is_built : What → Bool
-is_built (whats.Append colours text) = has_colours 1 colours
-is_built (whats.Stop steps colours text) = has_colours 2 colours
-is_built (whats.Sync colour) = true
-is_built (whats.Scan colours) = has_colours 1 colours
-is_built (whats.Pull region colour) = true
-is_built (whats.Trim colour) = true
-is_built (whats.Put object key value) = true
-is_built (whats.Get object key) = false
-is_built (whats.Del object key) = true
-is_built (whats.PutAll object pairs) = true
-is_built (whats.GetAll object keys) = false
-is_built (whats.Read object keys) = false
-is_built (whats.Commit object pairs) = false
-is_built (whats.Enq object value) = true
-is_built (whats.Deq object) = true
+abbrev pub is_built : List Object → What → Bool
+is_built objects (whats.Append colours text) = has_colours 1 colours
+is_built objects (whats.Stop steps colours text) = has_colours 2 colours
+is_built objects (whats.Sync colour) = true
+is_built objects (whats.Scan colours) = has_colours 1 colours
+is_built objects (whats.Pull region colour) = true
+is_built objects (whats.Trim colour) = true
+is_built objects (whats.Put object key value) = true
+is_built objects (whats.Get object key) = is_get_built (kind_in objects object)
+is_built objects (whats.Del object key) = true
+is_built objects (whats.PutAll object pairs) = true
+is_built objects (whats.GetAll object keys) = true
+is_built objects (whats.Read object keys) = false
+is_built objects (whats.Commit object pairs) = false
+is_built objects (whats.Enq object value) = true
+is_built objects (whats.Deq object) = true
 
 -- no command of a client comes after its stop
 abbrev pub StopsAreLast : Script → Type 0
@@ -56,7 +72,8 @@ opening script = record { world = opened script.shape; replies = λ _. [] }
 
 -- Which requests for memory are granted to a command: before it does anything, for the proposal of its own node in each
 -- colour, for each of its helps, counted from 0, in each colour, for what a pull carries, for what an object's answer
--- folds, for the raise of a stamped read in each colour, and for what is made of the nodes that it has read.
+-- folds, for the raise of a stamped read in each colour, for the helps of a read that follows an append of the same
+-- command, counted from 0 too, and for what is made of the nodes that a read has.
 pub record Grants : Type 0 where
   pub start : Bool
   pub marks : ℕ → Bool
@@ -64,6 +81,7 @@ pub record Grants : Type 0 where
   pub carry : Bool
   pub fold : Bool
   pub raises : ℕ → Bool
+  pub read_helps : ℕ → ℕ → Bool
   pub items : Bool
 
 -- memory is granted everywhere
@@ -75,6 +93,7 @@ all_granted = record {
   carry = true;
   fold = true;
   raises = λ _. true;
+  read_helps = λ _ _. true;
   items = true;
 }
 

@@ -19,7 +19,7 @@ use Rattle.script_in_order.proofs.answers.answer.Goals as goal
 
 pub append-requires : goal.append-requires
 append-requires c = record {
-  many = subst (λ (w : What). is_built w ≡ true) c.in-Append.is c.requires.built;
+  many = subst (λ (w : What). is_built c.args.objects.now w ≡ true) c.in-Append.is c.requires.built;
   caller = c.requires.fits.caller;
   within = subst (IsWithin c.args.world.now.shape.regions c.args.world.now.shape.colours) c.in-Append.is
       c.requires.fits.within;
@@ -27,7 +27,7 @@ append-requires c = record {
 
 pub stop-requires : goal.stop-requires
 stop-requires c = record {
-  many = subst (λ (w : What). is_built w ≡ true) c.in-Stop.is c.requires.built;
+  many = subst (λ (w : What). is_built c.args.objects.now w ≡ true) c.in-Stop.is c.requires.built;
   caller = c.requires.fits.caller;
   within = subst (IsWithin c.args.world.now.shape.regions c.args.world.now.shape.colours) c.in-Stop.is
       c.requires.fits.within;
@@ -100,7 +100,7 @@ dequeue-requires c = record {
 
 pub unreachable-requires : goal.unreachable-requires
 unreachable-requires c =
-    built_kinds c.args.command.now.what c.requires.built c.in_default.not-Append c.in_default.not-Stop
+    built_kinds c.args.objects.now c.args.command.now.what c.requires.built c.in_default.not-Append c.in_default.not-Stop
     c.in_default.not-Sync c.in_default.not-Scan c.in_default.not-Pull c.in_default.not-Trim c.in_default.not-Put c.in_default.not-Del
     c.in_default.not-PutAll c.in_default.not-Enq c.in_default.not-Deq
 

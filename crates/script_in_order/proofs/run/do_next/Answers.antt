@@ -16,8 +16,9 @@ do_command-requires c =
     let command = c.index-as_slice-place.result in
     let is = c.index-as_slice-place.is ∙ ap (λ (l : List Command). get_or l c.args.place command) c.as_slice.ensures in
     record {
-      built = subst (λ (x : Command). IsTrue (is_built x.what)) (sym is) (c.requires.built c.args.place command
-          c.requires.place);
+      built = subst (λ (os : List Object). IsTrue (is_built os command.what)) (sym c.as_slice-2.ensures)
+          (subst (λ (x : Command). IsTrue (is_built script.objects x.what)) (sym is) (c.requires.built c.args.place command
+          c.requires.place));
       fits = subst (λ (os : List Object). IsFit (world_of c.args.world.now) os command.client command.what)
           (sym c.as_slice-2.ensures) (next_fits script c.requires.fits c.args.place code c.requires.place c.requires.run command is);
       client = next_client script c.requires.fits c.args.place code c.requires.place c.requires.run command is;
