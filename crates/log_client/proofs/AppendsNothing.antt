@@ -8,6 +8,7 @@ use Rattle.append_core.specs.declared.several.MultiFault.{MultiFault}
 use Rattle.append_core.specs.declared.several.MultiFault.TheVariants as faults
 use Rattle.chain_store.specs.declared.hold.Hold.{Hold}
 use Rattle.lawful_run.specs.Appends.{IsFull}
+use Rattle.lawful_run.specs.Stops.{stopped_at_once}
 use Rattle.log_client.specs.declared.store.Store.{Store}
 use Rattle.log_client.specs.declared.client.Client.{Client}
 use Rattle.log_client.specs.Fits.{HasGoneOn, HaveGoneOn}
@@ -72,3 +73,10 @@ module _ (s : Store) (c : Client) (colours : Colours) (text : List ℕ) (stop : 
         λ e. subst (HasNoRow s c colours stop) (let same : used ≡ other = cc (e) in same) none,
         λ too. ap faults.Full (none.shown ∙ sym too.shown),
       ))
+
+  -- a stop before the first step
+  pub stopped_stays : stop ≡ Some 0 → CallsAppend s c c colours text stop (Err (faults.Stopped 0))
+  stopped_stays asked =
+      stays (faults.Stopped 0)
+      (asked, λ objects kept finished keeps. (kept, keeps, λ rest fits. stopped_at_once))
+      (λ used. (λ e. absurd (let f : ⊥ = cc (e) in f), λ none. absurd (none.not_at_once asked)))

@@ -44,6 +44,7 @@ mod StandsLater
 mod NextNodes
 mod Wanting
 mod AppendsNothing
+mod AppendCases
 mod AppendReplies
 mod RowReplies
 mod RowCalls

@@ -180,7 +180,8 @@ impl Client {
     ) -> Result<Appended, MultiFault>
         requires client { IsClient store.now self.old }
         requires colour { colour < store.now.size.colours }
-        requires colours { members colours ≡ colour ∷ [] }
+        requires colours { AreColoursOf store.now colours }
+        requires one { members colours ≡ colour ∷ [] }
         ensures { CallsAppend store.now self.old self.new colours text None result }
     {
         let Ok(node) = self.next_node(alloc, colours, text, None) else {
