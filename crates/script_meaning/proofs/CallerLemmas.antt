@@ -6,7 +6,7 @@ use Rattle.world_laws.specs.Laws.{IsReached}
 use Rattle.world_laws.proofs.CallerLemmas.{opened_reached, run_reached, run_grows}
 use Rattle.script_text.specs.declared.script.Command.{Command}
 use Rattle.script_text.specs.declared.script.Script.{Script}
-use Rattle.script_meaning.specs.States.{State, Grants}
+use Rattle.script_meaning.specs.States.{State, Grants, no_reads}
 use Rattle.script_meaning.specs.Meaning.{LeadTo, nothing, next}
 use Rattle.script_meaning.specs.Appends.{with_single}
 use Rattle.script_meaning.proofs.GrantedCommands.{done_extends, single_runs}
@@ -40,5 +40,5 @@ lead_shape script (next {commands} {state} command grants leads) =
 pub single_shape : (grants : Grants) (w : World) (command : Command) (text : List ℕ) (c : ℕ)
     → (with_single grants w command.client text c).shape ≡ w.shape
 single_shape grants w command text c =
-    let more = single_runs [] grants (record { world = w; replies = λ _. [] }) command text c in
+    let more = single_runs [] grants (record { world = w; replies = λ _. []; reads = λ _. no_reads }) command text c in
     ap (λ (x : World). x.shape) (sym more.run) ∙ (run_grows w more.steps).shape

@@ -251,6 +251,7 @@ abbrev ended : State
 ended = done [] all_granted (record {
   world = run_steps (opened (script 4 []).shape) (Raise b 0 x last_stamp ∷ []);
   replies = λ _. [];
+  reads = λ _. no_reads;
 }) (asks 8 a (Append on_both (codes "p")))
 
 ended-a : answers_to ended a ≡ StampEnd x ∷ []

@@ -6,5 +6,6 @@ pub mod Stamped
 pub mod Objects
 pub mod Dequeues
 pub mod Gets
+pub mod Transactions
 pub mod Meaning
 pub mod Laws

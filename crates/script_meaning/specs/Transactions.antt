@@ -1,0 +1,115 @@
+-- Transactions: reads of transactional maps, and commits that rest on them.
+use Rattle.std.specs.Prelude.{ℕ, List, [], ◌++◌, map, Option, Some, None, if◌then◌else◌}
+use Rattle.log_node.specs.declared.ids.Key.{Key}
+use Rattle.log_node.specs.declared.forms.Pair.{Pair}
+use Rattle.log_node.specs.declared.forms.Version.{Version}
+use Rattle.log_node.specs.declared.forms.Form.{Form}
+use Rattle.log_node.specs.declared.forms.Form.TheVariants as forms
+use Rattle.log_node.specs.Sets.{members}
+use Rattle.object_form.specs.Forms.{form_text}
+use Rattle.object_fold.specs.declared.verdict.Verdict.{Verdict}
+use Rattle.object_fold.specs.declared.verdict.Verdict.TheVariants.{Committed, Conflict}
+use Rattle.object_fold.specs.Nodes.{ObjectNode, nodes_before}
+use Rattle.object_fold.specs.Transactions.{writes_after, value_of, versions_after, verdict_on}
+use Rattle.col_core.specs.History.{entry_key}
+use Rattle.col_core.specs.Keeping.{updated}
+use Rattle.world_laws.specs.Worlds.{World, next_id}
+use Rattle.script_text.specs.declared.script.Object.{Object}
+use Rattle.script_text.specs.declared.script.Command.{Command}
+use Rattle.report_text.specs.declared.report.Answer.{Answer}
+use Rattle.report_text.specs.declared.report.Answer.TheVariants as answers
+use Rattle.report_text.specs.declared.report.KeyAnswer.{KeyAnswer}
+use Rattle.report_text.specs.declared.report.PointPiece.{PointPiece}
+use Rattle.report_text.specs.declared.report.RaisePiece.{RaisePiece}
+use Rattle.report_text.specs.declared.report.SyncPiece.{SyncPiece}
+use Rattle.lawful_run.specs.Asks.{colours_of, rising, keys_of}
+use Rattle.script_meaning.specs.States.{State, Grants, answered}
+use Rattle.script_meaning.specs.Appends.{appended_so}
+use Rattle.script_meaning.specs.Stamped.{ReadEnd, Whole, Refused, Unraised, StampedRead, stamped_read}
+use Rattle.script_meaning.specs.Objects.{caller_in, shard_set}
+use Rattle.script_meaning.specs.Dequeues.{object_at}
+
+-- the colours of an object in rising number
+abbrev pub all_colours : List Object → State → Command → ℕ → List ℕ
+all_colours objects state command object = rising (colours_of (caller_in state.world objects command.client) object)
+
+-- what a client's read of an object found is kept for its commit
+abbrev pub with_found : State → ℕ → ℕ → List Version → State
+with_found state client object versions = record state {
+  reads = updated state.reads client (updated (state.reads client) object (Some versions));
+}
+
+-- the keys, each with its value after these nodes
+abbrev pub values_shown : List ObjectNode → List (List ℕ) → List KeyAnswer
+values_shown nodes keys = map (λ key. record { key = key; value = value_of (writes_after nodes) key }) keys
+
+-- A read of keys, by how its stamped read ended: it answers by the nodes that were read, and keeps their last writers.
+abbrev pub read_by : Grants → State → Command → ℕ → List (List ℕ) → World → ReadEnd → State
+read_by grants state command object keys w (Whole stamp raises syncs read) =
+    let nodes = map (object_at w) read in
+    if grants.items then
+    with_found (answered state command w (answers.GotKeys stamp (values_shown nodes keys) raises syncs) [])
+    command.client object (versions_after nodes keys)
+    else answered state command w answers.NoMemory []
+read_by grants state command object keys w (Refused colour base) =
+    answered state command w (answers.Trimmed colour base) []
+read_by grants state command object keys w Unraised = answered state command w answers.NoMemory []
+
+-- a read of keys: a stamped read of all colours of the object
+abbrev pub read_in : List Object → Grants → State → Command → ℕ → List (List ℕ) → State
+read_in objects grants state command object keys =
+    let read = stamped_read grants state.world command.client (all_colours objects state command object) in
+    read_by grants state command object keys read.world read.ends
+
+-- the answer that shows a verdict
+abbrev pub ruled : Verdict → Option ℕ → List PointPiece → ℕ → List RaisePiece → List SyncPiece → Answer
+ruled (Committed stamp) row points at raises syncs = answers.Ruled None stamp row points at raises syncs
+ruled (Conflict key stamp) row points at raises syncs = answers.Ruled (Some key) stamp row points at raises syncs
+
+-- A commit whose node stands under this key, in the row and at the points, by how the stamped read behind it ended: it
+-- answers the verdict on its versions after the nodes before its own.
+abbrev pub ruled_by : Grants → State → Command → List Version → Key → Option ℕ → List PointPiece → World → ReadEnd
+    → State
+ruled_by grants state command versions own row points w (Whole at raises syncs read) =
+    let before = nodes_before own (map (object_at w) read) in
+    if grants.items then
+    answered state command w
+    (ruled (verdict_on (writes_after before) own.stamp versions) row points at raises syncs) []
+    else answered state command w (answers.UnreadNoMemory own.stamp) []
+ruled_by grants state command versions own row points w (Refused colour base) =
+    answered state command w (answers.UnreadTrimmed own.stamp colour base) []
+ruled_by grants state command versions own row points w Unraised =
+    answered state command w (answers.UnreadNoMemory own.stamp) []
+
+-- Its node stands in this world, under the stamp: then comes a stamped read of all colours of the object.
+abbrev pub read_behind : List Object → Grants → State → Command → ℕ → List Version → World → ℕ → Option ℕ
+    → List PointPiece → State
+read_behind objects grants state command object versions w stamp row points =
+    let read = stamped_read (record grants { helps = grants.read_helps }) w command.client
+    (all_colours objects state command object) in
+    ruled_by grants state command versions (entry_key stamp (next_id state.world command.client)) row points
+    read.world read.ends
+
+-- the keys of versions
+abbrev pub version_keys : List Version → List (List ℕ)
+version_keys versions = map (λ (v : Version). v.key) versions
+
+-- A commit that rests on these versions: an append of its transaction to the shards of the keys read and written, and
+-- then the stamped read.
+abbrev pub committed_on : List Object → Grants → State → Command → ℕ → List Pair → List Version → State
+committed_on objects grants state command object pairs versions =
+    let set = shard_set (colours_of (caller_in state.world objects command.client) object)
+    (version_keys versions ++ keys_of pairs) in
+    appended_so grants state command set (form_text (forms.Transaction versions pairs)) (members set)
+    (read_behind objects grants state command object versions)
+
+-- a commit, by what the client's last read of the object found
+abbrev pub committed_by : List Object → Grants → State → Command → ℕ → List Pair → Option (List Version) → State
+committed_by objects grants state command object pairs None =
+    answered state command state.world answers.NoTx []
+committed_by objects grants state command object pairs (Some versions) =
+    committed_on objects grants state command object pairs versions
+
+abbrev pub committed : List Object → Grants → State → Command → ℕ → List Pair → State
+committed objects grants state command object pairs =
+    committed_by objects grants state command object pairs (state.reads command.client object)
