@@ -1,6 +1,7 @@
 -- One command, where it finds memory, does what it does with memory granted everywhere.
-use Rattle.std.proofs.Common.{◌≡◌, ◌≢◌, inl, ℕ, zero, suc, cond, List, [], ◌∷◌, ◌++◌, length, map, take, Option, Some, None, true, refl, ap, sym, subst, ◌∙◌}
+use Rattle.std.proofs.Common.{◌≡◌, inl, ℕ, zero, suc, cond, List, [], ◌∷◌, ◌++◌, map, take, Option, Some, None, true, refl, ap, sym, subst, ◌∙◌}
 use Rattle.std.specs.Prelude.{◌==◌}
+use Rattle.log_node.specs.declared.ids.Key.{Key}
 use Rattle.log_node.specs.declared.ids.Row.{Row}
 use Rattle.log_node.specs.declared.ids.Colours.{Colours}
 use Rattle.log_node.specs.Seen.{PlacedNode}
@@ -24,21 +25,24 @@ use Rattle.script_text.specs.declared.script.Command.{Command}
 use Rattle.report_text.specs.declared.report.Answer.{Answer}
 use Rattle.report_text.specs.declared.report.Answer.TheVariants as answers
 use Rattle.report_text.specs.declared.report.PointPiece.{PointPiece}
+use Rattle.report_text.specs.declared.report.RaisePiece.{RaisePiece}
+use Rattle.report_text.specs.declared.report.SyncPiece.{SyncPiece}
 use Rattle.report_text.specs.declared.report.ReplyLine.{ReplyLine}
+use Rattle.object_fold.specs.Nodes.{shard_of}
 use Rattle.object_fold.specs.Queues.{front_after}
 use Rattle.script_meaning.specs.States.{State, Grants, all_granted, answered, kind_in}
 use Rattle.script_meaning.specs.Helping.{all_cleared}
 use Rattle.script_meaning.specs.Appends.{with_single, appended_one, appended_by, appended_several, appended, stopped, is_full, append_steps, ended_colour, point_in}
 use Rattle.script_meaning.specs.Moves.{nodes_played, synced, lacking, with_give, with_carry, pulled_from, pulled, trimmed}
-use Rattle.script_meaning.specs.Stamped.{ReadEnd, Whole, Refused, Unraised, StampedRead, stamped_read, shown_key, scanned_by, scanned}
+use Rattle.script_meaning.specs.Stamped.{ReadEnd, Whole, Refused, Unraised, StampedRead, stamped_read, shown_key, scan_answer, ended_by}
 use Rattle.script_meaning.proofs.GrantedReads.{IsRaised, read_runs, read_exact}
 use Rattle.script_meaning.proofs.MoveCases.{play_answer, trimmed_answer, pull_answer, with_trim, base_answer, played, refused, synced_is, stayed, carried, given, pulled_is, from_is, from_all, trimmed_is}
 use Rattle.script_text.specs.Items.{set_of}
 use Rattle.lawful_run.specs.Callers.{Caller}
-use Rattle.lawful_run.specs.Asks.{kind_of, colours_of, keys_of, put_form}
+use Rattle.lawful_run.specs.Asks.{kind_of, colours_of, keys_of, put_form, shards}
 use Rattle.script_meaning.specs.Objects.{caller_in, refusing_home, shard_set}
 use Rattle.script_meaning.specs.Dequeues.{first_nodes, sync_now, base_now, dequeued_at, dequeued_by}
-use Rattle.script_meaning.specs.Gets.{got}
+use Rattle.script_meaning.specs.Gets.{value_now, got, keys_answer}
 use Rattle.script_meaning.specs.Meaning.{done_one, done_from, done, TellsNoWant}
 use Rattle.script_meaning.proofs.GrantedSteps.{IsClean, RunsTo, stays_there, runs_on, clean_from, complete_exact, taken_exact, clears_run, clears_exact}
 use Rattle.script_meaning.proofs.Invariant.{line_of}
@@ -162,16 +166,21 @@ module _ (objects : List Object) (grants : Grants) (state : State) (command : Co
       (answer_extends state command (with_trim w u c) (base_answer w (with_trim w u c) u c) []
       (record { steps = Trim u (home_of w u) c ((w.clients u).played c) ∷ []; run = refl }))
 
-  scan_extends : (colours : List ℕ) → Extends state (scanned grants state command colours)
-  scan_extends colours =
+  -- by how a read of colours ended
+  read_extends : (colours : List ℕ) (answer : ℕ → List RaisePiece → List SyncPiece → List Key → Answer)
+      (shown : List Key → List PlacedNode) → Extends state
+      (ended_by grants state command answer shown (stamped_read grants w u colours).world
+      (stamped_read grants w u colours).ends)
+  read_extends colours answer shown =
       let read = stamped_read grants w u colours in
       by_end read.world read.ends (read_runs grants w u colours) where
-        by_end : (v : World) (ends : ReadEnd) → RunsTo w v → Extends state (scanned_by grants state command v ends)
+        by_end : (v : World) (ends : ReadEnd) → RunsTo w v
+            → Extends state (ended_by grants state command answer shown v ends)
         by_end v (Whole stamp raises syncs keys) r =
-            let answer = answers.Scanned stamp (length keys) raises syncs in
-            choice (Extends state) grants.items (answered state command v answer (map (shown_key v) keys))
+            choice (Extends state) grants.items
+            (answered state command v (answer stamp raises syncs keys) (shown keys))
             (answered state command v answers.NoMemory [])
-            (λ _. answer_extends state command v answer (map (shown_key v) keys) r)
+            (λ _. answer_extends state command v (answer stamp raises syncs keys) (shown keys) r)
             (λ _. answer_extends state command v answers.NoMemory [] r)
         by_end v (Refused colour base) r = answer_extends state command v (answers.Trimmed colour base) [] r
         by_end v Unraised r = answer_extends state command v answers.NoMemory [] r
@@ -223,7 +232,14 @@ module _ (objects : List Object) (grants : Grants) (state : State) (command : Co
 
   got_extends : (kind : Option Kind) (key : List ℕ) → Extends state (got grants state command kind key)
   got_extends None key = nothing_done
-  got_extends (Some (kinds.Map home colours)) key = nothing_done
+  got_extends (Some (kinds.Map home colours)) key =
+      let c = shard_of colours key in
+      let got = answers.Got (value_now w u colours c key) (sync_now w u c) in
+      let base = answers.Trimmed c (base_now w u c) in
+      choice (Extends state) (may_play w u c) (answered state command (after w (Play u c)) got [])
+      (answered state command w base [])
+      (λ _. answer_extends state command (after w (Play u c)) got [] (record { steps = Play u c ∷ []; run = refl }))
+      (λ _. answer_extends state command w base [] (stays_there w))
   got_extends (Some (kinds.Tx home colours)) key = nothing_done
   got_extends (Some (kinds.Causal colour)) key = nothing_done
   got_extends (Some (kinds.Queue home colour)) key = nothing_done
@@ -232,7 +248,8 @@ module _ (objects : List Object) (grants : Grants) (state : State) (command : Co
   one_command_extends (whats.Append colours text) = append_extends colours text (members colours)
   one_command_extends (whats.Stop steps colours text) = stop_extends colours text steps
   one_command_extends (whats.Sync colour) = sync_extends colour
-  one_command_extends (whats.Scan colours) = scan_extends (members colours)
+  one_command_extends (whats.Scan colours) =
+      read_extends (members colours) scan_answer (map (shown_key (stamped_read grants w u (members colours)).world))
   one_command_extends (whats.Pull region colour) = pull_extends region colour
   one_command_extends (whats.Trim colour) = trim_extends colour
   one_command_extends (whats.Put object key value) =
@@ -246,7 +263,10 @@ module _ (objects : List Object) (grants : Grants) (state : State) (command : Co
   one_command_extends (whats.PutAll object pairs) =
       append_extends (shard_set (colours_of caller object) (keys_of pairs))
       (form_text (forms.PutAll pairs)) (members (shard_set (colours_of caller object) (keys_of pairs)))
-  one_command_extends (whats.GetAll object keys) = nothing_done
+  one_command_extends (whats.GetAll object keys) =
+      let colours = colours_of caller object in
+      let read = stamped_read grants w u (shards colours keys) in
+      read_extends (shards colours keys) (keys_answer read.world colours keys) (λ _. [])
   one_command_extends (whats.Read object keys) = nothing_done
   one_command_extends (whats.Commit object pairs) = nothing_done
   one_command_extends (whats.Enq object value) =
@@ -430,39 +450,45 @@ module _ (objects : List Object) (grants : Grants) (state : State) (command : Co
       ∙ sym (if_false (may_single w u c)
       (dequeued_at all_granted state command v' stamp (point_in w v' u (next_id w u) c)) ended f))
 
-  -- the answer to a scan, by how its read ended
-  end_exact : (v : World) (ends : ReadEnd) → TellsNone (scanned_by grants state command v ends)
-      → IsRaised ends × (scanned_by grants state command v ends ≡ scanned_by all_granted state command v ends)
-  end_exact v (Whole stamp raises syncs keys) tells =
-      let shown : State = answered state command v (answers.Scanned stamp (length keys) raises syncs)
-      (map (shown_key v) keys) in
-      let refused : State = answered state command v answers.NoMemory [] in
-      let t : all_granted.items ≡ true = refl in (
-        tt,
-        by_test _ grants.items
-            (λ is. if_true grants.items shown refused is ∙ sym (if_true all_granted.items shown refused t))
-            (λ f. absurd (told_so v (subst TellsNone (if_false grants.items shown refused f) tells))),
-      )
-  end_exact v (Refused colour base) tells = (tt, refl)
-  end_exact v Unraised tells = absurd (told_so v tells)
+  -- the answer by how a read ended
+  module _ (answer : ℕ → List RaisePiece → List SyncPiece → List Key → Answer) (shown : List Key → List PlacedNode) where
+    end_exact : (v : World) (ends : ReadEnd) → TellsNone (ended_by grants state command answer shown v ends)
+        → IsRaised ends × (ended_by grants state command answer shown v ends
+        ≡ ended_by all_granted state command answer shown v ends)
+    end_exact v (Whole stamp raises syncs keys) tells =
+        let told : State = answered state command v (answer stamp raises syncs keys) (shown keys) in
+        let refused : State = answered state command v answers.NoMemory [] in
+        let t : all_granted.items ≡ true = refl in (
+          tt,
+          by_test _ grants.items
+              (λ is. if_true grants.items told refused is ∙ sym (if_true all_granted.items told refused t))
+              (λ f. absurd (told_so v (subst TellsNone (if_false grants.items told refused f) tells))),
+        )
+    end_exact v (Refused colour base) tells = (tt, refl)
+    end_exact v Unraised tells = absurd (told_so v tells)
 
-  scanned_world : (v : World) (ends : ReadEnd) → (scanned_by grants state command v ends).world ≡ v
-  scanned_world v (Whole stamp raises syncs keys) =
-      choice (λ (s : State). s.world ≡ v) grants.items
-      (answered state command v (answers.Scanned stamp (length keys) raises syncs) (map (shown_key v) keys))
-      (answered state command v answers.NoMemory []) (λ _. refl) (λ _. refl)
-  scanned_world v (Refused colour base) = refl
-  scanned_world v Unraised = refl
+    ended_world : (v : World) (ends : ReadEnd) → (ended_by grants state command answer shown v ends).world ≡ v
+    ended_world v (Whole stamp raises syncs keys) =
+        choice (λ (s : State). s.world ≡ v) grants.items
+        (answered state command v (answer stamp raises syncs keys) (shown keys))
+        (answered state command v answers.NoMemory []) (λ _. refl) (λ _. refl)
+    ended_world v (Refused colour base) = refl
+    ended_world v Unraised = refl
 
-  scan_exact : (colours : List ℕ) → IsClean (scanned grants state command colours).world
-      → TellsNone (scanned grants state command colours)
-      → scanned grants state command colours ≡ scanned all_granted state command colours
-  scan_exact colours clean tells =
+  -- a command that makes a stamped read
+  reads_exact : (colours : List ℕ) (answer : World → ℕ → List RaisePiece → List SyncPiece → List Key → Answer)
+      (shown : World → List Key → List PlacedNode)
+      → let by = λ (g : Grants) (r : StampedRead). ended_by g state command (answer r.world) (shown r.world) r.world r.ends in
+      IsClean (by grants (stamped_read grants w u colours)).world
+      → TellsNone (by grants (stamped_read grants w u colours))
+      → by grants (stamped_read grants w u colours) ≡ by all_granted (stamped_read all_granted w u colours)
+  reads_exact colours answer shown clean tells =
       let read = stamped_read grants w u colours in
-      let ended = end_exact read.world read.ends tells in
+      let ended = end_exact (answer read.world) (shown read.world) read.world read.ends tells in
       ended.1
-      ∙ ap (λ (r : StampedRead). scanned_by all_granted state command r.world r.ends)
-      (read_exact grants w u colours (subst IsClean (scanned_world read.world read.ends) clean) ended.0)
+      ∙ ap (λ (r : StampedRead). ended_by all_granted state command (answer r.world) (shown r.world) r.world r.ends)
+      (read_exact grants w u colours
+      (subst IsClean (ended_world (answer read.world) (shown read.world) read.world read.ends) clean) ended.0)
 
   got_exact : (kind : Option Kind) (key : List ℕ) → IsClean (got grants state command kind key).world
       → TellsNone (got grants state command kind key)
@@ -479,7 +505,8 @@ module _ (objects : List Object) (grants : Grants) (state : State) (command : Co
   one_command_exact (whats.Append colours text) clean tells = append_exact colours text (members colours) clean
   one_command_exact (whats.Stop steps colours text) clean tells = stop_exact colours text steps clean
   one_command_exact (whats.Sync colour) clean tells = refl
-  one_command_exact (whats.Scan colours) clean tells = scan_exact (members colours) clean tells
+  one_command_exact (whats.Scan colours) clean tells =
+      reads_exact (members colours) (λ _. scan_answer) (λ v. map (shown_key v)) clean tells
   one_command_exact (whats.Pull region colour) clean tells = pull_exact region colour tells
   one_command_exact (whats.Trim colour) clean tells = refl
   one_command_exact (whats.Put object key value) clean tells =
@@ -493,7 +520,9 @@ module _ (objects : List Object) (grants : Grants) (state : State) (command : Co
   one_command_exact (whats.PutAll object pairs) clean tells =
       append_exact (shard_set (colours_of caller object) (keys_of pairs))
       (form_text (forms.PutAll pairs)) (members (shard_set (colours_of caller object) (keys_of pairs))) clean
-  one_command_exact (whats.GetAll object keys) clean tells = refl
+  one_command_exact (whats.GetAll object keys) clean tells =
+      let colours = colours_of caller object in
+      reads_exact (shards colours keys) (λ v. keys_answer v colours keys) (λ _ _. []) clean tells
   one_command_exact (whats.Read object keys) clean tells = refl
   one_command_exact (whats.Commit object pairs) clean tells = refl
   one_command_exact (whats.Enq object value) clean tells =

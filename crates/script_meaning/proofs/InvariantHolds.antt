@@ -23,7 +23,7 @@ use Rattle.script_text.specs.declared.script.What.TheVariants as whats
 use Rattle.script_text.specs.declared.script.Command.{Command}
 use Rattle.script_text.specs.declared.script.Script.{Script}
 use Rattle.script_text.specs.Items.{is_stop, set_of}
-use Rattle.script_text.specs.Fitting.{IsFitting, IsWithin, is_queue, HasObject, UsesObject}
+use Rattle.script_text.specs.Fitting.{IsFitting, IsWithin, is_queue, HasObject, UsesObject, is_any_map}
 use Rattle.report_text.specs.declared.report.Answer.{Answer}
 use Rattle.report_text.specs.declared.report.Answer.TheVariants as answers
 use Rattle.col_core.specs.History.{entry_key}
@@ -45,6 +45,7 @@ use Rattle.script_meaning.proofs.ShardSets.{shard_members, set_has, shards_below
 use Rattle.script_meaning.proofs.Playing.{at_or}
 use Rattle.script_meaning.proofs.ObjectAppends.{AsksIn, does_as}
 use Rattle.script_meaning.proofs.DequeueRuns as dequeues
+use Rattle.script_meaning.proofs.GetRuns as gets
 use Rattle.script_meaning.proofs.ObjectKinds.{some_of, object_has, queue_one, not_away, is_away, did_stay_away}
 use Rattle.script_meaning.proofs.AppendOne as one
 use Rattle.script_meaning.proofs.AfterMoves as moving
@@ -299,13 +300,15 @@ module _ (script : Script) (commands : List Command) (state : State) (command : 
       (λ x i. all_at (λ y. y < script.shape.colours) (members colours) all x i) first.0 first.1
 
   -- a get, by the kind of its object
-  runs_get : (kind : Option Kind) (key : List ℕ) → is_get_built kind ≡ true
-      → Runs script commands' (got grants state command kind key)
-  runs_get None key b = absurd (let f : ⊥ = cc in f)
-  runs_get (Some (kinds.Map home colours)) key b = absurd (let f : ⊥ = cc in f)
-  runs_get (Some (kinds.Tx home colours)) key b = absurd (let f : ⊥ = cc in f)
-  runs_get (Some (kinds.Causal colour)) key b = absurd (let f : ⊥ = cc in f)
-  runs_get (Some (kinds.Queue home colour)) key b = absurd (let f : ⊥ = cc in f)
+  runs_get : (object : ℕ) (key : List ℕ) → command.what ≡ whats.Get object key
+      → HasObject script.objects object is_any_map → (kind : Option Kind) → kind_in script.objects object ≡ kind
+      → is_get_built kind ≡ true → Runs script commands' (got grants state command kind key)
+  runs_get object key asked has None is b = absurd (let f : ⊥ = cc in f)
+  runs_get object key asked has (Some (kinds.Map home colours)) is b =
+      gets.runs_get_value script commands state command grants runs fit object home colours key asked is has
+  runs_get object key asked has (Some (kinds.Tx home colours)) is b = absurd (let f : ⊥ = cc in f)
+  runs_get object key asked has (Some (kinds.Causal colour)) is b = absurd (let f : ⊥ = cc in f)
+  runs_get object key asked has (Some (kinds.Queue home colour)) is b = absurd (let f : ⊥ = cc in f)
 
   runs_what : (what : What) → command.what ≡ what → is_built script.objects what ≡ true
       → IsWithin script.shape.regions script.shape.colours what → UsesObject script.objects what
@@ -331,7 +334,8 @@ module _ (script : Script) (commands : List Command) (state : State) (command : 
       (shard_set (colours_of caller object) (key ∷ []))
       (form_text (put_form (kind_of caller object) key value))) (sym asked)
       (shard_members (colours_of caller object) (key ∷ []), refl))
-  runs_what (whats.Get object key) asked b within uses = runs_get (kind_in script.objects object) key b
+  runs_what (whats.Get object key) asked b within uses =
+      runs_get object key asked uses.0 (kind_in script.objects object) refl b
   runs_what (whats.Del object key) asked b within uses =
       runs_shards object (key ∷ []) key (inl refl) (form_text (forms.Delete key)) uses.0 (ap manner_of asked)
       (λ w' kept. subst (λ (what : What). AsksToAppend (caller_in w' script.objects u) kept what
@@ -343,7 +347,9 @@ module _ (script : Script) (commands : List Command) (state : State) (command : 
       (λ w' kept. subst (λ (what : What). AsksToAppend (caller_in w' script.objects u) kept what
       (shard_set (colours_of caller object) (keys_of pairs)) (form_text (forms.PutAll pairs))) (sym asked)
       (shard_members (colours_of caller object) (keys_of pairs), refl))
-  runs_what (whats.GetAll object keys) asked b within uses = absurd (let f : ⊥ = cc in f)
+  runs_what (whats.GetAll object keys) asked b within uses =
+      let key = some_of keys (leb-true 1 _ (both _ _ (both _ _ uses.1).0).0) in
+      gets.runs_get_keys script commands state command grants runs fit object keys key.0 key.1 asked uses.0
   runs_what (whats.Read object keys) asked b within uses = absurd (let f : ⊥ = cc in f)
   runs_what (whats.Commit object pairs) asked b within uses = absurd (let f : ⊥ = cc in f)
   runs_what (whats.Enq object value) asked b within uses =

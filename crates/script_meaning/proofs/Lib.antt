@@ -41,7 +41,10 @@ mod CompletionParts
 mod Stopping
 mod Invariant
 mod DequeueRuns
+mod AfterRead
 mod AfterScan
+mod Getting
+mod GetRuns
 mod InvariantHolds
 mod RowsOfClients
 mod LawfulReports

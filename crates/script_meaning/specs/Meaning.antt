@@ -28,7 +28,7 @@ use Rattle.script_meaning.specs.Moves.{synced, pulled, trimmed}
 use Rattle.script_meaning.specs.Stamped.{scanned}
 use Rattle.script_meaning.specs.Objects.{caller_in, refusing_home, put_into, deleted_from, put_all_into, enqueued_in}
 use Rattle.script_meaning.specs.Dequeues.{dequeued}
-use Rattle.script_meaning.specs.Gets.{got}
+use Rattle.script_meaning.specs.Gets.{got, got_keys}
 use Rattle.script_meaning.specs.Transactions.{read_in, committed}
 
 -- the state after a command that is built and was granted memory before it did anything; another changes nothing
@@ -47,7 +47,8 @@ done_one objects grants state command (whats.Del object key) =
     deleted_from objects grants state command object key
 done_one objects grants state command (whats.PutAll object pairs) =
     put_all_into objects grants state command object pairs
-done_one objects grants state command (whats.GetAll object keys) = state
+done_one objects grants state command (whats.GetAll object keys) =
+    got_keys objects grants state command object keys
 done_one objects grants state command (whats.Read object keys) = read_in objects grants state command object keys
 done_one objects grants state command (whats.Commit object pairs) =
     committed objects grants state command object pairs

@@ -35,7 +35,7 @@ kind_in objects object = option_map (λ (o : Object). o.kind) (slice_get objects
 -- whether a get is done of an object of this kind
 abbrev pub is_get_built : Option Kind → Bool
 is_get_built None = false
-is_get_built (Some (kinds.Map home colours)) = false
+is_get_built (Some (kinds.Map home colours)) = true
 is_get_built (Some (kinds.Tx home colours)) = false
 is_get_built (Some (kinds.Causal colour)) = false
 is_get_built (Some (kinds.Queue home colour)) = false
@@ -53,7 +53,7 @@ is_built objects (whats.Put object key value) = true
 is_built objects (whats.Get object key) = is_get_built (kind_in objects object)
 is_built objects (whats.Del object key) = true
 is_built objects (whats.PutAll object pairs) = true
-is_built objects (whats.GetAll object keys) = false
+is_built objects (whats.GetAll object keys) = true
 is_built objects (whats.Read object keys) = false
 is_built objects (whats.Commit object pairs) = false
 is_built objects (whats.Enq object value) = true

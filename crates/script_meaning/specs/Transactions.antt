@@ -3,13 +3,12 @@ use Rattle.std.specs.Prelude.{ℕ, List, [], ◌++◌, map, Option, Some, None, 
 use Rattle.log_node.specs.declared.ids.Key.{Key}
 use Rattle.log_node.specs.declared.forms.Pair.{Pair}
 use Rattle.log_node.specs.declared.forms.Version.{Version}
-use Rattle.log_node.specs.declared.forms.Form.{Form}
 use Rattle.log_node.specs.declared.forms.Form.TheVariants as forms
 use Rattle.log_node.specs.Sets.{members}
 use Rattle.object_form.specs.Forms.{form_text}
 use Rattle.object_fold.specs.declared.verdict.Verdict.{Verdict}
 use Rattle.object_fold.specs.declared.verdict.Verdict.TheVariants.{Committed, Conflict}
-use Rattle.object_fold.specs.Nodes.{ObjectNode, nodes_before}
+use Rattle.object_fold.specs.Nodes.{nodes_before}
 use Rattle.object_fold.specs.Transactions.{writes_after, value_of, versions_after, verdict_on}
 use Rattle.col_core.specs.History.{entry_key}
 use Rattle.col_core.specs.Keeping.{updated}
@@ -18,16 +17,16 @@ use Rattle.script_text.specs.declared.script.Object.{Object}
 use Rattle.script_text.specs.declared.script.Command.{Command}
 use Rattle.report_text.specs.declared.report.Answer.{Answer}
 use Rattle.report_text.specs.declared.report.Answer.TheVariants as answers
-use Rattle.report_text.specs.declared.report.KeyAnswer.{KeyAnswer}
 use Rattle.report_text.specs.declared.report.PointPiece.{PointPiece}
 use Rattle.report_text.specs.declared.report.RaisePiece.{RaisePiece}
 use Rattle.report_text.specs.declared.report.SyncPiece.{SyncPiece}
 use Rattle.lawful_run.specs.Asks.{colours_of, rising, keys_of}
 use Rattle.script_meaning.specs.States.{State, Grants, answered}
 use Rattle.script_meaning.specs.Appends.{appended_so}
-use Rattle.script_meaning.specs.Stamped.{ReadEnd, Whole, Refused, Unraised, StampedRead, stamped_read}
+use Rattle.script_meaning.specs.Stamped.{ReadEnd, Whole, Refused, Unraised, stamped_read, ended_so}
 use Rattle.script_meaning.specs.Objects.{caller_in, shard_set}
 use Rattle.script_meaning.specs.Dequeues.{object_at}
+use Rattle.script_meaning.specs.Gets.{key_answers}
 
 -- the colours of an object in rising number
 abbrev pub all_colours : List Object → State → Command → ℕ → List ℕ
@@ -39,27 +38,21 @@ with_found state client object versions = record state {
   reads = updated state.reads client (updated (state.reads client) object (Some versions));
 }
 
--- the keys, each with its value after these nodes
-abbrev pub values_shown : List ObjectNode → List (List ℕ) → List KeyAnswer
-values_shown nodes keys = map (λ key. record { key = key; value = value_of (writes_after nodes) key }) keys
-
--- A read of keys, by how its stamped read ended: it answers by the nodes that were read, and keeps their last writers.
-abbrev pub read_by : Grants → State → Command → ℕ → List (List ℕ) → World → ReadEnd → State
-read_by grants state command object keys w (Whole stamp raises syncs read) =
+-- A read of keys that is whole, and has read the nodes with these keys of a world: it answers by them, and keeps for a
+-- commit who wrote the keys last.
+abbrev pub found_by : State → Command → ℕ → List (List ℕ) → World → ℕ → List RaisePiece → List SyncPiece → List Key
+    → State
+found_by state command object keys w stamp raises syncs read =
     let nodes = map (object_at w) read in
-    if grants.items then
-    with_found (answered state command w (answers.GotKeys stamp (values_shown nodes keys) raises syncs) [])
+    with_found (answered state command w
+    (answers.GotKeys stamp (key_answers (value_of (writes_after nodes)) keys) raises syncs) [])
     command.client object (versions_after nodes keys)
-    else answered state command w answers.NoMemory []
-read_by grants state command object keys w (Refused colour base) =
-    answered state command w (answers.Trimmed colour base) []
-read_by grants state command object keys w Unraised = answered state command w answers.NoMemory []
 
 -- a read of keys: a stamped read of all colours of the object
 abbrev pub read_in : List Object → Grants → State → Command → ℕ → List (List ℕ) → State
 read_in objects grants state command object keys =
     let read = stamped_read grants state.world command.client (all_colours objects state command object) in
-    read_by grants state command object keys read.world read.ends
+    ended_so grants state command (found_by state command object keys read.world) read.world read.ends
 
 -- the answer that shows a verdict
 abbrev pub ruled : Verdict → Option ℕ → List PointPiece → ℕ → List RaisePiece → List SyncPiece → Answer
