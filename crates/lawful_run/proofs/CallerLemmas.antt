@@ -9,4 +9,4 @@ pub use Rattle.lawful_run.proofs.Prefixes.{get-append, get_within, prefix_get, p
 pub use Rattle.lawful_run.proofs.ObjectAnswers.{explains_append, explains_get, explains_values, explains_get_trimmed, explains_get_without}
 pub use Rattle.lawful_run.proofs.ObjectAnswers.{explains_take, explains_unread, explains_unread_without, explains_away, one_shard}
 pub use Rattle.lawful_run.proofs.ObjectAnswers.{explains_read, explains_verdict, explains_unruled, explains_unruled_without, explains_no_read}
-pub use Rattle.lawful_run.proofs.ReadsKept.{explained_ids, explained_keeps}
+pub use Rattle.lawful_run.proofs.ReadsKept.{explained_ids, explained_keeps, reads_keep}

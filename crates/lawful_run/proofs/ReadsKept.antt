@@ -58,7 +58,7 @@ clears_keep log caller stamp kept [] after r = same_kept kept after r
 clears_keep log caller stamp kept (sync ∷ syncs) after r =
     clears_keep log caller stamp (kept_after_piece log caller kept sync) syncs after r.2
 
-reads_keep : (log : Log) (caller : Caller) (kept : Kept) (colours : List ℕ) (stamp : ℕ) (raises : List RaisePiece)
+pub reads_keep : (log : Log) (caller : Caller) (kept : Kept) (colours : List ℕ) (stamp : ℕ) (raises : List RaisePiece)
     (syncs : List SyncPiece) (after : Kept) → ReadsAt log caller kept colours stamp raises syncs after
     → KeepsReads kept after
 reads_keep log caller kept colours stamp raises syncs after r =

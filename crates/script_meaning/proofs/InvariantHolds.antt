@@ -15,7 +15,7 @@ use Rattle.col_core.proofs.CallerLemmas.{choice, both, apart, not_true, if_true,
 use Rattle.world_laws.specs.declared.steps.Step.TheVariants.{Seen}
 use Rattle.world_laws.specs.Worlds.{World, home_of, after, run_steps, row_of, next_row, is_client, is_column, may_begin, may_single, after_begin, single_stamp, next_id}
 use Rattle.world_laws.specs.Completing.{complete_steps}
-use Rattle.world_laws.proofs.CallerLemmas.{contains_in, in_slice, in_right}
+use Rattle.world_laws.proofs.CallerLemmas.{contains_in, in_slice, in_left, in_right}
 use Rattle.script_text.specs.declared.script.Kind.{Kind}
 use Rattle.script_text.specs.declared.script.Kind.TheVariants as kinds
 use Rattle.script_text.specs.declared.script.What.{What}
@@ -46,9 +46,11 @@ use Rattle.script_meaning.proofs.Playing.{at_or}
 use Rattle.script_meaning.proofs.ObjectAppends.{AsksIn, does_as}
 use Rattle.script_meaning.proofs.DequeueRuns as dequeues
 use Rattle.script_meaning.proofs.GetRuns as gets
+use Rattle.script_meaning.proofs.TransactionReads as reading
 use Rattle.script_meaning.proofs.ObjectKinds.{some_of, object_has, queue_one, not_away, is_away, did_stay_away}
 use Rattle.script_meaning.proofs.AppendOne as one
 use Rattle.script_meaning.proofs.AfterMoves as moving
+use Rattle.script_meaning.proofs.FitCommands as fits
 use Rattle.script_meaning.proofs.AfterScan as scanning
 use Rattle.script_meaning.proofs.BeginRow as begun
 use Rattle.script_meaning.proofs.AppendSeveral as several
@@ -82,10 +84,10 @@ module _ (script : Script) (commands : List Command) (state : State) (command : 
   going = free script commands state command runs fit
 
   client_ok : is_client w u ≡ true
-  client_ok = moving.client_ok script commands state command runs fit
+  client_ok = fits.client_ok script commands state command runs fit
 
   column_ok : (c : ℕ) → c < script.shape.colours → is_column w (home_of w u) c ≡ true
-  column_ok = moving.column_ok script commands state command runs fit
+  column_ok = fits.column_ok script commands state command runs fit
 
   -- what an append does, the command does
   abbrev IsAppend : Colours → List ℕ → Type 0
@@ -350,7 +352,7 @@ module _ (script : Script) (commands : List Command) (state : State) (command : 
   runs_what (whats.GetAll object keys) asked b within uses =
       let key = some_of keys (leb-true 1 _ (both _ _ (both _ _ uses.1).0).0) in
       gets.runs_get_keys script commands state command grants runs fit object keys key.0 key.1 asked uses.0
-  runs_what (whats.Read object keys) asked b within uses = absurd (let f : ⊥ = cc in f)
+  runs_what (whats.Read object keys) asked b within uses = absurd (fit.read object keys asked)
   runs_what (whats.Commit object pairs) asked b within uses = absurd (let f : ⊥ = cc in f)
   runs_what (whats.Enq object value) asked b within uses =
       runs_queue object (form_text (forms.Enqueue value)) uses.0 (ap manner_of asked)
@@ -359,27 +361,77 @@ module _ (script : Script) (commands : List Command) (state : State) (command : 
   runs_what (whats.Deq object) asked b within uses =
       dequeues.runs_dequeue script commands state command grants runs fit object asked uses
 
+-- whether a command is a read of an object
+read_or_not : (what : What)
+    → ((object : ℕ) × (keys : List (List ℕ)) × (what ≡ whats.Read object keys))
+    ⊎ ((object : ℕ) (keys : List (List ℕ)) → what ≡ whats.Read object keys → ⊥)
+read_or_not (whats.Append colours text) = inr (λ o k e. let f : ⊥ = cc in f)
+read_or_not (whats.Stop steps colours text) = inr (λ o k e. let f : ⊥ = cc in f)
+read_or_not (whats.Sync colour) = inr (λ o k e. let f : ⊥ = cc in f)
+read_or_not (whats.Scan colours) = inr (λ o k e. let f : ⊥ = cc in f)
+read_or_not (whats.Pull region colour) = inr (λ o k e. let f : ⊥ = cc in f)
+read_or_not (whats.Trim colour) = inr (λ o k e. let f : ⊥ = cc in f)
+read_or_not (whats.Put object key value) = inr (λ o k e. let f : ⊥ = cc in f)
+read_or_not (whats.Get object key) = inr (λ o k e. let f : ⊥ = cc in f)
+read_or_not (whats.Del object key) = inr (λ o k e. let f : ⊥ = cc in f)
+read_or_not (whats.PutAll object pairs) = inr (λ o k e. let f : ⊥ = cc in f)
+read_or_not (whats.GetAll object keys) = inr (λ o k e. let f : ⊥ = cc in f)
+read_or_not (whats.Read object keys) = inl (object, keys, refl)
+read_or_not (whats.Commit object pairs) = inr (λ o k e. let f : ⊥ = cc in f)
+read_or_not (whats.Enq object value) = inr (λ o k e. let f : ⊥ = cc in f)
+read_or_not (whats.Deq object) = inr (λ o k e. let f : ⊥ = cc in f)
+
+module _ (script : Script) (commands : List Command) (command : Command)
+    (fit : IsFitWhere script commands command ⊥ (Unit {0}))
+    (other : (object : ℕ) (keys : List (List ℕ)) → command.what ≡ whats.Read object keys → ⊥) where
+  no_read : IsFit script commands command
+  no_read = record {
+    caller = fit.caller;
+    home = fit.home;
+    few = fit.few;
+    within = fit.within;
+    built = fit.built;
+    going = fit.going;
+    uses = fit.uses;
+    kinds = fit.kinds;
+    few_colours = fit.few_colours;
+    few_clients = fit.few_clients;
+    callers = fit.callers;
+    short = fit.short;
+    away = fit.away;
+    read = other;
+  }
+
 module _ (script : Script) (commands : List Command) (state : State) (command : Command) (grants : Grants)
     (runs : Runs script commands state) where
   abbrev caller_now : Caller
   caller_now = caller_in state.world script.objects command.client
 
   -- where the home of the command's object refuses it, and where it does not
-  runs_from : (IsFitWhere script commands command (Unit {0})) → (home : Option ℕ)
+  runs_from : (IsFitWhere script commands command (Unit {0}) (Unit {0})) → (home : Option ℕ)
       → refusing_home caller_now command.what ≡ home
-      → ((IsAway caller_now (home_asked caller_now command.what) → ⊥) → IsFit script commands command)
+      → ((IsAway caller_now (home_asked caller_now command.what) → ⊥)
+      → IsFitWhere script commands command ⊥ (Unit {0}))
       → Runs script (commands ++ command ∷ []) (done_from home script.objects grants state command)
   runs_from any None is fit =
       let near = fit (not_away caller_now (home_asked caller_now command.what) is) in
-      runs_what script commands state command grants runs near command.what refl near.built near.within near.uses
+      elim (read_or_not command.what) [
+        | inl r ↦ subst (λ (what : What). Runs script (commands ++ command ∷ [])
+            (done_one script.objects grants state command what)) (sym r.2)
+            (reading.runs_read script commands state command grants runs near r.0 r.1 r.2)
+        | inr other ↦ let fits = no_read script commands command near other in
+            runs_what script commands state command grants runs fits command.what refl near.built near.within near.uses
+      ]
   runs_from any (Some home) is fit =
       let away = is_away caller_now (home_asked caller_now command.what) home is in
       runs_answered script commands state command runs any state.world (answers.NotHome home) []
+      (inr (λ _ _ _ _ e. absurd (let f : ⊥ = cc in f)))
       (did_stay_away script.objects command.client command.what state.world home away.0 away.1)
       (λ _. inr (home, refl)) runs.finished
 
-  pub runs_command : (IsFitWhere script commands command (Unit {0}))
-      → ((IsAway caller_now (home_asked caller_now command.what) → ⊥) → IsFit script commands command)
+  pub runs_command : (IsFitWhere script commands command (Unit {0}) (Unit {0}))
+      → ((IsAway caller_now (home_asked caller_now command.what) → ⊥)
+      → IsFitWhere script commands command ⊥ (Unit {0}))
       → Runs script (commands ++ command ∷ []) (done script.objects grants state command)
   runs_command any fit =
       choice (Runs script (commands ++ command ∷ [])) grants.start
@@ -387,6 +439,7 @@ module _ (script : Script) (commands : List Command) (state : State) (command : 
       (answered state command state.world answers.NoMemory [])
       (λ _. runs_from any (refusing_home caller_now command.what) refl fit)
       (λ _. runs_answered script commands state command runs any state.world answers.NoMemory []
+      (inr (λ _ _ _ _ e. absurd (let f : ⊥ = cc in f)))
       (did_nothing script.objects command.client command.what state.world) (λ _. inl refl) runs.finished)
 
 -- The commands of a script
@@ -396,7 +449,7 @@ module _ (script : Script) (fits : IsFitting script)
   fit_at : (commands : List Command) (command : Command) (rest : List Command)
       → script.commands ≡ commands ++ command ∷ rest → (Away : Type 0)
       → (IsAway (caller_of script command.client) (home_asked (caller_of script command.client) command.what) → Away)
-      → IsFitWhere script commands command Away
+      → IsFitWhere script commands command Away (Unit {0})
   fit_at commands command rest is Away away =
       let there : In command script.commands =
       subst (λ (l : List Command). In command l) (sym is) (in_right command commands (command ∷ rest) (inl refl)) in
@@ -430,7 +483,15 @@ module _ (script : Script) (fits : IsFitting script)
         uses = all_at (λ (c : Command). UsesObject script.objects c.what) script.commands fits.uses command there;
         kinds = fits.objects;
         few_colours = fits.shape.few_colours;
+        few_clients = fits.shape.few_clients;
+        callers = λ c i. all_at (λ (c : Command). c.client < length script.shape.homes) script.commands fits.callers c
+            (subst (λ (l : List Command). In c l) (sym is) (in_left c commands (command ∷ rest) i));
+        short =
+            let total : length script.commands ≡ length commands + suc (length rest) =
+            ap length is ∙ length-append commands (command ∷ rest) in
+            let few = fits.few in omega (arith, total, few);
         away = away;
+        read = λ _ _ _. tt;
       } where
         home_at : (n : ℕ) → n < length script.shape.homes → slice_index script.shape.homes n < script.shape.regions
         home_at n lt = fits.shape.homes n 0 lt

@@ -9,6 +9,7 @@ mod Counting
 mod Clearing
 mod Lines
 mod Kept
+mod ReadsLeft
 mod AppendOne
 mod Lists
 mod ShardSets
@@ -40,11 +41,14 @@ mod ObjectForms
 mod CompletionParts
 mod Stopping
 mod Invariant
+mod FitCommands
+mod VersionsFit
 mod DequeueRuns
 mod AfterRead
 mod AfterScan
 mod Getting
 mod GetRuns
+mod TransactionReads
 mod InvariantHolds
 mod RowsOfClients
 mod LawfulReports

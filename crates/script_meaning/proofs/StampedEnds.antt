@@ -110,15 +110,21 @@ keys_ordered w reached u stamp colours =
           (in_contains (map (λ c. line (home_history w u c)) colours) l c) in
           subst AreRising m.2 (rising_line w reached (home_of w u) m.0)
 
--- and each has its node
-pub keys_listed : (w : World) → IsReached w → (u stamp : ℕ) (colours : List ℕ) (key : Key)
-    → In key (keys_read w u stamp colours) → (node : Node) × (node_with w key.id ≡ Some node)
-keys_listed w reached u stamp colours key i =
+-- each stands in the line of a colour
+pub keys_stand : (w : World) → IsReached w → (u stamp : ℕ) (colours : List ℕ) (key : Key)
+    → In key (keys_read w u stamp colours) → (c : ℕ) × In c colours × In key (line (home_history w u c))
+keys_stand w reached u stamp colours key i =
     let o = (keys_ordered w reached u stamp colours).no_other key
     (contains_in (keys_read w u stamp colours) key i) in
     let m = in_map (λ c. line (home_history w u c)) colours o.1
     (in_contains (map (λ c. line (home_history w u c)) colours) o.1 o.2) in
-    line_node w reached (home_of w u) m.0 key (subst (λ (l : List Key). In key l) (sym m.2) (in_contains o.1 key o.3))
+    (m.0, m.1, subst (λ (l : List Key). In key l) (sym m.2) (in_contains o.1 key o.3))
+
+-- and each has its node
+pub keys_listed : (w : World) → IsReached w → (u stamp : ℕ) (colours : List ℕ) (key : Key)
+    → In key (keys_read w u stamp colours) → (node : Node) × (node_with w key.id ≡ Some node)
+keys_listed w reached u stamp colours key i =
+    let s = keys_stand w reached u stamp colours key i in line_node w reached (home_of w u) s.0 key s.2
 
 module _ (objects : List Object) (S : ℕ → Type 0) (what : What) (may : may_help (manner_of what) ≡ true) (w : World)
     (reached : IsReached w) (fin : Finished S w) (u : ℕ) (free : S u → ⊥) (colours : List ℕ)
@@ -160,6 +166,7 @@ module _ (objects : List Object) (S : ℕ → Type 0) (what : What) (may : may_h
     pub is : at ≡ stamp
     pub read : AreRead (log_of w') (caller_in w' objects u) stamp syncs keys
     pub nodes : (key : Key) → In key keys → (node : Node) × (node_with w' key.id ≡ Some node)
+    pub stand : (key : Key) → In key keys → (c : ℕ) × In key (line (home_history w' u c))
     pub kept : (kept : Kept) → IsKeptBy w u kept → KeepsRead w' raises syncs kept
     pub hidden : (kept : Kept) → IsKeptBy w u kept → KeepsHidden w' kept
 
@@ -432,6 +439,15 @@ module _ (objects : List Object) (S : ℕ → Type 0) (what : What) (may : may_h
           let n = keys_listed w2 reached2 u stamp colours key (subst (λ (l : List Key). In key l) same_keys i) in
           (n.0, ap (λ (l : Log). slice_get (l.nodes key.id.client) key.id.count) log4 ∙ n.1)
 
+      stand : (key : Key) → In key (keys_read w4 u stamp colours) → (c : ℕ) × In key (line (home_history w4 u c))
+      stand key i =
+          let s = keys_stand w2 reached2 u stamp colours key (subst (λ (l : List Key). In key l) same_keys i) in (
+            s.0,
+            subst (λ (r : ℕ). In key (line (w4.histories r s.0)))
+                (sym (ap (λ (s : Shape). slice_index s.homes u) shape42))
+                (subst (λ (f : ℕ → ℕ → List Entry). In key (line (f (home_of w2 u) s.0))) (sym histories4) s.2),
+          )
+
       -- the client keeps what the read tells
       module _ (kept : Kept) (k : IsKeptBy w u kept) where
         raised_kept : RaisesKept objects S u own stamp low w w1 raises kept
@@ -539,6 +555,7 @@ module _ (objects : List Object) (S : ℕ → Type 0) (what : What) (may : may_h
           is = refl;
           read = are_read;
           nodes = nodes;
+          stand = stand;
           kept = keeps_read;
           hidden = keeps_hidden;
         };

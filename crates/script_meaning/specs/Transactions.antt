@@ -32,21 +32,17 @@ use Rattle.script_meaning.specs.Gets.{key_answers}
 abbrev pub all_colours : List Object → State → Command → ℕ → List ℕ
 all_colours objects state command object = rising (colours_of (caller_in state.world objects command.client) object)
 
--- what a client's read of an object found is kept for its commit
-abbrev pub with_found : State → ℕ → ℕ → List Version → State
-with_found state client object versions = record state {
-  reads = updated state.reads client (updated (state.reads client) object (Some versions));
-}
-
--- A read of keys that is whole, and has read the nodes with these keys of a world: it answers by them, and keeps for a
--- commit who wrote the keys last.
+-- A read of keys that is whole, and has read the nodes with these keys of a world: it answers by them, and in place of
+-- what an earlier read found the client keeps for a commit who wrote the keys last.
 abbrev pub found_by : State → Command → ℕ → List (List ℕ) → World → ℕ → List RaisePiece → List SyncPiece → List Key
     → State
 found_by state command object keys w stamp raises syncs read =
     let nodes = map (object_at w) read in
-    with_found (answered state command w
-    (answers.GotKeys stamp (key_answers (value_of (writes_after nodes)) keys) raises syncs) [])
-    command.client object (versions_after nodes keys)
+    let answer = answers.GotKeys stamp (key_answers (value_of (writes_after nodes)) keys) raises syncs in
+    let client = command.client in
+    record (answered state command w answer []) {
+      reads = updated state.reads client (updated (state.reads client) object (Some (versions_after nodes keys)));
+    }
 
 -- a read of keys: a stamped read of all colours of the object
 abbrev pub read_in : List Object → Grants → State → Command → ℕ → List (List ℕ) → State
