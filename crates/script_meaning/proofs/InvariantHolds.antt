@@ -34,7 +34,7 @@ use Rattle.lawful_run.proofs.CallerLemmas.{get_within, get-append}
 use Rattle.script_meaning.specs.States.{State, Grants, has_colours, kind_in, is_get_built, is_built, StopsAreLast, answered}
 use Rattle.script_meaning.specs.Gets.{got}
 use Rattle.script_meaning.specs.Helping.{all_cleared}
-use Rattle.script_meaning.specs.Appends.{appended_one, appended_by, appended_several, appended, stopped, is_full, append_steps, with_single, point_in, ended_colour}
+use Rattle.script_meaning.specs.Appends.{answered_stood, appended, stopped, is_full, append_steps, with_single, point_in, ended_colour}
 use Rattle.script_meaning.specs.Stamped.{scanned}
 use Rattle.script_meaning.specs.Objects.{caller_in, refusing_home, shard_set}
 use Rattle.script_meaning.specs.Meaning.{done_one, done_from, done, LeadTo, nothing, next}
@@ -50,6 +50,7 @@ use Rattle.script_meaning.proofs.TransactionReads as reading
 use Rattle.script_meaning.proofs.ObjectKinds.{some_of, object_has, queue_one, not_away, is_away, did_stay_away}
 use Rattle.script_meaning.proofs.AppendOne as one
 use Rattle.script_meaning.proofs.AfterMoves as moving
+use Rattle.script_meaning.proofs.AppendCases as cases
 use Rattle.script_meaning.proofs.FitCommands as fits
 use Rattle.script_meaning.proofs.AfterScan as scanning
 use Rattle.script_meaning.proofs.BeginRow as begun
@@ -61,10 +62,6 @@ use Rattle.script_meaning.proofs.Invariant.{IsStopped, Runs, IsFitWhere, IsFit, 
 
 pub all_at : {A : Type 0} (P : A → Type 0) (xs : List A) → All P xs → (x : A) → In x xs → P x
 all_at P xs all x i = let c = contains_in xs x i in subst P c.2 (all c.0 x c.1)
-
-each_true : (test : ℕ → Bool) (xs : List ℕ) → ((x : ℕ) → In x xs → test x ≡ true) → list_all test xs ≡ true
-each_true test [] h = refl
-each_true test (x ∷ xs) h = and_from (test x) _ (h x (inl refl)) (each_true test xs (λ y i. h y (inr i)))
 
 module _ (script : Script) (commands : List Command) (state : State) (command : Command) (grants : Grants)
     (runs : Runs script commands state) (fit : IsFit script commands command) where
@@ -94,94 +91,6 @@ module _ (script : Script) (commands : List Command) (state : State) (command : 
   IsAppend colours text =
       (w' : World) (answer : Answer) → Does script.objects u (whats.Append colours text) w w' answer []
       → Does script.objects u command.what w w' answer []
-
-  -- an append to one colour
-  runs_one_colour : (colours : Colours) (text : List ℕ) (c : ℕ) → IsAppend colours text
-      → members colours ≡ c ∷ [] → colours.0 < 2 ^ 64 → c < script.shape.colours
-      → Runs script commands' (appended_one grants state command text c)
-  runs_one_colour colours text c asked only low lt =
-      choice (Runs script commands') (may_single w u c)
-      (answered state command (with_single grants w u text c)
-      (answers.Stood (single_stamp w u c) None (point_in w (with_single grants w u text c) u (next_id w u) c ∷ [])) [])
-      (answered state command w (answers.StampEnd c) [])
-      (λ ok. runs_done script commands state command runs fit (with_single grants w u text c)
-      (answers.Stood (single_stamp w u c) None (point_in w (with_single grants w u text c) u (next_id w u) c ∷ [])) []
-      (asked (with_single grants w u text c)
-      (answers.Stood (single_stamp w u c) None (point_in w (with_single grants w u text c) u (next_id w u) c ∷ []))
-      (one.does script.objects S grants w runs.reached runs.finished u c text going ok colours only
-      (one_is_power colours c only low)))
-      (subst (Finished S) (sym (one.after_is script.objects S grants w runs.reached runs.finished u c text going ok))
-      (one.finished2 script.objects S grants w runs.reached runs.finished u c text going ok)))
-      (λ refused. runs_done script commands state command runs fit w (answers.StampEnd c) []
-      (asked w (answers.StampEnd c)
-      (did_end_one script.objects u c colours text w only client_ok (column_ok c lt) refused)) runs.finished)
-
-  -- the row of an append to several colours may begin
-  begins : (colours : Colours) → 1 < length (members colours)
-      → ((c : ℕ) → In c (members colours) → c < script.shape.colours) → is_full w u ≡ false → may_begin w u colours
-      ≡ true
-  begins colours many below full =
-      and_from (is_client w u) _ client_ok
-      (and_from (nat_lt (w.clients u).used w.shape.rows) _ (left (nat_lt (w.clients u).used w.shape.rows) full)
-      (and_from (nat_lt 1 (length (members colours))) _ (lt-ltb 1 (length (members colours)) many)
-      (each_true (is_column w (home_of w u)) (members colours) (λ c i. column_ok c (below c i))))) where
-        left : (b : Bool) → not b ≡ false → b ≡ true
-        left true e = refl
-        left false e = absurd (let f : ⊥ = cc in f)
-
-  -- an append to several colours
-  module _ (colours : Colours) (text : List ℕ) (asked : IsAppend colours text)
-      (many : 1 < length (members colours)) (below : (c : ℕ) → In c (members colours) → c < script.shape.colours) where
-    abbrev row : Row
-    row = next_row w u
-
-    abbrev w3 : World
-    w3 = run_steps (after_begin w u colours text) (complete_steps (after_begin w u colours text) u row grants.marks)
-
-    by_outcome : (ok : may_begin w u colours ≡ true) (last : Outcome) → (row_of w3 row).last ≡ last
-        → Runs script commands' (appended_by grants state command w3 row (members colours) last)
-    by_outcome ok Open e =
-        absurd ((several.done3 script.objects S grants w runs.reached runs.finished u colours text going ok).decided e)
-    by_outcome ok (Gone Memory) e =
-        runs_done script commands state command runs fit w3 answers.NoMemory []
-        (asked w3 answers.NoMemory
-        (several.does_gone_memory script.objects S grants w runs.reached runs.finished u colours text going ok e))
-        (several.finished3 script.objects S grants w runs.reached runs.finished u colours text going ok)
-    by_outcome ok (Gone StampEnd) e =
-        runs_done script commands state command runs fit w3 (answers.StampEnd
-        (ended_colour w3 row (members colours))) []
-        (asked w3 (answers.StampEnd (ended_colour w3 row (members colours)))
-        (several.does_gone_end script.objects S grants w runs.reached runs.finished u colours text going ok e))
-        (several.finished3 script.objects S grants w runs.reached runs.finished u colours text going ok)
-    by_outcome ok (Final f) e =
-        let after_all = all_cleared grants u (entry_key f (next_id w u)) (members colours) (after w3 (Seen u f)) in
-        let answer = answers.Stood f (Some row.number) (map (point_in w after_all u (next_id w u)) (members colours)) in
-        runs_done script commands state command runs fit after_all answer []
-        (asked after_all answer
-        (final.does_final script.objects S grants w runs.reached runs.finished u colours text going ok f e))
-        (subst (Finished S) (sym
-        (final.after_is script.objects S grants w runs.reached runs.finished u colours text going ok f e))
-        (final.finished6 script.objects S grants w runs.reached runs.finished u colours text going ok f e))
-
-    stepped_is : (ok : may_begin w u colours ≡ true) → run_steps w (append_steps grants w u colours text) ≡ w3
-    stepped_is ok =
-        ap (λ (x : World). run_steps x (complete_steps x u row grants.marks))
-        (if_true (may_begin w u colours) (after_begin w u colours text) w ok)
-
-    runs_several : Runs script commands' (appended_several grants state command colours text)
-    runs_several =
-        choice (Runs script commands') (is_full w u)
-        (answered state command w (answers.Full (w.clients u).used) [])
-        (appended_by grants state command (run_steps w (append_steps grants w u colours text)) row (members colours)
-        (row_of (run_steps w (append_steps grants w u colours text)) row).last)
-        (λ full. runs_done script commands state command runs fit w (answers.Full (w.clients u).used) []
-        (asked w (answers.Full (w.clients u).used)
-        (did_full script.objects u (whats.Append colours text) colours text w runs.reached (λ caller kept. (refl, refl))
-        (λ a b e. absurd (let f : ⊥ = cc in f)) many full)) runs.finished)
-        (λ room. let ok = begins colours many below room in
-        subst (λ (x : World). Runs script commands'
-        (appended_by grants state command x row (members colours) (row_of x row).last)) (sym (stepped_is ok))
-        (by_outcome ok (row_of w3 row).last refl))
 
   -- a stop
   module _ (colours : Colours) (text : List ℕ) (many : 1 < length (members colours))
@@ -217,34 +126,18 @@ module _ (script : Script) (commands : List Command) (state : State) (command : 
         (subst (λ (what : What). Does script.objects u what w w (answers.Full (w.clients u).used) []) (sym asked)
         (did_full script.objects u (whats.Stop (suc n) colours text) colours text w runs.reached
         (λ caller kept. (refl, refl)) (λ a b e. absurd (let f : ⊥ = cc in f)) many full)) runs.finished)
-        (λ room. stop_done n (begins colours many below room) asked)
+        (λ room. stop_done n (cases.begins script commands state command runs fit colours many below room) asked)
 
   -- the command, by what it asks
-  has_low : (count : ℕ) (colours : Colours) → has_colours count colours ≡ true
-      → (count ≤ length (members colours)) × (colours.0 < 2 ^ 64)
-  unfolding has_colours
-  has_low count colours e =
-      let p = both (not (nat_lt (length (members colours)) count)) _ e in
-      (enough (cases_lt (length (members colours)) count) (not_true _ p.0), ltb-true colours.0 (2 ^ 64) p.1) where
-        enough : (length (members colours) < count) ⊎ (count ≤ length (members colours))
-            → nat_lt (length (members colours)) count ≡ false → count ≤ length (members colours)
-        enough (inl lt) f = absurd (apart _ (lt-ltb _ _ lt) f)
-        enough (inr le) f = le
-
-  runs_append : (colours : Colours) (text : List ℕ) (ms : List ℕ) → members colours ≡ ms
-      → IsAppend colours text → has_colours 1 colours ≡ true
+  runs_append : (colours : Colours) (text : List ℕ) → IsAppend colours text → has_colours 1 colours ≡ true
       → ((c : ℕ) → In c (members colours) → c < script.shape.colours)
-      → Runs script commands' (appended grants state command colours text ms)
-  runs_append colours text [] is asked b all =
-      let n = (has_low 1 colours b).0 in
-      let z : length (members colours) ≡ 0 = ap length is in
-      absurd (let f : ⊥ = omega (arith, n, z) in f)
-  runs_append colours text (c ∷ []) is asked b all =
-      runs_one_colour colours text c asked is (has_low 1 colours b).1
-      (all c (subst (λ (l : List ℕ). In c l) (sym is) (inl refl)))
-  runs_append colours text (c ∷ d ∷ ms) is asked b all =
-      runs_several colours text asked
-      (let z : length (members colours) ≡ suc (suc (length ms)) = ap length is in omega (arith, z)) all
+      → Runs script commands' (appended grants state command colours text (members colours))
+  runs_append colours text asked has below =
+      cases.by_append script commands state command grants runs fit colours text has below
+      (answered_stood state command) (Runs script commands')
+      (λ w' answer refusal d fin. runs_done script commands state command runs fit w' answer [] (asked w' answer d) fin)
+      (λ v stamp row points d fin. runs_done script commands state command runs fit v
+      (answers.Stood stamp row points) [] (asked v (answers.Stood stamp row points) d) fin)
 
   abbrev caller : Caller
   caller = caller_in w script.objects u
@@ -255,7 +148,7 @@ module _ (script : Script) (commands : List Command) (state : State) (command : 
       → members set ≡ colours → ((c : ℕ) → In c colours → c < script.shape.colours)
       → Runs script commands' (appended grants state command set text (members set))
   runs_form set colours text appending asks has is below =
-      runs_append set text (members set) refl
+      runs_append set text
       (λ w' answer d. does_as script.objects u command.what set text appending asks w w' answer [] d) has
       (λ c i. below c (subst (λ (l : List ℕ). In c l) is i))
 
@@ -316,15 +209,15 @@ module _ (script : Script) (commands : List Command) (state : State) (command : 
       → IsWithin script.shape.regions script.shape.colours what → UsesObject script.objects what
       → Runs script commands' (done_one script.objects grants state command what)
   runs_what (whats.Append colours text) asked b within uses =
-      runs_append colours text (members colours) refl
+      runs_append colours text
       (λ w' answer d. subst (λ (what : What). Does script.objects u what w w' answer []) (sym asked) d) b
       (λ c i. all_at (λ d. d < script.shape.colours) (members colours) within c i)
   runs_what (whats.Stop steps colours text) asked b within uses =
-      runs_stop colours text (let n = (has_low 2 colours b).0 in omega (arith, n))
+      runs_stop colours text (let n = (cases.has_low 2 colours b).0 in omega (arith, n))
       (λ x i. all_at (λ y. y < script.shape.colours) (members colours) within x i) steps asked
   runs_what (whats.Sync colour) asked b within uses =
       moving.runs_sync script commands state command runs fit colour asked within
-  runs_what (whats.Scan colours) asked b within uses = runs_scan_of colours asked (has_low 1 colours b).0 within
+  runs_what (whats.Scan colours) asked b within uses = runs_scan_of colours asked (cases.has_low 1 colours b).0 within
   runs_what (whats.Pull region colour) asked b within uses =
       moving.runs_pull script commands state command runs fit grants region colour asked within.0 within.1
   runs_what (whats.Trim colour) asked b within uses =

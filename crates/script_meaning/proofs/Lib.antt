@@ -42,6 +42,7 @@ mod CompletionParts
 mod Stopping
 mod Invariant
 mod FitCommands
+mod AppendCases
 mod VersionsFit
 mod DequeueRuns
 mod AfterRead
