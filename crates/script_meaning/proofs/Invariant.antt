@@ -40,7 +40,7 @@ use Rattle.script_meaning.proofs.Rows.{IsDone}
 use Rattle.script_meaning.proofs.StaysComplete.{OfDone, of_done_stays}
 use Rattle.script_meaning.proofs.Clearing.{Finished}
 use Rattle.script_meaning.proofs.Kept.{caller_in, IsKeptBy, MadeBy, Does, later_log, kept_beside}
-use Rattle.script_meaning.proofs.ReadsLeft.{DoesOver, FindsNone, over_any, behind_kept, left_before}
+use Rattle.script_meaning.proofs.ReadsLeft.{DoesOver, LeavesReads, FindsNone, over_reads, over_any, behind_kept, left_before}
 use Rattle.script_meaning.proofs.Lists.{asked_by, asked-own, asked-other}
 
 -- Replies
@@ -389,6 +389,15 @@ module _ (script : Script) (commands : List Command) (state : State) (command : 
   runs_answered w' answer nodes none does refusal =
       runs_over w' answer nodes (reads_left command.what (state.reads u))
       (over_any script.objects u command.what w w' answer nodes (state.reads u) none does) (fit_left w') refusal
+
+  -- one that may rest on the reads that are kept
+  pub runs_left : (w' : World) (answer : Answer) (nodes : List PlacedNode) → FindsNone command.what answer
+      → LeavesReads script.objects u command.what w w' answer nodes (state.reads u) → (Away → IsHomeRefusal answer)
+      → Finished (IsStopped commands state.replies) w'
+      → Runs script (commands ++ command ∷ []) (answered state command w' answer nodes)
+  runs_left w' answer nodes none does refusal =
+      runs_over w' answer nodes (reads_left command.what (state.reads u))
+      (over_reads script.objects u command.what w w' answer nodes (state.reads u) none does) (fit_left w') refusal
 
 -- the same of a client that is not away
 module _ (script : Script) (commands : List Command) (state : State) (command : Command)

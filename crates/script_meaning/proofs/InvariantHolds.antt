@@ -8,6 +8,7 @@ use Rattle.log_node.specs.declared.ids.Colours.{Colours}
 use Rattle.log_node.specs.declared.forms.Form.TheVariants as forms
 use Rattle.log_node.specs.Sets.{members}
 use Rattle.object_form.specs.Forms.{form_text}
+use Rattle.object_form.specs.Laws.{ReadsBack}
 use Rattle.log_node.specs.declared.marks.Why.TheVariants.{Memory, StampEnd}
 use Rattle.log_node.specs.declared.marks.Outcome.{Outcome}
 use Rattle.log_node.specs.declared.marks.Outcome.TheVariants.{Open, Gone, Final}
@@ -47,6 +48,7 @@ use Rattle.script_meaning.proofs.ObjectAppends.{AsksIn, does_as}
 use Rattle.script_meaning.proofs.DequeueRuns as dequeues
 use Rattle.script_meaning.proofs.GetRuns as gets
 use Rattle.script_meaning.proofs.TransactionReads as reading
+use Rattle.script_meaning.proofs.CommitRuns as commits
 use Rattle.script_meaning.proofs.ObjectKinds.{some_of, object_has, queue_one, not_away, is_away, did_stay_away}
 use Rattle.script_meaning.proofs.AppendOne as one
 use Rattle.script_meaning.proofs.AfterMoves as moving
@@ -63,8 +65,8 @@ use Rattle.script_meaning.proofs.Invariant.{IsStopped, Runs, IsFitWhere, IsFit, 
 pub all_at : {A : Type 0} (P : A → Type 0) (xs : List A) → All P xs → (x : A) → In x xs → P x
 all_at P xs all x i = let c = contains_in xs x i in subst P c.2 (all c.0 x c.1)
 
-module _ (script : Script) (commands : List Command) (state : State) (command : Command) (grants : Grants)
-    (runs : Runs script commands state) (fit : IsFit script commands command) where
+module _ (back : ReadsBack) (script : Script) (commands : List Command) (state : State) (command : Command)
+    (grants : Grants) (runs : Runs script commands state) (fit : IsFit script commands command) where
   abbrev u : ℕ
   u = command.client
 
@@ -246,7 +248,8 @@ module _ (script : Script) (commands : List Command) (state : State) (command : 
       let key = some_of keys (leb-true 1 _ (both _ _ (both _ _ uses.1).0).0) in
       gets.runs_get_keys script commands state command grants runs fit object keys key.0 key.1 asked uses.0
   runs_what (whats.Read object keys) asked b within uses = absurd (fit.read object keys asked)
-  runs_what (whats.Commit object pairs) asked b within uses = absurd (let f : ⊥ = cc in f)
+  runs_what (whats.Commit object pairs) asked b within uses =
+      commits.runs_commit back script commands state command grants runs fit object pairs asked
   runs_what (whats.Enq object value) asked b within uses =
       runs_queue object (form_text (forms.Enqueue value)) uses.0 (ap manner_of asked)
       (λ is w' kept. subst (λ (what : What). AsksToAppend (caller_in w' script.objects u) kept what
@@ -295,8 +298,8 @@ module _ (script : Script) (commands : List Command) (command : Command)
     read = other;
   }
 
-module _ (script : Script) (commands : List Command) (state : State) (command : Command) (grants : Grants)
-    (runs : Runs script commands state) where
+module _ (back : ReadsBack) (script : Script) (commands : List Command) (state : State) (command : Command)
+    (grants : Grants) (runs : Runs script commands state) where
   abbrev caller_now : Caller
   caller_now = caller_in state.world script.objects command.client
 
@@ -313,7 +316,8 @@ module _ (script : Script) (commands : List Command) (state : State) (command : 
             (done_one script.objects grants state command what)) (sym r.2)
             (reading.runs_read script commands state command grants runs near r.0 r.1 r.2)
         | inr other ↦ let fits = no_read script commands command near other in
-            runs_what script commands state command grants runs fits command.what refl near.built near.within near.uses
+            runs_what back script commands state command grants runs fits command.what refl near.built near.within
+            near.uses
       ]
   runs_from any (Some home) is fit =
       let away = is_away caller_now (home_asked caller_now command.what) home is in
@@ -337,7 +341,7 @@ module _ (script : Script) (commands : List Command) (state : State) (command : 
 
 -- The commands of a script
 
-module _ (script : Script) (fits : IsFitting script)
+module _ (back : ReadsBack) (script : Script) (fits : IsFitting script)
     (built : All (λ (c : Command). IsTrue (is_built script.objects c.what)) script.commands) (last : StopsAreLast script) where
   fit_at : (commands : List Command) (command : Command) (rest : List Command)
       → script.commands ≡ commands ++ command ∷ rest → (Away : Type 0)
@@ -397,7 +401,7 @@ module _ (script : Script) (fits : IsFitting script)
       let runs = runs_lead leads (command ∷ rest) whole in
       let any = fit_at commands command rest whole (Unit {0}) (λ _. tt) in
       let same = caller_is script commands state command runs any command.client in
-      runs_command script commands state command grants runs any
+      runs_command back script commands state command grants runs any
       (λ near. fit_at commands command rest whole ⊥
       (subst (λ (c : Caller). IsAway c (home_asked c command.what) → ⊥) same near))
 

@@ -43,6 +43,9 @@ mod Stopping
 mod Invariant
 mod FitCommands
 mod AppendCases
+mod AppendsBehind
+mod TransactionVerdicts
+mod Committing
 mod VersionsFit
 mod DequeueRuns
 mod AfterRead
@@ -50,6 +53,7 @@ mod AfterScan
 mod Getting
 mod GetRuns
 mod TransactionReads
+mod CommitRuns
 mod InvariantHolds
 mod RowsOfClients
 mod LawfulReports

@@ -1,6 +1,6 @@
 -- The sets of the colours of shards.
 use Rattle.std.proofs.Common.{◌≡◌, ◌≢◌, ◌⊎◌, inl, inr, ℕ, zero, suc, ◌+◌, ◌<◌, ◌≤◌, ◌^◌, Bool, true, false, cond, List, [], ◌∷◌, length, map, refl, ap, sym, subst, ◌∙◌, arith, bit_or, eq-eqb}
-use Rattle.std.specs.Prelude.{◌==◌, ◌||◌, ◌%◌, not, nat_lt, sum}
+use Rattle.std.specs.Prelude.{◌==◌, ◌||◌, ◌%◌, not, nat_lt, sum, slice_index_or}
 use Rattle.std.specs.List.{All, filter, fold, list_any, range_with_len}
 use Rattle.std.proofs.Math.Nat.{mod-lt}
 use Rattle.std.proofs.Math.Pow.{pow-lt}
@@ -136,6 +136,15 @@ pub shard_below : (count : ℕ) (colours : List ℕ) → 1 ≤ length colours �
     → (key : List ℕ) → shard_of colours key < count
 shard_below count colours some all key =
     all (sum key % length colours) 0 (mod-lt (sum key) (omega (arith, some)))
+
+in_index : (xs : List ℕ) (k : ℕ) → k < length xs → In (slice_index_or xs k 0) xs
+in_index [] k lt = absurd (let f : ⊥ = omega (arith, lt) in f)
+in_index (x ∷ xs) zero lt = inl refl
+in_index (x ∷ xs) (suc k) lt = inr (in_index xs k (omega (arith, lt)))
+
+pub shard_in : (colours : List ℕ) → 1 ≤ length colours → (key : List ℕ) → In (shard_of colours key) colours
+shard_in colours some key =
+    in_index colours (sum key % length colours) (mod-lt (sum key) (omega (arith, some)))
 
 -- each colour of the shards is a key's
 pub of_key : (colours : List ℕ) (keys : List (List ℕ)) (c : ℕ) → In c (shards colours keys)

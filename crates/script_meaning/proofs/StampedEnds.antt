@@ -22,7 +22,7 @@ use Rattle.world_laws.specs.declared.steps.Step.{Step}
 use Rattle.world_laws.specs.declared.steps.Step.TheVariants.{Seen}
 use Rattle.world_laws.specs.Worlds.{World, ClientState, home_of, home_history, run_steps, after, base_after, is_client, is_column, may_play}
 use Rattle.world_laws.specs.Laws.{IsReached, log_of}
-use Rattle.world_laws.proofs.CallerLemmas.{in_map, run_reached, run_steps-append}
+use Rattle.world_laws.proofs.CallerLemmas.{in_left, in_map, run_reached, run_steps-append}
 use Rattle.playback.specs.Merging.{AreRising, region_order}
 use Rattle.playback.proofs.CallerLemmas.{order_is_merged}
 use Rattle.script_text.specs.declared.script.What.{What}
@@ -167,6 +167,8 @@ module _ (objects : List Object) (S : ℕ → Type 0) (what : What) (may : may_h
     pub read : AreRead (log_of w') (caller_in w' objects u) stamp syncs keys
     pub nodes : (key : Key) → In key keys → (node : Node) × (node_with w' key.id ≡ Some node)
     pub stand : (key : Key) → In key keys → (c : ℕ) × In key (line (home_history w' u c))
+    pub has : (c : ℕ) → In c colours → (key : Key) → In key (line (home_history w u c)) → key.stamp ≤ stamp
+        → In key keys
     pub kept : (kept : Kept) → IsKeptBy w u kept → KeepsRead w' raises syncs kept
     pub hidden : (kept : Kept) → IsKeptBy w u kept → KeepsHidden w' kept
 
@@ -448,6 +450,25 @@ module _ (objects : List Object) (S : ℕ → Type 0) (what : What) (may : may_h
                 (subst (λ (f : ℕ → ℕ → List Entry). In key (line (f (home_of w2 u) s.0))) (sym histories4) s.2),
           )
 
+      later : IsLater (log_of w) (log_of w2)
+      later = later_log w w2 (raised.steps ++ helped.steps) reached
+          (run_steps-append w raised.steps helped.steps
+          ∙ (ap (λ (y : World). run_steps y helped.steps) raised.run ∙ helped.run))
+
+      -- what stood before is read
+      has : (c : ℕ) → In c colours → (key : Key) → In key (line (home_history w u c)) → key.stamp ≤ stamp
+          → In key (keys_read w4 u stamp colours)
+      has c i key stood low =
+          let lines = map (λ c. line (home_history w2 u c)) colours in
+          let p = later.lines own c in
+          let now : In key (line (home_history w2 u c)) =
+          subst (λ (r : ℕ). In key (line (w2.histories r c))) (sym (ap (λ (s : Shape). slice_index s.homes u) shape2))
+          (subst (λ (l : List Key). In key l) p.1 (in_left key (line (w.histories own c)) p.0 stood)) in
+          subst (λ (l : List Key). In key l) (sym same_keys)
+          (in_contains (keys_read w2 u stamp colours) key (ordered.all (line (home_history w2 u c)) key
+          (contains_in lines (line (home_history w2 u c)) (in_map_back (λ c. line (home_history w2 u c)) colours c i))
+          (contains_in (line (home_history w2 u c)) key now) low))
+
       -- the client keeps what the read tells
       module _ (kept : Kept) (k : IsKeptBy w u kept) where
         raised_kept : RaisesKept objects S u own stamp low w w1 raises kept
@@ -462,11 +483,6 @@ module _ (objects : List Object) (S : ℕ → Type 0) (what : What) (may : may_h
         shown = playing.show_all objects S u stamp w2 w2 colours refl refl look2
             (λ c i. subst (λ (r : ℕ). IsClearUpTo stamp (w2.histories r c))
             (sym (ap (λ (s : Shape). slice_index s.homes u) shape2)) (clear c i)) all (kept1 kept k).after keeps2
-
-        later : IsLater (log_of w) (log_of w2)
-        later = later_log w w2 (raised.steps ++ helped.steps) reached
-            (run_steps-append w raised.steps helped.steps
-            ∙ (ap (λ (y : World). run_steps y helped.steps) raised.run ∙ helped.run))
 
         whole : (c : ℕ) → take (length (w.histories own c)) (w2.histories own c) ≡ w.histories own c
         whole c = prefix_take (w.histories own c) (w2.histories own c) (length (w.histories own c))
@@ -556,6 +572,7 @@ module _ (objects : List Object) (S : ℕ → Type 0) (what : What) (may : may_h
           read = are_read;
           nodes = nodes;
           stand = stand;
+          has = has;
           kept = keeps_read;
           hidden = keeps_hidden;
         };
