@@ -5,3 +5,4 @@ pub mod Points
 pub mod Stamped
 pub mod Reports
 pub mod Reading
+pub mod Folds

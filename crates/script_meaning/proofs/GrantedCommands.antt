@@ -331,7 +331,7 @@ module _ (objects : List Object) (grants : Grants) (state : State) (command : Co
       (form_text (forms.PutAll pairs)) (members (shard_set (colours_of caller object) (keys_of pairs)))
   one_command_extends (whats.GetAll object keys) =
       let colours = colours_of caller object in
-      read_extends (shards colours keys) (λ v. keys_answer v colours keys) (λ _ _. [])
+      read_extends (shards colours keys) (λ v. keys_answer v u colours keys) (λ _ _. [])
   one_command_extends (whats.Read object keys) =
       read_so_extends (all_colours objects state command object) (found_by state command object keys)
       (λ v stamp raises syncs read r. let nodes = map (object_at v) read in
@@ -678,7 +678,7 @@ module _ (objects : List Object) (grants : Grants) (state : State) (command : Co
       (form_text (forms.PutAll pairs)) (members (shard_set (colours_of caller object) (keys_of pairs))) clean tells
   one_command_exact (whats.GetAll object keys) clean tells =
       let colours = colours_of caller object in
-      reads_exact (shards colours keys) (λ v. keys_answer v colours keys) (λ _ _. []) clean tells
+      reads_exact (shards colours keys) (λ v. keys_answer v u colours keys) (λ _ _. []) clean tells
   one_command_exact (whats.Read object keys) clean tells =
       reads_so_exact (found_by state command object keys) (λ v stamp raises syncs read. refl)
       (all_colours objects state command object) clean tells

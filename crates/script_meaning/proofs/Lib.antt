@@ -51,6 +51,7 @@ mod DequeueRuns
 mod AfterRead
 mod AfterScan
 mod Getting
+mod ShardReads
 mod GetRuns
 mod TransactionReads
 mod CommitRuns
@@ -60,6 +61,7 @@ mod LawfulReports
 mod GrantedSteps
 mod GrantedReads
 mod GrantedCommands
+mod LaterNodes
 mod ExactReports
 mod LastStops
 pub mod CallerLemmas

@@ -100,7 +100,7 @@ rising_line w reached r c i j d lt there =
           ∙ found (line (w.histories r c)) n low
 
 -- the keys that are read are in the order of the region
-keys_ordered : (w : World) → IsReached w → (u stamp : ℕ) (colours : List ℕ)
+pub keys_ordered : (w : World) → IsReached w → (u stamp : ℕ) (colours : List ℕ)
     → IsRegionOrder (map (λ c. line (home_history w u c)) colours) stamp (keys_read w u stamp colours)
 keys_ordered w reached u stamp colours =
     order_is_merged stamp (map (λ c. line (home_history w u c)) colours) rise where
@@ -169,6 +169,8 @@ module _ (objects : List Object) (S : ℕ → Type 0) (what : What) (may : may_h
     pub stand : (key : Key) → In key keys → (c : ℕ) × In key (line (home_history w' u c))
     pub has : (c : ℕ) → In c colours → (key : Key) → In key (line (home_history w u c)) → key.stamp ≤ stamp
         → In key keys
+    pub clear : (c : ℕ) → In c colours → IsClearUpTo stamp (home_history w' u c)
+    pub keys_are : keys ≡ keys_read w' u stamp colours
     pub kept : (kept : Kept) → IsKeptBy w u kept → KeepsRead w' raises syncs kept
     pub hidden : (kept : Kept) → IsKeptBy w u kept → KeepsHidden w' kept
 
@@ -468,6 +470,11 @@ module _ (objects : List Object) (S : ℕ → Type 0) (what : What) (may : may_h
           (in_contains (keys_read w2 u stamp colours) key (ordered.all (line (home_history w2 u c)) key
           (contains_in lines (line (home_history w2 u c)) (in_map_back (λ c. line (home_history w2 u c)) colours c i))
           (contains_in (line (home_history w2 u c)) key now) low))
+      -- no open entry up to the stamp is left
+      clear_still : (c : ℕ) → In c colours → IsClearUpTo stamp (home_history w4 u c)
+      clear_still c i =
+          subst (λ (s : Shape). IsClearUpTo stamp (w4.histories (slice_index s.homes u) c)) (sym (shape42 ∙ shape2))
+          (subst (λ (f : ℕ → ℕ → List Entry). IsClearUpTo stamp (f own c)) (sym histories4) (clear c i))
 
       -- the client keeps what the read tells
       module _ (kept : Kept) (k : IsKeptBy w u kept) where
@@ -573,6 +580,8 @@ module _ (objects : List Object) (S : ℕ → Type 0) (what : What) (may : may_h
           nodes = nodes;
           stand = stand;
           has = has;
+          clear = clear_still;
+          keys_are = refl;
           kept = keeps_read;
           hidden = keeps_hidden;
         };
