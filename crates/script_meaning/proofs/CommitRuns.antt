@@ -236,7 +236,7 @@ module _ (back : ReadsBack) (script : Script) (commands : List Command) (state :
     runs_found : Runs script commands' (committed_by script.objects grants state command object pairs (Some versions))
     runs_found =
         by_append script commands state command grants runs fit set text has below
-        (read_behind script.objects grants state command object versions) Goal
+        (read_behind script.objects grants state command object) Goal
         (λ w' answer refusal d fin. done w' answer
         (refused_leaves script.objects u object pairs (state.reads u) set text asks_over w w' answer refusal d) fin)
         (λ v stamp row points d fin.

@@ -1,6 +1,6 @@
 -- A commit: its append, the stamped read behind it, and the verdict.
 use Rattle.std.proofs.Common.{◌≡◌, ◌≢◌, ◌⊎◌, inl, inr, ℕ, ◌+◌, ◌<◌, ◌≤◌, max, List, [], ◌∷◌, ◌++◌, length, map, Option, Some, None, Bool, true, refl, ap, sym, subst, ◌∙◌, arith}
-use Rattle.std.specs.Prelude.{IsTrue, nat_lt, ◌&&◌, slice_get, slice_index}
+use Rattle.std.specs.Prelude.{IsTrue, nat_lt, ◌&&◌, slice_get, slice_index, unwrap_or}
 use Rattle.std.specs.List.{Contains}
 use Rattle.log_node.specs.declared.ids.Colours.{Colours}
 use Rattle.log_node.specs.declared.ids.Id.{Id}
@@ -15,8 +15,8 @@ use Rattle.object_form.specs.Forms.{IsForm, form_text}
 use Rattle.object_form.specs.Laws.{ReadsBack}
 use Rattle.object_fold.specs.declared.verdict.Verdict.{Verdict}
 use Rattle.object_fold.specs.declared.verdict.Verdict.TheVariants.{Committed, Conflict}
-use Rattle.object_fold.specs.Nodes.{ObjectNode, nodes_before}
-use Rattle.object_fold.specs.Transactions.{writes_after, verdict_on, verdict_of}
+use Rattle.object_fold.specs.Nodes.{ObjectNode}
+use Rattle.object_fold.specs.Transactions.{verdict_of}
 use Rattle.col_core.specs.declared.Entry.{Entry}
 use Rattle.col_core.specs.History.{line, entry_key}
 use Rattle.col_core.specs.Keeping.{Kept}
@@ -45,7 +45,7 @@ use Rattle.lawful_run.proofs.CallerLemmas.{append_later, unshown_later, explains
 use Rattle.script_meaning.specs.States.{State, Grants, Reads, answered}
 use Rattle.script_meaning.specs.Dequeues.{object_at}
 use Rattle.script_meaning.specs.Stamped.{read_stamp, ReadEnd, Whole, Refused, Unraised, StampedRead, stamped_read}
-use Rattle.script_meaning.specs.Transactions.{ruled, ruled_by}
+use Rattle.script_meaning.specs.Transactions.{ruled, verdict_in, ruled_by}
 use Rattle.script_meaning.proofs.Additions.{Adds, adds_trans, adds_map}
 use Rattle.script_meaning.proofs.AppendOne.{caller_same}
 use Rattle.script_meaning.proofs.AppendsBehind.{node, shown, appends, unshown, seen_stamp, next_node, stands_in}
@@ -193,7 +193,7 @@ module _ (back : ReadsBack) (objects : List Object) (S : ℕ → Type 0) (state 
     nodes = map (object_at x) keys
 
     abbrev verdict : Verdict
-    verdict = verdict_on (writes_after (nodes_before own nodes)) own.stamp versions
+    verdict = verdict_in x keys own
 
     module _ (kept : Kept) (k : IsKeptBy w u kept) (same : kept.reads ≡ state.reads u) where
       id_same : next_id w u ≡ (node_of there kept set text).id
@@ -215,10 +215,12 @@ module _ (back : ReadsBack) (objects : List Object) (S : ℕ → Type 0) (state 
       rules : verdict_of nodes (entry_key stamp (node_of there kept set text).id) ≡ Some verdict
       rules =
           subst (λ (i : Id). verdict_of nodes (entry_key stamp i) ≡ Some verdict) id_same
-          (own_verdict back x own keys read_own (node_of there kept set text)
+          (there_is (verdict_of nodes own) _ (own_verdict back x own keys read_own (node_of there kept set text)
           (subst (λ (n : ℕ). slice_get (x.nodes u) n ≡ Some (node_of there kept set text)) k.ids
           (next_node (log_of x) there kept (node_of there kept set text) stamp row points (stood kept k)
-          (stands kept k))) versions pairs is_form is_text)
+          (stands kept k))) versions pairs is_form is_text)) where
+            there_is : (o : Option Verdict) (found : Verdict) → o ≡ Some found → o ≡ Some (unwrap_or o (Committed own.stamp))
+            there_is o found e = e ∙ ap (λ (p : Option Verdict). Some (unwrap_or p (Committed own.stamp))) (sym e)
 
       its_read : ReadsAt (log_of x) there (stood kept k) (colours_synced there what) (read_stamp v u cs) raises syncs
           (ended.kept (stood kept k) (at_stood kept k)).after
@@ -271,7 +273,7 @@ module _ (back : ReadsBack) (objects : List Object) (S : ℕ → Type 0) (state 
         ))) did.to.finished
 
     by_end : (g : Grants) (ends : ReadEnd) → Ends objects S what refl v reached_v fin u free cs distinct look first is_first x ends
-        → Goal (ruled_by g state command versions (entry_key stamp (next_id w u)) row points x ends)
+        → Goal (ruled_by g state command (entry_key stamp (next_id w u)) row points x ends)
     by_end g (Whole at raises syncs keys) ended =
         choice Goal g.items
         (answered state command x (ruled (verdict at raises syncs keys ended) row points at raises syncs) [])
@@ -292,5 +294,5 @@ module _ (back : ReadsBack) (objects : List Object) (S : ℕ → Type 0) (state 
         ))) did.to.finished
     by_end g Unraised ended = without (λ kept k. let h = ended kept k in (h.after, h.keeps, h.hides))
 
-    pub after_commit : (g : Grants) → Goal (ruled_by g state command versions (entry_key stamp (next_id w u)) row points x read.ends)
+    pub after_commit : (g : Grants) → Goal (ruled_by g state command (entry_key stamp (next_id w u)) row points x read.ends)
     after_commit g = by_end g read.ends did.ends

@@ -30,9 +30,9 @@ use Rattle.report_text.specs.declared.report.PointPiece.{PointPiece}
 use Rattle.report_text.specs.declared.report.RaisePiece.{RaisePiece}
 use Rattle.report_text.specs.declared.report.SyncPiece.{SyncPiece}
 use Rattle.report_text.specs.declared.report.ReplyLine.{ReplyLine}
-use Rattle.object_fold.specs.Nodes.{nodes_before, shard_of}
+use Rattle.object_fold.specs.Nodes.{shard_of}
 use Rattle.object_fold.specs.Queues.{front_after}
-use Rattle.object_fold.specs.Transactions.{value_of, writes_after, verdict_on}
+use Rattle.object_fold.specs.Transactions.{value_of, writes_after}
 use Rattle.script_meaning.specs.States.{State, Grants, all_granted, answered, kind_in}
 use Rattle.script_meaning.specs.Helping.{all_cleared}
 use Rattle.script_meaning.specs.Appends.{with_single, Follows, answered_stood, appended_one_so, appended_by_so, appended_several_so, appended_so, appended, stopped, is_full, append_steps, ended_colour, point_in}
@@ -46,7 +46,7 @@ use Rattle.lawful_run.specs.Asks.{kind_of, colours_of, keys_of, put_form, shards
 use Rattle.script_meaning.specs.Objects.{caller_in, refusing_home, shard_set}
 use Rattle.script_meaning.specs.Dequeues.{object_at, first_nodes, sync_now, base_now, dequeued_at, dequeued_by}
 use Rattle.script_meaning.specs.Gets.{value_now, got, key_answers, keys_answer}
-use Rattle.script_meaning.specs.Transactions.{all_colours, found_by, ruled, ruled_by, read_behind, version_keys, committed_by}
+use Rattle.script_meaning.specs.Transactions.{all_colours, found_by, ruled, verdict_in, ruled_by, read_behind, version_keys, committed_by}
 use Rattle.script_meaning.specs.Meaning.{done_one, done_from, done, TellsNoWant}
 use Rattle.script_meaning.proofs.GrantedSteps.{IsClean, RunsTo, stays_there, runs_on, clean_from, complete_exact, taken_exact, clears_run, clears_exact}
 use Rattle.script_meaning.proofs.Invariant.{line_of}
@@ -212,28 +212,26 @@ module _ (objects : List Object) (grants : Grants) (state : State) (command : Co
       (λ v stamp raises syncs keys. answer_extends state command v (answer v stamp raises syncs keys) (shown v keys))
 
   -- a commit behind its append
-  ruled_world : (g : Grants) (versions : List Version) (own : Key) (row : Option ℕ) (points : List PointPiece) (v : World)
-      (ends : ReadEnd) → (ruled_by g state command versions own row points v ends).world ≡ v
-  ruled_world g versions own row points v (Whole at raises syncs keys) =
+  ruled_world : (g : Grants) (own : Key) (row : Option ℕ) (points : List PointPiece) (v : World)
+      (ends : ReadEnd) → (ruled_by g state command own row points v ends).world ≡ v
+  ruled_world g own row points v (Whole at raises syncs keys) =
       choice (λ (s : State). s.world ≡ v) g.items
-      (answered state command v (ruled (verdict_on (writes_after (nodes_before own (map (object_at v) keys))) own.stamp
-      versions) row points at raises syncs) [])
+      (answered state command v (ruled (verdict_in v keys own) row points at raises syncs) [])
       (answered state command v (answers.UnreadNoMemory own.stamp) []) (λ _. refl) (λ _. refl)
-  ruled_world g versions own row points v (Refused colour base) = refl
-  ruled_world g versions own row points v Unraised = refl
+  ruled_world g own row points v (Refused colour base) = refl
+  ruled_world g own row points v Unraised = refl
 
-  ruled_extends : (versions : List Version) (own : Key) (row : Option ℕ) (points : List PointPiece) (v : World)
-      (ends : ReadEnd) → RunsTo w v → Extends state (ruled_by grants state command versions own row points v ends)
-  ruled_extends versions own row points v (Whole at raises syncs keys) r =
-      let answer = ruled (verdict_on (writes_after (nodes_before own (map (object_at v) keys))) own.stamp versions) row
-      points at raises syncs in
+  ruled_extends : (own : Key) (row : Option ℕ) (points : List PointPiece) (v : World)
+      (ends : ReadEnd) → RunsTo w v → Extends state (ruled_by grants state command own row points v ends)
+  ruled_extends own row points v (Whole at raises syncs keys) r =
+      let answer = ruled (verdict_in v keys own) row points at raises syncs in
       choice (Extends state) grants.items (answered state command v answer [])
       (answered state command v (answers.UnreadNoMemory own.stamp) [])
       (λ _. answer_extends state command v answer [] r)
       (λ _. answer_extends state command v (answers.UnreadNoMemory own.stamp) [] r)
-  ruled_extends versions own row points v (Refused colour base) r =
+  ruled_extends own row points v (Refused colour base) r =
       answer_extends state command v (answers.UnreadTrimmed own.stamp colour base) [] r
-  ruled_extends versions own row points v Unraised r =
+  ruled_extends own row points v Unraised r =
       answer_extends state command v (answers.UnreadNoMemory own.stamp) [] r
 
   -- the grants of a read behind an append
@@ -245,9 +243,9 @@ module _ (objects : List Object) (grants : Grants) (state : State) (command : Co
   commit_extends object pairs None = answer_extends state command w answers.NoTx [] (stays_there w)
   commit_extends object pairs (Some versions) =
       let set = shard_set (colours_of caller object) (version_keys versions ++ keys_of pairs) in
-      append_so_extends (read_behind objects grants state command object versions)
+      append_so_extends (read_behind objects grants state command object)
       (λ v stamp row points r. let read = stamped_read (behind grants) v u (all_colours objects state command object) in
-      ruled_extends versions (entry_key stamp (next_id w u)) row points read.world read.ends
+      ruled_extends (entry_key stamp (next_id w u)) row points read.world read.ends
       (runs_on w v read.world r (read_runs (behind grants) v u (all_colours objects state command object))))
       set (form_text (forms.Transaction versions pairs)) (members set)
 
@@ -598,13 +596,12 @@ module _ (objects : List Object) (grants : Grants) (state : State) (command : Co
       (λ v stamp raises syncs keys. refl) colours
 
   -- the read behind a commit's append
-  ruled_exact : (versions : List Version) (own : Key) (row : Option ℕ) (points : List PointPiece) (v : World)
-      (ends : ReadEnd) → TellsNone (ruled_by grants state command versions own row points v ends)
-      → IsRaised ends × (ruled_by grants state command versions own row points v ends
-      ≡ ruled_by all_granted state command versions own row points v ends)
-  ruled_exact versions own row points v (Whole at raises syncs keys) tells =
-      let told : State = answered state command v (ruled (verdict_on (writes_after (nodes_before own
-      (map (object_at v) keys))) own.stamp versions) row points at raises syncs) [] in
+  ruled_exact : (own : Key) (row : Option ℕ) (points : List PointPiece) (v : World)
+      (ends : ReadEnd) → TellsNone (ruled_by grants state command own row points v ends)
+      → IsRaised ends × (ruled_by grants state command own row points v ends
+      ≡ ruled_by all_granted state command own row points v ends)
+  ruled_exact own row points v (Whole at raises syncs keys) tells =
+      let told : State = answered state command v (ruled (verdict_in v keys own) row points at raises syncs) [] in
       let unread : State = answered state command v (answers.UnreadNoMemory own.stamp) [] in
       let t : all_granted.items ≡ true = refl in (
         tt,
@@ -612,8 +609,8 @@ module _ (objects : List Object) (grants : Grants) (state : State) (command : Co
             (λ is. if_true grants.items told unread is ∙ sym (if_true all_granted.items told unread t))
             (λ f. absurd (told_unread v own.stamp (subst TellsNone (if_false grants.items told unread f) tells))),
       )
-  ruled_exact versions own row points v (Refused colour base) tells = (tt, refl)
-  ruled_exact versions own row points v Unraised tells = absurd (told_unread v own.stamp tells)
+  ruled_exact own row points v (Refused colour base) tells = (tt, refl)
+  ruled_exact own row points v Unraised tells = absurd (told_unread v own.stamp tells)
 
   commit_exact : (object : ℕ) (pairs : List Pair) (found : Option (List Version))
       → IsClean (committed_by objects grants state command object pairs found).world
@@ -623,28 +620,28 @@ module _ (objects : List Object) (grants : Grants) (state : State) (command : Co
   commit_exact object pairs None clean tells = refl
   commit_exact object pairs (Some versions) clean tells =
       let set = shard_set (colours_of caller object) (version_keys versions ++ keys_of pairs) in
-      append_so_exact (read_behind objects grants state command object versions)
-      (read_behind objects all_granted state command object versions)
+      append_so_exact (read_behind objects grants state command object)
+      (read_behind objects all_granted state command object)
       (λ v stamp row points. let read = stamped_read (behind grants) v u cs in
-      subst (RunsTo v) (sym (ruled_world grants versions (entry_key stamp (next_id w u)) row points read.world read.ends))
+      subst (RunsTo v) (sym (ruled_world grants (entry_key stamp (next_id w u)) row points read.world read.ends))
       (read_runs (behind grants) v u cs)) same set (form_text (forms.Transaction versions pairs)) (members set) clean tells
     where
       cs : List ℕ
       cs = all_colours objects state command object
 
       same : (v : World) (stamp : ℕ) (row : Option ℕ) (points : List PointPiece)
-          → IsClean (read_behind objects grants state command object versions v stamp row points).world
-          → TellsNone (read_behind objects grants state command object versions v stamp row points)
-          → read_behind objects grants state command object versions v stamp row points
-          ≡ read_behind objects all_granted state command object versions v stamp row points
+          → IsClean (read_behind objects grants state command object v stamp row points).world
+          → TellsNone (read_behind objects grants state command object v stamp row points)
+          → read_behind objects grants state command object v stamp row points
+          ≡ read_behind objects all_granted state command object v stamp row points
       same v stamp row points clean tells =
           let own = entry_key stamp (next_id w u) in
           let read = stamped_read (behind grants) v u (all_colours objects state command object) in
-          let ended = ruled_exact versions own row points read.world read.ends tells in
+          let ended = ruled_exact own row points read.world read.ends tells in
           ended.1
-          ∙ ap (λ (r : StampedRead). ruled_by all_granted state command versions own row points r.world r.ends)
+          ∙ ap (λ (r : StampedRead). ruled_by all_granted state command own row points r.world r.ends)
           (read_exact (behind grants) v u (all_colours objects state command object)
-          (subst IsClean (ruled_world grants versions own row points read.world read.ends) clean) ended.0)
+          (subst IsClean (ruled_world grants own row points read.world read.ends) clean) ended.0)
 
   got_exact : (kind : Option Kind) (key : List ℕ) → IsClean (got grants state command kind key).world
       → TellsNone (got grants state command kind key)

@@ -1,5 +1,5 @@
 -- Transactions: reads of transactional maps, and commits that rest on them.
-use Rattle.std.specs.Prelude.{ℕ, List, [], ◌++◌, map, Option, Some, None, if◌then◌else◌}
+use Rattle.std.specs.Prelude.{ℕ, List, [], ◌++◌, map, Option, Some, None, unwrap_or, if◌then◌else◌}
 use Rattle.log_node.specs.declared.ids.Key.{Key}
 use Rattle.log_node.specs.declared.forms.Pair.{Pair}
 use Rattle.log_node.specs.declared.forms.Version.{Version}
@@ -8,8 +8,7 @@ use Rattle.log_node.specs.Sets.{members}
 use Rattle.object_form.specs.Forms.{form_text}
 use Rattle.object_fold.specs.declared.verdict.Verdict.{Verdict}
 use Rattle.object_fold.specs.declared.verdict.Verdict.TheVariants.{Committed, Conflict}
-use Rattle.object_fold.specs.Nodes.{nodes_before}
-use Rattle.object_fold.specs.Transactions.{writes_after, value_of, versions_after, verdict_on}
+use Rattle.object_fold.specs.Transactions.{writes_after, value_of, versions_after, verdict_of}
 use Rattle.col_core.specs.History.{entry_key}
 use Rattle.col_core.specs.Keeping.{updated}
 use Rattle.world_laws.specs.Worlds.{World, next_id}
@@ -55,28 +54,27 @@ abbrev pub ruled : Verdict → Option ℕ → List PointPiece → ℕ → List R
 ruled (Committed stamp) row points at raises syncs = answers.Ruled None stamp row points at raises syncs
 ruled (Conflict key stamp) row points at raises syncs = answers.Ruled (Some key) stamp row points at raises syncs
 
+-- the verdict on the node with a key among the nodes with these keys; it is a transaction's, so there is one
+abbrev pub verdict_in : World → List Key → Key → Verdict
+verdict_in w read own = unwrap_or (verdict_of (map (object_at w) read) own) (Committed own.stamp)
+
 -- A commit whose node stands under this key, in the row and at the points, by how the stamped read behind it ended: it
--- answers the verdict on its versions after the nodes before its own.
-abbrev pub ruled_by : Grants → State → Command → List Version → Key → Option ℕ → List PointPiece → World → ReadEnd
-    → State
-ruled_by grants state command versions own row points w (Whole at raises syncs read) =
-    let before = nodes_before own (map (object_at w) read) in
-    if grants.items then
-    answered state command w
-    (ruled (verdict_on (writes_after before) own.stamp versions) row points at raises syncs) []
+-- answers the verdict on its own node among those that were read.
+abbrev pub ruled_by : Grants → State → Command → Key → Option ℕ → List PointPiece → World → ReadEnd → State
+ruled_by grants state command own row points w (Whole at raises syncs read) =
+    if grants.items then answered state command w (ruled (verdict_in w read own) row points at raises syncs) []
     else answered state command w (answers.UnreadNoMemory own.stamp) []
-ruled_by grants state command versions own row points w (Refused colour base) =
+ruled_by grants state command own row points w (Refused colour base) =
     answered state command w (answers.UnreadTrimmed own.stamp colour base) []
-ruled_by grants state command versions own row points w Unraised =
+ruled_by grants state command own row points w Unraised =
     answered state command w (answers.UnreadNoMemory own.stamp) []
 
 -- Its node stands in this world, under the stamp: then comes a stamped read of all colours of the object.
-abbrev pub read_behind : List Object → Grants → State → Command → ℕ → List Version → World → ℕ → Option ℕ
-    → List PointPiece → State
-read_behind objects grants state command object versions w stamp row points =
+abbrev pub read_behind : List Object → Grants → State → Command → ℕ → World → ℕ → Option ℕ → List PointPiece → State
+read_behind objects grants state command object w stamp row points =
     let read = stamped_read (record grants { helps = grants.read_helps }) w command.client
     (all_colours objects state command object) in
-    ruled_by grants state command versions (entry_key stamp (next_id state.world command.client)) row points
+    ruled_by grants state command (entry_key stamp (next_id state.world command.client)) row points
     read.world read.ends
 
 -- the keys of versions
@@ -90,7 +88,7 @@ committed_on objects grants state command object pairs versions =
     let set = shard_set (colours_of (caller_in state.world objects command.client) object)
     (version_keys versions ++ keys_of pairs) in
     appended_so grants state command set (form_text (forms.Transaction versions pairs)) (members set)
-    (read_behind objects grants state command object versions)
+    (read_behind objects grants state command object)
 
 -- a commit, by what the client's last read of the object found
 abbrev pub committed_by : List Object → Grants → State → Command → ℕ → List Pair → Option (List Version) → State
