@@ -31,7 +31,7 @@ fn is_get_built(objects: &[Object], object: u8) -> bool
     match objects.get(object as usize) {
         None => false,
         Some(found) => match &found.kind {
-            Kind::Map { .. } => false,
+            Kind::Map { .. } => true,
             Kind::Tx { .. } => false,
             Kind::Causal { .. } => false,
             Kind::Queue { .. } => false,
@@ -56,7 +56,7 @@ pub fn is_built(objects: &[Object], what: &What) -> bool
         What::Get { object, .. } => is_get_built(objects, *object),
         What::Del { .. } => true,
         What::PutAll { .. } => true,
-        What::GetAll { .. } => false,
+        What::GetAll { .. } => true,
         What::Read { .. } => false,
         What::Commit { .. } => false,
         What::Enq { .. } => true,

@@ -51,6 +51,18 @@ fn key_shard(kind: &Kind, key: &[u8]) -> Colours
     Colours(1 << shard(kind, key))
 }
 
+/// The set of the shards of keys.
+pub fn key_shards(kind: &Kind, keys: &[Text]) -> Colours
+    requires { AreObjectColours MAX_COLOURS (object_colours (Some kind.now)) }
+    ensures { result ≡ shard_set (object_colours (Some kind.now)) keys.now }
+{
+    let mut set = Colours(0);
+    for key in keys {
+        set = Colours(set.0 | 1 << shard(kind, key.as_bytes()));
+    }
+    set
+}
+
 // The set of the shards of the keys of some pairs.
 fn pair_shards(kind: &Kind, pairs: &[Pair]) -> Colours
     requires { AreObjectColours MAX_COLOURS (object_colours (Some kind.now)) }

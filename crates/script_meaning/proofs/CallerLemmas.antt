@@ -18,7 +18,10 @@ pub use Rattle.script_meaning.proofs.CausalNodes.{AtPlace, at_place, causal_node
 pub use Rattle.script_meaning.proofs.ChainNodes.{line_node}
 pub use Rattle.script_meaning.proofs.StampedEnds.{rising_line, keys_listed}
 pub use Rattle.script_meaning.proofs.StampedReads.{stamp_low}
-pub use Rattle.script_meaning.proofs.ShardSets.{keys_set, set_one, shard_members, set_has, shard_below, shards_below, shards_has}
+pub use Rattle.script_meaning.proofs.ShardSets.{keys_set, set_one, shard_members, set_has, shard_below, shards_below, shards_has, key_in}
+pub use Rattle.script_meaning.proofs.GrantedSteps.{RunsTo}
+pub use Rattle.script_meaning.proofs.GrantedReads.{read_runs}
+pub use Rattle.script_meaning.proofs.LaterNodes.{line_longer, nodes_stay, new_behind, whole_stamp, read_behind}
 pub use Rattle.script_meaning.proofs.ObjectKinds.{object_has, queue_colour, queue_one, some_of}
 pub use Rattle.script_meaning.proofs.Playing.{at_or}
 pub use Rattle.script_meaning.proofs.ObjectForms.{key_is_word, key_some, pairs_are}

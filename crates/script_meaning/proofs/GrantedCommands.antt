@@ -273,7 +273,7 @@ module _ (objects : List Object) (grants : Grants) (state : State) (command : Co
   one_command_extends (whats.GetAll object keys) =
       let colours = colours_of caller object in
       let read = stamped_read grants w u (shards colours keys) in
-      read_extends (shards colours keys) (keys_answer read.world colours keys) (λ _. [])
+      read_extends (shards colours keys) (keys_answer read.world u colours keys) (λ _. [])
   one_command_extends (whats.Read object keys) = nothing_done
   one_command_extends (whats.Commit object pairs) = nothing_done
   one_command_extends (whats.Enq object value) =
@@ -529,7 +529,7 @@ module _ (objects : List Object) (grants : Grants) (state : State) (command : Co
       (form_text (forms.PutAll pairs)) (members (shard_set (colours_of caller object) (keys_of pairs))) clean
   one_command_exact (whats.GetAll object keys) clean tells =
       let colours = colours_of caller object in
-      reads_exact (shards colours keys) (λ v. keys_answer v colours keys) (λ _ _. []) clean tells
+      reads_exact (shards colours keys) (λ v. keys_answer v u colours keys) (λ _ _. []) clean tells
   one_command_exact (whats.Read object keys) clean tells = refl
   one_command_exact (whats.Commit object pairs) clean tells = refl
   one_command_exact (whats.Enq object value) clean tells =

@@ -47,6 +47,7 @@ mod DequeueRuns
 mod AfterRead
 mod AfterScan
 mod Getting
+mod ShardReads
 mod GetRuns
 mod InvariantHolds
 mod RowsOfClients
@@ -54,6 +55,7 @@ mod LawfulReports
 mod GrantedSteps
 mod GrantedReads
 mod GrantedCommands
+mod LaterNodes
 mod ExactReports
 mod LastStops
 pub mod CallerLemmas

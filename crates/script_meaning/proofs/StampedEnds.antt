@@ -100,7 +100,7 @@ rising_line w reached r c i j d lt there =
           ∙ found (line (w.histories r c)) n low
 
 -- the keys that are read are in the order of the region
-keys_ordered : (w : World) → IsReached w → (u stamp : ℕ) (colours : List ℕ)
+pub keys_ordered : (w : World) → IsReached w → (u stamp : ℕ) (colours : List ℕ)
     → IsRegionOrder (map (λ c. line (home_history w u c)) colours) stamp (keys_read w u stamp colours)
 keys_ordered w reached u stamp colours =
     order_is_merged stamp (map (λ c. line (home_history w u c)) colours) rise where
@@ -160,6 +160,8 @@ module _ (objects : List Object) (S : ℕ → Type 0) (what : What) (may : may_h
     pub is : at ≡ stamp
     pub read : AreRead (log_of w') (caller_in w' objects u) stamp syncs keys
     pub nodes : (key : Key) → In key keys → (node : Node) × (node_with w' key.id ≡ Some node)
+    pub clear : (c : ℕ) → In c colours → IsClearUpTo stamp (home_history w' u c)
+    pub keys_are : keys ≡ keys_read w' u stamp colours
     pub kept : (kept : Kept) → IsKeptBy w u kept → KeepsRead w' raises syncs kept
     pub hidden : (kept : Kept) → IsKeptBy w u kept → KeepsHidden w' kept
 
@@ -432,6 +434,12 @@ module _ (objects : List Object) (S : ℕ → Type 0) (what : What) (may : may_h
           let n = keys_listed w2 reached2 u stamp colours key (subst (λ (l : List Key). In key l) same_keys i) in
           (n.0, ap (λ (l : Log). slice_get (l.nodes key.id.client) key.id.count) log4 ∙ n.1)
 
+      -- no open entry up to the stamp is left
+      clear_still : (c : ℕ) → In c colours → IsClearUpTo stamp (home_history w4 u c)
+      clear_still c i =
+          subst (λ (s : Shape). IsClearUpTo stamp (w4.histories (slice_index s.homes u) c)) (sym (shape42 ∙ shape2))
+          (subst (λ (f : ℕ → ℕ → List Entry). IsClearUpTo stamp (f own c)) (sym histories4) (clear c i))
+
       -- the client keeps what the read tells
       module _ (kept : Kept) (k : IsKeptBy w u kept) where
         raised_kept : RaisesKept objects S u own stamp low w w1 raises kept
@@ -539,6 +547,8 @@ module _ (objects : List Object) (S : ℕ → Type 0) (what : What) (may : may_h
           is = refl;
           read = are_read;
           nodes = nodes;
+          clear = clear_still;
+          keys_are = refl;
           kept = keeps_read;
           hidden = keeps_hidden;
         };
