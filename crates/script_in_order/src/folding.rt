@@ -10,9 +10,12 @@ use crate::causal::get_values;
 use crate::folds::Folds;
 use crate::gets::{get_keys, get_value};
 use crate::queues::dequeue;
+use crate::transactions::{commit, read};
+use log_node::Versions;
 use report_text::Answer;
 use script_text::{Command, Kind, Object, What};
 use std::alloc::{AllocError, Global};
+use std::mem;
 use world_code::World;
 
 /// Whether a command folds nodes for its answer.
@@ -46,6 +49,7 @@ pub fn answer_by_fold(
     command: &Command,
     world: &mut World,
     folds: &mut Folds,
+    found: &mut Option<Versions>,
 ) -> Result<Answer, AllocError>
     requires built { IsTrue (is_built objects.now command.now.what) }
     requires one { IsTrue (folds_nodes command.now.what) }
@@ -65,6 +69,13 @@ pub fn answer_by_fold(
         },
         What::GetAll { object, keys } => {
             get_keys(alloc, objects, command, *object, keys, world, folds)
+        }
+        What::Read { object, keys } => {
+            read(alloc, objects, command, *object, keys, world, folds, found)
+        }
+        What::Commit { object, pairs } => {
+            let taken = mem::replace(found, None);
+            commit(alloc, objects, command, *object, pairs, taken, world, folds)
         }
         What::Deq { object } => dequeue(alloc, objects, command, *object, world, folds),
         _ => unreachable!(),

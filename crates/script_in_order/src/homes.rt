@@ -13,7 +13,7 @@ use crate::answers::answer;
 use crate::clears::home;
 use crate::folding::{answer_by_fold, folds_nodes};
 use crate::folds::Folds;
-use log_node::{Items, ListOf};
+use log_node::{Items, ListOf, Versions};
 use report_text::Answer;
 use script_text::{Command, Kind, Object, What};
 use std::alloc::{AllocError, Global};
@@ -80,6 +80,7 @@ pub fn answer_at_home(
     command: &Command,
     world: &mut World,
     folds: &mut Folds,
+    found: &mut Option<Versions>,
 ) -> Result<(Answer, Items), AllocError>
     requires built { IsTrue (is_built objects.now command.now.what) }
     requires fits { IsFit (world_of world.old) objects.now command.now.client command.now.what }
@@ -91,7 +92,7 @@ pub fn answer_at_home(
     match refusing_home(objects, command, world) {
         Some(home) => Ok((Answer::NotHome { home }, ListOf::new(alloc))),
         None => if folds_nodes(&command.what) {
-            let answer = answer_by_fold(alloc, objects, command, world, folds)?;
+            let answer = answer_by_fold(alloc, objects, command, world, folds, found)?;
             Ok((answer, ListOf::new(alloc)))
         } else {
             answer(alloc, objects, command, world)

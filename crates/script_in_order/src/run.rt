@@ -38,7 +38,7 @@ pub fn room_for_replies(alloc: Global, script: &Script) -> Result<Vec<Replies>, 
     let mut replies = Vec::new(alloc);
     for client in 0..script.shape.homes.len() {
         let room = asks(script.commands.as_slice(), client);
-        replies.push(Replies::new(alloc, room)?)?;
+        replies.push(Replies::new(alloc, room, script.objects.len())?)?;
     }
     Ok(replies)
 }
@@ -84,9 +84,11 @@ fn do_command(
         (record { world = world.new; replies = replies.new.items }) }
     ensures folded { AreFolded (world_of world.new) objects.now folds.new }
 {
-    let given = answer_at_home(alloc, objects, command, world, folds);
-    let reply = reply_of(alloc, command, given);
-    replies[command.client as usize].add(reply);
+    let mine = &mut replies[command.client as usize];
+    let mut found = mine.take_read(&command.what);
+    let given = answer_at_home(alloc, objects, command, world, folds, &mut found);
+    mine.keep_read(&command.what, found);
+    mine.add(reply_of(alloc, command, given));
 }
 
 /// Does the command at a place of a script, after those before it.
