@@ -18,3 +18,4 @@ mod ColumnsShown
 mod MoveGuards
 mod ObjectSteps
 mod DequeueSteps
+mod FoldsKept

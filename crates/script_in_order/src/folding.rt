@@ -7,7 +7,7 @@ ghost use Rattle.script_in_order.specs.Doing.{IsFit, DoesAtHome, folds_nodes};
 ghost use Rattle.script_in_order.specs.Folds.{AreFolded};
 
 use crate::folds::Folds;
-use crate::gets::{get_keys, get_value};
+use crate::gets::{get, get_keys};
 use crate::queues::dequeue;
 use report_text::Answer;
 use script_text::{Command, Object, What};
@@ -56,9 +56,7 @@ pub fn answer_by_fold(
     ensures folded { AreFolded (world_of world.new) objects.now folds.new }
 {
     match &command.what {
-        What::Get { object, key } => {
-            get_value(alloc, objects, command, *object, key, world, folds)
-        }
+        What::Get { object, key } => get(alloc, objects, command, *object, key, world, folds),
         What::GetAll { object, keys } => {
             get_keys(alloc, objects, command, *object, keys, world, folds)
         }
