@@ -1,11 +1,11 @@
 -- What of each object is folded, and when that is right.
-use Rattle.std.specs.Prelude.{◌≡◌, ℕ, ◌≤◌, ◌<◌, List, length, map, take, Option, Some, slice_get}
+use Rattle.std.specs.Prelude.{◌≡◌, ℕ, ◌≤◌, ◌<◌, List, length, map, take, Some, slice_get}
 use Rattle.std.specs.List.{Contains}
 use Rattle.log_node.specs.declared.ids.Key.{Key}
 use Rattle.object_fold.specs.Nodes.{ObjectNode}
 use Rattle.object_fold.specs.States.{IsShardMap, IsQueue}
 use Rattle.col_core.specs.History.{line}
-use Rattle.world_laws.specs.Worlds.{World}
+use Rattle.world_laws.specs.Worlds.{World, home_of}
 use Rattle.script_text.specs.declared.script.Kind.{Kind}
 use Rattle.script_text.specs.declared.script.Kind.TheVariants as kinds
 use Rattle.script_text.specs.declared.script.Object.{Object}
@@ -88,3 +88,11 @@ pub record MayFold (w : World) (objects : List Object) (all : List Fold) (object
   pub folded : AreFolded w objects all
   pub is_kind : kind_in objects object ≡ Some kind
   pub there : AreThere w first
+
+-- the object is a map with these colours, at home in the client's region
+abbrev pub IsMapAt : World → ℕ → List Object → ℕ → List ℕ → Type 0
+IsMapAt w client objects object colours = kind_in objects object ≡ Some (kinds.Map (home_of w client) colours)
+
+-- the object is a queue on the colour, at home in the client's region
+abbrev pub IsQueueAt : World → ℕ → List Object → ℕ → ℕ → Type 0
+IsQueueAt w client objects object colour = kind_in objects object ≡ Some (kinds.Queue (home_of w client) colour)

@@ -6,12 +6,11 @@ ghost use Rattle.script_meaning.specs.Objects.{caller_in, refusing_home};
 ghost use Rattle.script_in_order.specs.Doing.{IsFit, DoesAtHome, folds_nodes};
 ghost use Rattle.script_in_order.specs.Folds.{AreFolded};
 
-use crate::causal::get_values;
 use crate::folds::Folds;
-use crate::gets::{get_keys, get_value};
+use crate::gets::{get, get_keys};
 use crate::queues::dequeue;
 use report_text::Answer;
-use script_text::{Command, Kind, Object, What};
+use script_text::{Command, Object, What};
 use std::alloc::{AllocError, Global};
 use world_code::World;
 
@@ -57,12 +56,7 @@ pub fn answer_by_fold(
     ensures folded { AreFolded (world_of world.new) objects.now folds.new }
 {
     match &command.what {
-        What::Get { object, key } => match &objects[*object as usize].kind {
-            Kind::Causal { colour } => {
-                get_values(alloc, objects, command, *object, *colour, key, world, folds)
-            }
-            _ => get_value(alloc, objects, command, *object, key, world, folds),
-        },
+        What::Get { object, key } => get(alloc, objects, command, *object, key, world, folds),
         What::GetAll { object, keys } => {
             get_keys(alloc, objects, command, *object, keys, world, folds)
         }

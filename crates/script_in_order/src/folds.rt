@@ -58,6 +58,7 @@ pub struct Folds {
 
 impl Model for Folds {
     ghost use Rattle.std.specs.Prelude.{List};
+    ghost use Rattle.script_in_order.specs.declared.folds.Fold.{Fold};
 
     ghost Value = { List Fold };
 

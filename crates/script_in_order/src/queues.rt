@@ -1,17 +1,17 @@
 // Dequeues: an append, a sync, and the front of the queue before the own node.
-ghost use Rattle.std.specs.Prelude.{◌≡◌, ◌<◌, ◌≤◌, ◌++◌, ◌∷◌, [], ℕ, List, IfOk, OnOk, OnErr, length};
-ghost use Rattle.std.specs.List.{All, Contains};
+ghost use Rattle.std.specs.Prelude.{◌≡◌, ◌<◌, ◌≤◌, [], ℕ, List, IfOk, OnErr, None, length};
+ghost use Rattle.std.specs.List.{All};
 ghost use Rattle.object_form.specs.Forms.{form_text};
-ghost use Rattle.object_fold.specs.Queues.{front_after};
-ghost use Rattle.object_fold.specs.Nodes.{ObjectNode};
-ghost use Rattle.object_fold.specs.States.{IsQueue};
 ghost use Rattle.col_core.specs.History.{line};
 ghost use Rattle.world_laws.specs.Worlds.{World as Meant, home_history};
+ghost use Rattle.world_laws.specs.Laws.{IsReached};
 ghost use Rattle.script_text.specs.Fitting.{IsKindWithin, UsesObject};
 ghost use Rattle.world_code.specs.WorldView.{world_of};
+ghost use Rattle.script_meaning.specs.Objects.{caller_in, refusing_home};
 ghost use Rattle.script_meaning.specs.Appends.{appended_one};
-ghost use Rattle.script_meaning.specs.Dequeues.{object_at, first_nodes, sync_now, dequeued_on, dequeued};
+ghost use Rattle.script_meaning.specs.Dequeues.{sync_now, dequeued_on, dequeued};
 ghost use Rattle.script_in_order.specs.Doing.{DoneBy};
+ghost use Rattle.script_in_order.specs.Folds.{AreFolded, QueueWithin, IsQueueAt};
 ghost use Rattle.script_in_order.specs.Reading.{ReadsOwn};
 
 use crate::appends::append_one;
@@ -54,7 +54,12 @@ fn read_own(
     requires client { client < length world.old.shape.homes }
     requires colour { point.colour < world.old.shape.colours }
     requires count { point.position ≤ length (line (home_history (world_of world.old) client point.colour)) }
-    ensures { ReadsOwn client stamp point (world_of world.old) (world_of world.new) result }
+    requires folded { (objects : List Object) × IsQueueAt (world_of world.old) client objects object point.colour
+        × AreFolded (world_of world.old) objects folds.old }
+    requires behind { QueueWithin folds.old object point.position }
+    ensures reads { ReadsOwn client stamp point (world_of world.old) (world_of world.new) result }
+    ensures folded { (objects : List Object) → AreFolded (world_of world.old) objects folds.old
+        → AreFolded (world_of world.new) objects folds.new }
 {
     world.is_whole();
     let colour = point.colour;
@@ -93,8 +98,14 @@ fn read_behind(
     requires colour { colour < world.old.shape.colours }
     requires appended { (before : Meant) × DoneBy
         (λ grants state. appended_one grants state command.now (form_text Form.Dequeue) colour) command.now before
-        (world_of world.old) appended [] }
-    ensures { (before : Meant) → DoneBy
+        (world_of world.old) appended []
+        × QueueWithin folds.old object (length (line (home_history before command.now.client colour)))
+        × IsReached before }
+    requires folded { (objects : List Object) × IsQueueAt (world_of world.old) command.now.client objects object colour
+        × AreFolded (world_of world.old) objects folds.old }
+    ensures folded { (objects : List Object) → AreFolded (world_of world.old) objects folds.old
+        → AreFolded (world_of world.new) objects folds.new }
+    ensures done { (before : Meant) → DoneBy
         (λ grants state. appended_one grants state command.now (form_text Form.Dequeue) colour) command.now before
         (world_of world.old) appended []
         → DoneBy (λ grants state. dequeued_on grants state command.now colour) command.now before (world_of world.new)
@@ -130,11 +141,15 @@ pub fn dequeue(
     requires caller { command.now.client < length world.old.shape.homes }
     requires kinds { All (λ (o : Object). IsKindWithin world.old.shape.regions world.old.shape.colours o.kind) objects.now }
     requires uses { UsesObject objects.now (What.Deq object) }
+    requires near { refusing_home (caller_in (world_of world.old) objects.now command.now.client) (What.Deq object) ≡ None }
+    requires folded { AreFolded (world_of world.old) objects.now folds.old }
     ensures ok { IfOk result (λ answer. DoneBy
         (λ grants state. dequeued objects.now grants state command.now object) command.now
         (world_of world.old) (world_of world.new) answer []) }
     ensures err { OnErr result (world_of world.new ≡ world_of world.old) }
+    ensures folded { AreFolded (world_of world.new) objects.now folds.new }
 {
+    world.agrees();
     let colour = shard(&objects[object as usize].kind, &[]);
     let text = write_form(alloc, &Form::Dequeue)?;
     let appended = append_one(alloc, command, colour, &text, world)?;
