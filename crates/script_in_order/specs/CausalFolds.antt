@@ -45,6 +45,7 @@ pub record IsCausalFold (w : World) (own colour : ℕ) (fold : CausalFold) : Typ
 
 -- a causal map on a colour has one for each region that there is
 pub record AreCausalFolds (w : World) (colour : ℕ) (folds : List CausalFold) : Type 0 where
+  pub small : colour < 64
   pub all : length folds ≡ w.shape.regions
   pub each : (region : ℕ) (fold : CausalFold) → slice_get folds region ≡ Some fold
       → IsCausalFold w region colour fold

@@ -1,12 +1,13 @@
 // Folds that are kept: what of each object's nodes is folded already, so that a command folds only what is new. All
 // clients of an object with a home are of one region, and each command of it takes at least the whole line that stood
 // before it, so one fold serves them all.
-ghost use Rattle.std.specs.Prelude.{◌≡◌, ◌≤◌, ◌∷◌, [], ℕ, List, Some, IfOk, OnOk};
+ghost use Rattle.std.specs.Prelude.{◌≡◌, ◌<◌, ◌≤◌, ◌∷◌, [], ℕ, List, Some, IfOk, OnOk};
 ghost use Rattle.std.specs.List.{Contains};
 ghost use Rattle.object_fold.specs.Maps.{shard_value};
 ghost use Rattle.object_fold.specs.Queues.{front_after};
 ghost use Rattle.col_core.specs.History.{line};
 ghost use Rattle.world_laws.specs.Worlds.{World as Meant};
+ghost use Rattle.script_text.specs.Fitting.{IsKindWithin, IsFitting};
 ghost use Rattle.world_code.specs.WorldView.{world_of};
 ghost use Rattle.script_meaning.specs.States.{kind_in};
 ghost use Rattle.script_meaning.specs.CausalGets.{causal_values};
@@ -161,7 +162,7 @@ fn open_shards(alloc: Global, colours: &ColourList, count: u8) -> Result<Vec<Sha
 
 // For each region the fold of no node of a causal map.
 fn open_causal(alloc: Global, count: u8) -> Result<Vec<CausalFold>, AllocError>
-    ensures { (w : Meant) (colour : ℕ) → w.shape.regions ≡ count
+    ensures { (w : Meant) (colour : ℕ) → w.shape.regions ≡ count → colour < 64
         → IfOk result (λ folds. AreCausalFolds w colour folds.items) }
 {
     let mut folds = Vec::new(alloc);
@@ -173,6 +174,8 @@ fn open_causal(alloc: Global, count: u8) -> Result<Vec<CausalFold>, AllocError>
 
 // The fold of no node of an object of a kind, where there are so many regions and colours.
 fn open_fold(alloc: Global, kind: &Kind, shape: &Shape) -> Result<Fold, AllocError>
+    requires within { IsKindWithin shape.now.regions shape.now.colours kind.now }
+    requires few { shape.now.colours ≤ 16 }
     ensures { (w : Meant) → w.shape ≡ shape.now → IfOk result (IsFoldOf w kind.now) }
 {
     match kind {
@@ -195,6 +198,7 @@ fn open_fold(alloc: Global, kind: &Kind, shape: &Shape) -> Result<Fold, AllocErr
 impl Folds {
     /// Of each object of a script the fold of no node.
     pub fn open(alloc: Global, script: &Script) -> Result<Folds, AllocError>
+        requires { IsFitting script.now }
         ensures { (w : Meant) → w.shape ≡ script.now.shape → IfOk result (AreFolded w script.now.objects) }
     {
         let mut of = Vec::new(alloc);
