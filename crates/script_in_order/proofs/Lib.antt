@@ -20,3 +20,4 @@ mod ColumnsShown
 mod MoveGuards
 mod ObjectSteps
 mod DequeueSteps
+mod FoldsKept

@@ -1,5 +1,5 @@
 -- Which nodes a causal map's fold was fed.
-use Rattle.std.specs.Prelude.{◌≡◌, Bool, ℕ, ◌<◌, nat_lt, ◌==◌, ◌&&◌, List, map}
+use Rattle.std.specs.Prelude.{◌≡◌, Bool, ℕ, ◌<◌, nat_lt, ◌==◌, ◌&&◌, List, length, map, Some, slice_get}
 use Rattle.std.specs.List.{count_by}
 use Rattle.std.specs.List.Sorted.{IsPermutation}
 use Rattle.log_node.specs.declared.ids.Counts.{Counts}
@@ -42,3 +42,10 @@ pub record IsCausalFold (w : World) (own colour : ℕ) (fold : CausalFold) : Typ
   pub are : IsPermutation nodes (held_nodes w own colour fold.counts)
   pub counted : (region : ℕ) → region < 4 → count_by (λ node. node.region == region) nodes ≡ at fold.counts region
   pub within : IsWithin fold.counts (cut_of w own colour)
+
+-- a causal map on a colour has one for each region that there is
+pub record AreCausalFolds (w : World) (colour : ℕ) (folds : List CausalFold) : Type 0 where
+  pub small : colour < 64
+  pub all : length folds ≡ w.shape.regions
+  pub each : (region : ℕ) (fold : CausalFold) → slice_get folds region ≡ Some fold
+      → IsCausalFold w region colour fold

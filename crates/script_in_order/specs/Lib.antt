@@ -6,3 +6,4 @@ pub mod Stamped
 pub mod Reports
 pub mod Reading
 pub mod CausalFolds
+pub mod Folds

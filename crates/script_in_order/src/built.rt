@@ -31,9 +31,9 @@ fn is_get_built(objects: &[Object], object: u8) -> bool
     match objects.get(object as usize) {
         None => false,
         Some(found) => match &found.kind {
-            Kind::Map { .. } => false,
+            Kind::Map { .. } => true,
             Kind::Tx { .. } => false,
-            Kind::Causal { .. } => false,
+            Kind::Causal { .. } => true,
             Kind::Queue { .. } => false,
         },
     }
@@ -56,9 +56,9 @@ pub fn is_built(objects: &[Object], what: &What) -> bool
         What::Get { object, .. } => is_get_built(objects, *object),
         What::Del { .. } => true,
         What::PutAll { .. } => true,
-        What::GetAll { .. } => false,
-        What::Read { .. } => false,
-        What::Commit { .. } => false,
+        What::GetAll { .. } => true,
+        What::Read { .. } => true,
+        What::Commit { .. } => true,
         What::Enq { .. } => true,
         What::Deq { .. } => true,
     }

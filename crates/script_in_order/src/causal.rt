@@ -6,16 +6,19 @@ ghost use Rattle.col_core.specs.Rows.{node_wants};
 ghost use Rattle.world_laws.specs.Worlds.{World as Meant, chains_after, home_of};
 ghost use Rattle.world_code.specs.WorldView.{world_of};
 ghost use Rattle.script_meaning.specs.CausalGets.{causal_values, got_values};
+ghost use Rattle.script_meaning.specs.States.{kind_in};
 ghost use Rattle.script_in_order.specs.Doing.{DoneBy};
+ghost use Rattle.script_in_order.specs.Folds.{AreFolded};
 ghost use Rattle.script_in_order.specs.CausalFolds.{place_at, held_node, held_nodes, cut_of, is_next, IsCausalFold};
 
 use crate::clears::home;
+use crate::folds::Folds;
 use crate::queues::sync_now;
 use crate::syncs::trimmed_base;
 use log_node::{Counts, Key, MAX_REGIONS, Names, Node, Text};
 use object_fold::CausalMap;
 use report_text::Answer;
-use script_text::Command;
+use script_text::{Command, Kind, Object};
 use std::alloc::{AllocError, Global};
 use std::sync::Arc;
 use world_code::World;
@@ -174,8 +177,8 @@ impl CausalFold {
         Ok(())
     }
 
-    // What the map answers for a key over all nodes up to the cut.
-    fn values(
+    /// What the map answers for a key over all nodes up to the cut.
+    pub(crate) fn values(
         &mut self,
         alloc: Global,
         world: &World,
@@ -197,23 +200,26 @@ impl CausalFold {
 }
 
 /// A get of a causal map on a colour: plays up to the cut, and answers the values of the latest writes of the key among
-/// all nodes that are then played; refused where a node that the client has not played is trimmed. The fold, which is of
-/// the client's region, is fed what is new. Without memory it may be fed a part of it, and nothing else changes.
+/// all nodes that are then played; refused where a node that the client has not played is trimmed. The memory for the
+/// answer is taken before the play.
 pub fn get_values(
     alloc: Global,
+    objects: &[Object],
     command: &Command,
+    object: u8,
     colour: u8,
     key: &Text,
     world: &mut World,
-    fold: &mut CausalFold,
+    folds: &mut Folds,
 ) -> Result<Answer, AllocError>
     requires caller { command.now.client < length world.old.shape.homes }
     requires colour { colour < world.old.shape.colours }
-    requires fold { let w = world_of world.old in IsCausalFold w (home_of w command.now.client) colour fold.old }
+    requires kind { kind_in objects.now object ≡ Some (Kind.Causal colour) }
+    requires folded { AreFolded (world_of world.old) objects.now folds.old }
     ensures ok { IfOk result (λ answer. DoneBy (λ _ state. got_values state command.now colour key.now) command.now
         (world_of world.old) (world_of world.new) answer []) }
     ensures err { OnErr result (world_of world.new ≡ world_of world.old) }
-    ensures fold { let w = world_of world.new in IsCausalFold w (home_of w command.now.client) colour fold.new }
+    ensures folded { AreFolded (world_of world.new) objects.now folds.new }
 {
     world.is_whole();
     let client = command.client;
@@ -221,7 +227,7 @@ pub fn get_values(
         return Ok(Answer::Trimmed { colour, base });
     }
     let own = home(world, client);
-    let values = fold.values(alloc, world, own, colour, key)?;
+    let values = folds.values(alloc, world, object, own, colour, key)?;
     let sync = sync_now(world, client, colour);
     let _played = world.play(client, colour);
     Ok(Answer::GotMany { values, sync })

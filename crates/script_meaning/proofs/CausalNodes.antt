@@ -31,7 +31,7 @@ use Rattle.script_text.specs.Items.{set_of}
 use Rattle.script_meaning.specs.CausalGets.{causal_node}
 use Rattle.script_meaning.specs.Helping.{node_with}
 use Rattle.script_meaning.specs.Moves.{no_head}
-use Rattle.script_meaning.proofs.ChainNodes.{line_entry, own_chain, carried_of_region}
+use Rattle.script_meaning.proofs.ChainNodes.{line_event, own_chain, carried_of_region}
 use Rattle.script_meaning.proofs.Lists.{in_range}
 use Rattle.script_meaning.proofs.Playing.{at_or, got_at}
 use Rattle.script_meaning.proofs.Reached.{held_of, told_of, listed_of, cuts_of}
@@ -156,7 +156,7 @@ module _ (w : World) (reached : IsReached w) (c : ℕ) (low : c < 64) where
   line_needs r k i =
       let h = w.histories r c in
       let ds = dated r h in
-      let e = line_entry w reached r c k i in
+      let e = line_event w reached r c k i in
       let x = in_mapped (λ (d : Dated). d.entry) ds e.0 (subst (λ (l : List Entry). In e.0 l) (sym (entries_dated r h)) e.1) in
       let f = needs_from ds k.id x.0 x.1 (ap (λ (y : Entry). enters k.id y.event) x.2 ∙ e.2) in
       let d = f.1 in

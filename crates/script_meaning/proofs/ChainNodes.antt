@@ -54,10 +54,10 @@ entered_node w reached r c e i (events.Give region from) is id t = absurd (true�
 entered_node w reached r c e i (events.Carry region start heads) is id t = absurd (true≢false (sym t))
 entered_node w reached r c e i (events.Trim counts) is id t = absurd (true≢false (sym t))
 
--- an event enters each node of a line
-pub line_entry : (w : World) → IsReached w → (r c : ℕ) (k : Key) → In k (line (w.histories r c))
+-- a key of a line entered by an event
+pub line_event : (w : World) → IsReached w → (r c : ℕ) (k : Key) → In k (line (w.histories r c))
     → (e : Entry) × In e (w.histories r c) × (enters k.id e.event ≡ true)
-line_entry w reached r c k i =
+line_event w reached r c k i =
     let h = w.histories r c in
     let x = in_line (entries h) k i in
     let entered = shown_entered (reverse h) (lawful_past_in w (held_of w reached) r c) x.0
@@ -70,8 +70,7 @@ line_entry w reached r c k i =
 pub line_node : (w : World) → IsReached w → (r c : ℕ) (k : Key) → In k (line (w.histories r c))
     → (node : Node) × (node_with w k.id ≡ Some node)
 line_node w reached r c k i =
-    let e = line_entry w reached r c k i in
-    entered_node w reached r c e.0 e.1 e.0.event refl k.id e.2
+    let e = line_event w reached r c k i in entered_node w reached r c e.0 e.1 e.0.event refl k.id e.2
 
 -- Lists
 

@@ -1,5 +1,5 @@
 -- After a get of a map there holds what held before.
-use Rattle.std.proofs.Common.{◌≡◌, ℕ, ◌<◌, List, [], ◌∷◌, ◌++◌, length, map, take, Option, Some, refl, ap, sym, subst, ◌∙◌, inl, arith}
+use Rattle.std.proofs.Common.{◌≡◌, ℕ, ◌<◌, List, [], ◌∷◌, ◌++◌, length, map, take, Option, Some, refl, ap, sym, subst, ◌∙◌, inl, inr, arith}
 use Rattle.std.specs.Prelude.{◌==◌, if◌then◌else◌}
 use Rattle.std.specs.List.{list_any}
 use Rattle.std.proofs.lemmas.List.{take_all}
@@ -10,6 +10,7 @@ use Rattle.object_fold.specs.Maps.{Value, value_among}
 use Rattle.col_core.specs.declared.Entry.{Entry}
 use Rattle.col_core.specs.History.{line}
 use Rattle.col_core.specs.Keeping.{Kept}
+use Rattle.col_core.specs.RegionOrder.{IsClearUpTo}
 use Rattle.col_core.proofs.CallerLemmas.{choice, In}
 use Rattle.world_laws.specs.declared.steps.Step.TheVariants.{Play}
 use Rattle.world_laws.specs.Worlds.{World, home_of, home_history, after, after_play, may_play, played_cut}
@@ -34,12 +35,12 @@ use Rattle.lawful_run.specs.Objects.{AreObjectNodes, own_played}
 use Rattle.lawful_run.specs.Reads.{Syncs, ReadsAt, kept_after_piece}
 use Rattle.lawful_run.proofs.CallerLemmas.{explains_get, one_shard}
 use Rattle.script_meaning.specs.States.{State, Grants, answered, kind_in}
-use Rattle.script_meaning.specs.Stamped.{read_stamp, stamped_read}
+use Rattle.script_meaning.specs.Stamped.{read_stamp, keys_read, stamped_read}
 use Rattle.script_meaning.specs.Dequeues.{object_at, first_nodes, sync_now, base_now}
-use Rattle.script_meaning.specs.Gets.{value_now, got_value, key_answers, keys_answer, got_keys}
-use Rattle.script_meaning.proofs.AfterMoves as moving
+use Rattle.script_meaning.specs.Gets.{value_now, got_value, value_up_to, key_answers, keys_answer, got_keys}
+use Rattle.script_meaning.proofs.FitCommands as fits
 use Rattle.script_meaning.proofs.AfterRead.{EndsTold, read_reached, after_read}
-use Rattle.script_meaning.proofs.AfterScan.{filtered_distinct, may_look}
+use Rattle.script_meaning.proofs.AfterScan.{filtered_distinct}
 use Rattle.script_meaning.proofs.Clearing.{Finished}
 use Rattle.script_meaning.proofs.Dequeuing.{are_objects, listed_objects}
 use Rattle.script_meaning.proofs.Getting.{did_get, did_refuse_get}
@@ -48,19 +49,27 @@ use Rattle.script_meaning.proofs.Kept.{caller_in, IsKeptBy, KeptAfter}
 use Rattle.script_meaning.proofs.ObjectKinds.{object_has}
 use Rattle.script_meaning.proofs.OwnEvents.{finished_client}
 use Rattle.script_meaning.proofs.ShardSets.{shard_below, shards_below, key_in}
+use Rattle.script_meaning.proofs.ShardReads.{value_read}
 use Rattle.script_meaning.proofs.StampedPlays.{MayLook}
 use Rattle.script_meaning.proofs.StampedRaises.{AreDistinct}
 
 -- keys with their values
-answered_keys : (value_of : List ℕ → Value) (keys : List (List ℕ))
+pub answered_keys : (value_of : List ℕ → Value) (keys : List (List ℕ))
     → map (λ (k : KeyAnswer). k.key) (key_answers value_of keys) ≡ keys
 answered_keys value_of [] = refl
 answered_keys value_of (key ∷ keys) = ap (λ (l : List (List ℕ)). key ∷ l) (answered_keys value_of keys)
 
-answered_values : (value_of : List ℕ → Value) (keys : List (List ℕ))
+pub answered_values : (value_of : List ℕ → Value) (keys : List (List ℕ))
     → map (λ (k : KeyAnswer). k.value) (key_answers value_of keys) ≡ map value_of keys
 answered_values value_of [] = refl
 answered_values value_of (key ∷ keys) = ap (λ (l : List Value). value_of key ∷ l) (answered_values value_of keys)
+
+map_same : (f g : List ℕ → Value) (keys : List (List ℕ)) → ((key : List ℕ) → In key keys → f key ≡ g key)
+    → map f keys ≡ map g keys
+map_same f g [] each = refl
+map_same f g (key ∷ keys) each =
+    ap (λ (v : Value). v ∷ map f keys) (each key (inl refl))
+    ∙ ap (λ (l : List Value). g key ∷ l) (map_same f g keys (λ k i. each k (inr i)))
 
 module _ (script : Script) (commands : List Command) (state : State) (command : Command) (grants : Grants)
     (runs : Runs script commands state) (fit : IsFit script commands command) where
@@ -88,9 +97,9 @@ module _ (script : Script) (commands : List Command) (state : State) (command : 
       → Runs script commands' (if may_play w u c then answered state command (after w (Play u c)) answer []
       else answered state command w (answers.Trimmed c (base_now w u c)) [])
   runs_get_by c low getting synced answer says =
-      let few = moving.own_few script commands state command runs fit in
-      let client_ok = moving.client_ok script commands state command runs fit in
-      let column_ok = moving.column_ok script commands state command runs fit c low in
+      let few = fits.own_few script commands state command runs fit in
+      let client_ok = fits.client_ok script commands state command runs fit in
+      let column_ok = fits.column_ok script commands state command runs fit c low in
       choice (Runs script commands') (may_play w u c) (answered state command (after w (Play u c)) answer [])
       (answered state command w (answers.Trimmed c (base_now w u c)) [])
       (λ ok. runs_done script commands state command runs fit (after w (Play u c)) answer []
@@ -170,7 +179,7 @@ module _ (script : Script) (commands : List Command) (state : State) (command : 
     distinct = filtered_distinct (λ c. list_any (λ k. shard_of its_colours k == c) keys) 64 0
 
     look : MayLook script.objects S u (read_stamp w u cs) w cs
-    look = may_look script commands state command grants runs fit cs below
+    look = fits.may_look script commands state command runs fit cs below
 
     going : S u → ⊥
     going = free script commands state command runs fit
@@ -189,20 +198,22 @@ module _ (script : Script) (commands : List Command) (state : State) (command : 
         → EndsTold script.objects S state command grants runs.reached runs.finished going (ap manner_of asked) cs
         read_of distinct look first is_first stamp raises syncs read
         → (kept : Kept) → IsKeptBy w u kept
-        → KeptAfter x script.objects u kept command.what (keys_answer x its_colours keys stamp raises syncs read) []
+        → KeptAfter x script.objects u kept command.what (keys_answer x u its_colours keys stamp raises syncs read) []
     told stamp raises syncs read ended kept k =
         let h = ended.kept kept k in
         let log = log_of x in
         let there = caller_in x script.objects u in
         let nodes : List ObjectNode = map (object_at x) read in
+        let value_of : List ℕ → Value = value_up_to x u its_colours (read_stamp w u cs) in
         record {
           after = h.after;
           keeps = h.keeps;
           explains = subst (λ (n : ℕ). Explains log there kept command.what
-              (keys_answer x its_colours keys n raises syncs read) [] h.after) (sym ended.is) (
+              (keys_answer x u its_colours keys n raises syncs read) [] h.after) (sym ended.is) (
                 refl,
                 h.after,
-                subst (λ (l : List ℕ). ReadsAt log there kept l (read_stamp w u cs) raises syncs h.after) (sym (read_of x)) h.reads,
+                subst (λ (l : List ℕ). ReadsAt log there kept l (read_stamp w u cs) raises syncs h.after)
+                    (sym (read_of x)) h.reads,
                 read,
                 ended.read,
                 nodes,
@@ -212,16 +223,29 @@ module _ (script : Script) (commands : List Command) (state : State) (command : 
                   keys,
                   asked,
                   record {
-                    keys_are = answered_keys (value_among its_colours nodes) keys;
-                    values_are = answered_values (value_among its_colours nodes) keys;
+                    keys_are = answered_keys value_of keys;
+                    values_are = answered_values value_of keys
+                        ∙ map_same value_of (value_among its_colours nodes) keys (λ y i. value_of_key read ended.keys_are
+                        (λ c j. ended.clear c j) y i);
                   },
                   refl,
                 ),
               );
-        }
+        } where
+          value_of_key : (read : List Key) → read ≡ keys_read x u (read_stamp w u cs) cs
+              → ((c : ℕ) → In c cs → IsClearUpTo (read_stamp w u cs) (home_history x u c))
+              → (y : List ℕ) → In y keys
+              → value_up_to x u its_colours (read_stamp w u cs) y ≡ value_among its_colours (map (object_at x) read) y
+          value_of_key read is clear y i =
+              let lt = shard_below script.shape.colours its_colours its_own.some its_own.below y in
+              let few = fit.few_colours in
+              let j = key_in its_colours keys y i (omega (arith, lt, few)) in
+              value_read x reached u (read_stamp w u cs) cs its_colours y (omega (arith, lt, few)) j
+              (clear (shard_of its_colours y) j)
+              ∙ ap (λ (ks : List Key). value_among its_colours (map (object_at x) ks) y) (sym is)
 
     pub runs_get_keys : Runs script commands' (got_keys script.objects grants state command object keys)
     runs_get_keys =
         after_read script.objects S state command grants runs.reached runs.finished going (ap manner_of asked) cs
-        read_of distinct look first is_first (keys_answer x its_colours keys) (λ _. []) (Runs script commands')
+        read_of distinct look first is_first (keys_answer x u its_colours keys) (λ _. []) (Runs script commands')
         (λ answer nodes d fin. runs_done script commands state command runs fit x answer nodes d fin) told

@@ -9,6 +9,7 @@ mod Counting
 mod Clearing
 mod Lines
 mod Kept
+mod ReadsLeft
 mod AppendOne
 mod Lists
 mod ShardSets
@@ -43,17 +44,27 @@ mod ObjectForms
 mod CompletionParts
 mod Stopping
 mod Invariant
+mod FitCommands
+mod AppendCases
+mod AppendsBehind
+mod TransactionVerdicts
+mod Committing
+mod VersionsFit
 mod DequeueRuns
 mod AfterRead
 mod AfterScan
 mod Getting
+mod ShardReads
 mod GetRuns
+mod TransactionReads
+mod CommitRuns
 mod InvariantHolds
 mod RowsOfClients
 mod LawfulReports
 mod GrantedSteps
 mod GrantedReads
 mod GrantedCommands
+mod LaterNodes
 mod ExactReports
 mod LastStops
 pub mod CallerLemmas

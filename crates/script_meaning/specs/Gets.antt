@@ -3,9 +3,11 @@ use Rattle.std.specs.Prelude.{ℕ, List, [], map, Option, Some, None, if◌then�
 use Rattle.log_node.specs.declared.ids.Key.{Key}
 use Rattle.log_node.specs.Vectors.{at}
 use Rattle.object_fold.specs.Nodes.{shard_of}
-use Rattle.object_fold.specs.Maps.{Value, shard_value, value_among}
+use Rattle.object_fold.specs.Maps.{Value, shard_value}
+use Rattle.col_core.specs.History.{line}
+use Rattle.playback.specs.Merging.{up_to}
 use Rattle.world_laws.specs.declared.steps.Step.TheVariants.{Play}
-use Rattle.world_laws.specs.Worlds.{World, home_of, may_play, played_cut, after}
+use Rattle.world_laws.specs.Worlds.{World, home_of, home_history, may_play, played_cut, after}
 use Rattle.script_text.specs.declared.script.Kind.{Kind}
 use Rattle.script_text.specs.declared.script.Kind.TheVariants as kinds
 use Rattle.script_text.specs.declared.script.Object.{Object}
@@ -51,14 +53,20 @@ got grants state command (Some (kinds.Queue home colour)) key = state
 abbrev pub key_answers : (List ℕ → Value) → List (List ℕ) → List KeyAnswer
 key_answers value_of keys = map (λ key. record { key = key; value = value_of key }) keys
 
--- the answer to a getall of a map with these colours, which has read the nodes with these keys of a world
-abbrev pub keys_answer : World → List ℕ → List (List ℕ) → ℕ → List RaisePiece → List SyncPiece → List Key → Answer
-keys_answer w colours asked stamp raises syncs keys =
-    answers.GotKeys stamp (key_answers (value_among colours (map (object_at w) keys)) asked) raises syncs
+-- a key's value after the nodes of its shard's own line up to a stamp; the map has these colours
+abbrev pub value_up_to : World → ℕ → List ℕ → ℕ → List ℕ → Value
+value_up_to w client colours stamp key =
+    let colour = shard_of colours key in
+    shard_value colours colour (map (object_at w) (up_to stamp (line (home_history w client colour)))) key
+
+-- the answer to a getall of a map with these colours, which was read in this world
+abbrev pub keys_answer : World → ℕ → List ℕ → List (List ℕ) → ℕ → List RaisePiece → List SyncPiece → List Key → Answer
+keys_answer w client colours asked stamp raises syncs keys =
+    answers.GotKeys stamp (key_answers (value_up_to w client colours stamp) asked) raises syncs
 
 -- several keys of a map: a stamped read of their shards
 abbrev pub got_keys : List Object → Grants → State → Command → ℕ → List (List ℕ) → State
 got_keys objects grants state command object asked =
     let colours = colours_of (caller_in state.world objects command.client) object in
     let read = stamped_read grants state.world command.client (shards colours asked) in
-    ended_by grants state command (keys_answer read.world colours asked) (λ _. []) read.world read.ends
+    ended_by grants state command (keys_answer read.world command.client colours asked) (λ _. []) read.world read.ends
