@@ -4,7 +4,7 @@ use Rattle.std.specs.List.{All, enumerate_from, flat_map, range_with_len}
 use Rattle.std.proofs.lemmas.List.{map-append}
 use Rattle.std.proofs.lemmas.List.Elements.{All-append, All-nil}
 
-pub map_by_place : {A B : Type 0} (f : A → B) (g : ℕ → B) (a : ℕ) (xs : List A)
+map_by_place : {A B : Type 0} (f : A → B) (g : ℕ → B) (a : ℕ) (xs : List A)
     → ((n : ℕ) (x : A) → slice_get xs n ≡ Some x → f x ≡ g (a + n)) → map f xs ≡ map g (range_with_len a (length xs))
 map_by_place f g a [] same = refl
 map_by_place {A} {B} f g a (x ∷ xs) same =
@@ -14,7 +14,7 @@ map_by_place {A} {B} f g a (x ∷ xs) same =
     ∙ ap (λ (ys : List B). g a ∷ ys)
     (map_by_place f g (a + 1) xs (λ n y at. same (suc n) y at ∙ ap g (let e : a + suc n ≡ a + 1 + n = omega arith in e)))
 
-pub flat_by_place : {A B : Type 0} (f : A → List B) (g : ℕ → List B) (a : ℕ) (xs : List A)
+flat_by_place : {A B : Type 0} (f : A → List B) (g : ℕ → List B) (a : ℕ) (xs : List A)
     → ((n : ℕ) (x : A) → slice_get xs n ≡ Some x → f x ≡ g (a + n))
     → flat_map f xs ≡ flat_map g (range_with_len a (length xs))
 flat_by_place f g a [] same = refl
@@ -24,6 +24,17 @@ flat_by_place {A} {B} f g a (x ∷ xs) same =
     ap (λ (ys : List B). ys ++ flat_map f xs) first
     ∙ ap (λ (ys : List B). g a ++ ys)
     (flat_by_place f g (a + 1) xs (λ n y at. same (suc n) y at ∙ ap g (let e : a + suc n ≡ a + 1 + n = omega arith in e)))
+
+-- the same from 0 on
+pub map_numbered : {A B : Type 0} (f : A → B) (g : ℕ → B) (xs : List A)
+    → ((n : ℕ) (x : A) → slice_get xs n ≡ Some x → f x ≡ g n) → map f xs ≡ map g (range_with_len 0 (length xs))
+map_numbered f g xs same =
+    map_by_place f g 0 xs (λ n x at. same n x at ∙ ap g (let e : n ≡ 0 + n = omega arith in e))
+
+pub flat_numbered : {A B : Type 0} (f : A → List B) (g : ℕ → List B) (xs : List A)
+    → ((n : ℕ) (x : A) → slice_get xs n ≡ Some x → f x ≡ g n) → flat_map f xs ≡ flat_map g (range_with_len 0 (length xs))
+flat_numbered f g xs same =
+    flat_by_place f g 0 xs (λ n x at. same n x at ∙ ap g (let e : n ≡ 0 + n = omega arith in e))
 
 -- what holds of the items of each list
 pub all_flat : {A B : Type 0} (P : B → Type 0) (f : A → List B) (xs : List A)

@@ -1,10 +1,11 @@
 -- What clients who were served leave in the end is reported as a lawful run.
 use Rattle.std.proofs.Common.{◌≡◌, ◌≢◌, ◌⊎◌, ℕ, zero, suc, ◌+◌, ◌<◌, ◌≤◌, List, [], ◌∷◌, ◌++◌, length, map, Option, Some, None, Bool, true, false, cond, slice_get, refl, ap, sym, subst, ◌∙◌, inl, inr, arith, eqb-true, eq-eqb, length-append}
-use Rattle.std.specs.Prelude.{IsTrue, ◌==◌, slice_index, slice_index_or, unwrap_or}
+use Rattle.std.specs.Prelude.{IsTrue, ◌==◌, ◌&&◌, not, slice_index, slice_index_or, unwrap_or}
 use Rattle.std.specs.List.{All, Contains, enumerate_from, filter, find, flat_map, range_with_len}
 use Rattle.std.specs.Option.{option_map}
 use Rattle.std.specs.List.Sorted.{IsNonDecreasing}
 use Rattle.std.proofs.lemmas.List.{length-map}
+use Rattle.std.proofs.lemmas.List.FromFn.{length-enumerate_from}
 use Rattle.std.proofs.lemmas.List.Elements.{All-contains}
 use Rattle.std.proofs.lemmas.Option.{get_or_from_slice_get, slice_get-map, slice_get_within, slice_get_read}
 use Rattle.std.proofs.lemmas.Simd.{map-map}
@@ -13,6 +14,7 @@ use Rattle.log_node.specs.declared.ids.Row.{Row}
 use Rattle.log_node.specs.declared.node.Node.{Node}
 use Rattle.log_node.specs.declared.node.Shape.{Shape}
 use Rattle.log_node.specs.declared.marks.Outcome.TheVariants.{Open}
+use Rattle.log_node.specs.Order.{same_id}
 use Rattle.log_node.specs.Standings.{Standing, is_open_id, open_entry, queue_of}
 use Rattle.col_core.specs.declared.Entry.{Entry}
 use Rattle.col_core.specs.History.{entries}
@@ -21,7 +23,7 @@ use Rattle.col_core.specs.Copies.{AreTrueCopies}
 use Rattle.col_core.specs.Ids.{IsStepOf}
 use Rattle.col_core.specs.Legal.{IsColumnHistory}
 use Rattle.col_core.specs.Log.{Log, places_of}
-use Rattle.col_core.specs.Rows.{AreLawfulRows, BegunRow, is_of}
+use Rattle.col_core.specs.Rows.{AreLawfulRows, BegunRow, FitsRow, is_of}
 use Rattle.col_core.proofs.CallerLemmas.{In, contains_in, cut-is_greatest, in_contains, in_filter-back, in_slice, same_id-refl, slice_in}
 use Rattle.column.specs.Columns.{ColumnState, base_of, cut_of}
 use Rattle.stamp_board.specs.declared.rows.ClosedRow.{ClosedRow}
@@ -55,9 +57,9 @@ use Rattle.log_client.specs.Closes.{Closes, EndsComplete, EndsFor}
 use Rattle.log_client.specs.Closing.{AreHoldsAt, EndsColumn, EndsRegion}
 use Rattle.log_client.specs.Fits.{Fits}
 use Rattle.log_client.proofs.CallerLemmas.{open_row}
-use Rattle.fuzzy_run.specs.EndReports.{HaveNodes, end_report, id_in, nodes_of, row_node, row_shown}
-use Rattle.fuzzy_run.specs.Serving.{AreServed, EndsStopped, Serves}
-use Rattle.fuzzy_run.proofs.ByPlace.{all_flat, flat_by_place, map_by_place, map_flat, numbered_at, numbered_get, numbered_second}
+use Rattle.fuzzy_run.specs.EndReports.{CanShow, HaveNodes, client_shown, columns_shown, end_report, id_of, node_at, nodes_in, nodes_of, row_shown, rows_shown}
+use Rattle.fuzzy_run.specs.Serving.{AreServed, HasStopped as Stopped, Serves}
+use Rattle.fuzzy_run.proofs.ByPlace.{all_flat, flat_numbered, map_flat, map_numbered, numbered_at, numbered_get, numbered_second}
 
 -- what a search for one that is there finds
 finds : {A : Type 0} (test : A → Bool) (xs : List A) (x : A) → In x xs → test x ≡ true
@@ -126,8 +128,8 @@ module _ (script : Script) (fits : IsFitting script) (s : Store) (clients : List
 
   names : map (λ (c : ClientReport). c.name) report.clients ≡ script.clients
   names =
-      map-map (λ (c : ClientReport). c.name) (λ (p : ℕ × List ℕ). record { name = p.1; replies = slice_index_or replies p.0 [] })
-      (enumerate_from 0 script.clients) ∙ numbered_second 0 script.clients
+      map-map (λ (c : ClientReport). c.name) (client_shown replies) (enumerate_from 0 script.clients)
+      ∙ numbered_second 0 script.clients
 
   caller_is : (n : ℕ) (c : Client) → slice_get clients n ≡ Some c → client_caller s c script.objects ≡ caller_of script n
   caller_is n c at = λ i. record {
@@ -164,8 +166,7 @@ module _ (script : Script) (fits : IsFitting script) (s : Store) (clients : List
   shown_at : (n : ℕ) (c : ClientReport) → slice_get report.clients n ≡ Some c
       → (n < length script.shape.homes) × (slice_index_or replies n [] ≡ c.replies)
   shown_at n c there =
-      let p = unmapped (λ (p : ℕ × List ℕ). record { name = p.1; replies = slice_index_or replies p.0 [] })
-      (enumerate_from 0 script.clients) n c there in
+      let p = unmapped (client_shown replies) (enumerate_from 0 script.clients) n c there in
       let number = numbered_get 0 script.clients n p.0 p.1 in
       let lt = slice_get_within script.clients n p.0.1 number.1 in
       let many = fits.clients in
@@ -249,17 +250,17 @@ module _ (script : Script) (fits : IsFitting script) (s : Store) (clients : List
   named (name ∷ list) zero lt = refl
   named (name ∷ list) (suc n) lt = named list n (omega (arith, lt))
 
-  column : (region colour : ℕ) (column : ColumnState) → region < regions → colour < colours
-      → EndsColumn log regions region colour column
-      → IsColumnReport log script (column_shown script.regions script.colours column)
-  column region colour column lt lc is =
-      let history : column.journal ≡ log.histories column.region column.colour =
+  column : (region colour : ℕ) (c : ColumnState) → region < regions → colour < colours
+      → EndsColumn log regions region colour c
+      → IsColumnReport log script (column_shown script.regions script.colours c)
+  column region colour c lt lc is =
+      let history : c.journal ≡ log.histories c.region c.colour =
       is.journal ∙ (λ i. log.histories (sym is.of_region i) (sym is.of_colour i)) in record {
         history = history;
-        legal = subst (λ (h : List Entry). IsColumnHistory column.region regions (dated column.region h)) (sym history)
-            (lawful_at column.region column.colour);
-        makers = all_by (λ (e : Entry). e.by < length script.clients) column.journal (λ n e at.
-            let less = closes.ends.makers column.region column.colour n e
+        legal = subst (λ (h : List Entry). IsColumnHistory c.region regions (dated c.region h)) (sym history)
+            (lawful_at c.region c.colour);
+        makers = all_by (λ (e : Entry). e.by < length script.clients) c.journal (λ n e at.
+            let less = closes.ends.makers c.region c.colour n e
             (subst (λ (h : List Entry). slice_get h n ≡ Some e) history at) in
             let many = length-map clients holds_of in
             let all = served.many in
@@ -268,15 +269,22 @@ module _ (script : Script) (fits : IsFitting script) (s : Store) (clients : List
         closing = record {
           clock_shown = refl;
           line_shown = refl;
-          queue_shown = shown_back (queue_of (entries column.journal));
-          cut_shown = cut-is_greatest column.region (dated column.region column.journal);
-          base_shown = λ i. base_of (record column { regions = is.of_regions i });
+          queue_shown = shown_back (queue_of (entries c.journal));
+          cut_shown = cut-is_greatest c.region (dated c.region c.journal);
+          base_shown = λ i. base_of (record c { regions = is.of_regions i });
         };
-        region_named = named script.regions column.region
+        region_named = named script.regions c.region
             (let a = is.of_region in let b = fits.regions in omega (arith, a, b, lt));
-        colour_named = named script.colours column.colour
+        colour_named = named script.colours c.colour
             (let a = is.of_colour in let b = fits.colours in omega (arith, a, b, lc));
       }
+
+  -- the numbers of a column
+  abbrev numbers : ColumnReport → ℕ × ℕ
+  numbers c = (c.region, c.colour)
+
+  abbrev region_numbers : ℕ → List (ℕ × ℕ)
+  region_numbers region = map {B = ℕ × ℕ} (λ colour. (region, colour)) (range_with_len 0 colours)
 
   columns_of_region : (n : ℕ) (e : ClosedRegion) → slice_get closed.regions n ≡ Some e
       → All (IsColumnReport log script) (map (column_shown script.regions script.colours) e.columns)
@@ -292,37 +300,29 @@ module _ (script : Script) (fits : IsFitting script) (s : Store) (clients : List
       (column n k c.0 (omega (arith, lt, many)) (omega (arith, lc, count)) (r.2.columns k c.0 c.1)))
 
   numbers_of_region : (n : ℕ) (e : ClosedRegion) → slice_get closed.regions n ≡ Some e
-      → map (λ (c : ColumnReport). (c.region, c.colour)) (map (column_shown script.regions script.colours) e.columns)
-      ≡ map (λ colour. (n, colour)) (range_with_len 0 colours)
+      → map numbers (columns_shown script.regions script.colours e) ≡ region_numbers n
   numbers_of_region n e at =
       let r = region_at n e at in
-      map-map (λ (c : ColumnReport). (c.region, c.colour)) (column_shown script.regions script.colours) e.columns
-      ∙ (map_by_place (λ (c : ColumnState). (c.region, c.colour)) (λ colour. (n, colour)) 0 e.columns
+      map-map numbers (column_shown script.regions script.colours) e.columns
+      ∙ (map_numbered {B = ℕ × ℕ} (λ (c : ColumnState). (c.region, c.colour)) (λ colour. (n, colour)) e.columns
       (λ k c there. let is = r.2.columns k c there in (λ i. (is.of_region i, is.of_colour i)))
-      ∙ ap (λ (k : ℕ). map (λ colour. (n, colour)) (range_with_len 0 k)) r.2.count)
+      ∙ ap (λ (k : ℕ). map {B = ℕ × ℕ} (λ colour. (n, colour)) (range_with_len 0 k)) r.2.count)
 
   columns : AreColumns log script report.columns
   columns = record {
     all =
-        map_flat (λ (c : ColumnReport). (c.region, c.colour))
-        (λ (e : ClosedRegion). map (column_shown script.regions script.colours) e.columns) closed.regions
-        ∙ (flat_by_place
-        (λ (e : ClosedRegion). map (λ (c : ColumnReport). (c.region, c.colour))
-        (map (column_shown script.regions script.colours) e.columns))
-        (λ region. map (λ colour. (region, colour)) (range_with_len 0 colours)) 0 closed.regions
-        (λ n e at. numbers_of_region n e at)
-        ∙ ap (column_numbers_of) many_regions);
-    each = all_flat (IsColumnReport log script)
-        (λ (e : ClosedRegion). map (column_shown script.regions script.colours) e.columns) closed.regions columns_of_region;
-  } where
-    column_numbers_of : ℕ → List (ℕ × ℕ)
-    column_numbers_of k = flat_map (λ region. map (λ colour. (region, colour)) (range_with_len 0 colours)) (range_with_len 0 k)
+        map_flat numbers (columns_shown script.regions script.colours) closed.regions
+        ∙ (flat_numbered (λ (e : ClosedRegion). map numbers (columns_shown script.regions script.colours e)) region_numbers
+        closed.regions (λ n e at. numbers_of_region n e at)
+        ∙ ap (λ (k : ℕ). flat_map region_numbers (range_with_len 0 k)) many_regions);
+    each = all_flat (IsColumnReport log script) (columns_shown script.regions script.colours) closed.regions columns_of_region;
+  }
 
   -- ROWS
 
   -- a row's node is among those that its client had, at the row's number
   node_there : (region : ℕ) (lt : region < regions) (b : BegunRow) → Contains (log.rows region) b
-      → row_node (nodes_of closed) b.row ≡ Some b.node
+      → node_at (nodes_of closed) b.row ≡ Some b.node
   node_there region lt b among =
       let c = row_client region lt b among in
       let e = ends_for b.row.client c.0 c.1 in
@@ -340,17 +340,18 @@ module _ (script : Script) (fits : IsFitting script) (s : Store) (clients : List
       ap (slice_get (rows_of c.0)) number
       ∙ (ap (λ (l : List Node). slice_get l place.0) (sym its) ∙ mapped (λ (d : BegunRow). d.node) own place.0 b place.1) in
       let lists : slice_get (nodes_of closed) b.row.client ≡ Some (rows_of c.0) =
-      ap (λ l. slice_get (map (λ nodes. map (λ shared. shared.value) nodes) l) b.row.client) closes.nodes
-      ∙ mapped (λ nodes. map (λ shared. shared.value) nodes) (map (λ (d : Client). d.rows.items) clients) b.row.client
+      ap (λ l. slice_get (nodes_in l) b.row.client) closes.nodes
+      ∙ mapped (map (λ shared. shared.value)) (map (λ (d : Client). d.rows.items) clients) b.row.client
       c.0.rows.items (mapped (λ (d : Client). d.rows.items) clients b.row.client c.0 c.1) in
-      ap (λ (o : Option (List Node)). slice_get (unwrap_or o []) b.row.number) lists ∙ at
+      ap (λ (l : List Node). slice_get l b.row.number)
+      (get_or_from_slice_get (nodes_of closed) b.row.client (rows_of c.0) [] lists) ∙ at
 
   shown_row : (region : ℕ) (lt : region < regions) (b : BegunRow) → Contains (log.rows region) b
       → row_shown (nodes_of closed) region (closed_of b) ≡ row_report region b
   shown_row region lt b among = λ i. record {
     region = region;
     row = b.row;
-    id = id_in (node_there region lt b among i);
+    id = id_of (node_there region lt b among i);
     marks = b.marks;
     last = b.last;
   }
@@ -379,8 +380,8 @@ module _ (script : Script) (fits : IsFitting script) (s : Store) (clients : List
   begun : AreRows log script report.rows
   begun = record {
     all =
-        flat_by_place (λ (p : ℕ × ClosedRegion). map (row_shown (nodes_of closed) p.0) p.1.rows)
-        (λ region. map (row_report region) (log.rows region)) 0 (enumerate_from 0 closed.regions)
+        flat_numbered (rows_shown (nodes_of closed))
+        (λ region. map (row_report region) (log.rows region)) (enumerate_from 0 closed.regions)
         (λ n p at.
         let is = numbered_get 0 closed.regions n p at in
         let number : p.0 ≡ n = (let e = is.0 in omega (arith, e)) in
@@ -428,7 +429,7 @@ module _ (script : Script) (fits : IsFitting script) (s : Store) (clients : List
 
   -- a client whose last command stopped is shown so
   shown_stopped : (n : ℕ) (c : Client) → slice_get clients n ≡ Some c
-      → EndsStopped (commands_of script n) (slice_index_or replies n []) → HasStopped report n
+      → Stopped (commands_of script n) (slice_index_or replies n []) → HasStopped report n
   shown_stopped n c at stop =
       let less = slice_get_within clients n c at in
       let many = served.many in
@@ -436,17 +437,16 @@ module _ (script : Script) (fits : IsFitting script) (s : Store) (clients : List
       let name = got script.clients n (omega (arith, less, many, all)) in
       let p = numbered_at 0 script.clients n name.0 name.1 in
       let is : p.0.0 ≡ n = (let e = p.2 in omega (arith, e)) in
-      let shown : slice_index_or replies p.0.0 [] ≡ stop.before ++ stop.reply ∷ [] =
-      ap (λ (k : ℕ). slice_index_or replies k []) is ∙ stop.shown in record {
+      let shown : slice_index_or replies p.0.0 [] ≡ stop.earlier ++ stop.reply ∷ [] =
+      ap (λ (k : ℕ). slice_index_or replies k []) is ∙ stop.replied in record {
         shown = record { name = p.0.1; replies = slice_index_or replies p.0.0 [] };
-        of_client = mapped (λ (q : ℕ × List ℕ). record { name = q.1; replies = slice_index_or replies q.0 [] })
-            (enumerate_from 0 script.clients) n p.0 p.1;
-        before = length stop.before;
+        of_client = mapped (client_shown replies) (enumerate_from 0 script.clients) n p.0 p.1;
+        before = length stop.earlier;
         reply = stop.reply;
-        last = ap length shown ∙ length-append stop.before (stop.reply ∷ []);
-        there = ap (λ (l : List ReplyLine). slice_get l (length stop.before)) shown ∙ at_end stop.before stop.reply;
-        steps = stop.steps;
-        stopped = stop.stopped;
+        last = ap length shown ∙ length-append stop.earlier (stop.reply ∷ []);
+        there = ap (λ (l : List ReplyLine). slice_get l (length stop.earlier)) shown ∙ at_end stop.earlier stop.reply;
+        steps = stop.stopped.0;
+        stopped = stop.stopped.1;
       } where
         at_end : (xs : List ReplyLine) (x : ReplyLine) → slice_get (xs ++ x ∷ []) (length xs) ≡ Some x
         at_end [] x = refl
@@ -503,13 +503,25 @@ module _ (script : Script) (fits : IsFitting script) (s : Store) (clients : List
     left_open = left_open;
   }
 
-  pub row_nodes_there : HaveNodes closed
-  row_nodes_there n i r e at there =
+  row_nodes_there : (n : ℕ) (e : ClosedRegion) → slice_get closed.regions n ≡ Some e → HaveNodes (nodes_of closed) e.rows
+  row_nodes_there n e at i r there =
       let end = region_at n e at in
       let lt = slice_get_within closed.regions n e at in
       let many = many_regions in
       let b = unmapped closed_of (log.rows n) i r (subst (λ l. slice_get l i ≡ Some r) end.2.rows there) in
       let among = contains_in (log.rows n) b.0 (slice_in (log.rows n) i b.0 b.1) in (
         b.0.node,
-        ap (λ (q : ClosedRow). row_node (nodes_of closed) q.row) (sym b.2) ∙ node_there n (omega (arith, lt, many)) b.0 among,
+        ap (λ (q : ClosedRow). node_at (nodes_of closed) q.row) (sym b.2) ∙ node_there n (omega (arith, lt, many)) b.0 among,
       )
+
+  pub can_be_shown : CanShow script.regions script.colours closed
+  can_be_shown = record {
+    many = many_regions ∙ sym fits.regions;
+    few = let a = fits.regions in let b = fits.shape.few_regions in omega (arith, a, b);
+    wide = let a = fits.colours in let b = fits.shape.few_colours in omega (arith, a, b);
+    columns = λ n e at.
+        let r = (region_at n e at).2 in
+        (r.count ∙ sym fits.colours, λ colour column there.
+        let is = r.columns colour column there in (is.of_region, is.of_colour));
+    rows = row_nodes_there;
+  }

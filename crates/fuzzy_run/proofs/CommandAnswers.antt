@@ -111,15 +111,15 @@ module _ (log : Log) (caller : Caller) (kept after : Kept) where
     pub stood : (stamp : ℕ) (row : _) (points : List PointPiece)
         → Appends log caller kept (node_of caller kept colours text) stamp row points after
         → Explains log caller kept (whats.Append colours text) (answers.Stood stamp row points) [] after
-    stood stamp row points is = (refl, refl, colours, text, refl, refl, is)
+    stood stamp row points is = (refl, refl, (colours, text, (refl, refl), is))
 
     pub ended : (colour : ℕ) → HasNoStamp log caller kept (node_of caller kept colours text) colour after
         → Explains log caller kept (whats.Append colours text) (answers.StampEnd colour) [] after
-    ended colour is = (refl, λ e. let f : ⊥ = cc (e) in f, colours, text, refl, refl, is)
+    ended colour is = (refl, λ e. let f : ⊥ = cc (e) in f, (colours, text, (refl, refl), is))
 
     pub full : (used : ℕ) → IsFull caller kept colours used → after ≡ kept
         → Explains log caller kept (whats.Append colours text) (answers.Full used) [] after
-    full used is same = (refl, λ c t e. let f : ⊥ = cc (e) in f, same, colours, text, refl, refl, is)
+    full used is same = (refl, λ c t e. let f : ⊥ = cc (e) in f, same, (colours, text, (refl, refl), is))
 
     pub gone_for_memory : (places : ℕ → List ℕ)
         → IsGoneForMemory log caller kept (node_of caller kept colours text) places
@@ -139,7 +139,7 @@ module _ (log : Log) (caller : Caller) (kept after : Kept) where
 
     pub full_stop : (steps used : ℕ) → steps ≢ 0 → IsFull caller kept colours used → after ≡ kept
         → Explains log caller kept (whats.Stop steps colours text) (answers.Full used) [] after
-    full_stop steps used later is same = (refl, λ c t e. later (cc (e)), same, colours, text, refl, refl, is)
+    full_stop steps used later is same = (refl, λ c t e. later (cc (e)), same, (colours, text, (refl, refl), is))
 
   -- want of memory, where nothing was done
   pub no_memory : (what : What) → after ≡ kept → Explains log caller kept what answers.NoMemory [] after

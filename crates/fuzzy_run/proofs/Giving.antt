@@ -25,7 +25,7 @@ use Rattle.log_client.specs.Clients.{IsClient, Finished, Helps, holds_of}
 use Rattle.log_client.specs.Calls.{IsExplained, IsSame, SyncsAs, SyncRefused, nodes_played}
 use Rattle.fuzzy_run.specs.Built.{is_served}
 use Rattle.fuzzy_run.specs.Serving.{IsAnswered}
-use Rattle.fuzzy_run.specs.Giving.{Gives}
+use Rattle.fuzzy_run.specs.Serving.{Gives}
 use Rattle.fuzzy_run.proofs.CommandAnswers.{IsOfLog, answered_by, no_memory, synced, sync_trimmed}
 
 -- a command that is served is of the log

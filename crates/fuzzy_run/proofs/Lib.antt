@@ -4,5 +4,6 @@ mod ServedClients
 mod CommandAnswers
 mod ClosingRuns
 mod Giving
+mod GivingCommands
 mod Yielding
 mod Dealing

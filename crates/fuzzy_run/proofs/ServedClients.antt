@@ -24,7 +24,7 @@ use Rattle.log_client.specs.Clients.{Finished, caller_of, holds_of, seen_of}
 use Rattle.log_client.specs.Fits.{Fits}
 use Rattle.log_client.specs.Opening.{IsNewClient}
 use Rattle.log_client.proofs.CallerLemmas.{client_sees_on, fits_less, same_caller}
-use Rattle.fuzzy_run.specs.Serving.{EndsStopped, IsAnswered, MayHelp, Serves, StopsLast}
+use Rattle.fuzzy_run.specs.Serving.{IsAnswered, MayHelp, Serves, StopsLast}
 
 -- a new client has no replies
 pub serves_none : (shape : Shape) (s : Store) (objects : List Object) (n : ℕ) (c : Client) → IsNewClient shape s n c
@@ -71,15 +71,14 @@ serves_next s objects c d done replies command reply v finished a =
       finished = elim (a.finished finished) [
         | inl still ↦ inl still
         | inr stop ↦ inr (record {
-          commands = done;
+          before = done;
           command = command;
-          all = refl;
+          asked = refl;
           stops = stop.0;
-          before = replies;
+          earlier = replies;
           reply = reply;
-          shown = refl;
-          steps = stop.1;
-          stopped = stop.2;
+          replied = refl;
+          stopped = stop.1;
         })
       ];
       helps = λ helps. elim (a.helps helps) [

@@ -31,9 +31,9 @@ finished_before s objects c commands n next done replies last at are v = elim v.
   | inl still ↦ still
   | inr stop ↦ absurd (
       let r = split_there commands n next at in
-      let split : commands ≡ stop.commands ++ stop.command ∷ (next ∷ r.0) =
-      r.1 ∙ (ap (λ (l : List Command). l ++ next ∷ r.0) (sym are ∙ stop.all)
-      ∙ append_assoc stop.commands (stop.command ∷ []) (next ∷ r.0)) in
-      let none = last stop.commands (next ∷ r.0) stop.command split stop.stops in
+      let split : commands ≡ stop.before ++ stop.command ∷ (next ∷ r.0) =
+      r.1 ∙ (ap (λ (l : List Command). l ++ next ∷ r.0) (sym are ∙ stop.asked)
+      ∙ append_assoc stop.before (stop.command ∷ []) (next ∷ r.0)) in
+      let none = last stop.before (next ∷ r.0) stop.command split stop.stops in
       let f : ⊥ = cc (none) in f)
 ]

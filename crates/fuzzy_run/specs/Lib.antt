@@ -7,6 +7,4 @@ pub mod Reading
 pub mod Serving
 pub mod Served
 pub mod Dealing
-pub mod Giving
 pub mod EndReports
-pub mod Showing

@@ -10,6 +10,7 @@ use std::thread::Threads;
 
 mod edges;
 mod large;
+mod maps;
 mod objects;
 mod refusals;
 mod regions;

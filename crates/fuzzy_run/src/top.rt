@@ -61,7 +61,7 @@ fn report_of<R: Threads + Wait + Sync, G: Gate>(
 ) -> Result<Report, AllocError>
     requires fits { IsFitting script }
     requires rows { script.shape.rows ≤ MAX_ROWS }
-    requires built { All (λ (c : Command). IsTrue (is_done asked c.what)) script.commands }
+    requires built { All (λ (c : Command). IsTrue (is_done asked script.objects c.what)) script.commands }
     requires stops { StopsAreLast script }
     ensures { IfOk result (IsRunOf asked script) }
 {
@@ -89,14 +89,14 @@ fn do_script<K: Sink, G: Gate, R: Threads + Wait + Sync>(
     requires rows { script.shape.rows ≤ MAX_ROWS }
     requires stops { StopsAreLast script }
     ensures done { result ≡ Status.Done → Shows asked script (K.holds sink.old) (K.holds sink.new) }
-    ensures refused { result ≡ Status.Refused → (line : ℕ) × (first_unbuilt asked script.commands ≡ Some line)
+    ensures refused { result ≡ Status.Refused → (line : ℕ) × (first_unbuilt asked script.objects script.commands ≡ Some line)
         × Appends (K.holds sink.old) (K.holds sink.new) (refusal_bytes line (cause_text Cause.NotBuilt)) }
     ensures write_fault { result ≡ Status.WriteFault → Rose (K.faults sink.old) (K.faults sink.new) }
     ensures front { result ≡ Status.WriteFault → ShowsFront asked script (K.holds sink.old) (K.holds sink.new) }
     ensures no_memory { result ≡ Status.NoMemory → sink.new ≡ sink.old }
     ensures no_other { (result ≢ Status.BadWords) × (result ≢ Status.ReadFault) }
 {
-    if let Some(line) = first_unbuilt(asked, script.commands.as_slice()) {
+    if let Some(line) = first_unbuilt(asked, script.objects.as_slice(), script.commands.as_slice()) {
         return refuse(sink, line, Cause::NotBuilt);
     }
     let report = match report_of(rt, alloc, asked, gate, script) {

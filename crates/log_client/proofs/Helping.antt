@@ -17,7 +17,7 @@ use Rattle.lawful_run.specs.Lawful.{IsHelp}
 use Rattle.log_client.specs.declared.store.Store.{Store}
 use Rattle.log_client.specs.declared.client.Client.{Client}
 use Rattle.log_client.specs.Fits.{HasGoneOn}
-use Rattle.log_client.specs.Ending.{IsHelpBy, HelpsWhole}
+use Rattle.log_client.specs.Ending.{HelpsWhole}
 use Rattle.log_client.specs.Clients.{IsClient, Helps, holds_of}
 use Rattle.log_client.proofs.Truly.{WasMade}
 use Rattle.log_client.proofs.AtHome.{ChangesHome, gone_same, home_after, others_after}

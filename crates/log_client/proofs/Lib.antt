@@ -41,5 +41,11 @@ mod BetweenHolds
 mod PullReplies
 mod PullCalls
 mod StandsLater
+mod NextNodes
+mod Wanting
+mod AppendsNothing
+mod AppendCases
 mod AppendReplies
+mod RowReplies
+mod RowCalls
 pub mod CallerLemmas

@@ -10,5 +10,5 @@ mod player;
 
 pub use faults::PlayFault;
 pub use laws::{play_order_is_lawful, region_order_is_lawful};
-pub use merging::with_line;
+pub use merging::{count_up_to, with_line};
 pub use player::{Played, Player, Snapshot, play};

@@ -17,8 +17,8 @@ fn count_below(keys: &[Key], key: Key) -> usize
     keys.iter().take_while(|other| other.is_below(key)).count()
 }
 
-// How many keys of a line have stamps up to this one.
-fn count_up_to(line: &[Key], stamp: u64) -> usize
+/// How many keys of a line have stamps up to this one: they are its first.
+pub fn count_up_to(line: &[Key], stamp: u64) -> usize
     requires rising { AreRising line.now }
     ensures bound { result ≤ length line.now }
     ensures taken { take result line.now ≡ up_to stamp line.now }

@@ -1,5 +1,5 @@
 -- Commands, by what they ask for.
-use Rattle.std.proofs.Common.{◌≡◌, ℕ, Bool, true, List, [], Option, Some, None, refl, ap, sym, subst, ◌∙◌}
+use Rattle.std.proofs.Common.{◌≡◌, ℕ, Bool, true, false, List, [], Option, Some, None, refl, ap, sym, subst, ◌∙◌}
 use Rattle.std.specs.Prelude.{if◌then◌else◌}
 use Rattle.log_node.specs.declared.ids.Colours.{Colours}
 use Rattle.log_node.specs.declared.forms.Pair.{Pair}
@@ -14,7 +14,7 @@ use Rattle.report_text.specs.declared.report.Answer.TheVariants as answers
 use Rattle.script_meaning.specs.States.{State, Grants, all_granted, answered, is_built}
 use Rattle.script_meaning.specs.Objects.{caller_in, refusing_home}
 use Rattle.script_meaning.specs.Meaning.{done_one, done_from}
-use Rattle.script_in_order.specs.Doing.{DoneBy, Does, DoesAtHome, with_replies}
+use Rattle.script_in_order.specs.Doing.{DoneBy, Does, DoesAtHome, folds_nodes, with_replies}
 
 -- what a command does that was granted memory before it did anything, and that no home refuses
 pub does_what : (objects : List Object) (command : Command) (what : What) (w new : World) (answer : Answer)
@@ -56,27 +56,47 @@ pub with_nodes : (command : Command) (meaning : Grants → State → State) (w n
 with_nodes command meaning w new answer nodes none d =
     subst (λ (l : List PlacedNode). DoneBy meaning command w new answer l) (sym none) d
 
--- no command of another kind is built
-pub built_kinds : (what : What) → is_built what ≡ true
+-- no command of another kind folds nothing
+pub other_kinds : (what : What) → folds_nodes what ≡ false
     → ((c : Colours) (t : List ℕ) → what ≡ whats.Append c t → ⊥)
     → ((n : ℕ) (c : Colours) (t : List ℕ) → what ≡ whats.Stop n c t → ⊥)
     → ((c : ℕ) → what ≡ whats.Sync c → ⊥) → ((c : Colours) → what ≡ whats.Scan c → ⊥)
     → ((r c : ℕ) → what ≡ whats.Pull r c → ⊥)
     → ((c : ℕ) → what ≡ whats.Trim c → ⊥) → ((o : ℕ) (k v : List ℕ) → what ≡ whats.Put o k v → ⊥)
     → ((o : ℕ) (k : List ℕ) → what ≡ whats.Del o k → ⊥) → ((o : ℕ) (ps : List Pair) → what ≡ whats.PutAll o ps → ⊥)
-    → ((o : ℕ) (v : List ℕ) → what ≡ whats.Enq o v → ⊥) → ((o : ℕ) → what ≡ whats.Deq o → ⊥) → ⊥
-built_kinds (whats.Append colours text) b p q r k s t u v x y z = p colours text refl
-built_kinds (whats.Stop steps colours text) b p q r k s t u v x y z = q steps colours text refl
-built_kinds (whats.Sync colour) b p q r k s t u v x y z = r colour refl
-built_kinds (whats.Scan colours) b p q r k s t u v x y z = k colours refl
-built_kinds (whats.Pull region colour) b p q r k s t u v x y z = s region colour refl
-built_kinds (whats.Trim colour) b p q r k s t u v x y z = t colour refl
-built_kinds (whats.Put object key value) b p q r k s t u v x y z = u object key value refl
-built_kinds (whats.Get object key) b p q r k s t u v x y z = let f : ⊥ = cc in f
-built_kinds (whats.Del object key) b p q r k s t u v x y z = v object key refl
-built_kinds (whats.PutAll object pairs) b p q r k s t u v x y z = x object pairs refl
-built_kinds (whats.GetAll object keys) b p q r k s t u v x y z = let f : ⊥ = cc in f
-built_kinds (whats.Read object keys) b p q r k s t u v x y z = let f : ⊥ = cc in f
-built_kinds (whats.Commit object pairs) b p q r k s t u v x y z = let f : ⊥ = cc in f
-built_kinds (whats.Enq object value) b p q r k s t u v x y z = y object value refl
-built_kinds (whats.Deq object) b p q r k s t u v x y z = z object refl
+    → ((o : ℕ) (v : List ℕ) → what ≡ whats.Enq o v → ⊥) → ⊥
+other_kinds (whats.Append colours text) b p q r k s t u v x y = p colours text refl
+other_kinds (whats.Stop steps colours text) b p q r k s t u v x y = q steps colours text refl
+other_kinds (whats.Sync colour) b p q r k s t u v x y = r colour refl
+other_kinds (whats.Scan colours) b p q r k s t u v x y = k colours refl
+other_kinds (whats.Pull region colour) b p q r k s t u v x y = s region colour refl
+other_kinds (whats.Trim colour) b p q r k s t u v x y = t colour refl
+other_kinds (whats.Put object key value) b p q r k s t u v x y = u object key value refl
+other_kinds (whats.Get object key) b p q r k s t u v x y = let f : ⊥ = cc in f
+other_kinds (whats.Del object key) b p q r k s t u v x y = v object key refl
+other_kinds (whats.PutAll object pairs) b p q r k s t u v x y = x object pairs refl
+other_kinds (whats.GetAll object keys) b p q r k s t u v x y = let f : ⊥ = cc in f
+other_kinds (whats.Read object keys) b p q r k s t u v x y = let f : ⊥ = cc in f
+other_kinds (whats.Commit object pairs) b p q r k s t u v x y = let f : ⊥ = cc in f
+other_kinds (whats.Enq object value) b p q r k s t u v x y = y object value refl
+other_kinds (whats.Deq object) b p q r k s t u v x y = let f : ⊥ = cc in f
+
+-- no command of another kind is built that folds nodes
+pub fold_kinds : (objects : List Object) (what : What) → is_built objects what ≡ true → folds_nodes what ≡ true
+    → ((o : ℕ) (k : List ℕ) → what ≡ whats.Get o k → ⊥)
+    → ((o : ℕ) (ks : List (List ℕ)) → what ≡ whats.GetAll o ks → ⊥) → ((o : ℕ) → what ≡ whats.Deq o → ⊥) → ⊥
+fold_kinds objects (whats.Append colours text) b f p q r = let g : ⊥ = cc in g
+fold_kinds objects (whats.Stop steps colours text) b f p q r = let g : ⊥ = cc in g
+fold_kinds objects (whats.Sync colour) b f p q r = let g : ⊥ = cc in g
+fold_kinds objects (whats.Scan colours) b f p q r = let g : ⊥ = cc in g
+fold_kinds objects (whats.Pull region colour) b f p q r = let g : ⊥ = cc in g
+fold_kinds objects (whats.Trim colour) b f p q r = let g : ⊥ = cc in g
+fold_kinds objects (whats.Put object key value) b f p q r = let g : ⊥ = cc in g
+fold_kinds objects (whats.Get object key) b f p q r = p object key refl
+fold_kinds objects (whats.Del object key) b f p q r = let g : ⊥ = cc in g
+fold_kinds objects (whats.PutAll object pairs) b f p q r = let g : ⊥ = cc in g
+fold_kinds objects (whats.GetAll object keys) b f p q r = q object keys refl
+fold_kinds objects (whats.Read object keys) b f p q r = let g : ⊥ = cc in g
+fold_kinds objects (whats.Commit object pairs) b f p q r = let g : ⊥ = cc in g
+fold_kinds objects (whats.Enq object value) b f p q r = let g : ⊥ = cc in g
+fold_kinds objects (whats.Deq object) b f p q r = r object refl

@@ -150,6 +150,7 @@ found_with marks finds = record {
   carry = true;
   fold = true;
   raises = λ _. true;
+  read_helps = λ _ _. true;
   items = true;
 }
 

@@ -9,6 +9,8 @@ mod SyncPlays
 mod StampedSteps
 mod StampedWholes
 mod PullsAndTrims
+mod CausalSteps
+mod CausalLater
 mod CommandKinds
 mod RunReplies
 mod RunSteps
@@ -18,3 +20,4 @@ mod ColumnsShown
 mod MoveGuards
 mod ObjectSteps
 mod DequeueSteps
+mod FoldsKept

@@ -1,5 +1,5 @@
 -- What commands of objects append, by the calls that do it.
-use Rattle.std.proofs.Common.{◌≡◌, inl, inr, ℕ, zero, suc, ◌<◌, ◌≤◌, ◌^◌, Bool, true, List, [], ◌∷◌, length, map, take, ◌+◌, ◌*◌, Option, Some, Result, get_or, refl, ap, sym, subst, ◌∙◌, arith, bit_or}
+use Rattle.std.proofs.Common.{◌≡◌, inl, inr, ℕ, zero, suc, ◌<◌, ◌≤◌, ◌^◌, Bool, true, List, [], ◌∷◌, length, map, take, ◌++◌, ◌+◌, ◌*◌, Option, Some, Result, get_or, refl, ap, sym, subst, ◌∙◌, arith, bit_or}
 use Rattle.std.specs.Int.Bits.{or_zero_l}
 use Rattle.std.specs.Prelude.{IfOk, ◌%◌, slice_get}
 use Rattle.std.specs.List.{All}
@@ -112,6 +112,15 @@ pub none_yet : (colours : List ℕ) (pairs : List Pair)
     → record { 0 = 0 } ≡ set_of (map (pair_shard colours) (take 0 pairs))
 none_yet colours pairs = refl
 
+-- a set with one colour more
+one_more : (before : List ℕ) (set : Colours) (c : ℕ) → c < 16 → set ≡ set_of before
+    → (let s : Colours = record { 0 = bit_or set.0 (1 * 2 ^ c % 65536) } in s) ≡ set_of (before ++ c ∷ [])
+one_more before set c low e =
+    ap (λ (n : ℕ). let s : Colours = record { 0 = n } in s)
+    (ap (bit_or set.0) (one_bit c low)
+    ∙ (ap (λ (s : Colours). bit_or s.0 (2 ^ c)) e
+    ∙ sym (fold-append (λ (n : ℕ) (x : ℕ). bit_or n (2 ^ x)) 0 before (c ∷ []))))
+
 -- one pair more
 pub more_shards : (colours : List ℕ) → AreObjectColours 16 colours → (pairs : List Pair) (i : ℕ) (pair : Pair)
     (set : Colours) (c : ℕ) → i < length pairs → c ≡ shard_of colours (get_or pairs i pair).key
@@ -121,15 +130,30 @@ pub more_shards : (colours : List ℕ) → AreObjectColours 16 colours → (pair
 more_shards colours are pairs i pair set c lt is e =
     let low : c < 16 = subst (λ (x : ℕ). x < 16) (sym is)
     (shard_below 16 colours are.some are.below (get_or pairs i pair).key) in
-    ap (λ (n : ℕ). let s : Colours = record { 0 = n } in s)
-    (ap (bit_or set.0) (one_bit c low)
-    ∙ (ap (λ (s : Colours). bit_or s.0 (2 ^ c)) e
-    ∙ (ap (λ (x : ℕ). bit_or (set_of (map (pair_shard colours) (take i pairs))).0 (2 ^ x)) is
-    ∙ (sym (fold-append (λ (n : ℕ) (x : ℕ). bit_or n (2 ^ x)) 0 (map (pair_shard colours) (take i pairs))
-    (pair_shard colours (get_or pairs i pair) ∷ []))
-    ∙ ap (λ (l : List ℕ). (set_of l).0)
-    (sym (map-append (pair_shard colours) (take i pairs) (get_or pairs i pair ∷ []))
-    ∙ ap (map (pair_shard colours)) (sym (take_more pairs i pair lt)))))))
+    one_more (map (pair_shard colours) (take i pairs)) set c low e
+    ∙ ap set_of (ap (λ (x : ℕ). map (pair_shard colours) (take i pairs) ++ x ∷ []) is
+    ∙ (sym (map-append (pair_shard colours) (take i pairs) (get_or pairs i pair ∷ []))
+    ∙ ap (map (pair_shard colours)) (sym (take_more pairs i pair lt))))
+
+-- one key more
+pub more_keys : (colours : List ℕ) → AreObjectColours 16 colours → (keys : List (List ℕ)) (i : ℕ) (key : List ℕ)
+    (set : Colours) (c : ℕ) → i < length keys → c ≡ shard_of colours (get_or keys i key)
+    → set ≡ set_of (map (shard_of colours) (take i keys))
+    → (let s : Colours = record { 0 = bit_or set.0 (1 * 2 ^ c % 65536) } in s)
+    ≡ set_of (map (shard_of colours) (take (i + 1) keys))
+more_keys colours are keys i key set c lt is e =
+    let low : c < 16 = subst (λ (x : ℕ). x < 16) (sym is)
+    (shard_below 16 colours are.some are.below (get_or keys i key)) in
+    one_more (map (shard_of colours) (take i keys)) set c low e
+    ∙ ap set_of (ap (λ (x : ℕ). map (shard_of colours) (take i keys) ++ x ∷ []) is
+    ∙ (sym (map-append (shard_of colours) (take i keys) (get_or keys i key ∷ []))
+    ∙ ap (map (shard_of colours)) (sym (take_more keys i key lt))))
+
+pub all_keys : (colours : List ℕ) → AreObjectColours 16 colours → (keys : List (List ℕ)) (set : Colours) (i : ℕ)
+    → length keys ≤ i → set ≡ set_of (map (shard_of colours) (take i keys)) → set ≡ shard_set colours keys
+all_keys colours are keys set i whole e =
+    e ∙ (ap (λ (l : List (List ℕ)). set_of (map (shard_of colours) l)) (take_all i keys whole)
+    ∙ keys_set colours are keys)
 
 mapped : (colours : List ℕ) (pairs : List Pair)
     → map (pair_shard colours) pairs ≡ map (shard_of colours) (map (λ (p : Pair). p.key) pairs)

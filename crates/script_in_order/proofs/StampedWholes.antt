@@ -11,13 +11,14 @@ use Rattle.col_core.proofs.CallerLemmas.{choice, In}
 use Rattle.world_laws.specs.declared.steps.Step.TheVariants.{Seen}
 use Rattle.world_laws.specs.Worlds.{World, home_of, home_history, base_after, after, after_seen, may_see}
 use Rattle.script_text.specs.declared.script.Command.{Command}
+use Rattle.report_text.specs.declared.report.Answer.{Answer}
 use Rattle.report_text.specs.declared.report.Answer.TheVariants as answers
 use Rattle.report_text.specs.declared.report.RaisePiece.{RaisePiece}
 use Rattle.report_text.specs.declared.report.SyncPiece.{SyncPiece}
 use Rattle.report_text.specs.declared.report.ReplyLine.{ReplyLine}
 use Rattle.script_meaning.specs.States.{State, Grants, answered}
 use Rattle.script_meaning.specs.Helping.{Helping, node_with, cleared, all_cleared}
-use Rattle.script_meaning.specs.Stamped.{Progress, ReadEnd, Whole, Refused, Unraised, StampedRead, raised, played, read_stamp, raise_in, sync_in, key_above, keys_read, read_after_plays, read_after_raises, stamped_read, shown_key, scanned_by, scanned}
+use Rattle.script_meaning.specs.Stamped.{Progress, ReadEnd, Whole, Refused, Unraised, StampedRead, raised, played, read_stamp, raise_in, sync_in, key_above, keys_read, read_after_plays, read_after_raises, stamped_read, shown_key, scan_answer, ended_by, scanned}
 use Rattle.script_in_order.specs.Doing.{DoneBy, with_replies}
 use Rattle.script_in_order.specs.Helps.{FindsNext, Helps}
 use Rattle.script_in_order.specs.Stamped.{no_look, looked_in, Raises, ReadsRaised, Reads}
@@ -140,7 +141,7 @@ reads_on old mid new client stamp colours None raises ends is none was raises_ar
       ∙ rest.is grants finds old (sym is) (sym raises_are);
 }
 
--- THE SCAN
+-- A COMMAND THAT MAKES A STAMPED READ
 
 finds_same : (grants more : Grants) → more.helps ≡ grants.helps → (n : ℕ) (finds : List (ℕ → Bool))
     → FindsNext grants n finds → FindsNext more n finds
@@ -148,19 +149,83 @@ finds_same grants more same n [] f = f
 finds_same grants more same n (x ∷ finds) f =
     (ap (λ (h : ℕ → ℕ → Bool). h n) same ∙ f.0, finds_same grants more same (n + 1) finds f.1)
 
--- where memory is granted to a read, and for what it has read
-module _ (old new : World) (command : Command) (colours : List ℕ) (ends : ReadEnd)
-    (reads : Reads old new command.client colours ends) (items : Bool) where
-  abbrev grants : Grants
-  grants = record (found_with (λ _. true) reads.finds) { raises = reads.found; items = items }
+-- how it is answered where its read is whole, and which nodes are then shown, in the world in which the read ended
+abbrev pub Answering : Type 0
+Answering = World → ℕ → List RaisePiece → List SyncPiece → List Key → Answer
 
-  read_is : stamped_read grants old command.client colours ≡ record { world = new; ends = ends }
-  read_is = reads.is grants refl (finds_same (found_with (λ _. true) reads.finds) grants refl 0 reads.finds
-      (finds_all (λ _. true) reads.finds))
+abbrev pub Showing : Type 0
+Showing = World → List Key → List PlacedNode
 
-  scan_is : (replies : ℕ → List ReplyLine) → scanned grants (with_replies old replies) command colours
-      ≡ scanned_by grants (with_replies old replies) command new ends
-  scan_is replies = ap (λ (r : StampedRead). scanned_by grants (with_replies old replies) command r.world r.ends) read_is
+-- what it does
+abbrev pub reading : Answering → Showing → Command → List ℕ → Grants → State → State
+reading answer shown command colours grants state =
+    let read = stamped_read grants state.world command.client colours in
+    ended_by grants state command (answer read.world) (shown read.world) read.world read.ends
+
+module _ (old new : World) (command : Command) (colours : List ℕ) (answer : Answering) (shown : Showing) where
+  -- where memory is granted to a read, and for what it has read
+  module _ (ends : ReadEnd) (reads : Reads old new command.client colours ends) (items : Bool) where
+    abbrev grants : Grants
+    grants = record (found_with (λ _. true) reads.finds) { raises = reads.found; items = items }
+
+    read_is : stamped_read grants old command.client colours ≡ record { world = new; ends = ends }
+    read_is = reads.is grants refl (finds_same (found_with (λ _. true) reads.finds) grants refl 0 reads.finds
+        (finds_all (λ _. true) reads.finds))
+
+    reading_is : (replies : ℕ → List ReplyLine)
+        → reading answer shown command colours grants (with_replies old replies)
+        ≡ ended_by grants (with_replies old replies) command (answer new) (shown new) new ends
+    reading_is replies =
+        ap (λ (r : StampedRead). ended_by grants (with_replies old replies) command (answer r.world) (shown r.world)
+        r.world r.ends) read_is
+
+  module _ (stamp : ℕ) (raises : List RaisePiece) (syncs : List SyncPiece) (keys : List Key)
+      (reads : Reads old new command.client colours (Whole stamp raises syncs keys)) where
+    pub told_whole : (given : Answer) (nodes : List PlacedNode) → given ≡ answer new stamp raises syncs keys
+        → nodes ≡ shown new keys → DoneBy (reading answer shown command colours) command old new given nodes
+    told_whole given nodes is are = record {
+      grants = grants (Whole stamp raises syncs keys) reads true;
+      begun = refl;
+      is = λ replies. reading_is (Whole stamp raises syncs keys) reads true replies
+          ∙ (ap (λ (a : Answer). answered (with_replies old replies) command new a (shown new keys)) (sym is)
+          ∙ ap (answered (with_replies old replies) command new given) (sym are));
+    }
+
+    pub told_without : (nodes : List PlacedNode) → nodes ≡ []
+        → DoneBy (reading answer shown command colours) command old new answers.NoMemory nodes
+    told_without nodes none = record {
+      grants = grants (Whole stamp raises syncs keys) reads false;
+      begun = refl;
+      is = λ replies. reading_is (Whole stamp raises syncs keys) reads false replies
+          ∙ ap (answered (with_replies old replies) command new answers.NoMemory) (sym none);
+    }
+
+  pub told_refused : (c : ℕ) (base : Counts) (nodes : List PlacedNode)
+      → Reads old new command.client colours (Refused c base) → nodes ≡ []
+      → DoneBy (reading answer shown command colours) command old new (answers.Trimmed c base) nodes
+  told_refused c base nodes reads none = record {
+    grants = grants (Refused c base) reads true;
+    begun = refl;
+    is = λ replies. reading_is (Refused c base) reads true replies
+        ∙ ap (answered (with_replies old replies) command new (answers.Trimmed c base)) (sym none);
+  }
+
+  pub told_unraised : (nodes : List PlacedNode) → Reads old new command.client colours Unraised → nodes ≡ []
+      → DoneBy (reading answer shown command colours) command old new answers.NoMemory nodes
+  told_unraised nodes reads none = record {
+    grants = grants Unraised reads true;
+    begun = refl;
+    is = λ replies. reading_is Unraised reads true replies
+        ∙ ap (answered (with_replies old replies) command new answers.NoMemory) (sym none);
+  }
+
+-- THE SCAN
+
+abbrev pub scan_answers : Answering
+scan_answers w = scan_answer
+
+abbrev pub scan_shows : Showing
+scan_shows w keys = map (shown_key w) keys
 
 pub scans_whole : (old new : World) (command : Command) (colours : List ℕ) (stamp count : ℕ)
     (raises : List RaisePiece) (syncs : List SyncPiece) (keys : List Key) (nodes : List PlacedNode)
@@ -168,44 +233,8 @@ pub scans_whole : (old new : World) (command : Command) (colours : List ℕ) (st
     → count ≡ length nodes
     → DoneBy (λ grants state. scanned grants state command colours) command old new
     (answers.Scanned stamp count raises syncs) nodes
-scans_whole old new command colours stamp count raises syncs keys nodes reads are many = record {
-  grants = grants old new command colours (Whole stamp raises syncs keys) reads true;
-  begun = refl;
-  is = λ replies.
-      let shown : ℕ → List PlacedNode → State = λ n items.
-      answered (with_replies old replies) command new (answers.Scanned stamp n raises syncs) items in
-      let same : length keys ≡ count = sym (many ∙ (ap length are ∙ length-map keys (shown_key new))) in
-      scan_is old new command colours (Whole stamp raises syncs keys) reads true replies
-      ∙ (ap (λ (n : ℕ). shown n (map (shown_key new) keys)) same ∙ ap (shown count) (sym are));
-}
-
-pub scans_without : (old new : World) (command : Command) (colours : List ℕ) (stamp : ℕ)
-    (raises : List RaisePiece) (syncs : List SyncPiece) (keys : List Key) (nodes : List PlacedNode)
-    → Reads old new command.client colours (Whole stamp raises syncs keys) → nodes ≡ []
-    → DoneBy (λ grants state. scanned grants state command colours) command old new answers.NoMemory nodes
-scans_without old new command colours stamp raises syncs keys nodes reads none = record {
-  grants = grants old new command colours (Whole stamp raises syncs keys) reads false;
-  begun = refl;
-  is = λ replies. scan_is old new command colours (Whole stamp raises syncs keys) reads false replies
-      ∙ ap (answered (with_replies old replies) command new answers.NoMemory) (sym none);
-}
-
-pub scans_refused : (old new : World) (command : Command) (colours : List ℕ) (c : ℕ) (base : Counts)
-    (nodes : List PlacedNode) → Reads old new command.client colours (Refused c base) → nodes ≡ []
-    → DoneBy (λ grants state. scanned grants state command colours) command old new (answers.Trimmed c base) nodes
-scans_refused old new command colours c base nodes reads none = record {
-  grants = grants old new command colours (Refused c base) reads true;
-  begun = refl;
-  is = λ replies. scan_is old new command colours (Refused c base) reads true replies
-      ∙ ap (answered (with_replies old replies) command new (answers.Trimmed c base)) (sym none);
-}
-
-pub scans_unraised : (old new : World) (command : Command) (colours : List ℕ) (nodes : List PlacedNode)
-    → Reads old new command.client colours Unraised → nodes ≡ []
-    → DoneBy (λ grants state. scanned grants state command colours) command old new answers.NoMemory nodes
-scans_unraised old new command colours nodes reads none = record {
-  grants = grants old new command colours Unraised reads true;
-  begun = refl;
-  is = λ replies. scan_is old new command colours Unraised reads true replies
-      ∙ ap (answered (with_replies old replies) command new answers.NoMemory) (sym none);
-}
+scans_whole old new command colours stamp count raises syncs keys nodes reads are many =
+    let same : count ≡ length keys = many ∙ (ap length are ∙ length-map keys (shown_key new)) in
+    told_whole old new command colours scan_answers scan_shows stamp raises syncs keys reads
+    (answers.Scanned stamp count raises syncs) nodes
+    (ap (λ (n : ℕ). answers.Scanned stamp n raises syncs) same) are

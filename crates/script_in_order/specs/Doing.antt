@@ -1,10 +1,11 @@
 -- What a command does to a world, and what it is answered.
-use Rattle.std.specs.Prelude.{◌≡◌, ℕ, ◌<◌, true, List, length}
+use Rattle.std.specs.Prelude.{◌≡◌, ℕ, ◌<◌, Bool, true, false, List, length}
 use Rattle.std.specs.List.{All}
 use Rattle.log_node.specs.Seen.{PlacedNode}
 use Rattle.world_laws.specs.Worlds.{World}
 use Rattle.script_text.specs.declared.script.Command.{Command}
 use Rattle.script_text.specs.declared.script.What.{What}
+use Rattle.script_text.specs.declared.script.What.TheVariants as whats
 use Rattle.script_text.specs.declared.script.Object.{Object}
 use Rattle.script_text.specs.Fitting.{IsWithin, IsKindWithin, UsesObject}
 use Rattle.report_text.specs.declared.report.Answer.{Answer}
@@ -34,6 +35,24 @@ Does objects command old new answer nodes =
 abbrev pub DoesAtHome : List Object → Command → World → World → Answer → List PlacedNode → Type 0
 DoesAtHome objects command old new answer nodes =
     DoneBy (λ grants state. done_one objects grants state command command.what) command old new answer nodes
+
+-- the command folds nodes for its answer
+abbrev pub folds_nodes : What → Bool
+folds_nodes (whats.Append colours text) = false
+folds_nodes (whats.Stop steps colours text) = false
+folds_nodes (whats.Sync colour) = false
+folds_nodes (whats.Scan colours) = false
+folds_nodes (whats.Pull region colour) = false
+folds_nodes (whats.Trim colour) = false
+folds_nodes (whats.Put object key value) = false
+folds_nodes (whats.Get object key) = true
+folds_nodes (whats.Del object key) = false
+folds_nodes (whats.PutAll object pairs) = false
+folds_nodes (whats.GetAll object keys) = true
+folds_nodes (whats.Read object keys) = true
+folds_nodes (whats.Commit object pairs) = true
+folds_nodes (whats.Enq object value) = false
+folds_nodes (whats.Deq object) = true
 
 -- the command's client is one of the world's, and it names colours and regions of the world, and objects of these
 pub record IsFit (w : World) (objects : List Object) (client : ℕ) (what : What) : Type 0 where

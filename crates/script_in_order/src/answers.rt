@@ -1,17 +1,16 @@
 // The answer to one command, and the reply line that shows it.
-ghost use Rattle.std.specs.Prelude.{◌≡◌, [], IsTrue, IfOk, OnErr, MatchResult};
+ghost use Rattle.std.specs.Prelude.{◌≡◌, [], false, IsTrue, IfOk, OnErr, MatchResult};
 ghost use Rattle.report_text.specs.declared.report.Answer.TheVariants.{NoMemory};
 ghost use Rattle.world_code.specs.WorldView.{world_of};
 ghost use Rattle.script_meaning.specs.States.{is_built};
 ghost use Rattle.script_meaning.specs.Appends.{appended, stopped};
 ghost use Rattle.script_meaning.specs.Moves.{synced};
-ghost use Rattle.script_in_order.specs.Doing.{IsFit, DoesAtHome, DoneBy};
+ghost use Rattle.script_in_order.specs.Doing.{IsFit, DoesAtHome, DoneBy, folds_nodes};
 ghost use Rattle.script_in_order.specs.Runs.{reply_of};
 
 use crate::appends::append;
 use crate::moves::{pull, trim};
 use crate::object_appends::{delete, enqueue, put, put_all};
-use crate::queues::dequeue;
 use crate::scans::scan;
 use crate::stops::stop;
 use crate::syncs::sync;
@@ -21,7 +20,7 @@ use script_text::{Command, Object, What};
 use std::alloc::{AllocError, Global};
 use world_code::World;
 
-/// What a command is answered that no home refuses, and the nodes that it shows; `Err` means that it found no memory
+/// What a command is answered that folds nothing and that no home refuses, and the nodes that it shows; `Err` means that it found no memory
 /// before it did anything.
 pub fn answer(
     alloc: Global,
@@ -29,7 +28,8 @@ pub fn answer(
     command: &Command,
     world: &mut World,
 ) -> Result<(Answer, Items), AllocError>
-    requires built { IsTrue (is_built command.now.what) }
+    requires built { IsTrue (is_built objects.now command.now.what) }
+    requires other { folds_nodes command.now.what ≡ false }
     requires fits { IsFit (world_of world.old) objects.now command.now.client command.now.what }
     ensures ok { IfOk result (λ g. DoesAtHome objects.now command.now (world_of world.old) (world_of world.new) g.0 g.1) }
     ensures err { OnErr result (world_of world.new ≡ world_of world.old) }
@@ -71,10 +71,6 @@ pub fn answer(
         }
         What::Enq { object, value } => {
             let answer = enqueue(alloc, objects, command, *object, value, world)?;
-            Ok((answer, ListOf::new(alloc)))
-        }
-        What::Deq { object } => {
-            let answer = dequeue(alloc, objects, command, *object, world)?;
             Ok((answer, ListOf::new(alloc)))
         }
         _ => unreachable!(),

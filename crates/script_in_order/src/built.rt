@@ -1,9 +1,9 @@
 // Which commands are done.
 ghost use Rattle.std.specs.Prelude.{◌≡◌, ◌≤◌};
-ghost use Rattle.script_meaning.specs.States.{is_built, has_colours};
+ghost use Rattle.script_meaning.specs.States.{is_built, is_get_built, kind_in, has_colours};
 
 use log_node::Colours;
-use script_text::What;
+use script_text::{Kind, Object, What};
 
 // Whether a set has so many colours.
 fn has_colours(count: usize, colours: Colours) -> bool
@@ -24,11 +24,26 @@ fn has_one(colours: Colours) -> bool
     }
 }
 
-/// Whether a command is one of those that are done: an append to any number of colours, a stop of an append to several,
+// Whether a get is done of the object with this number.
+fn is_get_built(objects: &[Object], object: u8) -> bool
+    ensures { result ≡ is_get_built (kind_in objects.now object) }
+{
+    match objects.get(object as usize) {
+        None => false,
+        Some(found) => match &found.kind {
+            Kind::Map { .. } => true,
+            Kind::Tx { .. } => false,
+            Kind::Causal { .. } => true,
+            Kind::Queue { .. } => false,
+        },
+    }
+}
+
+/// Whether a command over these objects is one of those that are done: an append to any number of colours, a stop of an append to several,
 /// a sync, a scan, a pull, a trim, and what appends for an object: a put, a deletion, several puts at once, an enqueue
 /// and a dequeue.
-pub fn is_built(what: &What) -> bool
-    ensures { result ≡ is_built what.now }
+pub fn is_built(objects: &[Object], what: &What) -> bool
+    ensures { result ≡ is_built objects.now what.now }
 {
     match what {
         What::Append { colours, .. } => has_one(*colours),
@@ -38,12 +53,12 @@ pub fn is_built(what: &What) -> bool
         What::Pull { .. } => true,
         What::Trim { .. } => true,
         What::Put { .. } => true,
-        What::Get { .. } => false,
+        What::Get { object, .. } => is_get_built(objects, *object),
         What::Del { .. } => true,
         What::PutAll { .. } => true,
-        What::GetAll { .. } => false,
-        What::Read { .. } => false,
-        What::Commit { .. } => false,
+        What::GetAll { .. } => true,
+        What::Read { .. } => true,
+        What::Commit { .. } => true,
         What::Enq { .. } => true,
         What::Deq { .. } => true,
     }

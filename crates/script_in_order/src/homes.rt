@@ -7,10 +7,13 @@ ghost use Rattle.world_code.specs.WorldView.{world_of};
 ghost use Rattle.script_meaning.specs.States.{is_built};
 ghost use Rattle.script_meaning.specs.Objects.{caller_in, refusing_home};
 ghost use Rattle.script_in_order.specs.Doing.{IsFit, Does};
+ghost use Rattle.script_in_order.specs.Folds.{AreFolded};
 
 use crate::answers::answer;
 use crate::clears::home;
-use log_node::{Items, ListOf};
+use crate::folding::{answer_by_fold, folds_nodes};
+use crate::folds::Folds;
+use log_node::{Items, ListOf, Versions};
 use report_text::Answer;
 use script_text::{Command, Kind, Object, What};
 use std::alloc::{AllocError, Global};
@@ -76,14 +79,23 @@ pub fn answer_at_home(
     objects: &[Object],
     command: &Command,
     world: &mut World,
+    folds: &mut Folds,
+    found: &mut Option<Versions>,
 ) -> Result<(Answer, Items), AllocError>
-    requires built { IsTrue (is_built command.now.what) }
+    requires built { IsTrue (is_built objects.now command.now.what) }
     requires fits { IsFit (world_of world.old) objects.now command.now.client command.now.what }
+    requires folded { AreFolded (world_of world.old) objects.now folds.old }
     ensures ok { IfOk result (λ g. Does objects.now command.now (world_of world.old) (world_of world.new) g.0 g.1) }
     ensures err { OnErr result (world_of world.new ≡ world_of world.old) }
+    ensures folded { AreFolded (world_of world.new) objects.now folds.new }
 {
     match refusing_home(objects, command, world) {
         Some(home) => Ok((Answer::NotHome { home }, ListOf::new(alloc))),
-        None => answer(alloc, objects, command, world),
+        None => if folds_nodes(&command.what) {
+            let answer = answer_by_fold(alloc, objects, command, world, folds, found)?;
+            Ok((answer, ListOf::new(alloc)))
+        } else {
+            answer(alloc, objects, command, world)
+        },
     }
 }

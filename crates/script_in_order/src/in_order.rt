@@ -7,6 +7,7 @@ ghost use Rattle.lawful_run.specs.Lawful.{LawfulRun};
 ghost use Rattle.script_meaning.specs.States.{is_built, StopsAreLast};
 ghost use Rattle.script_meaning.specs.Meaning.{IsStepReport, FindsMemory, step_report};
 
+use crate::folds::Folds;
 use crate::reports::report;
 use crate::run::{do_next, open_world, room_for_replies};
 use log_node::MAX_ROWS;
@@ -21,7 +22,7 @@ use std::alloc::{AllocError, Global};
 pub fn run_in_order(alloc: Global, script: &Script) -> Result<Report, AllocError>
     requires fits { IsFitting script.now }
     requires rows { script.now.shape.rows ≤ MAX_ROWS }
-    requires built { All (λ (c : Command). IsTrue (is_built c.what)) script.now.commands }
+    requires built { All (λ (c : Command). IsTrue (is_built script.now.objects c.what)) script.now.commands }
     requires stops { StopsAreLast script.now }
     ensures ok { IfOk result (IsStepReport script.now) }
     ensures lawful { IfOk result (LawfulRun script.now) }
@@ -30,9 +31,10 @@ pub fn run_in_order(alloc: Global, script: &Script) -> Result<Report, AllocError
     runs_are_lawful();
     runs_are_exact();
     let mut world = open_world(alloc, script)?;
+    let mut folds = Folds::open(alloc, script)?;
     let mut replies = room_for_replies(alloc, script)?;
     for place in 0..script.commands.len() {
-        do_next(alloc, script, place, &mut world, &mut replies);
+        do_next(alloc, script, place, &mut world, &mut folds, &mut replies);
     }
     report(alloc, script, world, replies)
 }

@@ -4,7 +4,11 @@
 mod answers;
 mod appends;
 mod built;
+mod causal;
 mod clears;
+mod folding;
+mod folds;
+mod gets;
 mod homes;
 mod in_order;
 mod moves;
@@ -19,6 +23,8 @@ mod scans;
 mod stamped;
 mod stops;
 mod syncs;
+mod transactions;
+mod tx_folds;
 
 pub use built::is_built;
 pub use in_order::run_in_order;

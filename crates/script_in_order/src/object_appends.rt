@@ -51,6 +51,18 @@ fn key_shard(kind: &Kind, key: &[u8]) -> Colours
     Colours(1 << shard(kind, key))
 }
 
+/// The set of the shards of keys.
+pub fn key_shards(kind: &Kind, keys: &[Text]) -> Colours
+    requires { AreObjectColours MAX_COLOURS (object_colours (Some kind.now)) }
+    ensures { result ≡ shard_set (object_colours (Some kind.now)) keys.now }
+{
+    let mut set = Colours(0);
+    for key in keys {
+        set = Colours(set.0 | 1 << shard(kind, key.as_bytes()));
+    }
+    set
+}
+
 // The set of the shards of the keys of some pairs.
 fn pair_shards(kind: &Kind, pairs: &[Pair]) -> Colours
     requires { AreObjectColours MAX_COLOURS (object_colours (Some kind.now)) }
@@ -86,8 +98,8 @@ fn put_form(alloc: Global, kind: &Kind, key: &Text, value: &Text) -> Result<Form
     }
 }
 
-// The same pairs once more.
-fn copied_pairs(alloc: Global, pairs: &[Pair]) -> Result<Pairs, AllocError>
+/// The same pairs once more.
+pub fn copied_pairs(alloc: Global, pairs: &[Pair]) -> Result<Pairs, AllocError>
     ensures { IfOk result (λ copy. copy ≡ pairs.now) }
 {
     let mut copy = ListOf::new(alloc);
@@ -99,8 +111,8 @@ fn copied_pairs(alloc: Global, pairs: &[Pair]) -> Result<Pairs, AllocError>
     Ok(copy)
 }
 
-// An append of a form's text to the members of a set.
-fn append_form(
+/// An append of a form's text to the members of a set.
+pub fn append_form(
     alloc: Global,
     command: &Command,
     colours: Colours,

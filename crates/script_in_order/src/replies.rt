@@ -1,17 +1,20 @@
-// The replies to one client.
-ghost use Rattle.std.specs.Prelude.{◌≡◌, ◌<◌, IfOk};
-ghost use Rattle.script_in_order.specs.Runs.{no_replies, with_reply};
+// The replies to one client, and what its reads of objects found.
+ghost use Rattle.std.specs.Prelude.{◌≡◌, ◌<◌, IfOk, None, length};
+ghost use Rattle.script_in_order.specs.Runs.{no_replies, with_reply, asks_within, read_taken, with_taken, with_kept};
 
-use log_node::ListOf;
+use log_node::{ListOf, Versions};
 use report_text::ReplyLine;
+use script_text::What;
 use std::alloc::{AllocError, Global};
 use std::marker::Model;
 use std::mem;
 
-/// The replies to a client so far. Room for all of them is taken when the list is made.
+/// The replies to a client so far, and by object what its last read found, until a commit uses that up. Room for all
+/// replies is taken when the list is made.
 #[derive(Drop)]
 pub struct Replies {
     items: Vec<ReplyLine>,
+    reads: Vec<Option<Versions>>,
 }
 
 impl Model for Replies {
@@ -20,16 +23,25 @@ impl Model for Replies {
 
     ghost Value = { RepliesView };
 
-    ghost view = { λ a. record { lines = a.items.items; room = vec_capacity a.items - vec_len a.items } };
+    ghost view = { λ a. record {
+        lines = a.items.items;
+        room = vec_capacity a.items - vec_len a.items;
+        reads = a.reads.items;
+    } };
 }
 
 impl Replies {
-    /// No replies yet, with memory for so many.
-    pub fn new(alloc: Global, room: usize) -> Result<Replies, AllocError>
-        ensures { IfOk result (λ replies. replies ≡ no_replies room) }
+    /// No replies yet, with memory for so many; and no read of so many objects.
+    pub fn new(alloc: Global, room: usize, objects: usize) -> Result<Replies, AllocError>
+        ensures { IfOk result (λ replies. replies ≡ no_replies room objects) }
     {
+        let mut reads = Vec::new(alloc);
+        for _ in 0..objects {
+            reads.push(None)?;
+        }
         Ok(Replies {
             items: Vec::with_capacity(alloc, room)?,
+            reads,
         })
     }
 
@@ -39,6 +51,29 @@ impl Replies {
         ensures { self.new ≡ with_reply self.old reply }
     {
         self.items.push_reserved(reply);
+    }
+
+    /// Takes what a command uses up: a commit what the client's last read of its object found.
+    pub fn take_read(&mut self, what: &What) -> Option<Versions>
+        requires { asks_within what.now (length self.old.reads) }
+        ensures value { result ≡ read_taken what.now self.old.reads }
+        ensures reads { self.new ≡ with_taken what.now self.old }
+    {
+        match what {
+            What::Commit { object, .. } => mem::replace(&mut self.reads[*object as usize], None),
+            _ => None,
+        }
+    }
+
+    /// Keeps what a read of an object found, or that it found nothing; other commands find nothing.
+    pub fn keep_read(&mut self, what: &What, found: Option<Versions>)
+        requires { asks_within what.now (length self.old.reads) }
+        ensures { self.new ≡ with_kept what.now found self.old }
+    {
+        match what {
+            What::Read { object, .. } => self.reads[*object as usize] = found,
+            _ => {}
+        }
     }
 
     /// Takes the replies out as a list; takes no memory.

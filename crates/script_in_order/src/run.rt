@@ -7,9 +7,11 @@ ghost use Rattle.world_code.specs.WorldView.{world_of};
 ghost use Rattle.world_laws.specs.Worlds.{opened};
 ghost use Rattle.script_meaning.specs.States.{is_built};
 ghost use Rattle.script_in_order.specs.Doing.{IsFit};
+ghost use Rattle.script_in_order.specs.Folds.{AreFolded};
 ghost use Rattle.script_in_order.specs.Runs.{no_replies, replies_at, asks, IsDone, IsRunAt};
 
 use crate::answers::reply_of;
+use crate::folds::Folds;
 use crate::homes::answer_at_home;
 use crate::replies::Replies;
 use log_node::{ListOf, MAX_ROWS, Shape};
@@ -36,7 +38,7 @@ pub fn room_for_replies(alloc: Global, script: &Script) -> Result<Vec<Replies>, 
     let mut replies = Vec::new(alloc);
     for client in 0..script.shape.homes.len() {
         let room = asks(script.commands.as_slice(), client);
-        replies.push(Replies::new(alloc, room)?)?;
+        replies.push(Replies::new(alloc, room, script.objects.len())?)?;
     }
     Ok(replies)
 }
@@ -70,18 +72,23 @@ fn do_command(
     objects: &[Object],
     command: &Command,
     world: &mut World,
+    folds: &mut Folds,
     replies: &mut Vec<Replies>,
 )
-    requires built { IsTrue (is_built command.now.what) }
+    requires built { IsTrue (is_built objects.now command.now.what) }
     requires fits { IsFit (world_of world.old) objects.now command.now.client command.now.what }
+    requires folded { AreFolded (world_of world.old) objects.now folds.old }
     requires client { command.now.client < length replies.old.items }
     requires room { 0 < (replies_at replies.old.items command.now.client).room }
-    ensures { IsDone objects.now command.now (record { world = world.old; replies = replies.old.items })
+    ensures done { IsDone objects.now command.now (record { world = world.old; replies = replies.old.items })
         (record { world = world.new; replies = replies.new.items }) }
+    ensures folded { AreFolded (world_of world.new) objects.now folds.new }
 {
-    let given = answer_at_home(alloc, objects, command, world);
-    let reply = reply_of(alloc, command, given);
-    replies[command.client as usize].add(reply);
+    let mine = &mut replies[command.client as usize];
+    let mut found = mine.take_read(&command.what);
+    let given = answer_at_home(alloc, objects, command, world, folds, &mut found);
+    mine.keep_read(&command.what, found);
+    mine.add(reply_of(alloc, command, given));
 }
 
 /// Does the command at a place of a script, after those before it.
@@ -90,14 +97,24 @@ pub fn do_next(
     script: &Script,
     place: usize,
     world: &mut World,
+    folds: &mut Folds,
     replies: &mut Vec<Replies>,
 )
     requires fits { IsFitting script.now }
-    requires built { All (λ (c : Command). IsTrue (is_built c.what)) script.now.commands }
+    requires built { All (λ (c : Command). IsTrue (is_built script.now.objects c.what)) script.now.commands }
     requires place { place < length script.now.commands }
     requires run { IsRunAt script.now place (record { world = world.old; replies = replies.old.items }) }
-    ensures { IsRunAt script.now (place + 1) (record { world = world.new; replies = replies.new.items }) }
+    requires folded { AreFolded (world_of world.old) script.now.objects folds.old }
+    ensures run { IsRunAt script.now (place + 1) (record { world = world.new; replies = replies.new.items }) }
+    ensures folded { AreFolded (world_of world.new) script.now.objects folds.new }
 {
     let command = &script.commands.as_slice()[place];
-    do_command(alloc, script.objects.as_slice(), command, world, replies);
+    do_command(
+        alloc,
+        script.objects.as_slice(),
+        command,
+        world,
+        folds,
+        replies,
+    );
 }

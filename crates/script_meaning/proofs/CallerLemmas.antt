@@ -6,17 +6,22 @@ use Rattle.world_laws.specs.Laws.{IsReached}
 use Rattle.world_laws.proofs.CallerLemmas.{opened_reached, run_reached, run_grows}
 use Rattle.script_text.specs.declared.script.Command.{Command}
 use Rattle.script_text.specs.declared.script.Script.{Script}
-use Rattle.script_meaning.specs.States.{State, Grants}
+use Rattle.script_meaning.specs.States.{State, Grants, no_reads}
 use Rattle.script_meaning.specs.Meaning.{LeadTo, nothing, next}
 use Rattle.script_meaning.specs.Appends.{with_single}
 use Rattle.script_meaning.proofs.GrantedCommands.{done_extends, single_runs}
 pub use Rattle.script_meaning.proofs.Lines.{final_stays}
 pub use Rattle.script_meaning.proofs.Rows.{standing_as}
 pub use Rattle.script_meaning.proofs.HelpGrants.{single_same}
+pub use Rattle.script_meaning.proofs.CausalAnswers.{causal_answer, one_answer}
+pub use Rattle.script_meaning.proofs.CausalNodes.{AtPlace, at_place, causal_node_is, place_within}
 pub use Rattle.script_meaning.proofs.ChainNodes.{line_node}
 pub use Rattle.script_meaning.proofs.StampedEnds.{rising_line, keys_listed}
 pub use Rattle.script_meaning.proofs.StampedReads.{stamp_low}
-pub use Rattle.script_meaning.proofs.ShardSets.{keys_set, set_one, shard_members, set_has, shard_below, shards_below, shards_has}
+pub use Rattle.script_meaning.proofs.ShardSets.{keys_set, set_one, shard_members, set_has, shard_below, shards_below, shards_has, key_in}
+pub use Rattle.script_meaning.proofs.GrantedSteps.{RunsTo}
+pub use Rattle.script_meaning.proofs.GrantedReads.{read_runs}
+pub use Rattle.script_meaning.proofs.LaterNodes.{line_longer, nodes_stay, new_behind, whole_stamp, read_behind}
 pub use Rattle.script_meaning.proofs.ObjectKinds.{object_has, queue_colour, queue_one, some_of}
 pub use Rattle.script_meaning.proofs.Playing.{at_or}
 pub use Rattle.script_meaning.proofs.ObjectForms.{key_is_word, key_some, pairs_are}
@@ -40,5 +45,5 @@ lead_shape script (next {commands} {state} command grants leads) =
 pub single_shape : (grants : Grants) (w : World) (command : Command) (text : List ℕ) (c : ℕ)
     → (with_single grants w command.client text c).shape ≡ w.shape
 single_shape grants w command text c =
-    let more = single_runs [] grants (record { world = w; replies = λ _. [] }) command text c in
+    let more = single_runs [] grants (record { world = w; replies = λ _. []; reads = λ _. no_reads }) command text c in
     ap (λ (x : World). x.shape) (sym more.run) ∙ (run_grows w more.steps).shape

@@ -1,5 +1,5 @@
 -- A dequeue: after its append, a sync and what the queue answers, or that it may not be read.
-use Rattle.std.proofs.Common.{◌≡◌, ◌≢◌, inl, inr, ℕ, zero, suc, ◌+◌, ◌<◌, ◌≤◌, max, true, false, List, [], ◌∷◌, ◌++◌, length, map, take, None, Option, refl, ap, sym, subst, ◌∙◌, arith, append-nil}
+use Rattle.std.proofs.Common.{◌≡◌, ◌≢◌, inl, inr, ℕ, zero, suc, ◌+◌, ◌<◌, ◌≤◌, max, true, false, List, [], ◌∷◌, ◌++◌, length, map, take, None, Some, Option, refl, ap, sym, subst, ◌∙◌, arith, append-nil}
 use Rattle.std.specs.Prelude.{IsTrue, ◌==◌, unwrap_or, slice_index, if◌then◌else◌}
 use Rattle.std.specs.List.{Contains}
 use mathlib.Core.Path.{fun_ext}
@@ -38,6 +38,7 @@ use Rattle.lawful_run.specs.Reads.{Syncs, IsTrimmed, kept_after_piece, played_st
 use Rattle.lawful_run.specs.Refusals.{Hides}
 use Rattle.lawful_run.proofs.CallerLemmas.{get_within, prefix_length}
 use Rattle.lawful_run.specs.Explains.{Explains}
+use Rattle.script_meaning.specs.Helping.{node_with}
 use Rattle.script_meaning.specs.Dequeues.{object_at, sync_now, base_now}
 use Rattle.script_meaning.proofs.Additions.{adds_map}
 use Rattle.script_meaning.proofs.AppendOne.{updated-not}
@@ -58,24 +59,29 @@ in_first (suc n) [] x i = absurd i
 in_first (suc n) (y ∷ xs) x (inl e) = inl e
 in_first (suc n) (y ∷ xs) x (inr i) = inr (in_first n xs x i)
 
-module _ (w : World) (reached : IsReached w) (r c : ℕ) where
-  is_object : (key : Key) → In key (line (w.histories r c)) → IsObjectNode (log_of w) key (object_at w key)
-  is_object key i =
-      let n = line_node w reached r c key i in
-      record {
-        appended = n.0;
-        there = n.1;
-        same = (listed_of w reached).ids key.id.client key.id.count n.0 n.1;
-        key_is = refl;
-        colours = ap (λ (x : Option Node). (unwrap_or x no_row.node).colours) n.1;
-        text = ap (λ (x : Option Node). (unwrap_or x no_row.node).text) n.1;
-      }
+module _ (w : World) (reached : IsReached w) where
+  is_object : (key : Key) (node : Node) → node_with w key.id ≡ Some node → IsObjectNode (log_of w) key (object_at w key)
+  is_object key node there = record {
+    appended = node;
+    there = there;
+    same = (listed_of w reached).ids key.id.client key.id.count node there;
+    key_is = refl;
+    colours = ap (λ (x : Option Node). (unwrap_or x no_row.node).colours) there;
+    text = ap (λ (x : Option Node). (unwrap_or x no_row.node).text) there;
+  }
 
-  pub are_objects : (count : ℕ) → AreObjectNodes (log_of w) (take count (line (w.histories r c)))
+  -- keys whose nodes are listed
+  pub listed_objects : (keys : List Key) → ((key : Key) → In key keys → (node : Node) × (node_with w key.id ≡ Some node))
+      → AreObjectNodes (log_of w) keys (map (object_at w) keys)
+  listed_objects keys listed =
+      beside (IsObjectNode (log_of w)) (object_at w) keys
+      (λ key i. let n = listed key i in is_object key n.0 n.1)
+
+  pub are_objects : (r c count : ℕ) → AreObjectNodes (log_of w) (take count (line (w.histories r c)))
       (map (object_at w) (take count (line (w.histories r c))))
-  are_objects count =
-      beside (IsObjectNode (log_of w)) (object_at w) (take count (line (w.histories r c)))
-      (λ key i. is_object key (in_first count (line (w.histories r c)) key i))
+  are_objects r c count =
+      listed_objects (take count (line (w.histories r c)))
+      (λ key i. line_node w reached r c key (in_first count (line (w.histories r c)) key i))
 
 -- A play of a column by a client, as a part of another command
 

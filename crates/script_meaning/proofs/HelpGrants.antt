@@ -9,7 +9,7 @@ use Rattle.world_laws.specs.declared.steps.Step.TheVariants.{Single}
 use Rattle.world_laws.specs.Worlds.{World, home_history, run_steps, next_id, single_stamp, after}
 use Rattle.world_laws.specs.Completing.{complete_steps}
 use Rattle.script_meaning.specs.States.{Grants}
-use Rattle.script_meaning.specs.Helping.{Helping, node_with, open_below, helped_row, helped_node, helped_first, helped_times, cleared}
+use Rattle.script_meaning.specs.Helping.{Helping, node_with, open_below, helped_row, helped_node, helped_first, helped_times}
 use Rattle.script_meaning.specs.Appends.{with_single}
 
 module _ (g g' : Grants) (same : g.helps ≡ g'.helps) where

@@ -12,10 +12,10 @@ use Rattle.script_text.specs.declared.script.Kind.TheVariants as kinds
 use Rattle.script_text.specs.declared.script.Object.{Object}
 use Rattle.script_text.specs.declared.script.What.{What}
 use Rattle.script_text.specs.Items.{set_of}
-use Rattle.script_text.specs.Fitting.{AreObjectColours, IsKindWithin, is_queue, HasObject}
+use Rattle.script_text.specs.Fitting.{AreObjectColours, IsKindWithin, is_tx, is_queue, is_any_map, HasObject}
 use Rattle.report_text.specs.declared.report.Answer.TheVariants as answers
 use Rattle.lawful_run.specs.Callers.{Caller}
-use Rattle.lawful_run.specs.Asks.{object_colours, home_asked}
+use Rattle.lawful_run.specs.Asks.{object_colours, object_home, home_asked}
 use Rattle.lawful_run.specs.Refusals.{IsAway}
 use Rattle.lawful_run.proofs.CallerLemmas.{get_within}
 use Rattle.script_meaning.specs.Objects.{other_home}
@@ -89,6 +89,13 @@ queue_colour objects regions count all object has =
 
 -- Homes
 
+-- a transactional map has a home
+pub tx_home : (kind : Kind) → is_tx kind ≡ true → (home : ℕ) × (object_home (Some kind) ≡ Some home)
+tx_home (kinds.Map home colours) t = absurd (let f : ⊥ = cc in f)
+tx_home (kinds.Tx home colours) t = (home, refl)
+tx_home (kinds.Causal colour) t = absurd (let f : ⊥ = cc in f)
+tx_home (kinds.Queue home colour) t = absurd (let f : ⊥ = cc in f)
+
 none_some : {A : Type 0} (x : A) → Some x ≡ None → ⊥
 none_some x e = let f : ⊥ = cc in f
 
@@ -116,3 +123,15 @@ pub did_stay_away : (objects : List Object) (u : ℕ) (what : What) (w : World) 
     → Does objects u what w w (answers.NotHome home) []
 did_stay_away objects u what w home asked away =
     same_world objects u what w (answers.NotHome home) (λ kept k. (refl, refl, asked, away))
+
+-- the one colour of a causal map
+pub causal_colour : (objects : List Object) (regions count : ℕ)
+    → All (λ (o : Object). IsKindWithin regions count o.kind) objects → (object : ℕ)
+    → HasObject objects object is_any_map → (colour : ℕ)
+    → option_map (λ (o : Object). o.kind) (slice_get objects object) ≡ Some (kinds.Causal colour) → colour < count
+causal_colour objects regions count all object has colour is =
+    let kind : has.found.kind ≡ kinds.Causal colour =
+    same_some (sym (ap (λ (o : Option Object). option_map (λ (x : Object). x.kind) o) has.there) ∙ is) in
+    subst (IsKindWithin regions count) kind (within objects regions count all object is_any_map has) where
+      same_some : {a b : Kind} → Some a ≡ Some b → a ≡ b
+      same_some e = cc

@@ -1,15 +1,12 @@
 -- Begun appends are helped, so that no open entry stands below a key.
-use Rattle.std.specs.Prelude.{ℕ, zero, suc, ◌+◌, ◌&&◌, not, List, [], ◌∷◌, length, Option, Some, None, slice_get}
-use Rattle.std.specs.List.{fold, filter}
+use Rattle.std.specs.Prelude.{ℕ, zero, suc, ◌+◌, List, [], ◌∷◌, length, Option, Some, None, slice_get}
+use Rattle.std.specs.List.{fold}
 use Rattle.log_node.specs.declared.ids.Id.{Id}
 use Rattle.log_node.specs.declared.ids.Key.{Key}
 use Rattle.log_node.specs.declared.ids.Row.{Row}
 use Rattle.log_node.specs.declared.node.Node.{Node}
-use Rattle.log_node.specs.Order.{key_below}
 use Rattle.log_node.specs.Standings.{Standing}
-use Rattle.col_core.specs.declared.Entry.{Entry}
 pub use Rattle.col_core.specs.Ids.{open_below}
-use Rattle.col_core.specs.History.{entries}
 use Rattle.world_laws.specs.Worlds.{World, home_history, run_steps}
 use Rattle.world_laws.specs.Completing.{complete_steps}
 use Rattle.script_meaning.specs.States.{Grants}

@@ -13,7 +13,7 @@ use Rattle.script_meaning.specs.Meaning.{LeadTo, report_of, step_report, FindsMe
 -- of each state to which they lead is that of a lawful run.
 abbrev pub RunsAreLawful : Type 0
 RunsAreLawful =
-    (script : Script) → IsFitting script → All (λ (c : Command). IsTrue (is_built c.what)) script.commands
+    (script : Script) → IsFitting script → All (λ (c : Command). IsTrue (is_built script.objects c.what)) script.commands
     → StopsAreLast script → (state : State) → LeadTo script script.commands state
     → LawfulRun script (report_of script state)
 
@@ -21,7 +21,7 @@ RunsAreLawful =
 -- after another with memory granted everywhere.
 abbrev pub RunsAreExact : Type 0
 RunsAreExact =
-    (script : Script) → IsFitting script → All (λ (c : Command). IsTrue (is_built c.what)) script.commands
+    (script : Script) → IsFitting script → All (λ (c : Command). IsTrue (is_built script.objects c.what)) script.commands
     → StopsAreLast script → (state : State) → LeadTo script script.commands state
     → FindsMemory (report_of script state) → report_of script state ≡ step_report script
 

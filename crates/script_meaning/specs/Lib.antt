@@ -5,5 +5,8 @@ pub mod Moves
 pub mod Stamped
 pub mod Objects
 pub mod Dequeues
+pub mod CausalGets
+pub mod Gets
+pub mod Transactions
 pub mod Meaning
 pub mod Laws

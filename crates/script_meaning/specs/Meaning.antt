@@ -22,12 +22,14 @@ use Rattle.report_text.specs.declared.report.RowReport.{RowReport}
 use Rattle.report_text.specs.declared.report.ColumnReport.{ColumnReport}
 use Rattle.report_text.specs.declared.report.Report.{Report}
 use Rattle.lawful_run.specs.Columns.{row_report}
-use Rattle.script_meaning.specs.States.{State, opening, Grants, all_granted, answered}
+use Rattle.script_meaning.specs.States.{State, opening, Grants, all_granted, answered, kind_in}
 use Rattle.script_meaning.specs.Appends.{appended, stopped}
 use Rattle.script_meaning.specs.Moves.{synced, pulled, trimmed}
 use Rattle.script_meaning.specs.Stamped.{scanned}
 use Rattle.script_meaning.specs.Objects.{caller_in, refusing_home, put_into, deleted_from, put_all_into, enqueued_in}
 use Rattle.script_meaning.specs.Dequeues.{dequeued}
+use Rattle.script_meaning.specs.Gets.{got, got_keys}
+use Rattle.script_meaning.specs.Transactions.{read_in, committed}
 
 -- the state after a command that is built and was granted memory before it did anything; another changes nothing
 abbrev pub done_one : List Object → Grants → State → Command → What → State
@@ -40,14 +42,16 @@ done_one objects grants state command (whats.Pull region colour) = pulled grants
 done_one objects grants state command (whats.Trim colour) = trimmed state command colour
 done_one objects grants state command (whats.Put object key value) =
     put_into objects grants state command object key value
-done_one objects grants state command (whats.Get object key) = state
+done_one objects grants state command (whats.Get object key) = got grants state command (kind_in objects object) key
 done_one objects grants state command (whats.Del object key) =
     deleted_from objects grants state command object key
 done_one objects grants state command (whats.PutAll object pairs) =
     put_all_into objects grants state command object pairs
-done_one objects grants state command (whats.GetAll object keys) = state
-done_one objects grants state command (whats.Read object keys) = state
-done_one objects grants state command (whats.Commit object pairs) = state
+done_one objects grants state command (whats.GetAll object keys) =
+    got_keys objects grants state command object keys
+done_one objects grants state command (whats.Read object keys) = read_in objects grants state command object keys
+done_one objects grants state command (whats.Commit object pairs) =
+    committed objects grants state command object pairs
 done_one objects grants state command (whats.Enq object value) =
     enqueued_in objects grants state command object value
 done_one objects grants state command (whats.Deq object) = dequeued objects grants state command object

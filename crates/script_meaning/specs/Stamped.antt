@@ -10,6 +10,7 @@ use Rattle.playback.specs.Merging.{region_order}
 use Rattle.world_laws.specs.declared.steps.Step.TheVariants.{Raise, Play, Seen}
 use Rattle.world_laws.specs.Worlds.{World, home_of, home_history, base_after, played_cut, after, may_play}
 use Rattle.script_text.specs.declared.script.Command.{Command}
+use Rattle.report_text.specs.declared.report.Answer.{Answer}
 use Rattle.report_text.specs.declared.report.Answer.TheVariants as answers
 use Rattle.report_text.specs.declared.report.RaisePiece.{RaisePiece}
 use Rattle.report_text.specs.declared.report.SyncPiece.{SyncPiece}
@@ -112,18 +113,29 @@ stamped_read grants w client colours =
 abbrev pub shown_key : World → Key → PlacedNode
 shown_key w key = placed w (record { key = key; needs = zeros })
 
--- the answer to a scan, by how its read ended
-abbrev pub scanned_by : Grants → State → Command → World → ReadEnd → State
-scanned_by grants state command w (Whole stamp raises syncs keys) =
-    if grants.items then
-    answered state command w (answers.Scanned stamp (length keys) raises syncs) (map (shown_key w) keys)
-    else answered state command w answers.NoMemory []
-scanned_by grants state command w (Refused colour base) =
+-- What a command comes to that makes a stamped read, by how that ended: one that is whole by its stamp, raises, syncs and
+-- keys, where memory for what is made of them is granted.
+abbrev pub ended_so : Grants → State → Command → (ℕ → List RaisePiece → List SyncPiece → List Key → State) → World
+    → ReadEnd → State
+ended_so grants state command whole w (Whole stamp raises syncs keys) =
+    if grants.items then whole stamp raises syncs keys else answered state command w answers.NoMemory []
+ended_so grants state command whole w (Refused colour base) =
     answered state command w (answers.Trimmed colour base) []
-scanned_by grants state command w Unraised = answered state command w answers.NoMemory []
+ended_so grants state command whole w Unraised = answered state command w answers.NoMemory []
+
+-- How it is answered: one that is whole with nodes that are shown of its keys.
+abbrev pub ended_by : Grants → State → Command → (ℕ → List RaisePiece → List SyncPiece → List Key → Answer)
+    → (List Key → List PlacedNode) → World → ReadEnd → State
+ended_by grants state command answer shown w ends =
+    ended_so grants state command
+    (λ stamp raises syncs keys. answered state command w (answer stamp raises syncs keys) (shown keys)) w ends
+
+-- the answer to a scan that is whole
+abbrev pub scan_answer : ℕ → List RaisePiece → List SyncPiece → List Key → Answer
+scan_answer stamp raises syncs keys = answers.Scanned stamp (length keys) raises syncs
 
 -- a scan
 abbrev pub scanned : Grants → State → Command → List ℕ → State
 scanned grants state command colours =
     let read = stamped_read grants state.world command.client colours in
-    scanned_by grants state command read.world read.ends
+    ended_by grants state command scan_answer (map (shown_key read.world)) read.world read.ends

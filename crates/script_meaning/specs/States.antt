@@ -1,14 +1,19 @@
 -- The state of a run in the order of the file, where a command finds memory, and how it is answered.
-use Rattle.std.specs.Prelude.{◌≢◌, Bool, true, false, IsTrue, ℕ, ◌+◌, ◌^◌, nat_lt, ◌&&◌, not, List, [], ◌∷◌, ◌++◌, length, if◌then◌else◌}
+use Rattle.std.specs.Prelude.{◌≢◌, Bool, true, false, IsTrue, ℕ, ◌+◌, ◌^◌, nat_lt, ◌&&◌, not, List, [], ◌∷◌, ◌++◌, length, Option, Some, None, slice_get, if◌then◌else◌}
 use Rattle.std.specs.List.{AllPairs}
+use Rattle.std.specs.Option.{option_map}
 use Rattle.log_node.specs.declared.ids.Id.{Id}
 use Rattle.log_node.specs.declared.ids.Key.{Key}
 use Rattle.log_node.specs.declared.ids.Colours.{Colours}
+use Rattle.log_node.specs.declared.forms.Version.{Version}
 use Rattle.log_node.specs.Order.{same_id}
 use Rattle.log_node.specs.Seen.{PlacedNode}
 use Rattle.log_node.specs.Sets.{members}
-use Rattle.col_core.specs.Keeping.{updated}
+use Rattle.col_core.specs.Keeping.{nothing_kept, updated}
 use Rattle.world_laws.specs.Worlds.{World, opened}
+use Rattle.script_text.specs.declared.script.Kind.{Kind}
+use Rattle.script_text.specs.declared.script.Kind.TheVariants as kinds
+use Rattle.script_text.specs.declared.script.Object.{Object}
 use Rattle.script_text.specs.declared.script.What.{What}
 use Rattle.script_text.specs.declared.script.What.TheVariants as whats
 use Rattle.script_text.specs.declared.script.Command.{Command}
@@ -17,46 +22,69 @@ use Rattle.script_text.specs.Items.{is_stop}
 use Rattle.script_text.specs.Words.{word_of}
 use Rattle.report_text.specs.declared.report.Answer.{Answer}
 use Rattle.report_text.specs.declared.report.ReplyLine.{ReplyLine}
+use Rattle.lawful_run.specs.Refusals.{kept_before, kept_behind}
 
 -- a set with so many colours at least, of the 64 that a set may have
 unfoldable pub has_colours : ℕ → Colours → Bool
 has_colours count colours = not (nat_lt (length (members colours)) count) && nat_lt colours.0 (2 ^ 64)
 
+-- the kind of the object with a number
+abbrev pub kind_in : List Object → ℕ → Option Kind
+kind_in objects object = option_map (λ (o : Object). o.kind) (slice_get objects object)
+
+-- whether a get is done of an object of this kind
+abbrev pub is_get_built : Option Kind → Bool
+is_get_built None = false
+is_get_built (Some (kinds.Map home colours)) = true
+is_get_built (Some (kinds.Tx home colours)) = false
+is_get_built (Some (kinds.Causal colour)) = true
+is_get_built (Some (kinds.Queue home colour)) = false
+
 -- The commands that are done so far: an append to any number of colours, a stop of an append to several, a sync, a scan,
 -- a pull, a trim, and what appends for an object: a put, a deletion, several puts at once, an enqueue and a dequeue.
-abbrev pub is_built : What → Bool
-is_built (whats.Append colours text) = has_colours 1 colours
-is_built (whats.Stop steps colours text) = has_colours 2 colours
-is_built (whats.Sync colour) = true
-is_built (whats.Scan colours) = has_colours 1 colours
-is_built (whats.Pull region colour) = true
-is_built (whats.Trim colour) = true
-is_built (whats.Put object key value) = true
-is_built (whats.Get object key) = false
-is_built (whats.Del object key) = true
-is_built (whats.PutAll object pairs) = true
-is_built (whats.GetAll object keys) = false
-is_built (whats.Read object keys) = false
-is_built (whats.Commit object pairs) = false
-is_built (whats.Enq object value) = true
-is_built (whats.Deq object) = true
+abbrev pub is_built : List Object → What → Bool
+is_built objects (whats.Append colours text) = has_colours 1 colours
+is_built objects (whats.Stop steps colours text) = has_colours 2 colours
+is_built objects (whats.Sync colour) = true
+is_built objects (whats.Scan colours) = has_colours 1 colours
+is_built objects (whats.Pull region colour) = true
+is_built objects (whats.Trim colour) = true
+is_built objects (whats.Put object key value) = true
+is_built objects (whats.Get object key) = is_get_built (kind_in objects object)
+is_built objects (whats.Del object key) = true
+is_built objects (whats.PutAll object pairs) = true
+is_built objects (whats.GetAll object keys) = true
+is_built objects (whats.Read object keys) = true
+is_built objects (whats.Commit object pairs) = true
+is_built objects (whats.Enq object value) = true
+is_built objects (whats.Deq object) = true
 
 -- no command of a client comes after its stop
 abbrev pub StopsAreLast : Script → Type 0
 StopsAreLast script = AllPairs (λ (c d : Command). IsTrue (is_stop c.what) → d.client ≢ c.client) script.commands
 
--- the world, and the replies to each client
+-- for each object what a client's last read of it found, until a commit uses that up
+abbrev pub Reads : Type 0
+Reads = ℕ → Option (List Version)
+
+-- no read is kept
+abbrev pub no_reads : Reads
+no_reads object = None
+
+-- the world, the replies to each client, and the reads that each keeps
 pub record State : Type 0 where
   pub world : World
   pub replies : ℕ → List ReplyLine
+  pub reads : ℕ → Reads
 
 -- before the first command
 abbrev pub opening : Script → State
-opening script = record { world = opened script.shape; replies = λ _. [] }
+opening script = record { world = opened script.shape; replies = λ _. []; reads = λ _. no_reads }
 
 -- Which requests for memory are granted to a command: before it does anything, for the proposal of its own node in each
 -- colour, for each of its helps, counted from 0, in each colour, for what a pull carries, for what an object's answer
--- folds, for the raise of a stamped read in each colour, and for what is made of the nodes that it has read.
+-- folds, for the raise of a stamped read in each colour, for the helps of a read that follows an append of the same
+-- command, counted from 0 too, and for what is made of the nodes that a read has.
 pub record Grants : Type 0 where
   pub start : Bool
   pub marks : ℕ → Bool
@@ -64,6 +92,7 @@ pub record Grants : Type 0 where
   pub carry : Bool
   pub fold : Bool
   pub raises : ℕ → Bool
+  pub read_helps : ℕ → ℕ → Bool
   pub items : Bool
 
 -- memory is granted everywhere
@@ -75,15 +104,21 @@ all_granted = record {
   carry = true;
   fold = true;
   raises = λ _. true;
+  read_helps = λ _ _. true;
   items = true;
 }
 
--- the world then, and one reply more, to the client that asked
+-- the reads that a client is left with by a command: a read and a commit let that of their object go
+abbrev pub reads_left : What → Reads → Reads
+reads_left what reads = (kept_behind what (kept_before what (record nothing_kept { reads = reads }))).reads
+
+-- the world then, one reply more to the client that asked, and the reads that it is left with
 abbrev pub answered : State → Command → World → Answer → List PlacedNode → State
 answered state command w answer nodes = record {
   world = w;
   replies = updated state.replies command.client (state.replies command.client
       ++ record { line = command.line; word = word_of command.what; answer = answer; nodes = nodes } ∷ []);
+  reads = updated state.reads command.client (reads_left command.what (state.reads command.client));
 }
 
 -- at which position the id stands in a line, or how long the line is where it does not

@@ -5,13 +5,15 @@ ghost use Rattle.script_text.specs.Fitting.{IsWithin};
 ghost use Rattle.log_client.specs.Clients.{IsClient};
 ghost use Rattle.fuzzy_run.specs.Built.{is_served};
 ghost use Rattle.fuzzy_run.specs.Serving.{IsAnswered};
-ghost use Rattle.fuzzy_run.specs.Giving.{Gives};
+ghost use Rattle.fuzzy_run.specs.Serving.{Gives};
 ghost use Rattle.fuzzy_run.specs.Served.{IsServable};
 
+use crate::serving::appends::{append, stop};
+use crate::serving::moves::{pull, trim};
 use crate::serving::syncs::sync;
 use fuzzy_io::Gate;
 use log_client::{Client, Store};
-use log_node::Items;
+use log_node::{Items, ListOf};
 use report_text::{Answer, ReplyLine};
 use script_text::{Command, What};
 use std::alloc::Global;
@@ -22,7 +24,7 @@ fn answer<R: Wait, G: Gate>(
     rt: &R,
     alloc: Global,
     store: &Store,
-    _gate: &G,
+    gate: &G,
     client: &mut Client,
     what: What,
 ) -> (Answer, Items)
@@ -32,12 +34,28 @@ fn answer<R: Wait, G: Gate>(
     ensures { Gives store.now client.old client.new what result.0 result.1 }
 {
     match what {
+        What::Append { colours, text } => {
+            let answer = append(rt, alloc, store, gate, client, colours, text);
+            (answer, ListOf::new(alloc))
+        }
+        What::Stop {
+            steps,
+            colours,
+            text,
+        } => {
+            let answer = stop(rt, alloc, store, gate, client, steps, colours, text);
+            (answer, ListOf::new(alloc))
+        }
         What::Sync { colour } => sync(rt, alloc, store, client, colour),
-        What::Append { .. }
-        | What::Stop { .. }
-        | What::Scan { .. }
-        | What::Pull { .. }
-        | What::Trim { .. }
+        What::Pull { region, colour } => {
+            let answer = pull(rt, alloc, store, client, region, colour);
+            (answer, ListOf::new(alloc))
+        }
+        What::Trim { colour } => {
+            let answer = trim(rt, store, client, colour);
+            (answer, ListOf::new(alloc))
+        }
+        What::Scan { .. }
         | What::Put { .. }
         | What::Get { .. }
         | What::Del { .. }

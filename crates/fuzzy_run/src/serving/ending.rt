@@ -1,8 +1,7 @@
 // The report of a store in the end, and of the replies to its clients.
 ghost use Rattle.std.specs.Prelude.{◌≡◌, ◌≤◌, ◌++◌, length, map, IfOk, OnOk};
 ghost use Rattle.std.specs.List.{flat_map, enumerate_from};
-ghost use Rattle.fuzzy_run.specs.EndReports.{nodes_of, row_shown, end_report};
-ghost use Rattle.fuzzy_run.specs.Showing.{nodes_in, AreThere, rows_shown, columns_shown, client_shown, CanShow};
+ghost use Rattle.fuzzy_run.specs.EndReports.{nodes_in, nodes_of, HaveNodes, row_shown, rows_shown, columns_shown, client_shown, CanShow, end_report};
 
 use chain_store::ClosedRegion;
 use closing_report::push_columns;
@@ -41,7 +40,7 @@ fn push_rows(
     rows: ClosedRows,
     reports: &mut ListOf<RowReport>,
 ) -> Result<(), AllocError>
-    requires { AreThere (nodes_in nodes.now) rows }
+    requires { HaveNodes (nodes_in nodes.now) rows }
     ensures { OnOk result (reports.new ≡ reports.old ++ map (row_shown (nodes_in nodes.now) region) rows) }
 {
     for closed in rows.into_vec() {

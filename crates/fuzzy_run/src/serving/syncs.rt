@@ -1,7 +1,7 @@
 // Syncs.
 ghost use Rattle.std.specs.Prelude.{◌<◌};
 ghost use Rattle.log_client.specs.Clients.{IsClient};
-ghost use Rattle.fuzzy_run.specs.Giving.{Gives};
+ghost use Rattle.fuzzy_run.specs.Serving.{Gives};
 
 use log_client::{Client, Store, SyncFault};
 use log_node::{Items, ListOf};

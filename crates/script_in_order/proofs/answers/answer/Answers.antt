@@ -14,12 +14,12 @@ use Rattle.script_meaning.specs.Dequeues.{dequeued}
 use Rattle.script_meaning.specs.Stamped.{scanned}
 use Rattle.script_meaning.specs.Objects.{put_into, deleted_from, put_all_into, enqueued_in}
 use Rattle.script_in_order.specs.Doing.{DoneBy, DoesAtHome}
-use Rattle.script_in_order.proofs.CommandKinds.{does_what, with_nodes, built_kinds}
+use Rattle.script_in_order.proofs.CommandKinds.{does_what, with_nodes, other_kinds}
 use Rattle.script_in_order.proofs.answers.answer.Goals as goal
 
 pub append-requires : goal.append-requires
 append-requires c = record {
-  many = subst (λ (w : What). is_built w ≡ true) c.in-Append.is c.requires.built;
+  many = subst (λ (w : What). is_built c.args.objects.now w ≡ true) c.in-Append.is c.requires.built;
   caller = c.requires.fits.caller;
   within = subst (IsWithin c.args.world.now.shape.regions c.args.world.now.shape.colours) c.in-Append.is
       c.requires.fits.within;
@@ -27,7 +27,7 @@ append-requires c = record {
 
 pub stop-requires : goal.stop-requires
 stop-requires c = record {
-  many = subst (λ (w : What). is_built w ≡ true) c.in-Stop.is c.requires.built;
+  many = subst (λ (w : What). is_built c.args.objects.now w ≡ true) c.in-Stop.is c.requires.built;
   caller = c.requires.fits.caller;
   within = subst (IsWithin c.args.world.now.shape.regions c.args.world.now.shape.colours) c.in-Stop.is
       c.requires.fits.within;
@@ -91,18 +91,11 @@ enqueue-requires c = record {
   uses = subst (UsesObject c.args.objects.now) c.in-Enq.is c.requires.fits.uses;
 }
 
-pub dequeue-requires : goal.dequeue-requires
-dequeue-requires c = record {
-  caller = c.requires.fits.caller;
-  kinds = c.requires.fits.kinds;
-  uses = subst (UsesObject c.args.objects.now) c.in-Deq.is c.requires.fits.uses;
-}
-
 pub unreachable-requires : goal.unreachable-requires
 unreachable-requires c =
-    built_kinds c.args.command.now.what c.requires.built c.in_default.not-Append c.in_default.not-Stop
-    c.in_default.not-Sync c.in_default.not-Scan c.in_default.not-Pull c.in_default.not-Trim c.in_default.not-Put c.in_default.not-Del
-    c.in_default.not-PutAll c.in_default.not-Enq c.in_default.not-Deq
+    other_kinds c.args.command.now.what c.requires.other c.in_default.not-Append c.in_default.not-Stop
+    c.in_default.not-Sync c.in_default.not-Scan c.in_default.not-Pull c.in_default.not-Trim c.in_default.not-Put
+    c.in_default.not-Del c.in_default.not-PutAll c.in_default.not-Enq
 
 pub returns-in_ok-answer-in-Append-clause-ok : goal.returns-in_ok-answer-in-Append-clause-ok
 returns-in_ok-answer-in-Append-clause-ok c =
@@ -201,12 +194,3 @@ returns-in_ok-answer-in-Enq-clause-ok c =
     (λ grants state. enqueued_in c.args.objects.now grants state c.args.command.now c.in-Enq.object c.in-Enq.value)
     (world_of c.args.world.now) (world_of c.enqueue.new.world) c.in_ok-answer-in-Enq.answer c.new-in-Enq.result
     c.new-in-Enq.ensures c.in_ok-answer-in-Enq.ensures.ok)
-
-pub returns-in_ok-answer-in-Deq-clause-ok : goal.returns-in_ok-answer-in-Deq-clause-ok
-returns-in_ok-answer-in-Deq-clause-ok c =
-    does_what c.args.objects.now c.args.command.now (whats.Deq c.in-Deq.object) (world_of c.args.world.now)
-    (world_of c.dequeue.new.world) c.in_ok-answer-in-Deq.answer c.new-in-Deq.result c.in-Deq.is
-    (with_nodes c.args.command.now
-    (λ grants state. dequeued c.args.objects.now grants state c.args.command.now c.in-Deq.object)
-    (world_of c.args.world.now) (world_of c.dequeue.new.world) c.in_ok-answer-in-Deq.answer c.new-in-Deq.result
-    c.new-in-Deq.ensures c.in_ok-answer-in-Deq.ensures.ok)

@@ -1,9 +1,11 @@
-use Rattle.std.proofs.Common.{◌≡◌, ◌∙◌, ℕ, List, length, arith, subst, sym}
+use Rattle.std.proofs.Common.{◌≡◌, ◌∙◌, ℕ, List, length, arith, ap, subst, sym}
 use Rattle.std.proofs.lemmas.List.{take_all}
 use Rattle.std.proofs.lemmas.Result.{IfOk-weaker}
 use Rattle.script_text.specs.declared.script.Command.{Command}
 use Rattle.report_text.specs.declared.report.Report.{Report}
 use Rattle.lawful_run.specs.Lawful.{LawfulRun}
+use Rattle.world_laws.specs.Worlds.{World}
+use Rattle.world_code.specs.WorldView.{world_of}
 use Rattle.script_meaning.specs.Meaning.{LeadTo, report_of, IsStepReport, FindsMemory, step_report}
 use Rattle.script_meaning.proofs.CallerLemmas.{lead_shape}
 use Rattle.script_in_order.specs.Runs.{RunView, state_of, IsRunAt}
@@ -11,12 +13,14 @@ use Rattle.script_in_order.proofs.RunSteps.{opens}
 use Rattle.script_in_order.proofs.in_order.run_in_order.Goals as goal
 
 pub loop-place-init : goal.loop-place-init
-loop-place-init c =
-    opens c.args.script.now c.in_ok-world.world c.in_ok-replies.replies.items c.in_ok-world.ensures
-    c.in_ok-replies.ensures
+loop-place-init c = (
+  opens c.args.script.now c.in_ok-world.world c.in_ok-replies.replies.items c.in_ok-world.ensures
+      c.in_ok-replies.ensures,
+  c.in_ok-folds.ensures (world_of c.in_ok-world.world) (ap (λ (x : World). x.shape.colours) c.in_ok-world.ensures),
+)
 
 pub report-requires-clause-shape : goal.report-requires-clause-shape
-report-requires-clause-shape c = lead_shape c.args.script.now c.loop-place.invariant.leads
+report-requires-clause-shape c = lead_shape c.args.script.now c.loop-place.invariant.0.leads
 
 pub returns : goal.returns
 returns c =
@@ -24,7 +28,7 @@ returns c =
     let code : RunView = record { world = c.loop-place.world; replies = c.loop-place.replies.items } in
     let all : c.loop-place.place ≡ length script.commands =
     omega (arith, c.len-place-end.ensures, c.loop-place-test.false, c.loop-place.auto.place-end) in
-    let run = subst (λ (k : ℕ). IsRunAt script k code) all c.loop-place.invariant in
+    let run = subst (λ (k : ℕ). IsRunAt script k code) all c.loop-place.invariant.0 in
     let leads : LeadTo script script.commands (state_of code) =
     subst (λ (l : List Command). LeadTo script l (state_of code)) (take_all (length script.commands) script.commands
     (omega arith)) run.leads in

@@ -10,8 +10,8 @@ add-requires c =
     c.index_mut.result.now
     (no_replies 0) c.requires.client)) c.requires.room
 
-pub returns : goal.returns
-returns c =
+pub returns-clause-done : goal.returns-clause-done
+returns-clause-done c =
     let is = c.index_mut.ensures.value ∙ any_default c.args.replies.now.items c.args.command.now.client
     c.index_mut.result.now
     (no_replies 0) c.requires.client in

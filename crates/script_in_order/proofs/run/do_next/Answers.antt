@@ -5,6 +5,7 @@ use Rattle.script_meaning.specs.States.{is_built}
 use Rattle.script_text.specs.declared.script.Object.{Object}
 use Rattle.world_code.specs.WorldView.{world_of}
 use Rattle.script_in_order.specs.Doing.{IsFit}
+use Rattle.script_in_order.specs.Folds.{AreFolded}
 use Rattle.script_in_order.specs.Runs.{RunView, IsDone}
 use Rattle.script_in_order.proofs.RunSteps.{next_fits, next_client, next_room, next_run}
 use Rattle.script_in_order.proofs.run.do_next.Goals as goal
@@ -16,10 +17,13 @@ do_command-requires c =
     let command = c.index-as_slice-place.result in
     let is = c.index-as_slice-place.is ∙ ap (λ (l : List Command). get_or l c.args.place command) c.as_slice.ensures in
     record {
-      built = subst (λ (x : Command). IsTrue (is_built x.what)) (sym is) (c.requires.built c.args.place command
-          c.requires.place);
+      built = subst (λ (os : List Object). IsTrue (is_built os command.what)) (sym c.as_slice-2.ensures)
+          (subst (λ (x : Command). IsTrue (is_built script.objects x.what)) (sym is) (c.requires.built c.args.place command
+          c.requires.place));
       fits = subst (λ (os : List Object). IsFit (world_of c.args.world.now) os command.client command.what)
           (sym c.as_slice-2.ensures) (next_fits script c.requires.fits c.args.place code c.requires.place c.requires.run command is);
+      folded = subst (λ (os : List Object). AreFolded (world_of c.args.world.now) os c.args.folds.now)
+          (sym c.as_slice-2.ensures) c.requires.folded;
       client = next_client script c.requires.fits c.args.place code c.requires.place c.requires.run command is;
       room = next_room script c.requires.fits c.args.place code c.requires.place c.requires.run command is;
     }
@@ -31,5 +35,9 @@ returns c =
     let command = c.index-as_slice-place.result in
     let is = c.index-as_slice-place.is ∙ ap (λ (l : List Command). get_or l c.args.place command) c.as_slice.ensures in
     let new : RunView = record { world = c.do_command.new.world; replies = c.do_command.new.replies.items } in
-    next_run script c.requires.fits c.args.place code c.requires.place c.requires.run command is
-    new (subst (λ (os : List Object). IsDone os command code new) c.as_slice-2.ensures c.do_command.ensures)
+    record {
+      run = next_run script c.requires.fits c.args.place code c.requires.place c.requires.run command is new
+          (subst (λ (os : List Object). IsDone os command code new) c.as_slice-2.ensures c.do_command.ensures.done);
+      folded = subst (λ (os : List Object). AreFolded (world_of c.do_command.new.world) os c.do_command.new.folds)
+          c.as_slice-2.ensures c.do_command.ensures.folded;
+    }

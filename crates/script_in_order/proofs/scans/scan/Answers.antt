@@ -4,7 +4,7 @@ use Rattle.world_code.specs.WorldView.{world_of}
 use Rattle.script_meaning.specs.Stamped.{keys_read}
 use Rattle.script_in_order.specs.declared.stamped.Stamped.{Stamped}
 use Rattle.script_in_order.specs.Stamped.{Reads, end_in}
-use Rattle.script_in_order.proofs.StampedWholes.{scans_whole, scans_without, scans_refused, scans_unraised}
+use Rattle.script_in_order.proofs.StampedWholes.{scan_answers, scan_shows, scans_whole, told_without, told_refused, told_unraised}
 use Rattle.script_in_order.proofs.scans.scan.Goals as goal
 
 pub returns-in-Unraised-clause-ok : goal.returns-in-Unraised-clause-ok
@@ -13,7 +13,7 @@ returns-in-Unraised-clause-ok c =
     let new = world_of c.stamped_read.new.world in
     let command = c.args.command.now in
     let cs = members c.args.colours in
-    scans_unraised old new command cs c.new.result
+    told_unraised old new command cs scan_answers scan_shows c.new.result
     (subst (λ (s : Stamped). Reads old new command.client cs (end_in new command.client cs s)) c.in-Unraised.is
     c.in_ok-stamped_read.ensures.ok) c.new.ensures
 
@@ -23,7 +23,7 @@ returns-in-Refused-clause-ok c =
     let new = world_of c.stamped_read.new.world in
     let command = c.args.command.now in
     let cs = members c.args.colours in
-    scans_refused old new command cs c.in-Refused.colour c.in-Refused.base c.new-in-Refused.result
+    told_refused old new command cs scan_answers scan_shows c.in-Refused.colour c.in-Refused.base c.new-in-Refused.result
     (subst (λ (s : Stamped). Reads old new command.client cs (end_in new command.client cs s)) c.in-Refused.is
     c.in_ok-stamped_read.ensures.ok) c.new-in-Refused.ensures
 
@@ -44,7 +44,7 @@ returns-in-Err-clause-ok c =
     let new = world_of c.stamped_read.new.world in
     let command = c.args.command.now in
     let cs = members c.args.colours in
-    scans_without old new command cs c.in-Whole.stamp c.in-Whole.raises c.in-Whole.syncs
-    (keys_read new command.client c.in-Whole.stamp cs) c.new-in-Err.result
+    told_without old new command cs scan_answers scan_shows c.in-Whole.stamp c.in-Whole.raises c.in-Whole.syncs
+    (keys_read new command.client c.in-Whole.stamp cs)
     (subst (λ (s : Stamped). Reads old new command.client cs (end_in new command.client cs s)) c.in-Whole.is
-    c.in_ok-stamped_read.ensures.ok) c.new-in-Err.ensures
+    c.in_ok-stamped_read.ensures.ok) c.new-in-Err.result c.new-in-Err.ensures

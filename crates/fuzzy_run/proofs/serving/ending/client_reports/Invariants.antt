@@ -1,7 +1,7 @@
 use Rattle.std.proofs.Common.{◌≡◌, ℕ, ◌≤◌, [], length, map, take}
 use Rattle.std.specs.Prelude.{slice_index_or}
 use Rattle.std.specs.List.{enumerate_from}
-use Rattle.fuzzy_run.specs.Showing.{client_shown}
+use Rattle.fuzzy_run.specs.EndReports.{client_shown}
 use Rattle.fuzzy_run.proofs.serving.ending.client_reports.Given as goal
 
 -- the reports of the clients so far; the others are as they were

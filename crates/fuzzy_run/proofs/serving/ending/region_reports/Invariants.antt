@@ -1,6 +1,6 @@
 use Rattle.std.proofs.Common.{◌≡◌, length}
 use Rattle.std.specs.List.{flat_map, enumerate_from}
-use Rattle.fuzzy_run.specs.Showing.{nodes_in, rows_shown, columns_shown}
+use Rattle.fuzzy_run.specs.EndReports.{nodes_in, rows_shown, columns_shown}
 use Rattle.fuzzy_run.proofs.serving.ending.region_reports.Given as goal
 
 -- the regions so far

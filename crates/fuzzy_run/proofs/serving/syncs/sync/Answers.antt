@@ -2,7 +2,7 @@ use Rattle.std.proofs.Common.{subst, sym, List}
 use Rattle.log_node.specs.Seen.{PlacedNode}
 use Rattle.script_text.specs.declared.script.What.TheVariants as whats
 use Rattle.report_text.specs.declared.report.Answer.TheVariants as answers
-use Rattle.fuzzy_run.specs.Giving.{Gives}
+use Rattle.fuzzy_run.specs.Serving.{Gives}
 use Rattle.fuzzy_run.proofs.Giving.{gives_sync, gives_sync_trimmed, gives_nothing}
 use Rattle.fuzzy_run.proofs.serving.syncs.sync.Goals as goal
 

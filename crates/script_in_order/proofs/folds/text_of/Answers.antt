@@ -3,7 +3,7 @@ use Rattle.world_code.specs.WorldView.{world_of}
 use Rattle.script_meaning.proofs.CallerLemmas.{line_node}
 use Rattle.col_core.proofs.CallerLemmas.{in_contains}
 use Rattle.script_in_order.proofs.DequeueSteps.{none_some}
-use Rattle.script_in_order.proofs.queues.feed_node.Goals as goal
+use Rattle.script_in_order.proofs.folds.text_of.Goals as goal
 
 pub unreachable-requires : goal.unreachable-requires
 unreachable-requires c =

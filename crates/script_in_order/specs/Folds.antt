@@ -1,0 +1,98 @@
+-- What of each object is folded, and when that is right.
+use Rattle.std.specs.Prelude.{◌≡◌, ℕ, ◌≤◌, ◌<◌, List, length, map, take, Some, slice_get}
+use Rattle.std.specs.List.{Contains}
+use Rattle.log_node.specs.declared.ids.Key.{Key}
+use Rattle.object_fold.specs.Nodes.{ObjectNode}
+use Rattle.object_fold.specs.States.{IsShardMap, IsQueue}
+use Rattle.col_core.specs.History.{line}
+use Rattle.world_laws.specs.Worlds.{World, home_of}
+use Rattle.script_text.specs.declared.script.Kind.{Kind}
+use Rattle.script_text.specs.declared.script.Kind.TheVariants as kinds
+use Rattle.script_text.specs.declared.script.Object.{Object}
+use Rattle.script_meaning.specs.States.{kind_in}
+use Rattle.script_meaning.specs.Dequeues.{object_at}
+use Rattle.script_in_order.specs.CausalFolds.{AreCausalFolds}
+use Rattle.script_in_order.specs.declared.folds.FirstNodes.{FirstNodes}
+use Rattle.script_in_order.specs.declared.folds.ShardFold.{ShardFold}
+use Rattle.script_in_order.specs.declared.folds.QueueFold.{QueueFold}
+use Rattle.script_in_order.specs.declared.folds.Fold.{Fold}
+use Rattle.script_in_order.specs.declared.folds.Fold.TheVariants as folds
+
+-- the own line of the column of which the first nodes are meant
+abbrev pub line_of : World → FirstNodes → List Key
+line_of w first = line (w.histories first.region first.colour)
+
+-- these nodes
+abbrev pub nodes_at : World → FirstNodes → List ObjectNode
+nodes_at w first = map (object_at w) (take first.count (line_of w first))
+
+-- the column is one of the world's, and its line has so many nodes
+pub record AreThere (w : World) (first : FirstNodes) : Type 0 where
+  pub region : first.region < w.shape.regions
+  pub colour : first.colour < w.shape.colours
+  pub count : first.count ≤ length (line_of w first)
+
+-- the fold is of the shard with this colour, of a map with these colours, and of the first nodes of its line at home
+pub record IsShardFold (w : World) (home : ℕ) (colours : List ℕ) (colour : ℕ) (fold : ShardFold) : Type 0 where
+  pub colours_are : fold.map.colours ≡ colours
+  pub shard_is : fold.map.shard ≡ colour
+  pub within : fold.count ≤ length (line (w.histories home colour))
+  pub folded : IsShardMap fold.map
+      (nodes_at w (record { region = home; colour = colour; count = fold.count }))
+
+-- a map has one for each colour that there is
+pub record AreShardFolds (w : World) (home : ℕ) (colours : List ℕ) (shards : List ShardFold) : Type 0 where
+  pub all : length shards ≡ w.shape.colours
+  pub each : (colour : ℕ) (fold : ShardFold) → slice_get shards colour ≡ Some fold
+      → IsShardFold w home colours colour fold
+
+-- the fold is of the first nodes of the queue's line at home
+pub record IsQueueFold (w : World) (home colour : ℕ) (fold : QueueFold) : Type 0 where
+  pub within : fold.count ≤ length (line (w.histories home colour))
+  pub folded : IsQueue fold.queue (nodes_at w (record { region = home; colour = colour; count = fold.count }))
+
+-- the fold is of an object of this kind, and right
+abbrev pub IsFoldOf : World → Kind → Fold → Type 0
+IsFoldOf w kind (folds.Map shards) =
+    (home : ℕ) × (colours : List ℕ) × (kind ≡ kinds.Map home colours) × AreShardFolds w home colours shards.items
+IsFoldOf w kind (folds.Queue queue) =
+    (home : ℕ) × (colour : ℕ) × (kind ≡ kinds.Queue home colour) × IsQueueFold w home colour queue
+IsFoldOf w kind (folds.Causal regions) =
+    (colour : ℕ) × (kind ≡ kinds.Causal colour) × AreCausalFolds w colour regions.items
+IsFoldOf w kind folds.Nothing =
+    ((home : ℕ) (colours : List ℕ) → kind ≡ kinds.Map home colours → ⊥)
+    × ((home colour : ℕ) → kind ≡ kinds.Queue home colour → ⊥)
+    × ((colour : ℕ) → kind ≡ kinds.Causal colour → ⊥)
+
+-- there is a right one for each of the objects
+pub record AreFolded (w : World) (objects : List Object) (all : List Fold) : Type 0 where
+  pub many : length all ≡ length objects
+  pub each : (n : ℕ) (o : Object) (fold : Fold) → slice_get objects n ≡ Some o → slice_get all n ≡ Some fold
+      → IsFoldOf w o.kind fold
+
+-- of these colours no shard of the object is folded past its bound
+abbrev pub ShardsWithin : List Fold → ℕ → List ℕ → (ℕ → ℕ) → Type 0
+ShardsWithin all object colours bound =
+    (colour : ℕ) → Contains colours colour → (shards : _) (fold : ShardFold)
+    → slice_get all object ≡ Some (folds.Map shards) → slice_get shards.items colour ≡ Some fold
+    → fold.count ≤ bound colour
+
+-- the queue is not folded past this number
+abbrev pub QueueWithin : List Fold → ℕ → ℕ → Type 0
+QueueWithin all object count =
+    (fold : QueueFold) → slice_get all object ≡ Some (folds.Queue fold) → fold.count ≤ count
+
+-- The first nodes of a line may be folded, of the object with a number, which is of this kind.
+pub record MayFold (w : World) (objects : List Object) (all : List Fold) (object : ℕ) (kind : Kind)
+    (first : FirstNodes) : Type 0 where
+  pub folded : AreFolded w objects all
+  pub is_kind : kind_in objects object ≡ Some kind
+  pub there : AreThere w first
+
+-- the object is a map with these colours, at home in the client's region
+abbrev pub IsMapAt : World → ℕ → List Object → ℕ → List ℕ → Type 0
+IsMapAt w client objects object colours = kind_in objects object ≡ Some (kinds.Map (home_of w client) colours)
+
+-- the object is a queue on the colour, at home in the client's region
+abbrev pub IsQueueAt : World → ℕ → List Object → ℕ → ℕ → Type 0
+IsQueueAt w client objects object colour = kind_in objects object ≡ Some (kinds.Queue (home_of w client) colour)

@@ -1,0 +1,77 @@
+// Commands of objects that fold nodes for their answers.
+ghost use Rattle.std.specs.Prelude.{◌≡◌, [], IsTrue, IfOk, OnErr, None};
+ghost use Rattle.world_code.specs.WorldView.{world_of};
+ghost use Rattle.script_meaning.specs.States.{is_built};
+ghost use Rattle.script_meaning.specs.Objects.{caller_in, refusing_home};
+ghost use Rattle.script_in_order.specs.Doing.{IsFit, DoesAtHome, folds_nodes};
+ghost use Rattle.script_in_order.specs.Folds.{AreFolded};
+
+use crate::folds::Folds;
+use crate::gets::{get, get_keys};
+use crate::queues::dequeue;
+use crate::transactions::{commit, read};
+use log_node::Versions;
+use report_text::Answer;
+use script_text::{Command, Object, What};
+use std::alloc::{AllocError, Global};
+use std::mem;
+use world_code::World;
+
+/// Whether a command folds nodes for its answer.
+pub fn folds_nodes(what: &What) -> bool
+    ensures { result ≡ folds_nodes what.now }
+{
+    match what {
+        What::Append { .. } => false,
+        What::Stop { .. } => false,
+        What::Sync { .. } => false,
+        What::Scan { .. } => false,
+        What::Pull { .. } => false,
+        What::Trim { .. } => false,
+        What::Put { .. } => false,
+        What::Get { .. } => true,
+        What::Del { .. } => false,
+        What::PutAll { .. } => false,
+        What::GetAll { .. } => true,
+        What::Read { .. } => true,
+        What::Commit { .. } => true,
+        What::Enq { .. } => false,
+        What::Deq { .. } => true,
+    }
+}
+
+/// What a command is answered that folds nodes and that no home refuses; `Err` means that it found no memory before it
+/// did anything. What it folds is kept.
+pub fn answer_by_fold(
+    alloc: Global,
+    objects: &[Object],
+    command: &Command,
+    world: &mut World,
+    folds: &mut Folds,
+    found: &mut Option<Versions>,
+) -> Result<Answer, AllocError>
+    requires built { IsTrue (is_built objects.now command.now.what) }
+    requires one { IsTrue (folds_nodes command.now.what) }
+    requires fits { IsFit (world_of world.old) objects.now command.now.client command.now.what }
+    requires near { refusing_home (caller_in (world_of world.old) objects.now command.now.client) command.now.what ≡ None }
+    requires folded { AreFolded (world_of world.old) objects.now folds.old }
+    ensures ok { IfOk result (λ answer. DoesAtHome objects.now command.now (world_of world.old) (world_of world.new) answer []) }
+    ensures err { OnErr result (world_of world.new ≡ world_of world.old) }
+    ensures folded { AreFolded (world_of world.new) objects.now folds.new }
+{
+    match &command.what {
+        What::Get { object, key } => get(alloc, objects, command, *object, key, world, folds),
+        What::GetAll { object, keys } => {
+            get_keys(alloc, objects, command, *object, keys, world, folds)
+        }
+        What::Read { object, keys } => {
+            read(alloc, objects, command, *object, keys, world, folds, found)
+        }
+        What::Commit { object, pairs } => {
+            let taken = mem::replace(found, None);
+            commit(alloc, objects, command, *object, pairs, taken, world, folds)
+        }
+        What::Deq { object } => dequeue(alloc, objects, command, *object, world, folds),
+        _ => unreachable!(),
+    }
+}

@@ -1,0 +1,336 @@
+// Folds that are kept: what of each object's nodes is folded already, so that a command folds only what is new. All
+// clients of an object with a home are of one region, and each command of it takes at least the whole line that stood
+// before it, so one fold serves them all.
+ghost use Rattle.std.specs.Prelude.{◌≡◌, ◌<◌, ◌≤◌, ◌∷◌, [], ℕ, List, Some, IfOk, OnOk};
+ghost use Rattle.std.specs.List.{Contains};
+ghost use Rattle.object_fold.specs.Maps.{shard_value};
+ghost use Rattle.object_fold.specs.Queues.{front_after};
+ghost use Rattle.col_core.specs.History.{line};
+ghost use Rattle.world_laws.specs.Worlds.{World as Meant};
+ghost use Rattle.script_text.specs.Fitting.{IsKindWithin, IsFitting};
+ghost use Rattle.world_code.specs.WorldView.{world_of};
+ghost use Rattle.script_meaning.specs.States.{kind_in};
+ghost use Rattle.script_meaning.specs.CausalGets.{causal_values};
+ghost use Rattle.script_meaning.specs.Dequeues.{object_at};
+ghost use Rattle.script_in_order.specs.CausalFolds.{held_nodes, cut_of, AreCausalFolds};
+ghost use Rattle.script_in_order.specs.Folds.{nodes_at, AreThere, IsShardFold, AreShardFolds, IsQueueFold, IsFoldOf, AreFolded, ShardsWithin, QueueWithin, MayFold};
+
+use crate::causal::CausalFold;
+use crate::tx_folds::{NodesRead, TxFold};
+use log_node::{ColourList, Key, Keys, ListOf, Names, Shape, Text, Versions};
+use object_fold::{ShardMap, ValueQueue, Verdict};
+use report_text::KeyAnswer;
+use script_text::{Kind, Object, Script};
+use std::alloc::{AllocError, Global};
+use std::marker::Model;
+use world_code::World;
+
+/// The map of one shard, and how many first nodes of its colour's line are folded.
+#[derive(Drop)]
+pub struct ShardFold {
+    map: ShardMap,
+    count: usize,
+}
+
+/// The queue, and how many first nodes of its line are folded.
+#[derive(Drop)]
+pub struct QueueFold {
+    queue: ValueQueue,
+    count: usize,
+}
+
+/// What of one object is folded.
+#[derive(Drop)]
+pub enum Fold {
+    /// Of a map: its shards by colours.
+    Map(Vec<ShardFold>),
+    /// Of a queue.
+    Queue(QueueFold),
+    /// Of a causal map: what each region's column lets play, by region.
+    Causal(Vec<CausalFold>),
+    /// Of a transactional map.
+    Tx(TxFold),
+}
+
+/// What is folded of each object, by the object's number.
+#[derive(Drop)]
+pub struct Folds {
+    of: Vec<Fold>,
+}
+
+impl Model for Folds {
+    ghost use Rattle.std.specs.Prelude.{List};
+    ghost use Rattle.script_in_order.specs.declared.folds.Fold.{Fold};
+
+    ghost Value = { List Fold };
+
+    ghost view = { λ a. a.of.items };
+}
+
+/// The first so many nodes of the own line of a region's column.
+#[derive(Clone, Copy)]
+pub struct FirstNodes {
+    pub region: u8,
+    pub colour: u8,
+    pub count: usize,
+}
+
+/// The text of the node with a key of a line.
+pub fn text_of(world: &World, key: Key) -> &Text
+    requires { (region : ℕ) × (colour : ℕ) × Contains (line ((world_of world.now).histories region colour)) key }
+    ensures { result.now ≡ (object_at (world_of world.now) key).text }
+{
+    world.is_whole();
+    match world.node(key.id) {
+        Some(node) => &node.text,
+        None => unreachable!(),
+    }
+}
+
+impl ShardFold {
+    // The fold of no node.
+    fn open(alloc: Global, colours: ColourList, shard: u8) -> Self
+        ensures { (w : Meant) (home : ℕ) → IsShardFold w home colours shard result }
+    {
+        ShardFold {
+            map: ShardMap::open(alloc, colours, shard),
+            count: 0,
+        }
+    }
+
+    // Folds on up to the first so many nodes of the line of a column at home. Without memory it stays where it was, or
+    // has come a part of the way.
+    fn fold_to(&mut self, alloc: Global, world: &World, first: FirstNodes) -> Result<(), AllocError>
+        requires there { AreThere (world_of world.now) first }
+        requires behind { self.old.count ≤ first.count }
+        requires folded { (colours : List ℕ) × IsShardFold (world_of world.now) first.region colours first.colour self.old }
+        ensures ok { OnOk result (self.new.count ≡ first.count) }
+        ensures within { self.new.count ≤ first.count }
+        ensures folded { (colours : List ℕ) → IsShardFold (world_of world.now) first.region colours first.colour self.old
+            → IsShardFold (world_of world.now) first.region colours first.colour self.new }
+    {
+        let line = world.column(first.region, first.colour).line();
+        for place in self.count..first.count {
+            self.map.feed(alloc, text_of(world, line[place]))?;
+            self.count = place + 1;
+        }
+        Ok(())
+    }
+}
+
+impl QueueFold {
+    // The fold of no node.
+    fn open(alloc: Global) -> Self
+        ensures { (w : Meant) (home colour : ℕ) → IsQueueFold w home colour result }
+    {
+        QueueFold {
+            queue: ValueQueue::new(alloc),
+            count: 0,
+        }
+    }
+
+    // Folds on up to the first so many nodes of the line of a column at home. Without memory it stays where it was, or
+    // has come a part of the way.
+    fn fold_to(&mut self, alloc: Global, world: &World, first: FirstNodes) -> Result<(), AllocError>
+        requires there { AreThere (world_of world.now) first }
+        requires behind { self.old.count ≤ first.count }
+        requires folded { IsQueueFold (world_of world.now) first.region first.colour self.old }
+        ensures ok { OnOk result (self.new.count ≡ first.count) }
+        ensures folded { IsQueueFold (world_of world.now) first.region first.colour self.new }
+    {
+        let line = world.column(first.region, first.colour).line();
+        for place in self.count..first.count {
+            let _answer = self.queue.feed(alloc, text_of(world, line[place]))?;
+            self.count = place + 1;
+        }
+        Ok(())
+    }
+}
+
+// For each colour the fold of no node of a map with these colours.
+fn open_shards(alloc: Global, colours: &ColourList, count: u8) -> Result<Vec<ShardFold>, AllocError>
+    ensures { (w : Meant) (home : ℕ) → w.shape.colours ≡ count
+        → IfOk result (λ shards. AreShardFolds w home colours.now shards.items) }
+{
+    let mut shards = Vec::new(alloc);
+    for colour in 0..count {
+        let copy = Vec::from_slice(alloc, colours.as_slice())?;
+        shards.push(ShardFold::open(alloc, ListOf::from(copy), colour))?;
+    }
+    Ok(shards)
+}
+
+// For each region the fold of no node of a causal map.
+fn open_causal(alloc: Global, count: u8) -> Result<Vec<CausalFold>, AllocError>
+    ensures { (w : Meant) (colour : ℕ) → w.shape.regions ≡ count → colour < 64
+        → IfOk result (λ folds. AreCausalFolds w colour folds.items) }
+{
+    let mut folds = Vec::new(alloc);
+    for _ in 0..count {
+        folds.push(CausalFold::new(alloc))?;
+    }
+    Ok(folds)
+}
+
+// The fold of no node of an object of a kind, where there are so many regions and colours.
+fn open_fold(alloc: Global, kind: &Kind, shape: &Shape) -> Result<Fold, AllocError>
+    requires within { IsKindWithin shape.now.regions shape.now.colours kind.now }
+    requires few { shape.now.colours ≤ 16 }
+    ensures { (w : Meant) → w.shape ≡ shape.now → IfOk result (IsFoldOf w kind.now) }
+{
+    match kind {
+        Kind::Map {
+            home: _home,
+            colours,
+        } => Ok(Fold::Map(open_shards(alloc, colours, shape.colours)?)),
+        Kind::Queue {
+            home: _home,
+            colour: _colour,
+        } => Ok(Fold::Queue(QueueFold::open(alloc))),
+        Kind::Tx {
+            home: _home,
+            colours: _colours,
+        } => Ok(Fold::Tx(TxFold::new(alloc))),
+        Kind::Causal { colour: _colour } => Ok(Fold::Causal(open_causal(alloc, shape.regions)?)),
+    }
+}
+
+impl Folds {
+    /// Of each object of a script the fold of no node.
+    pub fn open(alloc: Global, script: &Script) -> Result<Folds, AllocError>
+        requires { IsFitting script.now }
+        ensures { (w : Meant) → w.shape ≡ script.now.shape → IfOk result (AreFolded w script.now.objects) }
+    {
+        let mut of = Vec::new(alloc);
+        for object in script.objects.as_slice() {
+            of.push(open_fold(alloc, &object.kind, &script.shape)?)?;
+        }
+        Ok(Folds { of })
+    }
+
+    /// The value of a key of a map after the first nodes of the line of its shard's colour at home. The fold goes on
+    /// from where it is; without memory it stays where it was, or has come a part of the way.
+    pub fn value(
+        &mut self,
+        alloc: Global,
+        world: &World,
+        object: u8,
+        first: FirstNodes,
+        key: &[u8],
+    ) -> Result<Option<Text>, AllocError>
+        requires may { (objects : List Object) × (colours : List ℕ)
+            × MayFold (world_of world.now) objects self.old object (Kind.Map first.region colours) first }
+        requires behind { ShardsWithin self.old object (first.colour ∷ []) (λ _. first.count) }
+        ensures value { (objects : List Object) (colours : List ℕ)
+            → kind_in objects object ≡ Some (Kind.Map first.region colours)
+            → AreFolded (world_of world.now) objects self.old
+            → IfOk result (λ value. value ≡ shard_value colours first.colour (nodes_at (world_of world.now) first) key.now) }
+        ensures folded { (objects : List Object) → AreFolded (world_of world.now) objects self.old
+            → AreFolded (world_of world.now) objects self.new }
+        ensures within { (colours : List ℕ) (bound : ℕ → ℕ) → ShardsWithin self.old object colours bound
+            → first.count ≤ bound first.colour → ShardsWithin self.new object colours bound }
+    {
+        match &mut self.of[object as usize] {
+            Fold::Map(shards) => {
+                let shard = &mut shards[first.colour as usize];
+                shard.fold_to(alloc, world, first)?;
+                match shard.map.get(key) {
+                    None => Ok(None),
+                    Some(value) => Ok(Some(Text::copied(alloc, value.as_bytes())?)),
+                }
+            }
+            _ => unreachable!(),
+        }
+    }
+
+    /// The front of a queue after the first nodes of its line at home. The fold goes on from where it is; without memory
+    /// it stays where it was, or has come a part of the way.
+    pub fn front(
+        &mut self,
+        alloc: Global,
+        world: &World,
+        object: u8,
+        first: FirstNodes,
+    ) -> Result<Option<Text>, AllocError>
+        requires may { (objects : List Object)
+            × MayFold (world_of world.now) objects self.old object (Kind.Queue first.region first.colour) first }
+        requires behind { QueueWithin self.old object first.count }
+        ensures value { IfOk result (λ value. value ≡ front_after (nodes_at (world_of world.now) first)) }
+        ensures folded { (objects : List Object) → AreFolded (world_of world.now) objects self.old
+            → AreFolded (world_of world.now) objects self.new }
+    {
+        match &mut self.of[object as usize] {
+            Fold::Queue(fold) => {
+                fold.fold_to(alloc, world, first)?;
+                match fold.queue.front() {
+                    None => Ok(None),
+                    Some(front) => Ok(Some(Text::copied(alloc, front.as_bytes())?)),
+                }
+            }
+            _ => unreachable!(),
+        }
+    }
+
+    /// The values of the latest writes of a key of a causal map on a colour, among all nodes that a region's column of it
+    /// lets play. The fold goes on from where it is; without memory it stays where it was, or has come a part of the way.
+    pub fn values(
+        &mut self,
+        alloc: Global,
+        world: &World,
+        object: u8,
+        region: u8,
+        colour: u8,
+        key: &Text,
+    ) -> Result<Names, AllocError>
+        requires region { region < world.now.shape.regions }
+        requires colour { colour < world.now.shape.colours }
+        requires may { (objects : List Object) × AreFolded (world_of world.now) objects self.old
+            × (kind_in objects object ≡ Some (Kind.Causal colour)) }
+        ensures values { let w = world_of world.now in
+            IfOk result (λ values. values ≡ causal_values (held_nodes w region colour (cut_of w region colour)) key.now) }
+        ensures folded { (objects : List Object) → AreFolded (world_of world.now) objects self.old
+            → AreFolded (world_of world.now) objects self.new }
+    {
+        match &mut self.of[object as usize] {
+            Fold::Causal(folds) => {
+                folds[region as usize].values(alloc, world, region, colour, key)
+            }
+            _ => unreachable!(),
+        }
+    }
+
+    /// The values of keys of a transactional map after all nodes that are read, and their last writers. The fold goes on
+    /// from where it is; without memory it stays where it was, or begins anew.
+    pub fn found(
+        &mut self,
+        alloc: Global,
+        world: &World,
+        object: u8,
+        read: NodesRead,
+        keys: &Keys,
+    ) -> Result<(ListOf<KeyAnswer>, Versions), AllocError> {
+        match &mut self.of[object as usize] {
+            Fold::Tx(fold) => fold.found(alloc, world, read, keys),
+            _ => unreachable!(),
+        }
+    }
+
+    /// The verdict on the node with a key of a transactional map among all nodes that are read. The fold goes on from
+    /// where it is; without memory it stays where it was, or begins anew.
+    pub fn verdict(
+        &mut self,
+        alloc: Global,
+        world: &World,
+        object: u8,
+        read: NodesRead,
+        own: Key,
+    ) -> Result<Verdict, AllocError> {
+        match &mut self.of[object as usize] {
+            Fold::Tx(fold) => {
+                let verdict = fold.verdict(alloc, world, read, own)?;
+                Ok(verdict.unwrap_or(Verdict::Committed { stamp: own.stamp }))
+            }
+            _ => unreachable!(),
+        }
+    }
+}
