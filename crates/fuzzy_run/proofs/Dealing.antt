@@ -159,8 +159,8 @@ dealt clients commands idle given served none own room =
     let long : length served ≡ length idle = room.many ∙ own.many in record {
       clients_are = map_same (λ (x : Served). x.client) served idle long
           (λ n d lt. let many = room.many in let few = own.many in
-            (room.each n d (omega (arith, lt, many)) (omega (arith, lt, many))).client
-            ∙ (own.each n d (omega (arith, lt, many, few))).client)
+          (room.each n d (omega (arith, lt, many)) (omega (arith, lt, many))).client
+          ∙ (own.each n d (omega (arith, lt, many, few))).client)
           ∙ none.clients_are;
       each = λ n d lt.
           let many = room.many in

@@ -89,8 +89,8 @@ module _ (s : Store) (c d : Client) (rests : IsClient s d) (same : IsSame c d)
       let answer = answers.Synced (record { colour = colour; events = y.events; counts = y.snapshot.counts }) plays in
       gives (whats.Sync colour) answer nodes (SyncsAs d colour y) is
       (λ log caller kept after r.
-        subst (λ (ns : List PlacedNode). Explains log caller kept (whats.Sync colour) answer ns after) (sym are)
-        (synced log caller kept after colour y.events plays y.snapshot.counts shown (many ∙ ap length are) r.0 r.1 r.2))
+      subst (λ (ns : List PlacedNode). Explains log caller kept (whats.Sync colour) answer ns after) (sym are)
+      (synced log caller kept after colour y.events plays y.snapshot.counts shown (many ∙ ap length are) r.0 r.1 r.2))
 
   pub gives_sync_trimmed : (colour shown : ℕ) (base : Counts) → SyncRefused s c d colour (sync_faults.Trimmed shown base)
       → Gives s c d (whats.Sync colour) (answers.Trimmed shown base) []

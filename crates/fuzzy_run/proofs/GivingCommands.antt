@@ -151,7 +151,7 @@ module _ (s : Store) (c d : Client) (rests : IsClient s d) (same : IsSame c d)
         gives_helping (whats.Append colours text) (answers.Stood a.stood.key.stamp a.row (map piece_of a.stood.points))
         (AppendsAs colours text a) refl (λ done. inl (finished done)) is
         (λ log caller kept after r.
-          commands.stood log caller kept after colours text a.stood.key.stamp a.row (map piece_of a.stood.points) r.2)
+        commands.stood log caller kept after colours text a.stood.key.stamp a.row (map piece_of a.stood.points) r.2)
 
     pub gives_full : (used : ℕ) → (Finished c → Finished d)
         → AppendRefused s c d colours text None (faults.Full used)
@@ -215,7 +215,7 @@ module _ (s : Store) (c d : Client) (rests : IsClient s d) (same : IsSame c d)
         gives s c d rests same goes finished idle (whats.Pull region colour) (answers.Pulled p.nodes p.give p.carry) []
         (PullsAs region colour p) is
         (λ log caller kept after r.
-          commands.pulled log caller kept after region colour p.nodes r.0 p.give p.carry r.1 r.2 r.3 r.4)
+        commands.pulled log caller kept after region colour p.nodes r.0 p.give p.carry r.1 r.2 r.3 r.4)
 
     pub gives_same_region : (region colour : ℕ) → PullRefused s c d region colour pull_faults.SameRegion
         → Gives s c d (whats.Pull region colour) answers.SameRegion []
@@ -238,7 +238,7 @@ module _ (s : Store) (c d : Client) (rests : IsClient s d) (same : IsSame c d)
     gives_gave region colour is =
         gives s c d rests same goes finished idle (whats.Pull region colour) answers.NoMemory [] (GaveAlone region colour) is.1
         (λ log caller kept after r.
-          commands.pull_no_memory log caller kept after region colour r.0 r.1 r.2 r.3 r.4 r.5)
+        commands.pull_no_memory log caller kept after region colour r.0 r.1 r.2 r.3 r.4 r.5)
 
     pub gives_trimmed : (colour : ℕ) (counts : Counts) (at : At) (base : Counts) → counts ≡ starts_of c colour
         → IsExplained s c d (TrimsAs colour counts at base)

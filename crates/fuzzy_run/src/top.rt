@@ -96,7 +96,11 @@ fn do_script<K: Sink, G: Gate, R: Threads + Wait + Sync>(
     ensures no_memory { result ≡ Status.NoMemory → sink.new ≡ sink.old }
     ensures no_other { (result ≢ Status.BadWords) × (result ≢ Status.ReadFault) }
 {
-    if let Some(line) = first_unbuilt(asked, script.objects.as_slice(), script.commands.as_slice()) {
+    if let Some(line) = first_unbuilt(
+        asked,
+        script.objects.as_slice(),
+        script.commands.as_slice(),
+    ) {
         return refuse(sink, line, Cause::NotBuilt);
     }
     let report = match report_of(rt, alloc, asked, gate, script) {

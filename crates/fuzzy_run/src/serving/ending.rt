@@ -81,7 +81,14 @@ fn region_reports(
             rows: begun,
         } = end;
         push_rows(nodes.as_slice(), region, begun, &mut rows)?;
-        push_columns(alloc, regions, colours, region, own.into_vec(), &mut columns)?;
+        push_columns(
+            alloc,
+            regions,
+            colours,
+            region,
+            own.into_vec(),
+            &mut columns,
+        )?;
         region += 1;
     }
     Ok((rows, columns))

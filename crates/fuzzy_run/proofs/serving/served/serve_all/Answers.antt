@@ -63,6 +63,6 @@ returns g c =
     record {
       same = c.loop-command.invariant.same;
       serves = λ objects. subst (λ (l : List Command).
-        Serves c.args.store.now objects c.loop-command.served.client l c.loop-command.served.replies.items)
-        whole (c.loop-command.invariant.serves objects);
+          Serves c.args.store.now objects c.loop-command.served.client l c.loop-command.served.replies.items)
+          whole (c.loop-command.invariant.serves objects);
     }

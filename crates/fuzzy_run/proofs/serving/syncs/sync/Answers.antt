@@ -16,7 +16,7 @@ pub returns-in-Err-Trimmed : goal.returns-in-Err-Trimmed
 returns-in-Err-Trimmed g c =
     let e = c.in-Err-Trimmed.ensures in
     subst (λ (nodes : List PlacedNode). Gives c.args.store.now c.args.client.now c.sync_shown.new.self
-      (whats.Sync c.args.colour) (answers.Trimmed c.in-Err-Trimmed.colour c.in-Err-Trimmed.base) nodes) (sym c.new.ensures)
+    (whats.Sync c.args.colour) (answers.Trimmed c.in-Err-Trimmed.colour c.in-Err-Trimmed.base) nodes) (sym c.new.ensures)
     (gives_sync_trimmed c.args.store.now c.args.client.now c.sync_shown.new.self e.client e.same e.goes e.finished e.idle
     c.args.colour c.in-Err-Trimmed.colour c.in-Err-Trimmed.base (rw c.in-Err-Trimmed.field-0-is at e.err))
 
@@ -24,6 +24,6 @@ pub returns-in-Err-NoMemory : goal.returns-in-Err-NoMemory
 returns-in-Err-NoMemory g c =
     let e = c.in-Err-NoMemory.ensures in
     subst (λ (nodes : List PlacedNode). Gives c.args.store.now c.args.client.now c.sync_shown.new.self
-      (whats.Sync c.args.colour) answers.NoMemory nodes) (sym c.new-in-Err-NoMemory.ensures)
+    (whats.Sync c.args.colour) answers.NoMemory nodes) (sym c.new-in-Err-NoMemory.ensures)
     (gives_nothing c.args.store.now c.args.client.now c.sync_shown.new.self e.client e.same e.goes e.finished e.idle
     (whats.Sync c.args.colour) (rw c.in-Err-NoMemory.field-0-is at e.err))
