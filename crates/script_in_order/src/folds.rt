@@ -16,10 +16,8 @@ ghost use Rattle.script_in_order.specs.CausalFolds.{held_nodes, cut_of, AreCausa
 ghost use Rattle.script_in_order.specs.Folds.{nodes_at, AreThere, IsShardFold, AreShardFolds, IsQueueFold, IsFoldOf, AreFolded, ShardsWithin, QueueWithin, MayFold};
 
 use crate::causal::CausalFold;
-use crate::tx_folds::{NodesRead, TxFold};
-use log_node::{ColourList, Key, Keys, ListOf, Names, Shape, Text, Versions};
-use object_fold::{ShardMap, ValueQueue, Verdict};
-use report_text::KeyAnswer;
+use log_node::{ColourList, Key, ListOf, Names, Shape, Text};
+use object_fold::{ShardMap, ValueQueue};
 use script_text::{Kind, Object, Script};
 use std::alloc::{AllocError, Global};
 use std::marker::Model;
@@ -48,8 +46,8 @@ pub enum Fold {
     Queue(QueueFold),
     /// Of a causal map: what each region's column lets play, by region.
     Causal(Vec<CausalFold>),
-    /// Of a transactional map.
-    Tx(TxFold),
+    /// Of an object that is not folded yet.
+    Nothing,
 }
 
 /// What is folded of each object, by the object's number.
@@ -190,7 +188,7 @@ fn open_fold(alloc: Global, kind: &Kind, shape: &Shape) -> Result<Fold, AllocErr
         Kind::Tx {
             home: _home,
             colours: _colours,
-        } => Ok(Fold::Tx(TxFold::new(alloc))),
+        } => Ok(Fold::Nothing),
         Kind::Causal { colour: _colour } => Ok(Fold::Causal(open_causal(alloc, shape.regions)?)),
     }
 }
@@ -294,41 +292,6 @@ impl Folds {
         match &mut self.of[object as usize] {
             Fold::Causal(folds) => {
                 folds[region as usize].values(alloc, world, region, colour, key)
-            }
-            _ => unreachable!(),
-        }
-    }
-
-    /// The values of keys of a transactional map after all nodes that are read, and their last writers. The fold goes on
-    /// from where it is; without memory it stays where it was, or begins anew.
-    pub fn found(
-        &mut self,
-        alloc: Global,
-        world: &World,
-        object: u8,
-        read: NodesRead,
-        keys: &Keys,
-    ) -> Result<(ListOf<KeyAnswer>, Versions), AllocError> {
-        match &mut self.of[object as usize] {
-            Fold::Tx(fold) => fold.found(alloc, world, read, keys),
-            _ => unreachable!(),
-        }
-    }
-
-    /// The verdict on the node with a key of a transactional map among all nodes that are read. The fold goes on from
-    /// where it is; without memory it stays where it was, or begins anew.
-    pub fn verdict(
-        &mut self,
-        alloc: Global,
-        world: &World,
-        object: u8,
-        read: NodesRead,
-        own: Key,
-    ) -> Result<Verdict, AllocError> {
-        match &mut self.of[object as usize] {
-            Fold::Tx(fold) => {
-                let verdict = fold.verdict(alloc, world, read, own)?;
-                Ok(verdict.unwrap_or(Verdict::Committed { stamp: own.stamp }))
             }
             _ => unreachable!(),
         }
