@@ -21,3 +21,5 @@ mod MoveGuards
 mod ObjectSteps
 mod DequeueSteps
 mod FoldsKept
+mod Committing
+mod ReadVerdicts
