@@ -16,6 +16,10 @@ use Rattle.script_text.specs.declared.script.Object.{Object}
 use Rattle.script_meaning.proofs.CallerLemmas.{RunsTo, line_longer, nodes_stay}
 use Rattle.script_meaning.specs.States.{kind_in}
 use Rattle.script_meaning.specs.Dequeues.{object_at}
+use Rattle.lawful_run.proofs.CallerLemmas.{get_within}
+use Rattle.script_in_order.specs.declared.causal.CausalFold.{CausalFold}
+use Rattle.script_in_order.specs.CausalFolds.{IsCausalFold, AreCausalFolds}
+use Rattle.script_in_order.proofs.CausalLater.{fold_later}
 use Rattle.script_in_order.specs.declared.folds.ShardFold.{ShardFold}
 use Rattle.script_in_order.specs.declared.folds.QueueFold.{QueueFold}
 use Rattle.script_in_order.specs.declared.folds.Fold.{Fold}
@@ -44,6 +48,21 @@ module _ (w v : World) (reached : IsReached w) (to : RunsTo w v) where
   same_colours =
       ap (λ (x : World). x.shape.colours) (sym to.run) ∙ ap (λ s. s.colours) (run_grows w to.steps).shape
 
+  same_regions : v.shape.regions ≡ w.shape.regions
+  same_regions =
+      ap (λ (x : World). x.shape.regions) (sym to.run) ∙ ap (λ s. s.regions) (run_grows w to.steps).shape
+
+  causal_stays : (colour : ℕ) (regions : List CausalFold) → AreCausalFolds w colour regions
+      → AreCausalFolds v colour regions
+  causal_stays colour regions f = record {
+    small = f.small;
+    all = f.all ∙ sym same_regions;
+    each = λ region fold there.
+        let a = get_within regions region fold there in
+        let b = f.all in
+        fold_later w v to.steps reached to.run region colour (omega (arith, a, b)) f.small fold (f.each region fold there);
+  }
+
   fold_stays : (kind : Kind) (fold : Fold) → IsFoldOf w kind fold → IsFoldOf v kind fold
   fold_stays kind (folds.Map shards) (home, colours, is, each) = (
     home,
@@ -55,6 +74,7 @@ module _ (w v : World) (reached : IsReached w) (to : RunsTo w v) where
     },
   )
   fold_stays kind (folds.Queue queue) (home, colour, is, f) = (home, colour, is, queue_stays home colour queue f)
+  fold_stays kind (folds.Causal regions) (colour, is, f) = (colour, is, causal_stays colour regions.items f)
   fold_stays kind folds.Nothing n = n
 
   -- what is folded stays right
@@ -100,6 +120,20 @@ folds_with w objects all n fold f right = record {
   turn m o other at (inl p) =
       subst (IsFoldOf w o.kind) p.1 (right o (subst (λ (k : ℕ). slice_get objects k ≡ Some o) p.0 at))
   turn m o other at (inr p) = f.each m o other at p.1
+
+-- one region's fold of a causal map in place of another
+pub causal_with : (w : World) (colour : ℕ) (regions : List CausalFold) (n : ℕ) (fold : CausalFold)
+    → AreCausalFolds w colour regions → IsCausalFold w n colour fold → AreCausalFolds w colour (set regions n fold)
+causal_with w colour regions n fold f right = record {
+  small = f.small;
+  all = length-set regions n fold ∙ f.all;
+  each = λ m other there. turn m other (set_cases regions n m fold other there);
+} where
+  turn : (m : ℕ) (other : CausalFold) → ((m ≡ n) × (fold ≡ other)) ⊎ ((m ≢ n) × (slice_get regions m ≡ Some other))
+      → IsCausalFold w m colour other
+  turn m other (inl p) =
+      subst (λ (k : ℕ). IsCausalFold w k colour other) (sym p.0) (subst (IsCausalFold w n colour) p.1 right)
+  turn m other (inr p) = f.each m other p.1
 
 -- one shard of a map in place of another
 pub shards_with : (w : World) (home : ℕ) (colours : List ℕ) (shards : List ShardFold) (n : ℕ) (fold : ShardFold)

@@ -9,6 +9,8 @@ mod SyncPlays
 mod StampedSteps
 mod StampedWholes
 mod PullsAndTrims
+mod CausalSteps
+mod CausalLater
 mod CommandKinds
 mod RunReplies
 mod RunSteps

@@ -11,6 +11,7 @@ use Rattle.script_text.specs.declared.script.Kind.TheVariants as kinds
 use Rattle.script_text.specs.declared.script.Object.{Object}
 use Rattle.script_meaning.specs.States.{kind_in}
 use Rattle.script_meaning.specs.Dequeues.{object_at}
+use Rattle.script_in_order.specs.CausalFolds.{AreCausalFolds}
 use Rattle.script_in_order.specs.declared.folds.FirstNodes.{FirstNodes}
 use Rattle.script_in_order.specs.declared.folds.ShardFold.{ShardFold}
 use Rattle.script_in_order.specs.declared.folds.QueueFold.{QueueFold}
@@ -56,9 +57,12 @@ IsFoldOf w kind (folds.Map shards) =
     (home : ℕ) × (colours : List ℕ) × (kind ≡ kinds.Map home colours) × AreShardFolds w home colours shards.items
 IsFoldOf w kind (folds.Queue queue) =
     (home : ℕ) × (colour : ℕ) × (kind ≡ kinds.Queue home colour) × IsQueueFold w home colour queue
+IsFoldOf w kind (folds.Causal regions) =
+    (colour : ℕ) × (kind ≡ kinds.Causal colour) × AreCausalFolds w colour regions.items
 IsFoldOf w kind folds.Nothing =
     ((home : ℕ) (colours : List ℕ) → kind ≡ kinds.Map home colours → ⊥)
     × ((home colour : ℕ) → kind ≡ kinds.Queue home colour → ⊥)
+    × ((colour : ℕ) → kind ≡ kinds.Causal colour → ⊥)
 
 -- there is a right one for each of the objects
 pub record AreFolded (w : World) (objects : List Object) (all : List Fold) : Type 0 where

@@ -5,4 +5,5 @@ pub mod Points
 pub mod Stamped
 pub mod Reports
 pub mod Reading
+pub mod CausalFolds
 pub mod Folds

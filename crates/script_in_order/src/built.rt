@@ -33,7 +33,7 @@ fn is_get_built(objects: &[Object], object: u8) -> bool
         Some(found) => match &found.kind {
             Kind::Map { .. } => true,
             Kind::Tx { .. } => false,
-            Kind::Causal { .. } => false,
+            Kind::Causal { .. } => true,
             Kind::Queue { .. } => false,
         },
     }

@@ -1,18 +1,22 @@
 // Folds that are kept: what of each object's nodes is folded already, so that a command folds only what is new. All
 // clients of an object with a home are of one region, and each command of it takes at least the whole line that stood
 // before it, so one fold serves them all.
-ghost use Rattle.std.specs.Prelude.{◌≡◌, ◌≤◌, ◌∷◌, [], ℕ, List, Some, IfOk, OnOk};
+ghost use Rattle.std.specs.Prelude.{◌≡◌, ◌<◌, ◌≤◌, ◌∷◌, [], ℕ, List, Some, IfOk, OnOk};
 ghost use Rattle.std.specs.List.{Contains};
 ghost use Rattle.object_fold.specs.Maps.{shard_value};
 ghost use Rattle.object_fold.specs.Queues.{front_after};
 ghost use Rattle.col_core.specs.History.{line};
 ghost use Rattle.world_laws.specs.Worlds.{World as Meant};
+ghost use Rattle.script_text.specs.Fitting.{IsKindWithin, IsFitting};
 ghost use Rattle.world_code.specs.WorldView.{world_of};
 ghost use Rattle.script_meaning.specs.States.{kind_in};
+ghost use Rattle.script_meaning.specs.CausalGets.{causal_values};
 ghost use Rattle.script_meaning.specs.Dequeues.{object_at};
+ghost use Rattle.script_in_order.specs.CausalFolds.{held_nodes, cut_of, AreCausalFolds};
 ghost use Rattle.script_in_order.specs.Folds.{nodes_at, AreThere, IsShardFold, AreShardFolds, IsQueueFold, IsFoldOf, AreFolded, ShardsWithin, QueueWithin, MayFold};
 
-use log_node::{ColourList, Key, ListOf, Text};
+use crate::causal::CausalFold;
+use log_node::{ColourList, Key, ListOf, Names, Shape, Text};
 use object_fold::{ShardMap, ValueQueue};
 use script_text::{Kind, Object, Script};
 use std::alloc::{AllocError, Global};
@@ -40,6 +44,8 @@ pub enum Fold {
     Map(Vec<ShardFold>),
     /// Of a queue.
     Queue(QueueFold),
+    /// Of a causal map: what each region's column lets play, by region.
+    Causal(Vec<CausalFold>),
     /// Of an object that is not folded yet.
     Nothing,
 }
@@ -152,15 +158,29 @@ fn open_shards(alloc: Global, colours: &ColourList, count: u8) -> Result<Vec<Sha
     Ok(shards)
 }
 
-// The fold of no node of an object of a kind, where there are so many colours.
-fn open_fold(alloc: Global, kind: &Kind, count: u8) -> Result<Fold, AllocError>
-    ensures { (w : Meant) → w.shape.colours ≡ count → IfOk result (IsFoldOf w kind.now) }
+// For each region the fold of no node of a causal map.
+fn open_causal(alloc: Global, count: u8) -> Result<Vec<CausalFold>, AllocError>
+    ensures { (w : Meant) (colour : ℕ) → w.shape.regions ≡ count → colour < 64
+        → IfOk result (λ folds. AreCausalFolds w colour folds.items) }
+{
+    let mut folds = Vec::new(alloc);
+    for _ in 0..count {
+        folds.push(CausalFold::new(alloc))?;
+    }
+    Ok(folds)
+}
+
+// The fold of no node of an object of a kind, where there are so many regions and colours.
+fn open_fold(alloc: Global, kind: &Kind, shape: &Shape) -> Result<Fold, AllocError>
+    requires within { IsKindWithin shape.now.regions shape.now.colours kind.now }
+    requires few { shape.now.colours ≤ 16 }
+    ensures { (w : Meant) → w.shape ≡ shape.now → IfOk result (IsFoldOf w kind.now) }
 {
     match kind {
         Kind::Map {
             home: _home,
             colours,
-        } => Ok(Fold::Map(open_shards(alloc, colours, count)?)),
+        } => Ok(Fold::Map(open_shards(alloc, colours, shape.colours)?)),
         Kind::Queue {
             home: _home,
             colour: _colour,
@@ -169,19 +189,19 @@ fn open_fold(alloc: Global, kind: &Kind, count: u8) -> Result<Fold, AllocError>
             home: _home,
             colours: _colours,
         } => Ok(Fold::Nothing),
-        Kind::Causal { colour: _colour } => Ok(Fold::Nothing),
+        Kind::Causal { colour: _colour } => Ok(Fold::Causal(open_causal(alloc, shape.regions)?)),
     }
 }
 
 impl Folds {
     /// Of each object of a script the fold of no node.
     pub fn open(alloc: Global, script: &Script) -> Result<Folds, AllocError>
-        ensures { (w : Meant) → w.shape.colours ≡ script.now.shape.colours
-            → IfOk result (AreFolded w script.now.objects) }
+        requires { IsFitting script.now }
+        ensures { (w : Meant) → w.shape ≡ script.now.shape → IfOk result (AreFolded w script.now.objects) }
     {
         let mut of = Vec::new(alloc);
         for object in script.objects.as_slice() {
-            of.push(open_fold(alloc, &object.kind, script.shape.colours)?)?;
+            of.push(open_fold(alloc, &object.kind, &script.shape)?)?;
         }
         Ok(Folds { of })
     }
@@ -244,6 +264,34 @@ impl Folds {
                     None => Ok(None),
                     Some(front) => Ok(Some(Text::copied(alloc, front.as_bytes())?)),
                 }
+            }
+            _ => unreachable!(),
+        }
+    }
+
+    /// The values of the latest writes of a key of a causal map on a colour, among all nodes that a region's column of it
+    /// lets play. The fold goes on from where it is; without memory it stays where it was, or has come a part of the way.
+    pub fn values(
+        &mut self,
+        alloc: Global,
+        world: &World,
+        object: u8,
+        region: u8,
+        colour: u8,
+        key: &Text,
+    ) -> Result<Names, AllocError>
+        requires region { region < world.now.shape.regions }
+        requires colour { colour < world.now.shape.colours }
+        requires may { (objects : List Object) × AreFolded (world_of world.now) objects self.old
+            × (kind_in objects object ≡ Some (Kind.Causal colour)) }
+        ensures values { let w = world_of world.now in
+            IfOk result (λ values. values ≡ causal_values (held_nodes w region colour (cut_of w region colour)) key.now) }
+        ensures folded { (objects : List Object) → AreFolded (world_of world.now) objects self.old
+            → AreFolded (world_of world.now) objects self.new }
+    {
+        match &mut self.of[object as usize] {
+            Fold::Causal(folds) => {
+                folds[region as usize].values(alloc, world, region, colour, key)
             }
             _ => unreachable!(),
         }

@@ -13,6 +13,7 @@ ghost use Rattle.script_meaning.specs.Gets.{got, got_value, got_keys, key_answer
 ghost use Rattle.script_in_order.specs.Doing.{DoneBy};
 ghost use Rattle.script_in_order.specs.Folds.{line_of, AreThere, AreFolded, ShardsWithin, IsMapAt};
 
+use crate::causal::get_values;
 use crate::clears::home;
 use crate::folds::{FirstNodes, Folds};
 use crate::object_appends::{key_shards, shard};
@@ -52,6 +53,9 @@ pub fn get(
 {
     match &objects[object as usize].kind {
         Kind::Map { .. } => get_value(alloc, objects, command, object, key, world, folds),
+        Kind::Causal { colour } => {
+            get_values(alloc, objects, command, object, *colour, key, world, folds)
+        }
         _ => unreachable!(),
     }
 }

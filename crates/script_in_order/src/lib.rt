@@ -4,6 +4,7 @@
 mod answers;
 mod appends;
 mod built;
+mod causal;
 mod clears;
 mod folding;
 mod folds;

@@ -14,6 +14,8 @@ use Rattle.script_meaning.proofs.GrantedCommands.{done_extends, single_runs}
 pub use Rattle.script_meaning.proofs.Lines.{final_stays}
 pub use Rattle.script_meaning.proofs.Rows.{standing_as}
 pub use Rattle.script_meaning.proofs.HelpGrants.{single_same}
+pub use Rattle.script_meaning.proofs.CausalAnswers.{causal_answer, one_answer}
+pub use Rattle.script_meaning.proofs.CausalNodes.{AtPlace, at_place, causal_node_is, place_within}
 pub use Rattle.script_meaning.proofs.ChainNodes.{line_node}
 pub use Rattle.script_meaning.proofs.StampedEnds.{rising_line, keys_listed}
 pub use Rattle.script_meaning.proofs.StampedReads.{stamp_low}

@@ -93,12 +93,24 @@ carried_of own regions before (events.Carry other start heads) stamp region head
     (λ t _. subst (λ (r : ℕ). r < regions) (eqb-true other region t) l.2) (λ _ none. absurd none) i
 carried_of own regions before (events.Trim _) stamp region head l i = absurd i
 
+-- what a column holds of another region, it holds of one that there is
+pub carried_of_region : (w : World) → IsReached w → (own c r : ℕ) (head : Head) → r ≢ own
+    → In head (chain own (dated own (w.histories own c)) r) → r < w.shape.regions
+carried_of_region w reached own c r head ne i =
+    let ds = dated own (w.histories own c) in
+    let f : (r == own) ≡ false = by_test _ (r == own) (λ t. absurd (ne (eqb-true r own t))) (λ g. g) in
+    let j = in_flat_map (λ (d : Dated). carried r d.entry.event) ds head
+    (subst (λ (l : List Head). In head l) (if_false (r == own) _ _ f) i) in
+    let n = in_slice ds j.0 j.1 in
+    carried_of own w.shape.regions (take n.0 ds) j.0.entry.event j.0.entry.stamp r head
+    ((held_of w reached).lawful own c n.0 j.0 n.1) j.2
+
 -- each node of a chain is there, with its text
 pub chain_node : (w : World) → IsReached w → (own c : ℕ) → own < w.shape.regions
     → AreTrueCopies w.shape.regions (λ region. dated region (w.histories region c)) → (r : ℕ) (head : Head)
     → In head (chain own (dated own (w.histories own c)) r) → (node : Node) × (node_with w head.key.id ≡ Some node)
 chain_node w reached own c home copies r head i =
-    by_test _ (r == own) (λ t. mine (eqb-true r own t)) (λ f. other f) where
+    by_test _ (r == own) (λ t. mine (eqb-true r own t)) (λ f. other (λ e. apart (r == own) (eq-eqb r own e) f)) where
       of_line : (k : ℕ) → In head (chain k (dated k (w.histories k c)) k)
           → (node : Node) × (node_with w head.key.id ≡ Some node)
       of_line k j =
@@ -110,15 +122,8 @@ chain_node w reached own c home copies r head i =
       mine : r ≡ own → (node : Node) × (node_with w head.key.id ≡ Some node)
       mine e = of_line own (subst (λ (k : ℕ). In head (chain own (dated own (w.histories own c)) k)) e i)
 
-      other : (r == own) ≡ false → (node : Node) × (node_with w head.key.id ≡ Some node)
-      other f =
-          let ds = dated own (w.histories own c) in
-          let ne : r ≢ own = λ e. apart (r == own) (eq-eqb r own e) f in
-          let j = in_flat_map (λ (d : Dated). carried r d.entry.event) ds head
-          (subst (λ (l : List Head). In head l) (if_false (r == own) _ _ f) i) in
-          let n = in_slice ds j.0 j.1 in
-          let lt = carried_of own w.shape.regions (take n.0 ds) j.0.entry.event j.0.entry.stamp r head
-          ((held_of w reached).lawful own c n.0 j.0 n.1) j.2 in
-          let copy = copies r own lt home ne in
+      other : r ≢ own → (node : Node) × (node_with w head.key.id ≡ Some node)
+      other ne =
+          let copy = copies r own (carried_of_region w reached own c r head ne i) home ne in
           of_line r (subst (λ (l : List Head). In head l) copy.beginning
           (in_left head (chain own (dated own (w.histories own c)) r) copy.rest i))

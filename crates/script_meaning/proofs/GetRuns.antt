@@ -1,6 +1,6 @@
 -- After a get of a map there holds what held before.
 use Rattle.std.proofs.Common.{◌≡◌, ℕ, ◌<◌, List, [], ◌∷◌, ◌++◌, length, map, take, Option, Some, refl, ap, sym, subst, ◌∙◌, inl, inr, arith}
-use Rattle.std.specs.Prelude.{◌==◌}
+use Rattle.std.specs.Prelude.{◌==◌, if◌then◌else◌}
 use Rattle.std.specs.List.{list_any}
 use Rattle.std.proofs.lemmas.List.{take_all}
 use Rattle.log_node.specs.Vectors.{at}
@@ -29,10 +29,10 @@ use Rattle.report_text.specs.declared.report.KeyAnswer.{KeyAnswer}
 use Rattle.report_text.specs.declared.report.RaisePiece.{RaisePiece}
 use Rattle.report_text.specs.declared.report.SyncPiece.{SyncPiece}
 use Rattle.lawful_run.specs.Callers.{Caller}
-use Rattle.lawful_run.specs.Asks.{object_colours, colours_of, manner_of, colours_synced, shards}
+use Rattle.lawful_run.specs.Asks.{Getting, object_colours, colours_of, manner_of, colours_synced, shards}
 use Rattle.lawful_run.specs.Explains.{Explains}
 use Rattle.lawful_run.specs.Objects.{AreObjectNodes, own_played}
-use Rattle.lawful_run.specs.Reads.{ReadsAt, kept_after_piece}
+use Rattle.lawful_run.specs.Reads.{Syncs, ReadsAt, kept_after_piece}
 use Rattle.lawful_run.proofs.CallerLemmas.{explains_get, one_shard}
 use Rattle.script_meaning.specs.States.{State, Grants, answered, kind_in}
 use Rattle.script_meaning.specs.Stamped.{read_stamp, keys_read, stamped_read}
@@ -88,7 +88,29 @@ module _ (script : Script) (commands : List Command) (state : State) (command : 
   abbrev caller : Caller
   caller = caller_in w script.objects u
 
-  -- a get
+  -- a get that syncs a colour, whatever answer the sync explains
+  pub runs_get_by : (c : ℕ) → c < script.shape.colours → manner_of command.what ≡ Getting
+      → colours_synced caller command.what ≡ c ∷ [] → (answer : Answer)
+      → ((kept : Kept) → Syncs (log_of w) caller kept c (length (home_history w u c)) (played_cut w u c)
+      → Explains (log_of w) caller kept command.what answer []
+      (kept_after_piece (log_of w) caller kept (sync_now w u c)))
+      → Runs script commands' (if may_play w u c then answered state command (after w (Play u c)) answer []
+      else answered state command w (answers.Trimmed c (base_now w u c)) [])
+  runs_get_by c low getting synced answer says =
+      let few = moving.own_few script commands state command runs fit in
+      let client_ok = moving.client_ok script commands state command runs fit in
+      let column_ok = moving.column_ok script commands state command runs fit c low in
+      choice (Runs script commands') (may_play w u c) (answered state command (after w (Play u c)) answer [])
+      (answered state command w (answers.Trimmed c (base_now w u c)) [])
+      (λ ok. runs_done script commands state command runs fit (after w (Play u c)) answer []
+      (did_get script.objects w runs.reached u c few client_ok column_ok command.what getting ok answer says)
+      (choice (Finished S) (may_play w u c) (after_play w u c) w
+      (λ _. finished_client S w u (played_client w u c) refl runs.finished) (λ _. runs.finished)))
+      (λ refused. runs_done script commands state command runs fit w (answers.Trimmed c (base_now w u c)) []
+      (did_refuse_get script.objects w runs.reached u c few client_ok column_ok command.what getting synced refused)
+      runs.finished)
+
+  -- a get of a map
   module _ (object home : ℕ) (colours key : List ℕ) (asked : command.what ≡ whats.Get object key)
       (is_map : kind_in script.objects object ≡ Some (kinds.Map home colours))
       (has : HasObject script.objects object is_any_map) where
@@ -122,27 +144,13 @@ module _ (script : Script) (commands : List Command) (state : State) (command : 
     abbrev answer : Answer
     answer = answers.Got (value_now w u colours c key) (sync_now w u c)
 
-    finished : Finished S (after w (Play u c))
-    finished =
-        choice (Finished S) (may_play w u c) (after_play w u c) w
-        (λ _. finished_client S w u (played_client w u c) refl runs.finished) (λ _. runs.finished)
-
     pub runs_get_value : Runs script commands' (got_value state command colours key)
     runs_get_value =
-        let few = moving.own_few script commands state command runs fit in
-        let client_ok = moving.client_ok script commands state command runs fit in
-        let column_ok = moving.column_ok script commands state command runs fit c low in
-        choice (Runs script commands') (may_play w u c) (answered state command (after w (Play u c)) answer [])
-        (answered state command w (answers.Trimmed c (base_now w u c)) [])
-        (λ ok. runs_done script commands state command runs fit (after w (Play u c)) answer []
-        (did_get script.objects w runs.reached u c few client_ok column_ok command.what (ap manner_of asked) ok answer
+        runs_get_by c low (ap manner_of asked) synced answer
         (λ kept syncs. subst (λ (what : What). Explains (log_of w) caller kept what answer []
         (kept_after_piece (log_of w) caller kept (sync_now w u c))) (sym asked)
         (explains_get (log_of w) caller kept object home colours key (sync_now w u c) (first_nodes w u c count) is_map
-        small refl syncs played))) finished)
-        (λ refused. runs_done script commands state command runs fit w (answers.Trimmed c (base_now w u c)) []
-        (did_refuse_get script.objects w runs.reached u c few client_ok column_ok command.what (ap manner_of asked)
-        synced refused) runs.finished)
+        small refl syncs played))
 
   -- several keys
   module _ (object : ℕ) (keys : List (List ℕ)) (key : List ℕ) (is_key : In key keys)

@@ -42,6 +42,7 @@ use Rattle.lawful_run.specs.Callers.{Caller}
 use Rattle.lawful_run.specs.Asks.{kind_of, colours_of, keys_of, put_form, shards}
 use Rattle.script_meaning.specs.Objects.{caller_in, refusing_home, shard_set}
 use Rattle.script_meaning.specs.Dequeues.{first_nodes, sync_now, base_now, dequeued_at, dequeued_by}
+use Rattle.script_meaning.specs.CausalGets.{causal_values, nodes_up_to_cut}
 use Rattle.script_meaning.specs.Gets.{value_now, got, keys_answer}
 use Rattle.script_meaning.specs.Meaning.{done_one, done_from, done, TellsNoWant}
 use Rattle.script_meaning.proofs.GrantedSteps.{IsClean, RunsTo, stays_there, runs_on, clean_from, complete_exact, taken_exact, clears_run, clears_exact}
@@ -230,18 +231,24 @@ module _ (objects : List Object) (grants : Grants) (state : State) (command : Co
       (λ _. at_extends v (single_stamp w u c) point (single_runs text c))
       (λ _. answer_extends state command w (answers.StampEnd c) [] (stays_there w))
 
-  got_extends : (kind : Option Kind) (key : List ℕ) → Extends state (got grants state command kind key)
-  got_extends None key = nothing_done
-  got_extends (Some (kinds.Map home colours)) key =
-      let c = shard_of colours key in
-      let got = answers.Got (value_now w u colours c key) (sync_now w u c) in
+  -- a get that syncs a colour
+  get_extends : (c : ℕ) (got : Answer) → Extends state
+      (cond (may_play w u c) (answered state command (after w (Play u c)) got [])
+      (answered state command w (answers.Trimmed c (base_now w u c)) []))
+  get_extends c got =
       let base = answers.Trimmed c (base_now w u c) in
       choice (Extends state) (may_play w u c) (answered state command (after w (Play u c)) got [])
       (answered state command w base [])
       (λ _. answer_extends state command (after w (Play u c)) got [] (record { steps = Play u c ∷ []; run = refl }))
       (λ _. answer_extends state command w base [] (stays_there w))
+
+  got_extends : (kind : Option Kind) (key : List ℕ) → Extends state (got grants state command kind key)
+  got_extends None key = nothing_done
+  got_extends (Some (kinds.Map home colours)) key =
+      let c = shard_of colours key in get_extends c (answers.Got (value_now w u colours c key) (sync_now w u c))
   got_extends (Some (kinds.Tx home colours)) key = nothing_done
-  got_extends (Some (kinds.Causal colour)) key = nothing_done
+  got_extends (Some (kinds.Causal colour)) key =
+      get_extends colour (answers.GotMany (causal_values (nodes_up_to_cut w u colour) key) (sync_now w u colour))
   got_extends (Some (kinds.Queue home colour)) key = nothing_done
 
   one_command_extends : (what : What) → Extends state (done_one objects grants state command what)

@@ -45,8 +45,9 @@ use Rattle.script_meaning.proofs.ShardSets.{shard_members, set_has, shards_below
 use Rattle.script_meaning.proofs.Playing.{at_or}
 use Rattle.script_meaning.proofs.ObjectAppends.{AsksIn, does_as}
 use Rattle.script_meaning.proofs.DequeueRuns as dequeues
+use Rattle.script_meaning.proofs.CausalRuns as causal
 use Rattle.script_meaning.proofs.GetRuns as gets
-use Rattle.script_meaning.proofs.ObjectKinds.{some_of, object_has, queue_one, not_away, is_away, did_stay_away}
+use Rattle.script_meaning.proofs.ObjectKinds.{some_of, causal_colour, object_has, queue_one, not_away, is_away, did_stay_away}
 use Rattle.script_meaning.proofs.AppendOne as one
 use Rattle.script_meaning.proofs.AfterMoves as moving
 use Rattle.script_meaning.proofs.AfterScan as scanning
@@ -307,7 +308,9 @@ module _ (script : Script) (commands : List Command) (state : State) (command : 
   runs_get object key asked has (Some (kinds.Map home colours)) is b =
       gets.runs_get_value script commands state command grants runs fit object home colours key asked is has
   runs_get object key asked has (Some (kinds.Tx home colours)) is b = absurd (let f : ⊥ = cc in f)
-  runs_get object key asked has (Some (kinds.Causal colour)) is b = absurd (let f : ⊥ = cc in f)
+  runs_get object key asked has (Some (kinds.Causal colour)) is b =
+      causal.runs_got_values script commands state command grants runs fit object colour key asked is
+      (causal_colour script.objects script.shape.regions script.shape.colours fit.kinds object has colour is)
   runs_get object key asked has (Some (kinds.Queue home colour)) is b = absurd (let f : ⊥ = cc in f)
 
   runs_what : (what : What) → command.what ≡ what → is_built script.objects what ≡ true

@@ -15,6 +15,9 @@ mod ShardSets
 mod ObjectAppends
 mod Playing
 mod ChainNodes
+mod CausalAnswers
+mod CausalNodes
+mod CausalRuns
 mod Sync
 mod StampedRaises
 mod StampedPlays

@@ -12,7 +12,7 @@ use Rattle.script_text.specs.declared.script.Kind.TheVariants as kinds
 use Rattle.script_text.specs.declared.script.Object.{Object}
 use Rattle.script_text.specs.declared.script.What.{What}
 use Rattle.script_text.specs.Items.{set_of}
-use Rattle.script_text.specs.Fitting.{AreObjectColours, IsKindWithin, is_queue, HasObject}
+use Rattle.script_text.specs.Fitting.{AreObjectColours, IsKindWithin, is_queue, is_any_map, HasObject}
 use Rattle.report_text.specs.declared.report.Answer.TheVariants as answers
 use Rattle.lawful_run.specs.Callers.{Caller}
 use Rattle.lawful_run.specs.Asks.{object_colours, home_asked}
@@ -116,3 +116,15 @@ pub did_stay_away : (objects : List Object) (u : ℕ) (what : What) (w : World) 
     → Does objects u what w w (answers.NotHome home) []
 did_stay_away objects u what w home asked away =
     same_world objects u what w (answers.NotHome home) (λ kept k. (refl, refl, asked, away))
+
+-- the one colour of a causal map
+pub causal_colour : (objects : List Object) (regions count : ℕ)
+    → All (λ (o : Object). IsKindWithin regions count o.kind) objects → (object : ℕ)
+    → HasObject objects object is_any_map → (colour : ℕ)
+    → option_map (λ (o : Object). o.kind) (slice_get objects object) ≡ Some (kinds.Causal colour) → colour < count
+causal_colour objects regions count all object has colour is =
+    let kind : has.found.kind ≡ kinds.Causal colour =
+    same_some (sym (ap (λ (o : Option Object). option_map (λ (x : Object). x.kind) o) has.there) ∙ is) in
+    subst (IsKindWithin regions count) kind (within objects regions count all object is_any_map has) where
+      same_some : {a b : Kind} → Some a ≡ Some b → a ≡ b
+      same_some e = cc

@@ -21,6 +21,7 @@ use Rattle.lawful_run.specs.Asks.{colours_of, shards}
 use Rattle.script_meaning.specs.States.{State, Grants, answered}
 use Rattle.script_meaning.specs.Objects.{caller_in}
 use Rattle.script_meaning.specs.Dequeues.{object_at, first_nodes, sync_now, base_now}
+use Rattle.script_meaning.specs.CausalGets.{got_values}
 use Rattle.script_meaning.specs.Stamped.{ended_by, stamped_read}
 
 -- a key's value after the own nodes that a client plays now; the map has these colours
@@ -45,7 +46,7 @@ abbrev pub got : Grants → State → Command → Option Kind → List ℕ → S
 got grants state command None key = state
 got grants state command (Some (kinds.Map home colours)) key = got_value state command colours key
 got grants state command (Some (kinds.Tx home colours)) key = state
-got grants state command (Some (kinds.Causal colour)) key = state
+got grants state command (Some (kinds.Causal colour)) key = got_values state command colour key
 got grants state command (Some (kinds.Queue home colour)) key = state
 
 -- keys with their values

@@ -5,6 +5,7 @@ pub mod Moves
 pub mod Stamped
 pub mod Objects
 pub mod Dequeues
+pub mod CausalGets
 pub mod Gets
 pub mod Meaning
 pub mod Laws

@@ -35,7 +35,7 @@ abbrev pub is_get_built : Option Kind → Bool
 is_get_built None = false
 is_get_built (Some (kinds.Map home colours)) = true
 is_get_built (Some (kinds.Tx home colours)) = false
-is_get_built (Some (kinds.Causal colour)) = false
+is_get_built (Some (kinds.Causal colour)) = true
 is_get_built (Some (kinds.Queue home colour)) = false
 
 -- The commands that are done so far: an append to any number of colours, a stop of an append to several, a sync, a scan,

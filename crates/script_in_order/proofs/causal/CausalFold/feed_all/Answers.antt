@@ -1,0 +1,36 @@
+use Rattle.std.proofs.Common.{◌≡◌, ◌<◌, ◌≤◌, ℕ, true, ap, sym, subst, ◌∙◌, refl, arith}
+use Rattle.log_node.specs.declared.ids.Counts.{Counts}
+use Rattle.log_node.specs.Vectors.{at}
+use Rattle.column.specs.Columns.{ColumnState, cut_of as column_cut}
+use Rattle.world_laws.specs.Worlds.{cut_after}
+use Rattle.world_code.specs.WorldView.{world_of, column_at}
+use Rattle.script_in_order.specs.CausalFolds.{cut_of, is_next}
+use Rattle.script_in_order.proofs.CausalSteps.{below, fewer_left, left_of, none_is_next}
+use Rattle.script_in_order.proofs.causal.CausalFold.feed_all.Goals as goal
+
+pub loop-region-smaller : goal.loop-region-smaller
+loop-region-smaller c =
+    let w = world_of c.args.world.now in
+    let l = c.loop-region in
+    let own = c.args.own in
+    let colour = c.args.colour in
+    let code = c.args.world.now in
+    let region = c.in-Some.region in
+    let cut : c.cut-cut.result ≡ cut_of w own colour =
+    c.cut-cut.ensures
+    ∙ (ap (λ (col : ColumnState). column_cut col) c.column.ensures
+    ∙ ap (λ (r : ℕ). cut_after r (column_at code.columns own colour).journal)
+    (c.is_whole.ensures.placed own colour c.requires.own c.requires.colour).in_region) in
+    let low : colour < 64 = (let few = c.is_whole.ensures.few_colours in let small = c.requires.colour in let k : colour < 64 = omega (arith, few, small) in k) in
+    let less = below w c.is_whole.ensures.reached own colour c.requires.own low l.self region c.in-Some.ensures.some.0
+    c.in-Some.ensures.some.1 l.invariant in
+    subst (λ (v : Counts). left_of c.cut-cut.result v < left_of c.cut-cut.result l.self.counts) (sym c.in_ok-feed.ensures.counts)
+    (fewer_left c.cut-cut.result l.self.counts region c.in-Some.ensures.some.0
+    (subst (λ (v : Counts). at l.self.counts region < at v region) (sym cut) less))
+
+pub returns-clause-all : goal.returns-clause-all
+returns-clause-all c =
+    let w = world_of c.args.world.now in
+    let low : c.args.colour < 64 = (let few = c.is_whole.ensures.few_colours in let small = c.requires.colour in let k : c.args.colour < 64 = omega (arith, few, small) in k) in
+    none_is_next w c.is_whole.ensures.reached c.args.own c.args.colour c.requires.own low c.loop-region.self.counts
+    (c.next_region.ensures.none c.in_default.is) c.loop-region.invariant.within

@@ -1,0 +1,14 @@
+use Rattle.std.proofs.Common.{◌≡◌, ◌+◌, ◌-◌}
+use Rattle.log_node.specs.Vectors.{at}
+use Rattle.world_code.specs.WorldView.{world_of}
+use Rattle.script_in_order.specs.CausalFolds.{cut_of, IsCausalFold}
+use Rattle.script_in_order.proofs.causal.CausalFold.feed_all.Given as goal
+
+-- the fold is right after each node
+abbrev pub invariant-loop-region : goal.invariant-loop-region
+invariant-loop-region l = IsCausalFold (world_of l.world) l.own l.colour l.self
+
+abbrev pub decreases-loop-region : goal.decreases-loop-region
+decreases-loop-region l =
+    (at l.cut 0 - at l.self.counts 0) + (at l.cut 1 - at l.self.counts 1) + (at l.cut 2 - at l.self.counts 2)
+    + (at l.cut 3 - at l.self.counts 3)
