@@ -3,6 +3,7 @@ use Rattle.std.proofs.Common.{◌≡◌, ℕ, zero, suc, ◌+◌, ◌<◌, ◌�
 use Rattle.std.specs.Prelude.{◌≢◌, slice_get}
 use Rattle.std.specs.List.{Contains}
 use Rattle.std.specs.Option.{option_map}
+use Rattle.std.proofs.lemmas.Option.{slice_get-get_or}
 use Rattle.log_node.specs.declared.ids.Key.{Key}
 use Rattle.object_fold.specs.Nodes.{ObjectNode}
 use Rattle.object_fold.specs.States.{IsShardMap, IsQueue, HasShardOf}
@@ -267,3 +268,56 @@ folds_push w objects all o fold f right = record {
   turn n p other (inl a) (inr b) = absurd (b.0 (a.0 ∙ sym f.many))
   turn n p other (inr a) (inl b) = absurd (a.0 (b.0 ∙ f.many))
   turn n p other (inr a) (inr b) = f.each n p other a.1 b.1
+
+-- what stands at a place
+pub there_at : {A : Type 0} (xs : List A) (n : ℕ) (x : A) → n < length xs → x ≡ get_or xs n x → slice_get xs n ≡ Some x
+there_at {A} xs n x lt is = slice_get-get_or xs n x lt ∙ ap (λ (y : A). Some y) (sym is)
+
+-- the fold of an object of some kind
+module _ (w : World) (objects : List Object) (all : List Fold) (object : ℕ) (kind : Kind) (f : AreFolded w objects all)
+    (is : kind_in objects object ≡ Some kind) where
+  pub object_low : object < length all
+  object_low =
+      let o = found w objects all f object kind is in
+      let lt = get_within objects object o.0 o.1 in let e = f.many in omega (arith, lt, e)
+
+  pub fold_there : (fold : Fold) → fold ≡ get_or all object fold → IsFoldOf w kind fold
+  fold_there fold there = fold_at w objects all f object kind fold is (there_at all object fold object_low there)
+
+  pub fold_put : (fold : Fold) → IsFoldOf w kind fold → AreFolded w objects (set all object fold)
+  fold_put fold right = folds_with w objects all object fold f (λ o at. subst (λ (k : Kind). IsFoldOf w k fold)
+      (let e : Some kind ≡ Some o.kind = sym is ∙ ap (λ (x : Option Object). option_map (λ (y : Object). y.kind) x) at in
+      let g : kind ≡ o.kind = cc in g) right)
+
+-- the fold of a map
+module _ (w : World) (home : ℕ) (colours : List ℕ) where
+  pub map_shards : (shards : Vec ShardFold Global) → IsFoldOf w (kinds.Map home colours) (folds.Map shards)
+      → AreShardFolds w home colours shards.items
+  map_shards shards (h, cs, e, each) =
+      let a : home ≡ h = cc in
+      let b : colours ≡ cs = cc in
+      subst (λ (x : ℕ). AreShardFolds w x colours shards.items) (sym a)
+      (subst (λ (x : List ℕ). AreShardFolds w h x shards.items) (sym b) each)
+
+  pub only_map : (fold : Fold) → IsFoldOf w (kinds.Map home colours) fold
+      → ((shards : Vec ShardFold Global) → fold ≡ folds.Map shards → ⊥) → ⊥
+  only_map (folds.Map shards) f n = n shards refl
+  only_map (folds.Queue queue) (h, c, e, right) n = let g : ⊥ = cc in g
+  only_map (folds.Causal regions) (c, e, right) n = let g : ⊥ = cc in g
+  only_map folds.Nothing f n = f.0 home colours refl
+
+-- the fold of a queue
+module _ (w : World) (home colour : ℕ) where
+  pub queue_fold : (queue : QueueFold) → IsFoldOf w (kinds.Queue home colour) (folds.Queue queue)
+      → IsQueueFold w home colour queue
+  queue_fold queue (h, c, e, right) =
+      let a : home ≡ h = cc in
+      let b : colour ≡ c = cc in
+      subst (λ (x : ℕ). IsQueueFold w x colour queue) (sym a) (subst (λ (x : ℕ). IsQueueFold w h x queue) (sym b) right)
+
+  pub only_queue : (fold : Fold) → IsFoldOf w (kinds.Queue home colour) fold
+      → ((queue : QueueFold) → fold ≡ folds.Queue queue → ⊥) → ⊥
+  only_queue (folds.Map shards) (h, cs, e, right) n = let g : ⊥ = cc in g
+  only_queue (folds.Queue queue) f n = n queue refl
+  only_queue (folds.Causal regions) (c, e, right) n = let g : ⊥ = cc in g
+  only_queue folds.Nothing f n = f.1 home colour refl
