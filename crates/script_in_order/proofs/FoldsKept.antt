@@ -321,3 +321,30 @@ module _ (w : World) (home colour : ℕ) where
   only_queue (folds.Queue queue) f n = n queue refl
   only_queue (folds.Causal regions) (c, e, right) n = let g : ⊥ = cc in g
   only_queue folds.Nothing f n = f.1 home colour refl
+
+-- the same vector with another item at a place
+abbrev pub with_shard : Vec ShardFold Global → ℕ → ShardFold → Vec ShardFold Global
+with_shard shards n fold = record shards { items = set shards.items n fold }
+
+-- a shard that was folded on is within its bound
+pub within_with : (all : List Fold) (object : ℕ) (shards : Vec ShardFold Global) (n : ℕ) (fold : ShardFold)
+    (cs : List ℕ) (bound : ℕ → ℕ) → slice_get all object ≡ Some (folds.Map shards)
+    → ShardsWithin all object cs bound → fold.count ≤ bound n
+    → ShardsWithin (set all object (folds.Map (with_shard shards n fold))) object cs bound
+within_with all object shards n fold cs bound there old low = λ c i others other at_object at_colour.
+    by_place c i others other (set_cases all object object (folds.Map (with_shard shards n fold)) (folds.Map others) at_object) at_colour where
+      by_colour : (c : ℕ) → Contains cs c → (other : ShardFold)
+          → ((c ≡ n) × (fold ≡ other)) ⊎ ((c ≢ n) × (slice_get shards.items c ≡ Some other)) → other.count ≤ bound c
+      by_colour c i other (inl p) =
+          subst (λ (k : ℕ). other.count ≤ bound k) (sym p.0) (subst (λ (x : ShardFold). x.count ≤ bound n) p.1 low)
+      by_colour c i other (inr p) = old c i shards other there p.1
+
+      by_place : (c : ℕ) → Contains cs c → (others : Vec ShardFold Global) (other : ShardFold)
+          → ((object ≡ object) × (folds.Map (with_shard shards n fold) ≡ folds.Map others))
+          ⊎ ((object ≢ object) × (slice_get all object ≡ Some (folds.Map others)))
+          → slice_get others.items c ≡ Some other → other.count ≤ bound c
+      by_place c i others other (inl p) at =
+          let same : with_shard shards n fold ≡ others = let e = p.1 in cc in
+          by_colour c i other (set_cases shards.items n c fold other
+          (ap (λ (v : Vec ShardFold Global). slice_get v.items c) same ∙ at))
+      by_place c i others other (inr p) at = absurd (p.0 refl)

@@ -153,9 +153,11 @@ finds_same grants more same n (x ∷ finds) f =
 pub read_given : (old new : World) (client : ℕ) (colours : List ℕ) (ends : ReadEnd) → Reads old new client colours ends
     → (g : Grants) × (stamped_read g old client colours ≡ record { world = new; ends = ends })
 read_given old new client colours ends reads =
-    let g : Grants = record (found_with (λ _. true) reads.finds) { raises = reads.found } in
-    (g, reads.is g refl (finds_same (found_with (λ _. true) reads.finds) g refl 0 reads.finds
-    (finds_all (λ _. true) reads.finds)))
+    let g : Grants = record (found_with (λ _. true) reads.finds) { raises = reads.found } in (
+      g,
+      reads.is g refl (finds_same (found_with (λ _. true) reads.finds) g refl 0 reads.finds
+          (finds_all (λ _. true) reads.finds)),
+    )
 
 -- how it is answered where its read is whole, and which nodes are then shown, in the world in which the read ended
 abbrev pub Answering : Type 0

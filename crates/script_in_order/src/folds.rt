@@ -114,6 +114,30 @@ impl ShardFold {
         }
         Ok(())
     }
+
+    // The value of a key after the first nodes of the line of a column at home.
+    fn value(
+        &mut self,
+        alloc: Global,
+        world: &World,
+        first: FirstNodes,
+        key: &[u8],
+    ) -> Result<Option<Text>, AllocError>
+        requires there { AreThere (world_of world.now) first }
+        requires behind { self.old.count ≤ first.count }
+        requires folded { (colours : List ℕ) × IsShardFold (world_of world.now) first.region colours first.colour self.old }
+        ensures value { (colours : List ℕ) → IsShardFold (world_of world.now) first.region colours first.colour self.old
+            → IfOk result (λ value. value ≡ shard_value colours first.colour (nodes_at (world_of world.now) first) key.now) }
+        ensures within { self.new.count ≤ first.count }
+        ensures folded { (colours : List ℕ) → IsShardFold (world_of world.now) first.region colours first.colour self.old
+            → IsShardFold (world_of world.now) first.region colours first.colour self.new }
+    {
+        self.fold_to(alloc, world, first)?;
+        match self.map.get(key) {
+            None => Ok(None),
+            Some(value) => Ok(Some(Text::copied(alloc, value.as_bytes())?)),
+        }
+    }
 }
 
 impl QueueFold {
@@ -142,6 +166,26 @@ impl QueueFold {
             self.count = place + 1;
         }
         Ok(())
+    }
+
+    // The front after the first nodes of the line of a column at home.
+    fn front(
+        &mut self,
+        alloc: Global,
+        world: &World,
+        first: FirstNodes,
+    ) -> Result<Option<Text>, AllocError>
+        requires there { AreThere (world_of world.now) first }
+        requires behind { self.old.count ≤ first.count }
+        requires folded { IsQueueFold (world_of world.now) first.region first.colour self.old }
+        ensures value { IfOk result (λ value. value ≡ front_after (nodes_at (world_of world.now) first)) }
+        ensures folded { IsQueueFold (world_of world.now) first.region first.colour self.new }
+    {
+        self.fold_to(alloc, world, first)?;
+        match self.queue.front() {
+            None => Ok(None),
+            Some(front) => Ok(Some(Text::copied(alloc, front.as_bytes())?)),
+        }
     }
 }
 
@@ -230,14 +274,7 @@ impl Folds {
             → first.count ≤ bound first.colour → ShardsWithin self.new object colours bound }
     {
         match &mut self.of[object as usize] {
-            Fold::Map(shards) => {
-                let shard = &mut shards[first.colour as usize];
-                shard.fold_to(alloc, world, first)?;
-                match shard.map.get(key) {
-                    None => Ok(None),
-                    Some(value) => Ok(Some(Text::copied(alloc, value.as_bytes())?)),
-                }
-            }
+            Fold::Map(shards) => { shards[first.colour as usize].value(alloc, world, first, key) }
             _ => unreachable!(),
         }
     }
@@ -260,13 +297,7 @@ impl Folds {
             → AreFolded (world_of world.now) objects self.old → AreFolded (world_of world.now) objects self.new }
     {
         match &mut self.of[object as usize] {
-            Fold::Queue(fold) => {
-                fold.fold_to(alloc, world, first)?;
-                match fold.queue.front() {
-                    None => Ok(None),
-                    Some(front) => Ok(Some(Text::copied(alloc, front.as_bytes())?)),
-                }
-            }
+            Fold::Queue(fold) => fold.front(alloc, world, first),
             _ => unreachable!(),
         }
     }
