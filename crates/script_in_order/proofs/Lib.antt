@@ -22,3 +22,5 @@ mod MoveGuards
 mod ObjectSteps
 mod DequeueSteps
 mod FoldsKept
+mod ObjectHomes
+mod GetSteps

@@ -223,8 +223,9 @@ impl Folds {
             → kind_in objects object ≡ Some (Kind.Map first.region colours)
             → AreFolded (world_of world.now) objects self.old
             → IfOk result (λ value. value ≡ shard_value colours first.colour (nodes_at (world_of world.now) first) key.now) }
-        ensures folded { (objects : List Object) → AreFolded (world_of world.now) objects self.old
-            → AreFolded (world_of world.now) objects self.new }
+        ensures folded { (objects : List Object) (colours : List ℕ)
+            → kind_in objects object ≡ Some (Kind.Map first.region colours)
+            → AreFolded (world_of world.now) objects self.old → AreFolded (world_of world.now) objects self.new }
         ensures within { (colours : List ℕ) (bound : ℕ → ℕ) → ShardsWithin self.old object colours bound
             → first.count ≤ bound first.colour → ShardsWithin self.new object colours bound }
     {
@@ -254,8 +255,9 @@ impl Folds {
             × MayFold (world_of world.now) objects self.old object (Kind.Queue first.region first.colour) first }
         requires behind { QueueWithin self.old object first.count }
         ensures value { IfOk result (λ value. value ≡ front_after (nodes_at (world_of world.now) first)) }
-        ensures folded { (objects : List Object) → AreFolded (world_of world.now) objects self.old
-            → AreFolded (world_of world.now) objects self.new }
+        ensures folded { (objects : List Object)
+            → kind_in objects object ≡ Some (Kind.Queue first.region first.colour)
+            → AreFolded (world_of world.now) objects self.old → AreFolded (world_of world.now) objects self.new }
     {
         match &mut self.of[object as usize] {
             Fold::Queue(fold) => {

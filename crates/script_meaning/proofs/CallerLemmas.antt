@@ -7,7 +7,8 @@ use Rattle.world_laws.proofs.CallerLemmas.{opened_reached, run_reached, run_grow
 use Rattle.script_text.specs.declared.script.Command.{Command}
 use Rattle.script_text.specs.declared.script.Script.{Script}
 use Rattle.script_meaning.specs.States.{State, Grants}
-use Rattle.script_meaning.specs.Meaning.{LeadTo, nothing, next}
+use Rattle.script_text.specs.declared.script.Object.{Object}
+use Rattle.script_meaning.specs.Meaning.{LeadTo, nothing, next, done}
 use Rattle.script_meaning.specs.Appends.{with_single}
 use Rattle.script_meaning.proofs.GrantedCommands.{done_extends, single_runs}
 pub use Rattle.script_meaning.proofs.Lines.{final_stays}
@@ -19,7 +20,7 @@ pub use Rattle.script_meaning.proofs.ChainNodes.{line_node}
 pub use Rattle.script_meaning.proofs.StampedEnds.{rising_line, keys_listed}
 pub use Rattle.script_meaning.proofs.StampedReads.{stamp_low}
 pub use Rattle.script_meaning.proofs.ShardSets.{keys_set, set_one, shard_members, set_has, shard_below, shards_below, shards_has, key_in}
-pub use Rattle.script_meaning.proofs.GrantedSteps.{RunsTo}
+pub use Rattle.script_meaning.proofs.GrantedSteps.{RunsTo, stays_there}
 pub use Rattle.script_meaning.proofs.GrantedReads.{read_runs}
 pub use Rattle.script_meaning.proofs.LaterNodes.{line_longer, nodes_stay, new_behind, whole_stamp, read_behind}
 pub use Rattle.script_meaning.proofs.ObjectKinds.{object_has, queue_colour, queue_one, some_of}
@@ -41,9 +42,18 @@ lead_shape script (next {commands} {state} command grants leads) =
     ap (λ (x : World). x.shape) (sym more.run)
     ∙ ((run_grows state.world more.steps).shape ∙ lead_shape script leads)
 
--- an append to one colour leaves the shape
+-- what an append to one colour leads to, and that it leaves the shape
+pub single_to : (grants : Grants) (w : World) (command : Command) (text : List ℕ) (c : ℕ)
+    → RunsTo w (with_single grants w command.client text c)
+single_to grants w command text c = single_runs [] grants (record { world = w; replies = λ _. [] }) command text c
+
 pub single_shape : (grants : Grants) (w : World) (command : Command) (text : List ℕ) (c : ℕ)
     → (with_single grants w command.client text c).shape ≡ w.shape
 single_shape grants w command text c =
-    let more = single_runs [] grants (record { world = w; replies = λ _. [] }) command text c in
+    let more = single_to grants w command text c in
     ap (λ (x : World). x.shape) (sym more.run) ∙ (run_grows w more.steps).shape
+
+-- what a command leads to
+pub done_to : (objects : List Object) (grants : Grants) (state : State) (command : Command)
+    → RunsTo state.world (done objects grants state command).world
+done_to objects grants state command = (done_extends objects grants state command).world
