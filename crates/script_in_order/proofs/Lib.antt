@@ -11,6 +11,7 @@ mod StampedWholes
 mod PullsAndTrims
 mod CausalSteps
 mod CausalLater
+mod CausalKept
 mod CommandKinds
 mod RunReplies
 mod RunSteps

@@ -319,8 +319,8 @@ impl Folds {
             × (kind_in objects object ≡ Some (Kind.Causal colour)) }
         ensures values { let w = world_of world.now in
             IfOk result (λ values. values ≡ causal_values (held_nodes w region colour (cut_of w region colour)) key.now) }
-        ensures folded { (objects : List Object) → AreFolded (world_of world.now) objects self.old
-            → AreFolded (world_of world.now) objects self.new }
+        ensures folded { (objects : List Object) → kind_in objects object ≡ Some (Kind.Causal colour)
+            → AreFolded (world_of world.now) objects self.old → AreFolded (world_of world.now) objects self.new }
     {
         match &mut self.of[object as usize] {
             Fold::Causal(folds) => {
