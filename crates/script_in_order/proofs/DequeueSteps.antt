@@ -23,7 +23,7 @@ use Rattle.report_text.specs.declared.report.ReplyLine.{ReplyLine}
 use Rattle.script_meaning.specs.States.{State, Grants, all_granted, no_reads, answered, position_of}
 use Rattle.script_meaning.specs.Appends.{appended_one, with_single, point_in}
 use Rattle.script_meaning.specs.Dequeues.{first_nodes, sync_now, base_now, dequeued_at, dequeued_on, dequeued_by}
-use Rattle.script_meaning.proofs.CallerLemmas.{single_same, single_shape}
+use Rattle.script_meaning.proofs.CallerLemmas.{RunsTo, stays_there, single_same, single_shape, single_to}
 use Rattle.script_in_order.specs.Doing.{DoneBy, with_replies}
 use Rattle.script_in_order.specs.Reading.{ReadsOwn}
 use Rattle.script_in_order.specs.Runs.{reply_of}
@@ -274,6 +274,13 @@ pub entered_shape : (command : Command) (text : List ℕ) (colour : ℕ) (w new 
 entered_shape command text colour w new answer (entered g begun may single same) =
     ap (λ (x : World). x.shape) (sym single) ∙ single_shape g w command text colour
 entered_shape command text colour w new answer (ended may same end) = ap (λ (x : World). x.shape) (sym same)
+
+-- steps lead there
+pub entered_runs : (command : Command) (text : List ℕ) (colour : ℕ) (w new : World) (answer : Answer)
+    → Entered command text colour w new answer → RunsTo w new
+entered_runs command text colour w new answer (entered g begun may single same) =
+    subst (RunsTo w) single (single_to g w command text colour)
+entered_runs command text colour w new answer (ended may same end) = subst (RunsTo w) same (stays_there w)
 
 -- the shard of no key, of an object with one colour
 pub only_shard : (colours : List ℕ) (colour shard : ℕ) → colours ≡ colour ∷ [] → shard ≡ shard_of colours []

@@ -148,6 +148,16 @@ finds_same grants more same n [] f = f
 finds_same grants more same n (x ∷ finds) f =
     (ap (λ (h : ℕ → ℕ → Bool). h n) same ∙ f.0, finds_same grants more same (n + 1) finds f.1)
 
+-- a read, with memory granted so
+pub read_given : (old new : World) (client : ℕ) (colours : List ℕ) (ends : ReadEnd) → Reads old new client colours ends
+    → (g : Grants) × (stamped_read g old client colours ≡ record { world = new; ends = ends })
+read_given old new client colours ends reads =
+    let g : Grants = record (found_with (λ _. true) reads.finds) { raises = reads.found } in (
+      g,
+      reads.is g refl (finds_same (found_with (λ _. true) reads.finds) g refl 0 reads.finds
+          (finds_all (λ _. true) reads.finds)),
+    )
+
 -- how it is answered where its read is whole, and which nodes are then shown, in the world in which the read ended
 abbrev pub Answering : Type 0
 Answering = World → ℕ → List RaisePiece → List SyncPiece → List Key → Answer

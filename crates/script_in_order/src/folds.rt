@@ -114,6 +114,30 @@ impl ShardFold {
         }
         Ok(())
     }
+
+    // The value of a key after the first nodes of the line of a column at home.
+    fn value(
+        &mut self,
+        alloc: Global,
+        world: &World,
+        first: FirstNodes,
+        key: &[u8],
+    ) -> Result<Option<Text>, AllocError>
+        requires there { AreThere (world_of world.now) first }
+        requires behind { self.old.count ≤ first.count }
+        requires folded { (colours : List ℕ) × IsShardFold (world_of world.now) first.region colours first.colour self.old }
+        ensures value { (colours : List ℕ) → IsShardFold (world_of world.now) first.region colours first.colour self.old
+            → IfOk result (λ value. value ≡ shard_value colours first.colour (nodes_at (world_of world.now) first) key.now) }
+        ensures within { self.new.count ≤ first.count }
+        ensures folded { (colours : List ℕ) → IsShardFold (world_of world.now) first.region colours first.colour self.old
+            → IsShardFold (world_of world.now) first.region colours first.colour self.new }
+    {
+        self.fold_to(alloc, world, first)?;
+        match self.map.get(key) {
+            None => Ok(None),
+            Some(value) => Ok(Some(Text::copied(alloc, value.as_bytes())?)),
+        }
+    }
 }
 
 impl QueueFold {
@@ -142,6 +166,26 @@ impl QueueFold {
             self.count = place + 1;
         }
         Ok(())
+    }
+
+    // The front after the first nodes of the line of a column at home.
+    fn front(
+        &mut self,
+        alloc: Global,
+        world: &World,
+        first: FirstNodes,
+    ) -> Result<Option<Text>, AllocError>
+        requires there { AreThere (world_of world.now) first }
+        requires behind { self.old.count ≤ first.count }
+        requires folded { IsQueueFold (world_of world.now) first.region first.colour self.old }
+        ensures value { IfOk result (λ value. value ≡ front_after (nodes_at (world_of world.now) first)) }
+        ensures folded { IsQueueFold (world_of world.now) first.region first.colour self.new }
+    {
+        self.fold_to(alloc, world, first)?;
+        match self.queue.front() {
+            None => Ok(None),
+            Some(front) => Ok(Some(Text::copied(alloc, front.as_bytes())?)),
+        }
     }
 }
 
@@ -223,20 +267,14 @@ impl Folds {
             → kind_in objects object ≡ Some (Kind.Map first.region colours)
             → AreFolded (world_of world.now) objects self.old
             → IfOk result (λ value. value ≡ shard_value colours first.colour (nodes_at (world_of world.now) first) key.now) }
-        ensures folded { (objects : List Object) → AreFolded (world_of world.now) objects self.old
-            → AreFolded (world_of world.now) objects self.new }
+        ensures folded { (objects : List Object) (colours : List ℕ)
+            → kind_in objects object ≡ Some (Kind.Map first.region colours)
+            → AreFolded (world_of world.now) objects self.old → AreFolded (world_of world.now) objects self.new }
         ensures within { (colours : List ℕ) (bound : ℕ → ℕ) → ShardsWithin self.old object colours bound
             → first.count ≤ bound first.colour → ShardsWithin self.new object colours bound }
     {
         match &mut self.of[object as usize] {
-            Fold::Map(shards) => {
-                let shard = &mut shards[first.colour as usize];
-                shard.fold_to(alloc, world, first)?;
-                match shard.map.get(key) {
-                    None => Ok(None),
-                    Some(value) => Ok(Some(Text::copied(alloc, value.as_bytes())?)),
-                }
-            }
+            Fold::Map(shards) => { shards[first.colour as usize].value(alloc, world, first, key) }
             _ => unreachable!(),
         }
     }
@@ -254,17 +292,12 @@ impl Folds {
             × MayFold (world_of world.now) objects self.old object (Kind.Queue first.region first.colour) first }
         requires behind { QueueWithin self.old object first.count }
         ensures value { IfOk result (λ value. value ≡ front_after (nodes_at (world_of world.now) first)) }
-        ensures folded { (objects : List Object) → AreFolded (world_of world.now) objects self.old
-            → AreFolded (world_of world.now) objects self.new }
+        ensures folded { (objects : List Object)
+            → kind_in objects object ≡ Some (Kind.Queue first.region first.colour)
+            → AreFolded (world_of world.now) objects self.old → AreFolded (world_of world.now) objects self.new }
     {
         match &mut self.of[object as usize] {
-            Fold::Queue(fold) => {
-                fold.fold_to(alloc, world, first)?;
-                match fold.queue.front() {
-                    None => Ok(None),
-                    Some(front) => Ok(Some(Text::copied(alloc, front.as_bytes())?)),
-                }
-            }
+            Fold::Queue(fold) => fold.front(alloc, world, first),
             _ => unreachable!(),
         }
     }
@@ -286,8 +319,8 @@ impl Folds {
             × (kind_in objects object ≡ Some (Kind.Causal colour)) }
         ensures values { let w = world_of world.now in
             IfOk result (λ values. values ≡ causal_values (held_nodes w region colour (cut_of w region colour)) key.now) }
-        ensures folded { (objects : List Object) → AreFolded (world_of world.now) objects self.old
-            → AreFolded (world_of world.now) objects self.new }
+        ensures folded { (objects : List Object) → kind_in objects object ≡ Some (Kind.Causal colour)
+            → AreFolded (world_of world.now) objects self.old → AreFolded (world_of world.now) objects self.new }
     {
         match &mut self.of[object as usize] {
             Fold::Causal(folds) => {

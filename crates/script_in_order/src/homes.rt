@@ -89,6 +89,7 @@ pub fn answer_at_home(
     ensures err { OnErr result (world_of world.new ≡ world_of world.old) }
     ensures folded { AreFolded (world_of world.new) objects.now folds.new }
 {
+    world.agrees();
     match refusing_home(objects, command, world) {
         Some(home) => Ok((Answer::NotHome { home }, ListOf::new(alloc))),
         None => if folds_nodes(&command.what) {
