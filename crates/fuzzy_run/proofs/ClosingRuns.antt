@@ -520,8 +520,10 @@ module _ (script : Script) (fits : IsFitting script) (s : Store) (clients : List
     few = let a = fits.regions in let b = fits.shape.few_regions in omega (arith, a, b);
     wide = let a = fits.colours in let b = fits.shape.few_colours in omega (arith, a, b);
     columns = λ n e at.
-        let r = (region_at n e at).2 in
-        (r.count ∙ sym fits.colours, λ colour column there.
-        let is = r.columns colour column there in (is.of_region, is.of_colour));
+        let r = (region_at n e at).2 in (
+          r.count ∙ sym fits.colours,
+          λ colour column there.
+              let is = r.columns colour column there in (is.of_region, is.of_colour),
+        );
     rows = row_nodes_there;
   }

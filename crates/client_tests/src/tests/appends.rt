@@ -233,7 +233,10 @@ fn a_stopped_append_that_is_met_is_completed(rt: HostRuntime) -> Result<(), Fail
             5 => (2, open),
             _ => (2, both),
         };
-        assert_eq!(rt; stopped(&rt, rt.alloc(), steps)?, (true, Key { stamp, id }, seen));
+        assert_eq!(rt;
+            stopped(&rt, rt.alloc(), steps)?,
+            (true, Key { stamp, id }, seen)
+        );
     }
     Ok(())
 }
