@@ -137,16 +137,16 @@ module _ (log : Log) (caller : Caller) (kept : Kept) where
   explained_keeps what answers.NoMemory nodes after e other = memory_keeps what after e.1
   explained_keeps what (answers.Stood stamp row points) nodes after e other =
       appends_keep (node_of caller kept e.2.0 e.2.1) stamp row points after e.2.3
-  explained_keeps what (answers.StampEnd colour) nodes after e other = 
+  explained_keeps what (answers.StampEnd colour) nodes after e other =
       no_stamp_keeps (node_of caller kept e.2.0 e.2.1) colour after e.2.3
   explained_keeps what (answers.Full used) nodes after e other = same_kept kept after e.2
-  explained_keeps what (answers.Stopped steps) nodes after e other = 
+  explained_keeps what (answers.Stopped steps) nodes after e other =
       stop_keeps (node_of caller kept e.1 e.2) steps after e.4
   explained_keeps what (answers.Synced sync plays) nodes after e other = so_kept kept _ after e.4 refl
   explained_keeps what (answers.Scanned stamp count raises syncs) nodes after e other =
       reads_keep log caller kept (members e.0) stamp raises syncs after e.3
   explained_keeps what (answers.Pulled count give carry) nodes after e other =
-      so_kept kept (kept_after_pull kept caller.own e.1 e.2 e.4 carry e.6) after e.8 
+      so_kept kept (kept_after_pull kept caller.own e.1 e.2 e.4 carry e.6) after e.8
       (place_keeps (kept_after_event (with_places kept e.1 e.2 e.6) e.1 e.2 e.4) caller.own e.2 carry)
   explained_keeps what answers.SameRegion nodes after e other = same_kept kept after e.1
   explained_keeps what (answers.Based at base) nodes after e other = so_kept kept _ after e.6 refl
@@ -154,7 +154,7 @@ module _ (log : Log) (caller : Caller) (kept : Kept) where
   explained_keeps what (answers.GotMany values sync) nodes after e other = so_kept kept _ after e.7 refl
   explained_keeps what (answers.GotKeys stamp shown raises syncs) nodes after e other =
       elim e.7 [
-        | inl g ↦ so_kept kept e.1 after g.4 
+        | inl g ↦ so_kept kept e.1 after g.4
             (reads_keep log caller kept (colours_synced caller what) stamp raises syncs e.1 e.2)
         | inr g ↦ elim other [
           | inl none ↦ absurd (none g.0 g.1 g.2)
@@ -177,7 +177,7 @@ module _ (log : Log) (caller : Caller) (kept : Kept) where
       let s = e.2.3 in
       hides_keep log caller s.0 (colours_synced caller what) (manner_of what) after s.2
       ∙ unshown_keeps (node_of caller kept e.2.0 e.2.1) stamp s.0 s.1
-  explained_keeps what (answers.Trimmed colour base) nodes after e other = 
+  explained_keeps what (answers.Trimmed colour base) nodes after e other =
       hides_keep log caller kept (colours_synced caller what) (manner_of what) after e.4
   explained_keeps what (answers.NotHome home) nodes after e other = same_kept kept after e.1
 

@@ -63,12 +63,14 @@ module _ (s : Store) (c : Client) (colours : Colours) (text : List ℕ) (stop : 
   -- no row is left
   pub full_stays : (used : ℕ) → HasNoRow s c colours stop used → CallsAppend s c c colours text stop (Err (faults.Full used))
   full_stays used none =
-      stays (faults.Full used)
-      (refl, λ objects kept finished keeps. (
-        kept,
-        keeps,
-        λ rest fits. (record { several = none.several; shown = none.shown ∙ sym keeps.rows; all = keeps.rows ∙ none.all }, refl),
-      ))
+      stays (faults.Full used) (
+        refl,
+        λ objects kept finished keeps. (
+          kept,
+          keeps,
+          λ rest fits. (record { several = none.several; shown = none.shown ∙ sym keeps.rows; all = keeps.rows ∙ none.all }, refl),
+        ),
+      )
       (λ other. (
         λ e. subst (HasNoRow s c colours stop) (let same : used ≡ other = cc (e) in same) none,
         λ too. ap faults.Full (none.shown ∙ sym too.shown),

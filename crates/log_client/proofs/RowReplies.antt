@@ -372,20 +372,22 @@ module _ (s : Store) (c e : Client) (r : Region) (g h : Hold) (colours : Colours
       → CallsAppend s c after colours text stop (Err (faults.StampEnd k))
   row_ended k a none still =
       settled_calls (Gone StampEnd) (λ e. let f : ⊥ = cc (e) in f) a.all still (faults.StampEnd k)
-      (λ taken e. let f : ⊥ = cc (e) in f)
-      (none, λ objects kept finished keeps. (
-        kept_then objects kept keeps,
-        keeps_then objects kept keeps still,
-        λ rest fits.
-            subst (λ (y : Node). HasNoStamp (log_of (seen_of after) rest) (caller_of s c objects) kept y k
-            (kept_then objects kept keeps)) (sym (same_node objects kept keeps))
-            (none_for_several (places objects kept keeps)
-            (gone_at_end (seen_of c) (seen_of after) rest (caller_of s c objects) kept x k (on objects)
-            (settled_row (Gone StampEnd) (λ e. let f : ⊥ = cc (e) in f) a.all still objects kept keeps rest fits)
-            (ends_at_colour (holds_of c) (holds_of after) (caller_of s c objects) r g h at_g at_h number now (on objects) x
-            (ap (λ (y : Node). y.region) x_is) same rest fits k a)
-            (settled_all (Gone StampEnd) (λ e. let f : ⊥ = cc (e) in f) a.all still objects kept keeps rest fits))),
-      ))
+      (λ taken e. let f : ⊥ = cc (e) in f) (
+        none,
+        λ objects kept finished keeps. (
+          kept_then objects kept keeps,
+          keeps_then objects kept keeps still,
+          λ rest fits.
+              subst (λ (y : Node). HasNoStamp (log_of (seen_of after) rest) (caller_of s c objects) kept y k
+              (kept_then objects kept keeps)) (sym (same_node objects kept keeps))
+              (none_for_several (places objects kept keeps)
+              (gone_at_end (seen_of c) (seen_of after) rest (caller_of s c objects) kept x k (on objects)
+              (settled_row (Gone StampEnd) (λ e. let f : ⊥ = cc (e) in f) a.all still objects kept keeps rest fits)
+              (ends_at_colour (holds_of c) (holds_of after) (caller_of s c objects) r g h at_g at_h number now (on objects) x
+              (ap (λ (y : Node). y.region) x_is) same rest fits k a)
+              (settled_all (Gone StampEnd) (λ e. let f : ⊥ = cc (e) in f) a.all still objects kept keeps rest fits))),
+        ),
+      )
 
   -- want of memory
   pub row_refused : core.GoesForMemory r g h x → stop ≡ None → floor ≡ c.floor
@@ -416,21 +418,23 @@ module _ (s : Store) (c e : Client) (r : Region) (g h : Hold) (colours : Colours
   row_stopped steps a some asked still =
       calls (core.IsStepBefore x steps) a.goes (steps_before x steps) (λ k ev m. own_whole k ev m.2) (omega (arith, still))
       (let low = is.floored in omega (arith, low, still)) (Err (faults.Stopped steps))
-      (λ taken e. let f : ⊥ = cc (e) in f) (λ finished. inr (steps, some, refl))
-      (asked, λ objects kept finished keeps. (
-        kept_then objects kept keeps,
-        keeps_then objects kept keeps still,
-        λ rest fits.
-            subst (λ (y : Node). Stops (log_of (seen_of after) rest) (caller_of s c objects) kept y steps
-            (kept_then objects kept keeps)) (sym (same_node objects kept keeps))
-            (stops_so objects kept keeps rest steps some
-            (stops_stand (seen_of c) (seen_of after) rest (caller_of s c objects) kept x steps (on objects)
-            (stops_begun (holds_of c) (holds_of after) (caller_of s c objects) r g h at_g at_h number now (on objects) x
-            (ap (λ (y : Node). y.region) x_is) same rest fits steps a kept (of_id objects kept keeps) several
-            (of_rows objects kept keeps) (size_is objects kept keeps))
-            (stops_there (holds_of c) (holds_of after) (caller_of s c objects) r g h at_g at_h number now (on objects) x
-            (ap (λ (y : Node). y.region) x_is) same rest fits steps a))),
-      )) tt where
+      (λ taken e. let f : ⊥ = cc (e) in f) (λ finished. inr (steps, some, refl)) (
+        asked,
+        λ objects kept finished keeps. (
+          kept_then objects kept keeps,
+          keeps_then objects kept keeps still,
+          λ rest fits.
+              subst (λ (y : Node). Stops (log_of (seen_of after) rest) (caller_of s c objects) kept y steps
+              (kept_then objects kept keeps)) (sym (same_node objects kept keeps))
+              (stops_so objects kept keeps rest steps some
+              (stops_stand (seen_of c) (seen_of after) rest (caller_of s c objects) kept x steps (on objects)
+              (stops_begun (holds_of c) (holds_of after) (caller_of s c objects) r g h at_g at_h number now (on objects) x
+              (ap (λ (y : Node). y.region) x_is) same rest fits steps a kept (of_id objects kept keeps) several
+              (of_rows objects kept keeps) (size_is objects kept keeps))
+              (stops_there (holds_of c) (holds_of after) (caller_of s c objects) r g h at_g at_h number now (on objects) x
+              (ap (λ (y : Node). y.region) x_is) same rest fits steps a))),
+        ),
+      ) tt where
         stops_so : (objects : List Object) (kept : Kept) (keeps : Keeps s c objects kept) (rest : Rest) (n : ℕ) → 0 < n
             → StopsAfter (log_of (seen_of after) rest) (caller_of s c objects) kept x n (places objects kept keeps)
             → Stops (log_of (seen_of after) rest) (caller_of s c objects) kept x n (kept_then objects kept keeps)
@@ -580,13 +584,15 @@ module _ (s : Store) (c e : Client) (r : Region) (g h : Hold) (colours : Colours
         (omega (arith, raised))
         (let low = is.floored in let stamp = stamp_is in let top = in_range in omega (arith, raised, stamp, top, low))
         (Ok (record { id = id; row = Some n; stood = st })) (λ taken e. let f : ⊥ = cc (e) in f)
-        (λ finished. inl (finished_then stands_closed_in finished))
-        (none, subst (λ (i : Id). IsExplained s c after (AppendsAs colours text (record { id = i; row = Some n; stood = st })))
-        (sym id_is) (λ objects kept finished keeps. (
-          kept_stood objects kept finished keeps,
-          keeps_stood objects kept finished keeps,
-          stood_so objects kept finished keeps n n_is,
-        )))
+        (λ finished. inl (finished_then stands_closed_in finished)) (
+          none,
+          subst (λ (i : Id). IsExplained s c after (AppendsAs colours text (record { id = i; row = Some n; stood = st })))
+              (sym id_is) (λ objects kept finished keeps. (
+                kept_stood objects kept finished keeps,
+                keeps_stood objects kept finished keeps,
+                stood_so objects kept finished keeps n n_is,
+              )),
+        )
         (a.colours ∙ ap (λ (y : Node). members y.colours) x_is)
 
 -- where no row was begun, nothing was done

@@ -20,10 +20,10 @@ use Rattle.report_text.specs.declared.report.Answer.TheVariants as answers
 use Rattle.report_text.specs.declared.report.PointPiece.{PointPiece}
 use Rattle.report_text.specs.declared.report.SyncPiece.{SyncPiece}
 use Rattle.report_text.specs.declared.report.ReplyLine.{ReplyLine}
-use Rattle.script_meaning.specs.States.{State, Grants, all_granted, answered, position_of}
+use Rattle.script_meaning.specs.States.{State, Grants, all_granted, no_reads, answered, position_of}
 use Rattle.script_meaning.specs.Appends.{appended_one, with_single, point_in}
 use Rattle.script_meaning.specs.Dequeues.{first_nodes, sync_now, base_now, dequeued_at, dequeued_on, dequeued_by}
-use Rattle.script_meaning.proofs.CallerLemmas.{single_same, single_shape}
+use Rattle.script_meaning.proofs.CallerLemmas.{RunsTo, stays_there, single_same, single_shape, single_to}
 use Rattle.script_in_order.specs.Doing.{DoneBy, with_replies}
 use Rattle.script_in_order.specs.Reading.{ReadsOwn}
 use Rattle.script_in_order.specs.Runs.{reply_of}
@@ -35,7 +35,7 @@ first_answer [] = answers.NoMemory
 first_answer (r ∷ rs) = r.answer
 
 abbrev unanswered : World → State
-unanswered w = with_replies w (λ _. [])
+unanswered w = record { world = w; replies = λ _. []; reads = λ _. no_reads }
 
 shown_answer : (w new : World) (command : Command) (answer : Answer)
     → first_answer ((answered (unanswered w) command new answer []).replies command.client) ≡ answer
@@ -72,10 +72,10 @@ entered_of command text colour w new answer d =
     let no : State = answered (unanswered w) command w (answers.StampEnd colour) [] in
     by_test _ (may_single w client colour)
     (λ t. let e = same_answer w v new command (stood v) answer
-    (sym (if_true (may_single w client colour) yes no t) ∙ d.is (λ _. [])) in
+    (sym (if_true (may_single w client colour) yes no t) ∙ d.is (unanswered w)) in
     entered g d.begun t e.0 (ap stood (sym e.0) ∙ e.1))
     (λ f. let e = same_answer w w new command (answers.StampEnd colour) answer
-    (sym (if_false (may_single w client colour) yes no f) ∙ d.is (λ _. [])) in
+    (sym (if_false (may_single w client colour) yes no f) ∙ d.is (unanswered w)) in
     ended f e.0 e.1)
 
 -- What is read then
@@ -274,6 +274,13 @@ pub entered_shape : (command : Command) (text : List ℕ) (colour : ℕ) (w new 
 entered_shape command text colour w new answer (entered g begun may single same) =
     ap (λ (x : World). x.shape) (sym single) ∙ single_shape g w command text colour
 entered_shape command text colour w new answer (ended may same end) = ap (λ (x : World). x.shape) (sym same)
+
+-- steps lead there
+pub entered_runs : (command : Command) (text : List ℕ) (colour : ℕ) (w new : World) (answer : Answer)
+    → Entered command text colour w new answer → RunsTo w new
+entered_runs command text colour w new answer (entered g begun may single same) =
+    subst (RunsTo w) single (single_to g w command text colour)
+entered_runs command text colour w new answer (ended may same end) = subst (RunsTo w) same (stays_there w)
 
 -- the shard of no key, of an object with one colour
 pub only_shard : (colours : List ℕ) (colour shard : ℕ) → colours ≡ colour ∷ [] → shard ≡ shard_of colours []

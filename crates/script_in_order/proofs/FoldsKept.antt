@@ -1,26 +1,34 @@
 -- Folds stay right while the world goes on.
-use Rattle.std.proofs.Common.{◌≡◌, ℕ, zero, suc, ◌+◌, ◌<◌, ◌≤◌, List, [], ◌∷◌, ◌++◌, length, map, take, Some, get_or, set, length-set, refl, ap, sym, subst, ◌∙◌, inl, inr, ◌⊎◌, arith}
+use Rattle.std.proofs.Common.{◌≡◌, ℕ, zero, suc, ◌+◌, ◌<◌, ◌≤◌, List, [], ◌∷◌, ◌++◌, length, map, take, Vec, Global, Option, Some, None, get_or, set, length-set, length-append, refl, ap, sym, subst, ◌∙◌, inl, inr, ◌⊎◌, arith}
 use Rattle.std.specs.Prelude.{◌≢◌, slice_get}
+use Rattle.std.specs.List.{Contains}
+use Rattle.std.specs.Option.{option_map}
+use Rattle.std.proofs.lemmas.Option.{slice_get-get_or}
 use Rattle.log_node.specs.declared.ids.Key.{Key}
 use Rattle.object_fold.specs.Nodes.{ObjectNode}
-use Rattle.object_fold.specs.States.{IsShardMap, IsQueue}
+use Rattle.object_fold.specs.Maps.{Value, shard_value}
+use Rattle.object_fold.specs.Queues.{front_after}
+use Rattle.object_fold.specs.States.{IsShardMap, IsQueue, HasShardOf}
 use Rattle.col_core.specs.History.{line}
 use Rattle.world_laws.specs.Worlds.{World}
 use Rattle.world_laws.specs.Laws.{IsReached}
 use Rattle.world_laws.proofs.CallerLemmas.{run_grows}
 use Rattle.script_text.specs.declared.script.Kind.{Kind}
+use Rattle.script_text.specs.declared.script.Kind.TheVariants as kinds
 use Rattle.script_text.specs.declared.script.Object.{Object}
 use Rattle.script_meaning.proofs.CallerLemmas.{RunsTo, line_longer, nodes_stay}
+use Rattle.script_meaning.specs.States.{kind_in}
 use Rattle.script_meaning.specs.Dequeues.{object_at}
 use Rattle.lawful_run.proofs.CallerLemmas.{get_within}
 use Rattle.script_in_order.specs.declared.causal.CausalFold.{CausalFold}
 use Rattle.script_in_order.specs.CausalFolds.{IsCausalFold, AreCausalFolds}
 use Rattle.script_in_order.proofs.CausalLater.{fold_later}
+use Rattle.script_in_order.specs.declared.folds.FirstNodes.{FirstNodes}
 use Rattle.script_in_order.specs.declared.folds.ShardFold.{ShardFold}
 use Rattle.script_in_order.specs.declared.folds.QueueFold.{QueueFold}
 use Rattle.script_in_order.specs.declared.folds.Fold.{Fold}
 use Rattle.script_in_order.specs.declared.folds.Fold.TheVariants as folds
-use Rattle.script_in_order.specs.Folds.{IsShardFold, AreShardFolds, IsQueueFold, IsFoldOf, AreFolded}
+use Rattle.script_in_order.specs.Folds.{IsShardFold, AreShardFolds, IsQueueFold, IsFoldOf, AreFolded, ShardsWithin, QueueWithin, line_of, nodes_at}
 
 module _ (w v : World) (reached : IsReached w) (to : RunsTo w v) where
   shard_stays : (home colour : ℕ) (colours : List ℕ) (fold : ShardFold) → IsShardFold w home colours colour fold
@@ -144,3 +152,255 @@ shards_with w home colours shards n fold f right = record {
   turn m other (inl p) =
       subst (λ (k : ℕ). IsShardFold w home colours k other) (sym p.0) (subst (IsShardFold w home colours n) p.1 right)
   turn m other (inr p) = f.each m other p.1
+
+-- a fold with one node more
+module _ (w : World) (home colour : ℕ) (key d : Key) where
+  abbrev its_line : List Key
+  its_line = line (w.histories home colour)
+
+  pub shard_more : (colours : List ℕ) (old new : ShardFold) → old.count < length its_line
+      → get_or its_line old.count d ≡ key → new.count ≡ old.count + 1 → HasShardOf old.map new.map
+      → IsShardMap new.map (map (object_at w) (take old.count its_line) ++ object_at w key ∷ [])
+      → IsShardFold w home colours colour old → IsShardFold w home colours colour new
+  shard_more colours old new lt is more same folded f = record {
+    colours_are = same.colours ∙ f.colours_are;
+    shard_is = same.shard ∙ f.shard_is;
+    within = omega (arith, lt, more);
+    folded = subst (IsShardMap new.map)
+        (sym (ap (λ (n : ℕ). map (object_at w) (take n its_line)) more ∙ first_more w its_line old.count key d lt is))
+        folded;
+  }
+
+  pub queue_more : (old new : QueueFold) → old.count < length its_line → get_or its_line old.count d ≡ key
+      → new.count ≡ old.count + 1
+      → IsQueue new.queue (map (object_at w) (take old.count its_line) ++ object_at w key ∷ [])
+      → IsQueueFold w home colour new
+  queue_more old new lt is more folded = record {
+    within = omega (arith, lt, more);
+    folded = subst (IsQueue new.queue)
+        (sym (ap (λ (n : ℕ). map (object_at w) (take n its_line)) more ∙ first_more w its_line old.count key d lt is))
+        folded;
+  }
+
+-- how far the folds of an object are
+module _ (w : World) (objects : List Object) (all : List Fold) (f : AreFolded w objects all) (object : ℕ) where
+  found : (kind : Kind) → kind_in objects object ≡ Some kind
+      → (o : Object) × (slice_get objects object ≡ Some o) × (o.kind ≡ kind)
+  found kind is = of (slice_get objects object) refl is where
+    of : (x : Option Object) → slice_get objects object ≡ x → option_map (λ (o : Object). o.kind) x ≡ Some kind
+        → (o : Object) × (slice_get objects object ≡ Some o) × (o.kind ≡ kind)
+    of None e k = absurd (let g : ⊥ = cc in g)
+    of (Some o) e k = (o, e, let g : o.kind ≡ kind = cc in g)
+
+  pub fold_at : (kind : Kind) (fold : Fold) → kind_in objects object ≡ Some kind → slice_get all object ≡ Some fold
+      → IsFoldOf w kind fold
+  fold_at kind fold is there =
+      let o = found kind is in subst (λ (k : Kind). IsFoldOf w k fold) o.2 (f.each object o.0 fold o.1 there)
+
+  pub shards_at : (home : ℕ) (colours : List ℕ) (shards : Vec ShardFold Global)
+      → kind_in objects object ≡ Some (kinds.Map home colours) → slice_get all object ≡ Some (folds.Map shards)
+      → AreShardFolds w home colours shards.items
+  shards_at home colours shards is there = of (fold_at (kinds.Map home colours) (folds.Map shards) is there) where
+    of : IsFoldOf w (kinds.Map home colours) (folds.Map shards) → AreShardFolds w home colours shards.items
+    of (h, cs, e, each) =
+        let a : home ≡ h = cc in
+        let b : colours ≡ cs = cc in
+        subst (λ (x : ℕ). AreShardFolds w x colours shards.items) (sym a)
+        (subst (λ (x : List ℕ). AreShardFolds w h x shards.items) (sym b) each)
+
+  pub queue_there : (home colour : ℕ) (fold : QueueFold) → kind_in objects object ≡ Some (kinds.Queue home colour)
+      → slice_get all object ≡ Some (folds.Queue fold) → IsQueueFold w home colour fold
+  queue_there home colour fold is there = of (fold_at (kinds.Queue home colour) (folds.Queue fold) is there) where
+    of : IsFoldOf w (kinds.Queue home colour) (folds.Queue fold) → IsQueueFold w home colour fold
+    of (h, c, e, right) =
+        let a : home ≡ h = cc in
+        let b : colour ≡ c = cc in
+        subst (λ (x : ℕ). IsQueueFold w x colour fold) (sym a) (subst (λ (x : ℕ). IsQueueFold w h x fold) (sym b) right)
+
+  -- no further than the lines
+  pub shards_within : (home : ℕ) (colours cs : List ℕ) → kind_in objects object ≡ Some (kinds.Map home colours)
+      → (bound : ℕ → ℕ) → ((c : ℕ) → Contains cs c → length (line (w.histories home c)) ≤ bound c)
+      → ShardsWithin all object cs bound
+  shards_within home colours cs is bound low = λ c i shards fold there at.
+      let right = (shards_at home colours shards is there).each c fold at in
+      let a = right.within in let b = low c i in omega (arith, a, b)
+
+  pub queue_within : (home colour count : ℕ) → kind_in objects object ≡ Some (kinds.Queue home colour)
+      → length (line (w.histories home colour)) ≤ count → QueueWithin all object count
+  queue_within home colour count is low = λ fold there.
+      let right = queue_there home colour fold is there in let a = right.within in omega (arith, a, low)
+
+-- what stands in a list with one item more
+push_cases : {A : Type 0} (xs : List A) (n : ℕ) (x y : A) → slice_get (xs ++ x ∷ []) n ≡ Some y
+    → ((n ≡ length xs) × (x ≡ y)) ⊎ ((n ≢ length xs) × (slice_get xs n ≡ Some y))
+push_cases [] zero x y e = inl (refl, let f : x ≡ y = cc in f)
+push_cases [] (suc n) x y e = absurd (let f : ⊥ = cc in f)
+push_cases (z ∷ xs) zero x y e = inr (λ is. let f : ⊥ = omega (arith, is) in f, e)
+push_cases {A} (z ∷ xs) (suc n) x y e = turn (push_cases xs n x y e) where
+  turn : ((n ≡ length xs) × (x ≡ y)) ⊎ ((n ≢ length xs) × (slice_get xs n ≡ Some y))
+      → ((suc n ≡ suc (length xs)) × (x ≡ y)) ⊎ ((suc n ≢ suc (length xs)) × (slice_get xs n ≡ Some y))
+  turn (inl p) = inl (ap suc p.0, p.1)
+  turn (inr p) = inr (λ is. p.0 (omega (arith, is)), p.1)
+
+-- one shard more
+pub shards_push : (w : World) (home : ℕ) (colours : List ℕ) (shards : List ShardFold) (fold : ShardFold)
+    → ((c : ℕ) (f : ShardFold) → slice_get shards c ≡ Some f → IsShardFold w home colours c f)
+    → IsShardFold w home colours (length shards) fold → (c : ℕ) (f : ShardFold)
+    → slice_get (shards ++ fold ∷ []) c ≡ Some f → IsShardFold w home colours c f
+shards_push w home colours shards fold each right c f there = turn (push_cases shards c fold f there) where
+  turn : ((c ≡ length shards) × (fold ≡ f)) ⊎ ((c ≢ length shards) × (slice_get shards c ≡ Some f))
+      → IsShardFold w home colours c f
+  turn (inl p) =
+      subst (λ (k : ℕ). IsShardFold w home colours k f) (sym p.0)
+      (subst (IsShardFold w home colours (length shards)) p.1 right)
+  turn (inr p) = each c f p.1
+
+-- the fold of one object more
+pub folds_push : (w : World) (objects : List Object) (all : List Fold) (o : Object) (fold : Fold)
+    → AreFolded w objects all → IsFoldOf w o.kind fold → AreFolded w (objects ++ o ∷ []) (all ++ fold ∷ [])
+folds_push w objects all o fold f right = record {
+  many = length-append all (fold ∷ []) ∙ (ap (λ (n : ℕ). n + 1) f.many ∙ sym (length-append objects (o ∷ [])));
+  each = λ n p other at there. turn n p other (push_cases objects n o p at) (push_cases all n fold other there);
+} where
+  turn : (n : ℕ) (p : Object) (other : Fold)
+      → ((n ≡ length objects) × (o ≡ p)) ⊎ ((n ≢ length objects) × (slice_get objects n ≡ Some p))
+      → ((n ≡ length all) × (fold ≡ other)) ⊎ ((n ≢ length all) × (slice_get all n ≡ Some other))
+      → IsFoldOf w p.kind other
+  turn n p other (inl a) (inl b) =
+      subst (λ (x : Object). IsFoldOf w x.kind other) a.1 (subst (IsFoldOf w o.kind) b.1 right)
+  turn n p other (inl a) (inr b) = absurd (b.0 (a.0 ∙ sym f.many))
+  turn n p other (inr a) (inl b) = absurd (a.0 (b.0 ∙ f.many))
+  turn n p other (inr a) (inr b) = f.each n p other a.1 b.1
+
+-- what stands at a place
+pub there_at : {A : Type 0} (xs : List A) (n : ℕ) (x : A) → n < length xs → x ≡ get_or xs n x → slice_get xs n ≡ Some x
+there_at {A} xs n x lt is = slice_get-get_or xs n x lt ∙ ap (λ (y : A). Some y) (sym is)
+
+-- the fold of an object of some kind
+module _ (w : World) (objects : List Object) (all : List Fold) (object : ℕ) (kind : Kind) (f : AreFolded w objects all)
+    (is : kind_in objects object ≡ Some kind) where
+  pub object_low : object < length all
+  object_low =
+      let o = found w objects all f object kind is in
+      let lt = get_within objects object o.0 o.1 in let e = f.many in omega (arith, lt, e)
+
+  pub fold_there : (fold : Fold) → fold ≡ get_or all object fold → IsFoldOf w kind fold
+  fold_there fold there = fold_at w objects all f object kind fold is (there_at all object fold object_low there)
+
+  pub fold_put : (fold : Fold) → IsFoldOf w kind fold → AreFolded w objects (set all object fold)
+  fold_put fold right = folds_with w objects all object fold f (λ o at. subst (λ (k : Kind). IsFoldOf w k fold)
+      (let e : Some kind ≡ Some o.kind = sym is ∙ ap (λ (x : Option Object). option_map (λ (y : Object). y.kind) x) at in
+      let g : kind ≡ o.kind = cc in g) right)
+
+-- the fold of a map
+module _ (w : World) (home : ℕ) (colours : List ℕ) where
+  pub map_shards : (shards : Vec ShardFold Global) → IsFoldOf w (kinds.Map home colours) (folds.Map shards)
+      → AreShardFolds w home colours shards.items
+  map_shards shards (h, cs, e, each) =
+      let a : home ≡ h = cc in
+      let b : colours ≡ cs = cc in
+      subst (λ (x : ℕ). AreShardFolds w x colours shards.items) (sym a)
+      (subst (λ (x : List ℕ). AreShardFolds w h x shards.items) (sym b) each)
+
+  pub only_map : (fold : Fold) → IsFoldOf w (kinds.Map home colours) fold
+      → ((shards : Vec ShardFold Global) → fold ≡ folds.Map shards → ⊥) → ⊥
+  only_map (folds.Map shards) f n = n shards refl
+  only_map (folds.Queue queue) (h, c, e, right) n = let g : ⊥ = cc in g
+  only_map (folds.Causal regions) (c, e, right) n = let g : ⊥ = cc in g
+  only_map folds.Nothing f n = f.0 home colours refl
+
+-- the fold of a queue
+module _ (w : World) (home colour : ℕ) where
+  pub queue_fold : (queue : QueueFold) → IsFoldOf w (kinds.Queue home colour) (folds.Queue queue)
+      → IsQueueFold w home colour queue
+  queue_fold queue (h, c, e, right) =
+      let a : home ≡ h = cc in
+      let b : colour ≡ c = cc in
+      subst (λ (x : ℕ). IsQueueFold w x colour queue) (sym a) (subst (λ (x : ℕ). IsQueueFold w h x queue) (sym b) right)
+
+  pub only_queue : (fold : Fold) → IsFoldOf w (kinds.Queue home colour) fold
+      → ((queue : QueueFold) → fold ≡ folds.Queue queue → ⊥) → ⊥
+  only_queue (folds.Map shards) (h, cs, e, right) n = let g : ⊥ = cc in g
+  only_queue (folds.Queue queue) f n = n queue refl
+  only_queue (folds.Causal regions) (c, e, right) n = let g : ⊥ = cc in g
+  only_queue folds.Nothing f n = f.1 home colour refl
+
+-- the same vector with another item at a place
+abbrev pub with_shard : Vec ShardFold Global → ℕ → ShardFold → Vec ShardFold Global
+with_shard shards n fold = record shards { items = set shards.items n fold }
+
+-- a shard that was folded on is within its bound
+pub within_with : (all : List Fold) (object : ℕ) (shards : Vec ShardFold Global) (n : ℕ) (fold : ShardFold)
+    (cs : List ℕ) (bound : ℕ → ℕ) → slice_get all object ≡ Some (folds.Map shards)
+    → ShardsWithin all object cs bound → fold.count ≤ bound n
+    → ShardsWithin (set all object (folds.Map (with_shard shards n fold))) object cs bound
+within_with all object shards n fold cs bound there old low = λ c i others other at_object at_colour.
+    by_place c i others other (set_cases all object object (folds.Map (with_shard shards n fold)) (folds.Map others) at_object) at_colour where
+      by_colour : (c : ℕ) → Contains cs c → (other : ShardFold)
+          → ((c ≡ n) × (fold ≡ other)) ⊎ ((c ≢ n) × (slice_get shards.items c ≡ Some other)) → other.count ≤ bound c
+      by_colour c i other (inl p) =
+          subst (λ (k : ℕ). other.count ≤ bound k) (sym p.0) (subst (λ (x : ShardFold). x.count ≤ bound n) p.1 low)
+      by_colour c i other (inr p) = old c i shards other there p.1
+
+      by_place : (c : ℕ) → Contains cs c → (others : Vec ShardFold Global) (other : ShardFold)
+          → ((object ≡ object) × (folds.Map (with_shard shards n fold) ≡ folds.Map others))
+          ⊎ ((object ≢ object) × (slice_get all object ≡ Some (folds.Map others)))
+          → slice_get others.items c ≡ Some other → other.count ≤ bound c
+      by_place c i others other (inl p) at =
+          let same : with_shard shards n fold ≡ others = let e = p.1 in cc in
+          by_colour c i other (set_cases shards.items n c fold other
+          (ap (λ (v : Vec ShardFold Global). slice_get v.items c) same ∙ at))
+      by_place c i others other (inr p) at = absurd (p.0 refl)
+
+-- the next node of a line is folded
+module _ (w : World) (home colour : ℕ) (l : List Key) (place : ℕ) (d : Key) (text : List ℕ)
+    (same : l ≡ line (w.histories home colour)) (lt : place < length (line (w.histories home colour)))
+    (text_is : text ≡ (object_at w (get_or l place d)).text) where
+  abbrev key_there : Key
+  key_there = get_or l place d
+
+  at_line : (count : ℕ) → count ≡ place → get_or (line (w.histories home colour)) count d ≡ key_there
+  at_line count e = ap (λ (n : ℕ). get_or (line (w.histories home colour)) n d) e
+      ∙ ap (λ (xs : List Key). get_or xs place d) (sym same)
+
+  pub shard_step : (colours : List ℕ) (old new : ShardFold) → old.count ≡ place → new.count ≡ place + 1
+      → HasShardOf old.map new.map
+      → ((nodes : List ObjectNode) (node : ObjectNode) → node.text ≡ text → IsShardMap old.map nodes
+      → IsShardMap new.map (nodes ++ node ∷ []))
+      → IsShardFold w home colours colour old → IsShardFold w home colours colour new
+  shard_step colours old new here more mine fed f =
+      shard_more w home colour key_there d colours old new (omega (arith, here, lt)) (at_line old.count here)
+      (omega (arith, here, more)) mine
+      (fed (map (object_at w) (take old.count (line (w.histories home colour)))) (object_at w key_there) (sym text_is)
+      f.folded) f
+
+  pub queue_step : (old new : QueueFold) → old.count ≡ place → new.count ≡ place + 1
+      → ((nodes : List ObjectNode) (node : ObjectNode) → node.text ≡ text → IsQueue old.queue nodes
+      → IsQueue new.queue (nodes ++ node ∷ []))
+      → IsQueueFold w home colour old → IsQueueFold w home colour new
+  queue_step old new here more fed f =
+      queue_more w home colour key_there d old new (omega (arith, here, lt)) (at_line old.count here)
+      (omega (arith, here, more))
+      (fed (map (object_at w) (take old.count (line (w.histories home colour)))) (object_at w key_there) (sym text_is)
+      f.folded)
+
+-- an answer of a fold that has come to the nodes that are asked for
+pub shard_answer : (w : World) (first : FirstNodes) (colours key : List ℕ) (fold : ShardFold) (value : Value)
+    → fold.count ≡ first.count → IsShardFold w first.region colours first.colour fold
+    → ((nodes : List ObjectNode) → IsShardMap fold.map nodes
+    → value ≡ shard_value fold.map.colours fold.map.shard nodes key)
+    → value ≡ shard_value colours first.colour (nodes_at w first) key
+shard_answer w first colours key fold value here f answers =
+    answers (map (object_at w) (take fold.count (line_of w first))) f.folded
+    ∙ (ap (λ (cs : List ℕ). shard_value cs fold.map.shard (map (object_at w) (take fold.count (line_of w first))) key)
+    f.colours_are
+    ∙ (ap (λ (c : ℕ). shard_value colours c (map (object_at w) (take fold.count (line_of w first))) key) f.shard_is
+    ∙ ap (λ (n : ℕ). shard_value colours first.colour (map (object_at w) (take n (line_of w first))) key) here))
+
+pub queue_answer : (w : World) (first : FirstNodes) (fold : QueueFold) (value : Value) → fold.count ≡ first.count
+    → IsQueueFold w first.region first.colour fold
+    → ((nodes : List ObjectNode) → IsQueue fold.queue nodes → value ≡ front_after nodes)
+    → value ≡ front_after (nodes_at w first)
+queue_answer w first fold value here f answers =
+    answers (map (object_at w) (take fold.count (line_of w first))) f.folded
+    ∙ ap (λ (n : ℕ). front_after (map (object_at w) (take n (line_of w first)))) here

@@ -11,6 +11,7 @@ mod StampedWholes
 mod PullsAndTrims
 mod CausalSteps
 mod CausalLater
+mod CausalKept
 mod CommandKinds
 mod RunReplies
 mod RunSteps
@@ -21,3 +22,7 @@ mod MoveGuards
 mod ObjectSteps
 mod DequeueSteps
 mod FoldsKept
+mod ObjectHomes
+mod GetSteps
+mod Committing
+mod ReadVerdicts

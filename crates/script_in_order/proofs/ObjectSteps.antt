@@ -26,19 +26,15 @@ use Rattle.script_text.specs.Items.{set_of}
 use Rattle.script_text.specs.Fitting.{AreBelow, AreObjectColours, IsKindWithin, is_queue, HasObject}
 use Rattle.report_text.specs.declared.report.Answer.{Answer}
 use Rattle.lawful_run.specs.Asks.{object_colours, keys_of, put_form}
-use Rattle.script_meaning.specs.States.{has_colours}
+use Rattle.script_meaning.specs.States.{has_colours, kind_in}
 use Rattle.script_meaning.specs.Appends.{appended}
 use Rattle.script_meaning.specs.Objects.{appended_form, shard_set}
 use Rattle.script_meaning.proofs.CallerLemmas.{at_or, keys_set, shard_below, key_is_word, object_has, queue_one, set_has, shard_members, shards_below, shards_has}
 use Rattle.script_in_order.specs.Doing.{DoneBy}
 
--- the kind of an object by its number
-abbrev pub kind_at : List Object → ℕ → Option Kind
-kind_at objects object = option_map (λ (o : Object). o.kind) (slice_get objects object)
-
 -- the object that stands at a place is the one that a command uses
 pub kind_is : {test : Kind → Bool} (objects : List Object) (object : ℕ) (other : Object)
-    → HasObject objects object test → Some (get_or objects object other).kind ≡ kind_at objects object
+    → HasObject objects object test → Some (get_or objects object other).kind ≡ kind_in objects object
 kind_is objects object other has =
     ap (λ (o : Object). Some o.kind) (at_or objects object has.found other has.there)
     ∙ ap (λ (o : Option Object). option_map (λ (x : Object). x.kind) o) (sym has.there)
@@ -67,7 +63,7 @@ each_below count set low k d lt = low (get_or (members set) k d) (in_at (members
 -- the set of the shards of keys, of an object of a script
 module _ (regions count : ℕ) (few : count ≤ 16) (objects : List Object)
     (all : All (λ (o : Object). IsKindWithin regions count o.kind) objects) (object : ℕ) (test : Kind → Bool)
-    (has : HasObject objects object test) (kind : Kind) (is : Some kind ≡ kind_at objects object) where
+    (has : HasObject objects object test) (kind : Kind) (is : Some kind ≡ kind_in objects object) where
   own : AreObjectColours count (object_colours (Some kind))
   own = subst (λ (k : Option Kind). AreObjectColours count (object_colours k)) (sym is)
       (object_has objects regions count all object test has)
@@ -192,23 +188,23 @@ queue_shard (kinds.Queue home colour) q are c is =
 module _ (regions count : ℕ) (few : count ≤ 16) (objects : List Object)
     (all : All (λ (o : Object). IsKindWithin regions count o.kind) objects) (object : ℕ)
     (has : HasObject objects object is_queue) where
-  of_queue : members (set_of (object_colours (kind_at objects object))) ≡ object_colours (kind_at objects object)
+  of_queue : members (set_of (object_colours (kind_in objects object))) ≡ object_colours (kind_in objects object)
   of_queue = queue_one objects regions count all object is_queue has few (λ kind t. t)
 
-  low : (c : ℕ) → In c (object_colours (kind_at objects object)) → c < count
-  low c i = at_in (object_colours (kind_at objects object))
+  low : (c : ℕ) → In c (object_colours (kind_in objects object)) → c < count
+  low c i = at_in (object_colours (kind_in objects object))
       (object_has objects regions count all object is_queue has).below i where
         at_in : (xs : List ℕ) → All (λ d. d < count) xs → In c xs → c < count
         at_in [] all i = absurd i
         at_in (x ∷ xs) all (inl e) = subst (λ (d : ℕ). d < count) e (all 0 0 (omega arith))
         at_in (x ∷ xs) all (inr i) = at_in xs (λ k d lt. all (suc k) d (omega (arith, lt))) i
 
-  pub queue_low : AreBelow count (set_of (object_colours (kind_at objects object)))
-  queue_low = each_below count (set_of (object_colours (kind_at objects object)))
+  pub queue_low : AreBelow count (set_of (object_colours (kind_in objects object)))
+  queue_low = each_below count (set_of (object_colours (kind_in objects object)))
       (λ c i. low c (subst (λ (l : List ℕ). In c l) of_queue i))
 
-  pub queue_some : has_colours 1 (set_of (object_colours (kind_at objects object))) ≡ true
-  queue_some = set_has (object_colours (kind_at objects object))
+  pub queue_some : has_colours 1 (set_of (object_colours (kind_in objects object))) ≡ true
+  queue_some = set_has (object_colours (kind_in objects object))
       (λ c i. let lt = low c i in omega (arith, lt, few))
       (subst (λ (l : List ℕ). 1 ≤ length l) (sym of_queue)
       (object_has objects regions count all object is_queue has).some)

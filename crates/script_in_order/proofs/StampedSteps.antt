@@ -12,7 +12,9 @@ use Rattle.log_node.specs.Sets.{has, members}
 use Rattle.log_node.specs.Outcomes.{greatest}
 use Rattle.col_core.specs.History.{clock, line}
 use Rattle.col_core.proofs.CallerLemmas.{by_test, choice, if_true, if_false}
+use Rattle.column.specs.Columns.{ColumnState}
 use Rattle.playback.specs.Merging.{merged, up_to}
+use Rattle.world_code.specs.WorldView.{WorldView, world_of, column_at}
 use Rattle.world_code.specs.Replies.{played_reply}
 use Rattle.world_laws.specs.declared.steps.Reply.TheVariants as replies
 use Rattle.world_laws.specs.declared.steps.Step.TheVariants.{Raise, Play}
@@ -22,6 +24,14 @@ use Rattle.script_meaning.specs.Stamped.{Progress, raised, played, read_stamp, k
 use Rattle.script_in_order.specs.Stamped.{Raises}
 use Rattle.script_in_order.proofs.HelpsAndClears.{fold_last}
 use Rattle.script_in_order.proofs.Sets.{first_members, one_more, none_more, map_last}
+
+-- the line of a column
+pub line_is : (code : WorldView) (client colour home : ℕ) (l : List Key) (column : ColumnState)
+    → home ≡ home_of (world_of code) client → column ≡ column_at code.columns home colour
+    → l ≡ line column.journal → l ≡ line (home_history (world_of code) client colour)
+line_is code client colour home l column h c is =
+    is ∙ (ap (λ (x : ColumnState). line x.journal) c
+    ∙ ap (λ (r : ℕ). line (column_at code.columns r colour).journal) h)
 
 -- THE COLOURS OF A SET
 

@@ -15,7 +15,6 @@ use Rattle.report_text.specs.declared.report.Answer.{Answer}
 use Rattle.report_text.specs.declared.report.Answer.TheVariants as answers
 use Rattle.report_text.specs.declared.report.RaisePiece.{RaisePiece}
 use Rattle.report_text.specs.declared.report.SyncPiece.{SyncPiece}
-use Rattle.report_text.specs.declared.report.ReplyLine.{ReplyLine}
 use Rattle.script_meaning.specs.States.{State, Grants, answered}
 use Rattle.script_meaning.specs.Helping.{Helping, node_with, cleared, all_cleared}
 use Rattle.script_meaning.specs.Stamped.{Progress, ReadEnd, Whole, Refused, Unraised, StampedRead, raised, played, read_stamp, raise_in, sync_in, key_above, keys_read, read_after_plays, read_after_raises, stamped_read, shown_key, scan_answer, ended_by, scanned}
@@ -149,6 +148,16 @@ finds_same grants more same n [] f = f
 finds_same grants more same n (x ∷ finds) f =
     (ap (λ (h : ℕ → ℕ → Bool). h n) same ∙ f.0, finds_same grants more same (n + 1) finds f.1)
 
+-- a read, with memory granted so
+pub read_given : (old new : World) (client : ℕ) (colours : List ℕ) (ends : ReadEnd) → Reads old new client colours ends
+    → (g : Grants) × (stamped_read g old client colours ≡ record { world = new; ends = ends })
+read_given old new client colours ends reads =
+    let g : Grants = record (found_with (λ _. true) reads.finds) { raises = reads.found } in (
+      g,
+      reads.is g refl (finds_same (found_with (λ _. true) reads.finds) g refl 0 reads.finds
+          (finds_all (λ _. true) reads.finds)),
+    )
+
 -- how it is answered where its read is whole, and which nodes are then shown, in the world in which the read ended
 abbrev pub Answering : Type 0
 Answering = World → ℕ → List RaisePiece → List SyncPiece → List Key → Answer
@@ -172,7 +181,7 @@ module _ (old new : World) (command : Command) (colours : List ℕ) (answer : An
     read_is = reads.is grants refl (finds_same (found_with (λ _. true) reads.finds) grants refl 0 reads.finds
         (finds_all (λ _. true) reads.finds))
 
-    reading_is : (replies : ℕ → List ReplyLine)
+    reading_is : (told : State)
         → reading answer shown command colours grants (with_replies old replies)
         ≡ ended_by grants (with_replies old replies) command (answer new) (shown new) new ends
     reading_is replies =

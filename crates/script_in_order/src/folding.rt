@@ -3,18 +3,15 @@ ghost use Rattle.std.specs.Prelude.{◌≡◌, [], IsTrue, IfOk, OnErr, None};
 ghost use Rattle.world_code.specs.WorldView.{world_of};
 ghost use Rattle.script_meaning.specs.States.{is_built};
 ghost use Rattle.script_meaning.specs.Objects.{caller_in, refusing_home};
-ghost use Rattle.script_in_order.specs.Doing.{IsFit, DoesAtHome, folds_nodes};
+ghost use Rattle.script_in_order.specs.Doing.{IsFit, DoesAtHome, folds_nodes, transaction_of};
 ghost use Rattle.script_in_order.specs.Folds.{AreFolded};
 
 use crate::folds::Folds;
 use crate::gets::{get, get_keys};
 use crate::queues::dequeue;
-use crate::transactions::{commit, read};
-use log_node::Versions;
 use report_text::Answer;
 use script_text::{Command, Object, What};
 use std::alloc::{AllocError, Global};
-use std::mem;
 use world_code::World;
 
 /// Whether a command folds nodes for its answer.
@@ -48,9 +45,9 @@ pub fn answer_by_fold(
     command: &Command,
     world: &mut World,
     folds: &mut Folds,
-    found: &mut Option<Versions>,
 ) -> Result<Answer, AllocError>
     requires built { IsTrue (is_built objects.now command.now.what) }
+    requires kind { transaction_of command.now.what ≡ None }
     requires one { IsTrue (folds_nodes command.now.what) }
     requires fits { IsFit (world_of world.old) objects.now command.now.client command.now.what }
     requires near { refusing_home (caller_in (world_of world.old) objects.now command.now.client) command.now.what ≡ None }
@@ -63,13 +60,6 @@ pub fn answer_by_fold(
         What::Get { object, key } => get(alloc, objects, command, *object, key, world, folds),
         What::GetAll { object, keys } => {
             get_keys(alloc, objects, command, *object, keys, world, folds)
-        }
-        What::Read { object, keys } => {
-            read(alloc, objects, command, *object, keys, world, folds, found)
-        }
-        What::Commit { object, pairs } => {
-            let taken = mem::replace(found, None);
-            commit(alloc, objects, command, *object, pairs, taken, world, folds)
         }
         What::Deq { object } => dequeue(alloc, objects, command, *object, world, folds),
         _ => unreachable!(),

@@ -16,10 +16,8 @@ ghost use Rattle.script_in_order.specs.CausalFolds.{held_nodes, cut_of, AreCausa
 ghost use Rattle.script_in_order.specs.Folds.{nodes_at, AreThere, IsShardFold, AreShardFolds, IsQueueFold, IsFoldOf, AreFolded, ShardsWithin, QueueWithin, MayFold};
 
 use crate::causal::CausalFold;
-use crate::tx_folds::{NodesRead, TxFold};
-use log_node::{ColourList, Key, Keys, ListOf, Names, Shape, Text, Versions};
-use object_fold::{ShardMap, ValueQueue, Verdict};
-use report_text::KeyAnswer;
+use log_node::{ColourList, Key, ListOf, Names, Shape, Text};
+use object_fold::{ShardMap, ValueQueue};
 use script_text::{Kind, Object, Script};
 use std::alloc::{AllocError, Global};
 use std::marker::Model;
@@ -48,8 +46,8 @@ pub enum Fold {
     Queue(QueueFold),
     /// Of a causal map: what each region's column lets play, by region.
     Causal(Vec<CausalFold>),
-    /// Of a transactional map.
-    Tx(TxFold),
+    /// Of an object that is not folded yet.
+    Nothing,
 }
 
 /// What is folded of each object, by the object's number.
@@ -116,6 +114,30 @@ impl ShardFold {
         }
         Ok(())
     }
+
+    // The value of a key after the first nodes of the line of a column at home.
+    fn value(
+        &mut self,
+        alloc: Global,
+        world: &World,
+        first: FirstNodes,
+        key: &[u8],
+    ) -> Result<Option<Text>, AllocError>
+        requires there { AreThere (world_of world.now) first }
+        requires behind { self.old.count ≤ first.count }
+        requires folded { (colours : List ℕ) × IsShardFold (world_of world.now) first.region colours first.colour self.old }
+        ensures value { (colours : List ℕ) → IsShardFold (world_of world.now) first.region colours first.colour self.old
+            → IfOk result (λ value. value ≡ shard_value colours first.colour (nodes_at (world_of world.now) first) key.now) }
+        ensures within { self.new.count ≤ first.count }
+        ensures folded { (colours : List ℕ) → IsShardFold (world_of world.now) first.region colours first.colour self.old
+            → IsShardFold (world_of world.now) first.region colours first.colour self.new }
+    {
+        self.fold_to(alloc, world, first)?;
+        match self.map.get(key) {
+            None => Ok(None),
+            Some(value) => Ok(Some(Text::copied(alloc, value.as_bytes())?)),
+        }
+    }
 }
 
 impl QueueFold {
@@ -144,6 +166,26 @@ impl QueueFold {
             self.count = place + 1;
         }
         Ok(())
+    }
+
+    // The front after the first nodes of the line of a column at home.
+    fn front(
+        &mut self,
+        alloc: Global,
+        world: &World,
+        first: FirstNodes,
+    ) -> Result<Option<Text>, AllocError>
+        requires there { AreThere (world_of world.now) first }
+        requires behind { self.old.count ≤ first.count }
+        requires folded { IsQueueFold (world_of world.now) first.region first.colour self.old }
+        ensures value { IfOk result (λ value. value ≡ front_after (nodes_at (world_of world.now) first)) }
+        ensures folded { IsQueueFold (world_of world.now) first.region first.colour self.new }
+    {
+        self.fold_to(alloc, world, first)?;
+        match self.queue.front() {
+            None => Ok(None),
+            Some(front) => Ok(Some(Text::copied(alloc, front.as_bytes())?)),
+        }
     }
 }
 
@@ -190,7 +232,7 @@ fn open_fold(alloc: Global, kind: &Kind, shape: &Shape) -> Result<Fold, AllocErr
         Kind::Tx {
             home: _home,
             colours: _colours,
-        } => Ok(Fold::Tx(TxFold::new(alloc))),
+        } => Ok(Fold::Nothing),
         Kind::Causal { colour: _colour } => Ok(Fold::Causal(open_causal(alloc, shape.regions)?)),
     }
 }
@@ -225,20 +267,14 @@ impl Folds {
             → kind_in objects object ≡ Some (Kind.Map first.region colours)
             → AreFolded (world_of world.now) objects self.old
             → IfOk result (λ value. value ≡ shard_value colours first.colour (nodes_at (world_of world.now) first) key.now) }
-        ensures folded { (objects : List Object) → AreFolded (world_of world.now) objects self.old
-            → AreFolded (world_of world.now) objects self.new }
+        ensures folded { (objects : List Object) (colours : List ℕ)
+            → kind_in objects object ≡ Some (Kind.Map first.region colours)
+            → AreFolded (world_of world.now) objects self.old → AreFolded (world_of world.now) objects self.new }
         ensures within { (colours : List ℕ) (bound : ℕ → ℕ) → ShardsWithin self.old object colours bound
             → first.count ≤ bound first.colour → ShardsWithin self.new object colours bound }
     {
         match &mut self.of[object as usize] {
-            Fold::Map(shards) => {
-                let shard = &mut shards[first.colour as usize];
-                shard.fold_to(alloc, world, first)?;
-                match shard.map.get(key) {
-                    None => Ok(None),
-                    Some(value) => Ok(Some(Text::copied(alloc, value.as_bytes())?)),
-                }
-            }
+            Fold::Map(shards) => { shards[first.colour as usize].value(alloc, world, first, key) }
             _ => unreachable!(),
         }
     }
@@ -256,17 +292,12 @@ impl Folds {
             × MayFold (world_of world.now) objects self.old object (Kind.Queue first.region first.colour) first }
         requires behind { QueueWithin self.old object first.count }
         ensures value { IfOk result (λ value. value ≡ front_after (nodes_at (world_of world.now) first)) }
-        ensures folded { (objects : List Object) → AreFolded (world_of world.now) objects self.old
-            → AreFolded (world_of world.now) objects self.new }
+        ensures folded { (objects : List Object)
+            → kind_in objects object ≡ Some (Kind.Queue first.region first.colour)
+            → AreFolded (world_of world.now) objects self.old → AreFolded (world_of world.now) objects self.new }
     {
         match &mut self.of[object as usize] {
-            Fold::Queue(fold) => {
-                fold.fold_to(alloc, world, first)?;
-                match fold.queue.front() {
-                    None => Ok(None),
-                    Some(front) => Ok(Some(Text::copied(alloc, front.as_bytes())?)),
-                }
-            }
+            Fold::Queue(fold) => fold.front(alloc, world, first),
             _ => unreachable!(),
         }
     }
@@ -288,47 +319,12 @@ impl Folds {
             × (kind_in objects object ≡ Some (Kind.Causal colour)) }
         ensures values { let w = world_of world.now in
             IfOk result (λ values. values ≡ causal_values (held_nodes w region colour (cut_of w region colour)) key.now) }
-        ensures folded { (objects : List Object) → AreFolded (world_of world.now) objects self.old
-            → AreFolded (world_of world.now) objects self.new }
+        ensures folded { (objects : List Object) → kind_in objects object ≡ Some (Kind.Causal colour)
+            → AreFolded (world_of world.now) objects self.old → AreFolded (world_of world.now) objects self.new }
     {
         match &mut self.of[object as usize] {
             Fold::Causal(folds) => {
                 folds[region as usize].values(alloc, world, region, colour, key)
-            }
-            _ => unreachable!(),
-        }
-    }
-
-    /// The values of keys of a transactional map after all nodes that are read, and their last writers. The fold goes on
-    /// from where it is; without memory it stays where it was, or begins anew.
-    pub fn found(
-        &mut self,
-        alloc: Global,
-        world: &World,
-        object: u8,
-        read: NodesRead,
-        keys: &Keys,
-    ) -> Result<(ListOf<KeyAnswer>, Versions), AllocError> {
-        match &mut self.of[object as usize] {
-            Fold::Tx(fold) => fold.found(alloc, world, read, keys),
-            _ => unreachable!(),
-        }
-    }
-
-    /// The verdict on the node with a key of a transactional map among all nodes that are read. The fold goes on from
-    /// where it is; without memory it stays where it was, or begins anew.
-    pub fn verdict(
-        &mut self,
-        alloc: Global,
-        world: &World,
-        object: u8,
-        read: NodesRead,
-        own: Key,
-    ) -> Result<Verdict, AllocError> {
-        match &mut self.of[object as usize] {
-            Fold::Tx(fold) => {
-                let verdict = fold.verdict(alloc, world, read, own)?;
-                Ok(verdict.unwrap_or(Verdict::Committed { stamp: own.stamp }))
             }
             _ => unreachable!(),
         }

@@ -128,7 +128,7 @@ fn values_up_to(
     client: u8,
     object: u8,
     stamp: u64,
-    keys: &Keys,
+    keys: &[Text],
     world: &World,
     folds: &mut Folds,
 ) -> Result<ListOf<KeyAnswer>, AllocError>
@@ -145,7 +145,7 @@ fn values_up_to(
     ensures folded { AreFolded (world_of world.now) objects.now folds.new }
 {
     let mut answers = ListOf::new(alloc);
-    for key in keys.as_slice() {
+    for key in keys {
         let colour = shard(&objects[object as usize].kind, key.as_bytes());
         let first = nodes_up_to(world, client, colour, stamp);
         let value = folds.value(alloc, world, object, first, key.as_bytes())?;
@@ -193,7 +193,7 @@ pub fn get_keys(
             command.client,
             object,
             stamp,
-            keys,
+            keys.as_slice(),
             world,
             folds,
         ) {

@@ -58,8 +58,8 @@ fn read_own(
         × AreFolded (world_of world.old) objects folds.old }
     requires behind { QueueWithin folds.old object point.position }
     ensures reads { ReadsOwn client stamp point (world_of world.old) (world_of world.new) result }
-    ensures folded { (objects : List Object) → AreFolded (world_of world.old) objects folds.old
-        → AreFolded (world_of world.new) objects folds.new }
+    ensures folded { (objects : List Object) → IsQueueAt (world_of world.old) client objects object point.colour
+        → AreFolded (world_of world.old) objects folds.old → AreFolded (world_of world.new) objects folds.new }
 {
     world.is_whole();
     let colour = point.colour;
@@ -103,8 +103,8 @@ fn read_behind(
         × IsReached before }
     requires folded { (objects : List Object) × IsQueueAt (world_of world.old) command.now.client objects object colour
         × AreFolded (world_of world.old) objects folds.old }
-    ensures folded { (objects : List Object) → AreFolded (world_of world.old) objects folds.old
-        → AreFolded (world_of world.new) objects folds.new }
+    ensures folded { (objects : List Object) → IsQueueAt (world_of world.old) command.now.client objects object colour
+        → AreFolded (world_of world.old) objects folds.old → AreFolded (world_of world.new) objects folds.new }
     ensures done { (before : Meant) → DoneBy
         (λ grants state. appended_one grants state command.now (form_text Form.Dequeue) colour) command.now before
         (world_of world.old) appended []

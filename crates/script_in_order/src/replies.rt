@@ -1,10 +1,9 @@
 // The replies to one client, and what its reads of objects found.
 ghost use Rattle.std.specs.Prelude.{◌≡◌, ◌<◌, IfOk, None, length};
-ghost use Rattle.script_in_order.specs.Runs.{no_replies, with_reply, asks_within, read_taken, with_taken, with_kept};
+ghost use Rattle.script_in_order.specs.Runs.{no_replies, with_reply, read_at, with_read};
 
 use log_node::{ListOf, Versions};
 use report_text::ReplyLine;
-use script_text::What;
 use std::alloc::{AllocError, Global};
 use std::marker::Model;
 use std::mem;
@@ -53,27 +52,21 @@ impl Replies {
         self.items.push_reserved(reply);
     }
 
-    /// Takes what a command uses up: a commit what the client's last read of its object found.
-    pub fn take_read(&mut self, what: &What) -> Option<Versions>
-        requires { asks_within what.now (length self.old.reads) }
-        ensures value { result ≡ read_taken what.now self.old.reads }
-        ensures reads { self.new ≡ with_taken what.now self.old }
+    /// Takes what the last read of an object found.
+    pub fn take_read(&mut self, object: u8) -> Option<Versions>
+        requires { object < length self.old.reads }
+        ensures value { result ≡ read_at self.old.reads object }
+        ensures reads { self.new ≡ with_read self.old object None }
     {
-        match what {
-            What::Commit { object, .. } => mem::replace(&mut self.reads[*object as usize], None),
-            _ => None,
-        }
+        mem::replace(&mut self.reads[object as usize], None)
     }
 
-    /// Keeps what a read of an object found, or that it found nothing; other commands find nothing.
-    pub fn keep_read(&mut self, what: &What, found: Option<Versions>)
-        requires { asks_within what.now (length self.old.reads) }
-        ensures { self.new ≡ with_kept what.now found self.old }
+    /// Keeps what a read of an object found.
+    pub fn keep_read(&mut self, object: u8, found: Option<Versions>)
+        requires { object < length self.old.reads }
+        ensures { self.new ≡ with_read self.old object found }
     {
-        match what {
-            What::Read { object, .. } => self.reads[*object as usize] = found,
-            _ => {}
-        }
+        self.reads[object as usize] = found;
     }
 
     /// Takes the replies out as a list; takes no memory.

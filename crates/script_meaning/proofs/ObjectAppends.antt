@@ -60,7 +60,7 @@ module _ (objects : List Object) (u : ℕ) (what : What) (colours : Colours) (te
   explains_as : (log : Log) (w : World) (kept : Kept) (answer : Answer) (nodes : List PlacedNode) (after : Kept)
       → Explains log (caller_in w objects u) kept (whats.Append colours text) answer nodes after
       → Explains log (caller_in w objects u) kept what answer nodes after
-  explains_as log w kept answers.NoMemory nodes after e = 
+  explains_as log w kept answers.NoMemory nodes after e =
       (e.0, finds_no_memory log (caller_in w objects u) kept what colours text (asks w kept) after e.1)
   explains_as log w kept (answers.Stood stamp row points) nodes after e =
       (e.0, appending, by_asks log (caller_in w objects u) kept what colours text (asks w kept) _ e.2)

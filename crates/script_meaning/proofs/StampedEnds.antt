@@ -470,6 +470,7 @@ module _ (objects : List Object) (S : ℕ → Type 0) (what : What) (may : may_h
           (in_contains (keys_read w2 u stamp colours) key (ordered.all (line (home_history w2 u c)) key
           (contains_in lines (line (home_history w2 u c)) (in_map_back (λ c. line (home_history w2 u c)) colours c i))
           (contains_in (line (home_history w2 u c)) key now) low))
+
       -- no open entry up to the stamp is left
       clear_still : (c : ℕ) → In c colours → IsClearUpTo stamp (home_history w4 u c)
       clear_still c i =

@@ -76,7 +76,7 @@ module _ (script : Script) (commands : List Command) (state : State) (command : 
   distinct = filtered_distinct (λ c. list_any (λ d. d == c) (colours_of (caller_in w script.objects u) object)) 64 0
 
   look : MayLook script.objects S u (read_stamp w u cs) w cs
-  look = fits.may_look script commands state command runs fit cs 
+  look = fits.may_look script commands state command runs fit cs
       (rising_below script.shape.colours fit.few_colours (colours_of (caller_in w script.objects u) object) own)
 
   synced : (y : World) → colours_synced (caller_in y script.objects u) command.what ≡ cs

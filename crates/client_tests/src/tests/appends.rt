@@ -218,19 +218,25 @@ fn stopped<R: Wait>(
 }
 
 #[test]
-fn a_stopped_append_is_completed_by_another_client(rt: HostRuntime) -> Result<(), Fail> {
+fn a_stopped_append_that_is_met_is_completed(rt: HostRuntime) -> Result<(), Fail> {
     let id = Id {
         client: 1,
         count: 0,
     };
     let none = (0, Counts([0; 4]), 0);
+    let open = (1, Counts([0; 4]), 0);
     let both = (2, Counts([1, 0, 0, 0]), 1);
     for steps in 0..7 {
         let (stamp, seen) = match steps {
             0 | 1 => (1, none),
+            // It is settled in the first colour, so nobody meets it there.
+            5 => (2, open),
             _ => (2, both),
         };
-        assert_eq!(rt; stopped(&rt, rt.alloc(), steps)?, (true, Key { stamp, id }, seen));
+        assert_eq!(rt;
+            stopped(&rt, rt.alloc(), steps)?,
+            (true, Key { stamp, id }, seen)
+        );
     }
     Ok(())
 }

@@ -12,8 +12,8 @@ returns-in-Some-clause-ok c =
     got_refused c.args.command.now (world_of c.args.world.now) c.args.colour c.args.key.now c.in-Some.base
     c.in-Some.ensures.some.0 c.in-Some.ensures.some.1
 
-pub folds-values-requires-clause-may : goal.folds-values-requires-clause-may
-folds-values-requires-clause-may c = (c.args.objects.now, c.requires.folded, c.requires.kind)
+pub values-requires-clause-may : goal.values-requires-clause-may
+values-requires-clause-may c = (c.args.objects.now, c.requires.folded, c.requires.kind)
 
 pub returns-clause-ok : goal.returns-clause-ok
 returns-clause-ok c =
@@ -31,4 +31,4 @@ returns-clause-folded c =
     folds_stay w (world_of c.play-played.new.self) c.is_whole.ensures.reached
     (record { steps = Play c.args.command.now.client c.args.colour ∷ []; run = sym c.play-played.ensures.world })
     c.args.objects.now c.values.new.self
-    (c.in_ok-values.ensures.folded c.args.objects.now c.requires.folded)
+    (c.in_ok-values.ensures.folded c.args.objects.now c.requires.kind c.requires.folded)

@@ -16,14 +16,3 @@ returns-in-Some-clause-ok c =
     (answers.NotHome c.in-Some.home) c.new.result c.new.ensures
     (does_not_at_home c.args.objects.now c.args.command.now w c.in-Some.home
     (sym c.refusing_home.ensures ∙ c.in-Some.is))
-
-pub returns-in-None-clause-ok : goal.returns-in-None-clause-ok
-returns-in-None-clause-ok c =
-    let w = world_of c.args.world.now in
-    let new = world_of c.answer.new.world in
-    IfOk-weaker c.answer.result
-    (λ (g : Answer × List PlacedNode). DoesAtHome c.args.objects.now c.args.command.now w new g.0 g.1)
-    (λ (g : Answer × List PlacedNode). Does c.args.objects.now c.args.command.now w new g.0 g.1)
-    (λ g d. does_at_home c.args.objects.now c.args.command.now w new g.0 g.1
-    (sym c.refusing_home.ensures ∙ c.in-None.is) d)
-    c.answer.ensures.ok

@@ -7,9 +7,9 @@ use Rattle.lawful_run.specs.Asks.{object_colours}
 use Rattle.object_form.specs.Forms.{IsForm}
 use Rattle.log_node.specs.declared.forms.Form.TheVariants as forms
 use Rattle.world_code.specs.WorldView.{world_of}
-use Rattle.script_meaning.specs.States.{has_colours}
+use Rattle.script_meaning.specs.States.{has_colours, kind_in}
 use Rattle.script_meaning.proofs.CallerLemmas.{key_is_word}
-use Rattle.script_in_order.proofs.ObjectSteps.{kind_at, kind_is, small, queue_is, queue_some, queue_low, form_done}
+use Rattle.script_in_order.proofs.ObjectSteps.{kind_is, small, queue_is, queue_some, queue_low, form_done}
 use Rattle.script_in_order.proofs.object_appends.enqueue.Goals as goal
 
 -- the object's kind, where its facts are found
@@ -47,7 +47,7 @@ append_form-requires-clause-within c =
 pub returns-clause-ok : goal.returns-clause-ok
 returns-clause-ok c =
     form_done c.args.command.now (world_of c.args.world.now) (world_of c.append_form.new.world) c.append_form.result
-    c.queue_colours-set.result (set_of (object_colours (kind_at c.args.objects.now c.args.object)))
+    c.queue_colours-set.result (set_of (object_colours (kind_in c.args.objects.now c.args.object)))
     (forms.Enqueue c.in_ok-copied.field-0) (forms.Enqueue c.args.value.now)
     (c.queue_colours-set.ensures ∙ ap (λ (k : Option Kind). set_of (object_colours k))
     (kind_is c.args.objects.now c.args.object c.index-objects-object.result c.requires.uses.0))

@@ -7,10 +7,10 @@ use Rattle.lawful_run.specs.Asks.{object_colours, keys_of}
 use Rattle.object_form.specs.Forms.{IsForm}
 use Rattle.log_node.specs.declared.forms.Form.TheVariants as forms
 use Rattle.world_code.specs.WorldView.{world_of}
-use Rattle.script_meaning.specs.States.{has_colours}
+use Rattle.script_meaning.specs.States.{has_colours, kind_in}
 use Rattle.script_meaning.specs.Objects.{shard_set}
 use Rattle.script_meaning.proofs.CallerLemmas.{key_some, pairs_are, some_of}
-use Rattle.script_in_order.proofs.ObjectSteps.{kind_at, kind_is, small, has_some, are_low, form_done}
+use Rattle.script_in_order.proofs.ObjectSteps.{kind_is, small, has_some, are_low, form_done}
 use Rattle.script_in_order.proofs.object_appends.put_all.Goals as goal
 
 -- the object's kind, where its facts are found
@@ -53,7 +53,7 @@ returns-clause-ok c =
     let is = kind_is c.args.objects.now c.args.object c.index-objects-object.result c.requires.uses.0 in
     form_done c.args.command.now (world_of c.args.world.now) (world_of c.append_form.new.world) c.append_form.result
     c.pair_shards-set.result
-    (shard_set (object_colours (kind_at c.args.objects.now c.args.object)) (keys_of c.args.pairs.now))
+    (shard_set (object_colours (kind_in c.args.objects.now c.args.object)) (keys_of c.args.pairs.now))
     (forms.PutAll c.in_ok-copied_pairs.field-0) (forms.PutAll c.args.pairs.now)
     (c.pair_shards-set.ensures
     ∙ (ap (λ (ps : List Pair). shard_set (object_colours (Some kind)) (keys_of ps)) c.as_slice.ensures

@@ -40,8 +40,8 @@ read_own-requires-clause-count c =
     (stood_so command text c.args.colour before v c.args.appended c.in-Stood.stamp c.in-Stood._row c.in-Stood.points
     c.in-Stood.is (entered_of command text c.args.colour before v c.args.appended c.requires.appended.1)) _
 
-pub returns-in-Stood : goal.returns-in-Stood
-returns-in-Stood c = λ before d.
+pub returns-in-Stood-clause-done : goal.returns-in-Stood-clause-done
+returns-in-Stood-clause-done c = λ before d.
     let command = c.args.command.now in
     let text = form_text forms.Dequeue in
     let v = world_of c.args.world.now in
@@ -51,10 +51,10 @@ returns-in-Stood c = λ before d.
     (sym c.as_slice.ensures)
     (stood_so command text c.args.colour before v c.args.appended c.in-Stood.stamp c.in-Stood._row c.in-Stood.points
     c.in-Stood.is (entered_of command text c.args.colour before v c.args.appended d)))
-    c.read_own.ensures
+    c.read_own.ensures.reads
 
-pub returns-in_default : goal.returns-in_default
-returns-in_default c = λ before d.
+pub returns-in_default-clause-done : goal.returns-in_default-clause-done
+returns-in_default-clause-done c = λ before d.
     behind_ended c.args.command.now c.args.colour before (world_of c.args.world.now) c.args.appended
     c.in_default.not-Stood
     (entered_of c.args.command.now (form_text forms.Dequeue) c.args.colour before (world_of c.args.world.now)

@@ -1,14 +1,12 @@
 use Rattle.std.proofs.Common.{◌≡◌, ◌∙◌, ℕ, List, ap, sym, subst, arith, Vec, Global}
 use Rattle.log_node.specs.declared.ids.Key.{Key}
-use Rattle.col_core.specs.History.{line}
-use Rattle.column.specs.Columns.{ColumnState}
 use Rattle.playback.specs.Merging.{merged, up_to, AreRising}
-use Rattle.world_code.specs.WorldView.{WorldView, world_of, column_at}
-use Rattle.world_laws.specs.Worlds.{home_of, home_history}
+use Rattle.world_code.specs.WorldView.{world_of}
+use Rattle.world_laws.specs.Worlds.{home_of}
 use Rattle.script_meaning.specs.Stamped.{keys_read}
 use Rattle.script_meaning.proofs.CallerLemmas.{rising_line}
 use Rattle.script_in_order.proofs.Sets.{has_below, all_first}
-use Rattle.script_in_order.proofs.StampedSteps.{keys_next, keys_same}
+use Rattle.script_in_order.proofs.StampedSteps.{line_is, keys_next, keys_same}
 use Rattle.script_in_order.proofs.stamped.keys_read.Goals as goal
 use Rattle.script_in_order.proofs.stamped.keys_read.Goals.{then-has+in_ok-keys, else-has}
 
@@ -16,14 +14,6 @@ pub column-requires-clause-colour : goal.column-requires-clause-colour
 column-requires-clause-colour c =
     has_below c.args.colours c.args.world.now.shape.colours c.loop-colour.colour c.requires.within (omega arith)
     (sym c.if-has.ensures)
-
--- the line of a column
-line_is : (code : WorldView) (client colour home : ℕ) (l : List Key) (column : ColumnState)
-    → home ≡ home_of (world_of code) client → column ≡ column_at code.columns home colour
-    → l ≡ line column.journal → l ≡ line (home_history (world_of code) client colour)
-line_is code client colour home l column h c is =
-    is ∙ (ap (λ (x : ColumnState). line x.journal) c
-    ∙ ap (λ (r : ℕ). line (column_at code.columns r colour).journal) h)
 
 pub with_line-requires : goal.with_line-requires
 with_line-requires c =

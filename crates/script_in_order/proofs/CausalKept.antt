@@ -1,0 +1,83 @@
+-- The folds of a causal map among those of all objects.
+use Rattle.std.proofs.Common.{◌≡◌, ℕ, ◌<◌, List, [], ◌∷◌, length, get_or, set, Option, Some, None, refl, ap, sym, subst, ◌∙◌, arith}
+use Rattle.std.specs.Prelude.{slice_get}
+use Rattle.std.specs.Option.{option_map}
+use Rattle.std.proofs.lemmas.Option.{slice_get-get_or}
+use Rattle.world_laws.specs.Worlds.{World}
+use Rattle.lawful_run.proofs.CallerLemmas.{get_within}
+use Rattle.script_text.specs.declared.script.Kind.{Kind}
+use Rattle.script_text.specs.declared.script.Kind.TheVariants as kinds
+use Rattle.script_text.specs.declared.script.Object.{Object}
+use Rattle.script_meaning.specs.States.{kind_in}
+use Rattle.script_in_order.specs.declared.causal.CausalFold.{CausalFold}
+use Rattle.script_in_order.specs.declared.folds.Fold.{Fold}
+use Rattle.script_in_order.specs.declared.folds.Fold.TheVariants as folds
+use Rattle.script_in_order.specs.CausalFolds.{IsCausalFold, AreCausalFolds}
+use Rattle.script_in_order.specs.Folds.{IsFoldOf, AreFolded}
+use Rattle.script_in_order.proofs.FoldsKept.{causal_with, folds_with}
+
+-- the fold is of a causal map on the colour, and right
+abbrev pub IsCausalOf : World → ℕ → Fold → Type 0
+IsCausalOf w colour (folds.Map shards) = ⊥
+IsCausalOf w colour (folds.Queue queue) = ⊥
+IsCausalOf w colour (folds.Causal regions) = AreCausalFolds w colour regions.items
+IsCausalOf w colour folds.Nothing = ⊥
+
+-- it is no other
+pub no_other : (w : World) (colour : ℕ) (fold : Fold) → IsCausalOf w colour fold
+    → ((regions : _) → fold ≡ folds.Causal regions → ⊥) → ⊥
+no_other w colour (folds.Map shards) f none = f
+no_other w colour (folds.Queue queue) f none = f
+no_other w colour (folds.Causal regions) f none = none regions refl
+no_other w colour folds.Nothing f none = f
+
+by_kind : (w : World) (colour : ℕ) (fold : Fold) → IsFoldOf w (kinds.Causal colour) fold → IsCausalOf w colour fold
+by_kind w colour (folds.Map shards) (home, colours, is, f) = absurd (let g : ⊥ = cc in g)
+by_kind w colour (folds.Queue queue) (home, other, is, f) = absurd (let g : ⊥ = cc in g)
+by_kind w colour (folds.Causal regions) (other, is, f) =
+    let e : other ≡ colour = cc in subst (λ (c : ℕ). AreCausalFolds w c regions.items) e f
+by_kind w colour folds.Nothing n = absurd (n.2 colour refl)
+
+object_of : (found : Option Object) (kind : Kind) → option_map (λ (o : Object). o.kind) found ≡ Some kind
+    → (o : Object) × (found ≡ Some o) × (o.kind ≡ kind)
+object_of None kind is = absurd (let f : ⊥ = cc in f)
+object_of (Some o) kind is = (o, refl, let e : o.kind ≡ kind = cc in e)
+
+-- the number is one of an object, so there is a fold
+pub object_within : (w : World) (objects : List Object) (all : List Fold) (object colour : ℕ) → AreFolded w objects all
+    → kind_in objects object ≡ Some (kinds.Causal colour) → object < length all
+object_within w objects all object colour f is =
+    let o = object_of (slice_get objects object) (kinds.Causal colour) is in
+    let lt = get_within objects object o.0 o.1 in
+    let e = f.many in omega (arith, lt, e)
+
+-- what stands there
+pub there_in : {A : Type 0} (xs : List A) (n : ℕ) (x : A) → n < length xs → x ≡ get_or xs n x → slice_get xs n ≡ Some x
+there_in {A} xs n x lt is = slice_get-get_or xs n x lt ∙ ap (λ (y : A). Some y) (sym is)
+
+pub causal_of : (w : World) (objects : List Object) (all : List Fold) (object colour : ℕ) (fold : Fold)
+    → AreFolded w objects all → kind_in objects object ≡ Some (kinds.Causal colour) → fold ≡ get_or all object fold
+    → IsCausalOf w colour fold
+causal_of w objects all object colour fold f is there =
+    let o = object_of (slice_get objects object) (kinds.Causal colour) is in
+    by_kind w colour fold
+    (subst (λ (k : Kind). IsFoldOf w k fold) o.2
+    (f.each object o.0 fold o.1 (there_in all object fold (object_within w objects all object colour f is) there)))
+
+-- one region's fold in place of another
+pub causal_put : (w : World) (objects : List Object) (all : List Fold) (object colour : ℕ) (fold : Fold)
+    → AreFolded w objects all → kind_in objects object ≡ Some (kinds.Causal colour) → IsCausalOf w colour fold
+    → AreFolded w objects (set all object fold)
+causal_put w objects all object colour fold f is right =
+    folds_with w objects all object fold f (λ o at. by_fold o at fold right) where
+      same_kind : (o : Object) → slice_get objects object ≡ Some o → o.kind ≡ kinds.Causal colour
+      same_kind o at =
+          let e : Some o.kind ≡ Some (kinds.Causal colour) =
+          sym (ap (λ (x : Option Object). option_map (λ (y : Object). y.kind) x) at) ∙ is in
+          cc
+
+      by_fold : (o : Object) → slice_get objects object ≡ Some o → (x : Fold) → IsCausalOf w colour x → IsFoldOf w o.kind x
+      by_fold o at (folds.Map shards) r = absurd r
+      by_fold o at (folds.Queue queue) r = absurd r
+      by_fold o at (folds.Causal regions) r = (colour, same_kind o at, r)
+      by_fold o at folds.Nothing r = absurd r
