@@ -7,3 +7,7 @@ mod Giving
 mod GivingCommands
 mod Yielding
 mod Dealing
+mod EndsShown
+mod ClientsShown
+mod SomeRows
+mod RunningBeside

@@ -1,5 +1,5 @@
 // The top call: from the words of a command line and the bytes of a script to the bytes of a report.
-ghost use Rattle.std.specs.Prelude.{◌≡◌, ◌≢◌, ◌≤◌, ◌↔◌, ◌⊎◌, ℕ, map, None, Some, string_bytes};
+ghost use Rattle.std.specs.Prelude.{◌≡◌, ◌≢◌, ◌<◌, ◌≤◌, ◌↔◌, ◌⊎◌, ℕ, map, None, Some, string_bytes};
 ghost use Rattle.std.specs.Io.KnownBytes.{Appends, IsAtEnd};
 ghost use Rattle.fuzzy_io.specs.Causes.{Rose, ConsumesUpTo, AppendsFront};
 ghost use Rattle.std.specs.Prelude.{IsTrue, IfOk};
@@ -61,6 +61,7 @@ fn report_of<R: Threads + Wait + Sync, G: Gate>(
 ) -> Result<Report, AllocError>
     requires fits { IsFitting script }
     requires rows { script.shape.rows ≤ MAX_ROWS }
+    requires some_rows { 0 < script.shape.rows }
     requires built { All (λ (c : Command). IsTrue (is_done asked script.objects c.what)) script.commands }
     requires stops { StopsAreLast script }
     ensures { IfOk result (IsRunOf asked script) }
@@ -87,6 +88,7 @@ fn do_script<K: Sink, G: Gate, R: Threads + Wait + Sync>(
 ) -> Status
     requires fits { IsFitting script }
     requires rows { script.shape.rows ≤ MAX_ROWS }
+    requires some_rows { 0 < script.shape.rows }
     requires stops { StopsAreLast script }
     ensures done { result ≡ Status.Done → Shows asked script (K.holds sink.old) (K.holds sink.new) }
     ensures refused { result ≡ Status.Refused → (line : ℕ) × (first_unbuilt asked script.objects script.commands ≡ Some line)

@@ -5,33 +5,29 @@ ghost use Rattle.log_client.specs.Clients.{IsClient};
 ghost use Rattle.log_client.specs.Appends.{AreColoursOf, IsStopWithin, piece_of};
 ghost use Rattle.fuzzy_run.specs.Serving.{Gives};
 
-use append_core::MultiFault;
+use append_core::{MultiFault, Point};
 use fuzzy_io::Gate;
-use log_client::{Appended, Client, Store};
-use log_node::{Colours, Items, ListOf, Text};
+use log_client::{Client, Store};
+use log_node::{Colours, ListOf, Text};
 use report_text::{Answer, PointPiece, Points};
 use script_text::What;
 use std::alloc::Global;
 use std::sync::Wait;
 
 // Where a node stands, in the room that was taken for its points.
-fn stood(appended: Appended, mut pieces: Vec<PointPiece>) -> Answer
+fn shown(points: &[Point], mut pieces: Vec<PointPiece>) -> Points
     requires empty { pieces.items ≡ [] }
-    requires room { length appended.stood.points ≤ vec_capacity pieces }
-    ensures { result ≡ Answer.Stood appended.stood.key.stamp appended.row (map piece_of appended.stood.points) }
+    requires room { length points.now ≤ vec_capacity pieces }
+    ensures { result ≡ map piece_of points.now }
 {
-    for point in appended.stood.points.as_slice() {
+    for point in points {
         pieces.push_reserved(PointPiece {
             colour: point.colour,
             at: point.at,
             position: point.position,
         });
     }
-    Answer::Stood {
-        stamp: appended.stood.key.stamp,
-        row: appended.row,
-        points: Points::many(ListOf::from(pieces)),
-    }
+    Points::many(ListOf::from(pieces))
 }
 
 // The answer to an append whose points have room.
@@ -52,7 +48,11 @@ fn append_with<R: Wait, G: Gate>(
     ensures { Gives store.now client.old client.new (What.Append colours text) result [] }
 {
     match client.append(rt, alloc, store, gate, colours, text, None) {
-        Ok(appended) => stood(appended, pieces),
+        Ok(appended) => Answer::Stood {
+            stamp: appended.stood.key.stamp,
+            row: appended.row,
+            points: shown(appended.stood.points.as_slice(), pieces),
+        },
         Err(MultiFault::Full { used }) => Answer::Full { used },
         Err(MultiFault::StampEnd { colour }) => Answer::StampEnd { colour },
         Err(MultiFault::Stopped { .. }) => unreachable!(),

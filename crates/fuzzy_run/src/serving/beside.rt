@@ -20,8 +20,9 @@ pub fn serve_beside<R: Threads + Wait + Sync, G: Gate>(
     served: &mut [Served],
 )
     requires { (n : ℕ) (x : Served) → slice_get served.old n ≡ Some x → CanServe store.now x }
-    ensures { (n : ℕ) (x y : Served) → slice_get served.old n ≡ Some x → slice_get served.new n ≡ Some y
+    ensures served { (n : ℕ) (x y : Served) → slice_get served.old n ≡ Some x → slice_get served.new n ≡ Some y
         → IsServed store.now x y }
+    ensures len { length served.new ≡ length served.old }
 {
     let threads = served.len();
     if threads == 0 {

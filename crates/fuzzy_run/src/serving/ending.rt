@@ -57,30 +57,27 @@ fn push_rows(
     Ok(())
 }
 
-// The rows and the columns of all regions.
+// The rows and the columns of all regions; the nodes are those of each client's rows.
 fn region_reports(
     alloc: Global,
     regions: &Names,
     colours: &Names,
-    closed: Closed,
+    nodes: &[RowNodes],
+    ends: Vec<ClosedRegion>,
 ) -> Result<(ListOf<RowReport>, ListOf<ColumnReport>), AllocError>
-    requires { CanShow regions.now colours.now closed }
-    ensures rows { IfOk result (λ r. r.0 ≡ flat_map (rows_shown (nodes_of closed)) (enumerate_from 0 closed.regions)) }
-    ensures columns { IfOk result (λ r. r.1 ≡ flat_map (columns_shown regions.now colours.now) closed.regions) }
+    requires { CanShow regions.now colours.now (record { regions = ends.items; nodes = nodes.now }) }
+    ensures rows { IfOk result (λ r. r.0 ≡ flat_map (rows_shown (nodes_in nodes.now)) (enumerate_from 0 ends.items)) }
+    ensures columns { IfOk result (λ r. r.1 ≡ flat_map (columns_shown regions.now colours.now) ends.items) }
 {
-    let Closed {
-        regions: ends,
-        nodes,
-    } = closed;
     let mut rows = ListOf::new(alloc);
     let mut columns = ListOf::new(alloc);
     let mut region = 0;
-    for end in ends.into_vec() {
+    for end in ends {
         let ClosedRegion {
             columns: own,
             rows: begun,
         } = end;
-        push_rows(nodes.as_slice(), region, begun, &mut rows)?;
+        push_rows(nodes, region, begun, &mut rows)?;
         push_columns(
             alloc,
             regions,
@@ -105,7 +102,17 @@ pub fn end_report(
     requires regions { CanShow script.now.regions script.now.colours closed }
     ensures { IfOk result (λ report. report ≡ end_report script.now closed replies.items) }
 {
-    let (rows, columns) = region_reports(alloc, &script.regions, &script.colours, closed)?;
+    let Closed {
+        regions: ends,
+        nodes,
+    } = closed;
+    let (rows, columns) = region_reports(
+        alloc,
+        &script.regions,
+        &script.colours,
+        nodes.as_slice(),
+        ends.into_vec(),
+    )?;
     Ok(Report {
         clients: client_reports(alloc, &script.clients, replies)?,
         rows,

@@ -1,5 +1,5 @@
 // The run of a script on threads.
-ghost use Rattle.std.specs.Prelude.{◌≡◌, ◌≤◌, IsTrue, length, map, IfOk};
+ghost use Rattle.std.specs.Prelude.{◌≡◌, ◌<◌, ◌≤◌, IsTrue, length, map, IfOk};
 ghost use Rattle.std.specs.List.{All};
 ghost use Rattle.script_text.specs.declared.script.Command.{Command};
 ghost use Rattle.script_text.specs.Fitting.{IsFitting};
@@ -50,6 +50,7 @@ pub fn run_beside<R: Threads + Wait + Sync, G: Gate>(
 ) -> Result<Report, AllocError>
     requires fits { IsFitting script }
     requires rows { script.shape.rows ≤ MAX_ROWS }
+    requires some_rows { 0 < script.shape.rows }
     requires built { All (λ (c : Command). IsTrue (is_served c.what)) script.commands }
     requires stops { StopsAreLast script }
     ensures { IfOk result (LawfulRun script) }

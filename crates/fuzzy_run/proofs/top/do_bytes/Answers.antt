@@ -1,5 +1,6 @@
 use Rattle.script_text.proofs.CallerLemmas.{script_fits}
 use Rattle.fuzzy_run.specs.declared.refusal.Cause.TheVariants.{Faulty, NotBuilt}
+use Rattle.fuzzy_run.proofs.SomeRows.{some_rows}
 use Rattle.fuzzy_run.proofs.TopLemmas.{refusal_written, refusal_begun, run_written, front_begun}
 use Rattle.fuzzy_run.proofs.top.do_bytes.Goals as goal
 
@@ -8,6 +9,9 @@ do_script-requires-clause-fits g c = script_fits _ _ c.in-Ok.ensures.accepted
 
 pub do_script-requires-clause-rows : goal.do_script-requires-clause-rows
 do_script-requires-clause-rows g c = c.rows_are_within_limits.ensures _ _ c.in-Ok.ensures.accepted
+
+pub do_script-requires-clause-some_rows : goal.do_script-requires-clause-some_rows
+do_script-requires-clause-some_rows g c = some_rows _ _ c.in-Ok.ensures.accepted
 
 pub do_script-requires-clause-stops : goal.do_script-requires-clause-stops
 do_script-requires-clause-stops g c = c.scripts_stop_last.ensures _ _ c.in-Ok.ensures.accepted

@@ -1,6 +1,5 @@
 use Rattle.std.proofs.Common.{◌≡◌, ◌++◌, map}
-use Rattle.fuzzy_run.specs.EndReports.{row_shown}
-use Rattle.fuzzy_run.specs.EndReports.{nodes_in}
+use Rattle.fuzzy_run.specs.EndReports.{nodes_in, row_shown}
 use Rattle.fuzzy_run.proofs.serving.ending.push_rows.Given as goal
 
 -- the rows so far

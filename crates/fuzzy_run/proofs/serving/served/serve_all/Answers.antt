@@ -58,7 +58,7 @@ returns g c =
     let items = c.replace-commands.result in
     let gives = c.into_iter-command-iterator.ensures.into_iter_gives in
     let all = YieldsList-from_vec {s = c.into_iter-command-iterator.result} items.items gives.0 (gives.1 ∙ items.ok.0) in
-    let t = YieldsList-end all c.loop-command.yielded _ c.loop-command.yielded_by _ _ c.in-None.is c.next.ensures.steps in
+    let t = YieldsList-end all c.loop-command.yielded _ c.loop-command.yielded_by _ c.next.new.self c.in-None.is c.next.ensures.steps in
     let whole = sym (map-id c.loop-command.yielded) ∙ (t.0 ∙ ap (λ (v : _). v.items) c.replace-commands.ensures.value) in
     record {
       same = c.loop-command.invariant.same;
