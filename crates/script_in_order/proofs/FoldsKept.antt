@@ -6,6 +6,8 @@ use Rattle.std.specs.Option.{option_map}
 use Rattle.std.proofs.lemmas.Option.{slice_get-get_or}
 use Rattle.log_node.specs.declared.ids.Key.{Key}
 use Rattle.object_fold.specs.Nodes.{ObjectNode}
+use Rattle.object_fold.specs.Maps.{Value, shard_value}
+use Rattle.object_fold.specs.Queues.{front_after}
 use Rattle.object_fold.specs.States.{IsShardMap, IsQueue, HasShardOf}
 use Rattle.col_core.specs.History.{line}
 use Rattle.world_laws.specs.Worlds.{World}
@@ -21,11 +23,12 @@ use Rattle.lawful_run.proofs.CallerLemmas.{get_within}
 use Rattle.script_in_order.specs.declared.causal.CausalFold.{CausalFold}
 use Rattle.script_in_order.specs.CausalFolds.{IsCausalFold, AreCausalFolds}
 use Rattle.script_in_order.proofs.CausalLater.{fold_later}
+use Rattle.script_in_order.specs.declared.folds.FirstNodes.{FirstNodes}
 use Rattle.script_in_order.specs.declared.folds.ShardFold.{ShardFold}
 use Rattle.script_in_order.specs.declared.folds.QueueFold.{QueueFold}
 use Rattle.script_in_order.specs.declared.folds.Fold.{Fold}
 use Rattle.script_in_order.specs.declared.folds.Fold.TheVariants as folds
-use Rattle.script_in_order.specs.Folds.{IsShardFold, AreShardFolds, IsQueueFold, IsFoldOf, AreFolded, ShardsWithin, QueueWithin}
+use Rattle.script_in_order.specs.Folds.{IsShardFold, AreShardFolds, IsQueueFold, IsFoldOf, AreFolded, ShardsWithin, QueueWithin, line_of, nodes_at}
 
 module _ (w v : World) (reached : IsReached w) (to : RunsTo w v) where
   shard_stays : (home colour : ℕ) (colours : List ℕ) (fold : ShardFold) → IsShardFold w home colours colour fold
@@ -348,3 +351,56 @@ within_with all object shards n fold cs bound there old low = λ c i others othe
           by_colour c i other (set_cases shards.items n c fold other
           (ap (λ (v : Vec ShardFold Global). slice_get v.items c) same ∙ at))
       by_place c i others other (inr p) at = absurd (p.0 refl)
+
+-- the next node of a line is folded
+module _ (w : World) (home colour : ℕ) (l : List Key) (place : ℕ) (d : Key) (text : List ℕ)
+    (same : l ≡ line (w.histories home colour)) (lt : place < length (line (w.histories home colour)))
+    (text_is : text ≡ (object_at w (get_or l place d)).text) where
+  abbrev key_there : Key
+  key_there = get_or l place d
+
+  at_line : (count : ℕ) → count ≡ place → get_or (line (w.histories home colour)) count d ≡ key_there
+  at_line count e = ap (λ (n : ℕ). get_or (line (w.histories home colour)) n d) e
+      ∙ ap (λ (xs : List Key). get_or xs place d) (sym same)
+
+  pub shard_step : (colours : List ℕ) (old new : ShardFold) → old.count ≡ place → new.count ≡ place + 1
+      → HasShardOf old.map new.map
+      → ((nodes : List ObjectNode) (node : ObjectNode) → node.text ≡ text → IsShardMap old.map nodes
+      → IsShardMap new.map (nodes ++ node ∷ []))
+      → IsShardFold w home colours colour old → IsShardFold w home colours colour new
+  shard_step colours old new here more mine fed f =
+      shard_more w home colour key_there d colours old new (omega (arith, here, lt)) (at_line old.count here)
+      (omega (arith, here, more)) mine
+      (fed (map (object_at w) (take old.count (line (w.histories home colour)))) (object_at w key_there) (sym text_is)
+      f.folded) f
+
+  pub queue_step : (old new : QueueFold) → old.count ≡ place → new.count ≡ place + 1
+      → ((nodes : List ObjectNode) (node : ObjectNode) → node.text ≡ text → IsQueue old.queue nodes
+      → IsQueue new.queue (nodes ++ node ∷ []))
+      → IsQueueFold w home colour old → IsQueueFold w home colour new
+  queue_step old new here more fed f =
+      queue_more w home colour key_there d old new (omega (arith, here, lt)) (at_line old.count here)
+      (omega (arith, here, more))
+      (fed (map (object_at w) (take old.count (line (w.histories home colour)))) (object_at w key_there) (sym text_is)
+      f.folded)
+
+-- an answer of a fold that has come to the nodes that are asked for
+pub shard_answer : (w : World) (first : FirstNodes) (colours key : List ℕ) (fold : ShardFold) (value : Value)
+    → fold.count ≡ first.count → IsShardFold w first.region colours first.colour fold
+    → ((nodes : List ObjectNode) → IsShardMap fold.map nodes
+    → value ≡ shard_value fold.map.colours fold.map.shard nodes key)
+    → value ≡ shard_value colours first.colour (nodes_at w first) key
+shard_answer w first colours key fold value here f answers =
+    answers (map (object_at w) (take fold.count (line_of w first))) f.folded
+    ∙ (ap (λ (cs : List ℕ). shard_value cs fold.map.shard (map (object_at w) (take fold.count (line_of w first))) key)
+    f.colours_are
+    ∙ (ap (λ (c : ℕ). shard_value colours c (map (object_at w) (take fold.count (line_of w first))) key) f.shard_is
+    ∙ ap (λ (n : ℕ). shard_value colours first.colour (map (object_at w) (take n (line_of w first))) key) here))
+
+pub queue_answer : (w : World) (first : FirstNodes) (fold : QueueFold) (value : Value) → fold.count ≡ first.count
+    → IsQueueFold w first.region first.colour fold
+    → ((nodes : List ObjectNode) → IsQueue fold.queue nodes → value ≡ front_after nodes)
+    → value ≡ front_after (nodes_at w first)
+queue_answer w first fold value here f answers =
+    answers (map (object_at w) (take fold.count (line_of w first))) f.folded
+    ∙ ap (λ (n : ℕ). front_after (map (object_at w) (take n (line_of w first)))) here
