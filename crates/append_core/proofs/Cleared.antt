@@ -31,6 +31,7 @@ use Rattle.chain_store.specs.Holds.{IsHold, SameBut, SeesMoreIn, seen_in, entrie
 use Rattle.chain_store.specs.Proposals.{IsMarkedOpen}
 use Rattle.chain_store.specs.Going.{GoesOn}
 use Rattle.append_core.specs.Helping.{HelpsOpen, IsStepIn, IsUnderClock, MayBeOpenIn, WasOpen}
+use Rattle.append_core.specs.Settled.{IsComplete}
 use Rattle.chain_store.proofs.CallerLemmas.{goes_then, goes_weaken, looks_on}
 use Rattle.append_core.proofs.Lasting.{found, finds, longer, lawful_longer}
 
@@ -182,8 +183,8 @@ pub helped_open : (r : Region) (g m h : Hold) (b : BegunAppend) (k : ℕ) (key :
     → SeesMoreIn k g m
     → Some b.id ≡ option_map (λ (e : Standing). e.key.id) (find (is_open_below key) (entries (entries_seen m k)))
     → has b.colours k ≡ true → IsMarkedOpen r.board.size k (view_of g) (view_of m) (seen_in m k) b
-    → GoesOn (IsStepIn b) m h → GoesOn (λ c e. HelpsOpen g h e) g h
-helped_open r g m h b k key is but sees first coloured marked goes =
+    → GoesOn (IsStepIn b) m h → IsComplete h b.id → GoesOn (λ c e. HelpsOpen g h e) g h
+helped_open r g m h b k key is but sees first coloured marked goes complete =
     let f = first_open key (entries (entries_seen m k)) b.id
     (find (is_open_below key) (entries (entries_seen m k))) refl first in
     let was : WasOpen g h b.id = record {
@@ -195,4 +196,4 @@ helped_open r g m h b k key is but sees first coloured marked goes =
       unfenced = may_be_open r g m b k is coloured marked;
     } in
     goes_then (λ c e. HelpsOpen g h e) g m h (looks_on (λ c e. HelpsOpen g h e) k g m but sees)
-    (goes_weaken (IsStepIn b) m h (λ c e. HelpsOpen g h e) (λ c e step. (b.id, step.1, was)) goes)
+    (goes_weaken (IsStepIn b) m h (λ c e. HelpsOpen g h e) (λ c e step. (b.id, step.1, was, complete)) goes)

@@ -67,7 +67,7 @@ stands_all r g h k x points places ended stamp s d of later next goes key colour
           (goes_weaken (IsStepIn b) g h both (λ c e it. inl it) d.all.goes)
           (goes_weaken (λ c e. HelpsOpen g k e) h k both (λ c e it. inr it)
           (helped_longer (IsStepIn b) (λ c e. HelpsOpen h k e) g h k k d.all.goes d.all.begun.grows
-          (goes_same (λ c e. HelpsOpen h k e) k k refl) goes));
+          (goes_same (λ c e. HelpsOpen h k e) k k refl) (Grows-refl (view_of k)) goes));
     }
 
 -- what is left of one that is gone

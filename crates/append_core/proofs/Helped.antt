@@ -28,6 +28,8 @@ use Rattle.chain_store.specs.Holds.{IsHold, seen_in, view_of}
 use Rattle.chain_store.specs.Going.{GoesOn}
 use Rattle.chain_store.proofs.CallerLemmas.{prefix_then, goes_same, goes_then, goes_weaken, lawful_seen}
 use Rattle.append_core.specs.Helping.{MayBeOpenIn, WasOpen, HelpsOpen}
+use Rattle.append_core.specs.Settled.{IsComplete}
+use Rattle.append_core.proofs.Complete.{complete_later}
 use Rattle.append_core.proofs.Taking.{entries_split}
 use Rattle.append_core.proofs.Lasting.{closed_longer}
 
@@ -56,21 +58,26 @@ opened_longer g h k l id low grows high o = record {
 }
 
 pub helped_longer : (Before After : ℕ → ColumnEvent → Type 0) (g h k l : Hold) → GoesOn Before g h
-    → Grows (view_of g) (view_of h) → GoesOn After k l
+    → Grows (view_of g) (view_of h) → GoesOn After k l → Grows (view_of k) (view_of l)
     → GoesOn (λ c e. HelpsOpen h k e) h k → GoesOn (λ c e. HelpsOpen g l e) h k
-helped_longer Before After g h k l a grows b =
+helped_longer Before After g h k l a before b after =
     goes_weaken (λ c e. HelpsOpen h k e) h k (λ c e. HelpsOpen g l e)
-    (λ c e m. (m.0, m.1, opened_longer g h k l m.0 a.more grows b.more m.2))
+    (λ c e m. (
+      m.0,
+      m.1,
+      opened_longer g h k l m.0 a.more before b.more m.2,
+      complete_later k l b.more after.size (Learns-from (view_of k) (view_of l) after) m.0 m.3,
+    ))
 
 -- help after help
 pub helps_then : (g h k : Hold) → GoesOn (λ c e. HelpsOpen g h e) g h → Grows (view_of g) (view_of h)
-    → GoesOn (λ c e. HelpsOpen h k e) h k → GoesOn (λ c e. HelpsOpen g k e) g k
-helps_then g h k a grows b =
+    → GoesOn (λ c e. HelpsOpen h k e) h k → Grows (view_of h) (view_of k) → GoesOn (λ c e. HelpsOpen g k e) g k
+helps_then g h k a before b after =
     goes_then (λ c e. HelpsOpen g k e) g h k
     (helped_longer (λ c e. HelpsOpen g k e) (λ c e. HelpsOpen h k e) g g h k
-    (goes_same (λ c e. HelpsOpen g k e) g g refl) (Grows-refl (view_of g)) b a)
-    (helped_longer (λ c e. HelpsOpen g h e) (λ c e. HelpsOpen g k e) g h k k a grows
-    (goes_same (λ c e. HelpsOpen g k e) k k refl) b)
+    (goes_same (λ c e. HelpsOpen g k e) g g refl) (Grows-refl (view_of g)) b after a)
+    (helped_longer (λ c e. HelpsOpen g h e) (λ c e. HelpsOpen g k e) g h k k a before
+    (goes_same (λ c e. HelpsOpen g k e) k k refl) (Grows-refl (view_of k)) b)
 
 -- an event is a step of one id at most
 step_once : (a b : Id) (e : ColumnEvent) → IsStepOf a e → IsStepOf b e → a ≡ b
@@ -81,6 +88,10 @@ step_once a b (Raise to) p q = absurd p
 step_once a b (Give region from) p q = absurd p
 step_once a b (Carry region start heads) p q = absurd p
 step_once a b (Trim counts) p q = absurd p
+
+-- the append that an event helps is complete
+pub helped_complete : (g h : Hold) (e : ColumnEvent) → HelpsOpen g h e → (id : Id) → IsStepOf id e → IsComplete h id
+helped_complete g h e helps id step = subst (IsComplete h) (step_once helps.0 id e helps.1 step) helps.3
 
 -- what had entered and was open no more was so at each time since
 closed_between : (r : Region) (h : Hold) (k : ℕ) → IsHold r h → k < r.board.size.colours → (old log : List Told)

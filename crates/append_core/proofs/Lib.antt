@@ -1,5 +1,6 @@
 mod Taking
 mod Lasting
+mod Complete
 mod Helped
 mod Marked
 mod Cleared

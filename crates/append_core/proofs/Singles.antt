@@ -80,7 +80,7 @@ module _ (r : Region) (g m : Hold) (x : Node) (colour stamp : ℕ) (at : At)
         (makes_on (λ c e. (c ≡ colour) × IsSingleOf x.id e) colour g m but
         (told_single colour g.passes.number x stamp) at one refl (refl, refl))
         (subst (λ (t : Seat). Grows (view_of g) (seat_seen t)) (sym seat) (Grows-refl (view_of g)))
-        (goes_same (λ c e. HelpsOpen m h e) h h refl) on));
+        (goes_same (λ c e. HelpsOpen m h e) h h refl) (Grows-refl (view_of h)) on));
   }
 
 -- a known place of a key is its position

@@ -1,18 +1,24 @@
 -- What a hold knows of a begun append in the column of one of its colours.
 use Rattle.std.specs.Prelude.{◌≡◌, ◌≢◌, ◌⊎◌, ℕ, true, List, None}
 use mathlib.Core.List.{IsPrefix}
+use Rattle.log_node.specs.declared.ids.Id.{Id}
+use Rattle.log_node.specs.declared.ids.Row.{Row}
+use Rattle.log_node.specs.declared.node.Node.{Node}
 use Rattle.log_node.specs.Seen.{BegunAppend}
+use Rattle.log_node.specs.Sets.{has}
 use Rattle.log_node.specs.Standings.{open_entry}
 use Rattle.log_node.specs.declared.marks.Why.{Why}
 use Rattle.log_node.specs.declared.marks.Mark.{Mark}
 use Rattle.log_node.specs.declared.marks.Mark.TheVariants as marks
 use Rattle.log_node.specs.declared.marks.Outcome.{Outcome}
-use Rattle.log_node.specs.declared.marks.Outcome.TheVariants.{Final}
+use Rattle.log_node.specs.declared.marks.Outcome.TheVariants.{Open, Final}
 use Rattle.col_core.specs.History.{entries, has_entered}
 use Rattle.col_core.specs.Ids.{IsFinal}
-use Rattle.stamp_board.specs.Views.{KnowsMark}
+use Rattle.stamp_board.specs.Rows.{IsRow}
+use Rattle.stamp_board.specs.Views.{KnowsBegun, KnowsMark, KnowsOutcome}
 use Rattle.chain_store.specs.declared.told.Told.{Told}
 use Rattle.chain_store.specs.declared.hold.Hold.{Hold}
+use Rattle.chain_store.specs.Beginning.{begun_for}
 use Rattle.chain_store.specs.Histories.{entries_in}
 use Rattle.chain_store.specs.Holds.{seen_in, view_of}
 
@@ -42,3 +48,16 @@ pub record IsSettledThere (h : Hold) (b : BegunAppend) (o : Outcome) (c : ℕ) :
   pub log : List Told
   pub within : IsPrefix log (seen_in h c)
   pub over : IsSettledOver h b o c log
+
+-- As the hold knows, the append of this id is complete: its row has an outcome, and it was settled in each of its node's
+-- colours. It stays so.
+pub record IsComplete (h : Hold) (id : Id) : Type 0 where
+  pub row : Row
+  pub node : Node
+  pub of_id : node.id ≡ id
+  pub on_board : IsRow (view_of h).size row
+  pub begun : KnowsBegun (view_of h) row node
+  pub outcome : Outcome
+  pub shut : outcome ≢ Open
+  pub known : KnowsOutcome (view_of h) row outcome
+  pub settled : (c : ℕ) → has node.colours c ≡ true → IsSettledThere h (begun_for node row) outcome c

@@ -24,5 +24,6 @@ mod Once
 mod ReadOrder
 mod Folds
 mod CausalGets
+mod ReadsKept
 mod ObjectAnswers
 pub mod CallerLemmas

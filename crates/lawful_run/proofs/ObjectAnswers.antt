@@ -5,25 +5,31 @@ use Rattle.std.specs.List.{AllZip, Contains, filter, range_with_len}
 use Rattle.std.proofs.lemmas.Bool.{eqb-true, cases_lt}
 use Rattle.log_node.specs.declared.ids.Colours.{Colours}
 use Rattle.log_node.specs.declared.ids.Counts.{Counts}
+use Rattle.log_node.specs.declared.ids.Key.{Key}
+use Rattle.log_node.specs.declared.forms.Pair.{Pair}
 use Rattle.object_fold.specs.Causal.{ChainNode, IsCausalAnswer}
 use Rattle.object_fold.specs.Maps.{Value, shard_value}
 use Rattle.object_fold.specs.Nodes.{ObjectNode, shard_of}
+use Rattle.object_fold.specs.Transactions.{values_after, versions_after, verdict_of}
+use Rattle.col_core.specs.History.{entry_key}
 use Rattle.col_core.specs.Cuts.{chain}
 use Rattle.col_core.specs.Log.{Log, first}
-use Rattle.col_core.specs.Keeping.{Kept}
+use Rattle.col_core.specs.Keeping.{Kept, with_read}
 use Rattle.col_core.proofs.CallerLemmas.{by_test, apart, if_true, if_false}
 use Rattle.script_text.specs.declared.script.Kind.{Kind}
 use Rattle.script_text.specs.declared.script.Kind.TheVariants as kinds
 use Rattle.script_text.specs.declared.script.What.{What}
 use Rattle.script_text.specs.declared.script.What.TheVariants as whats
 use Rattle.report_text.specs.declared.report.Answer.TheVariants as answers
+use Rattle.report_text.specs.declared.report.KeyAnswer.{KeyAnswer}
 use Rattle.report_text.specs.declared.report.PointPiece.{PointPiece}
+use Rattle.report_text.specs.declared.report.RaisePiece.{RaisePiece}
 use Rattle.report_text.specs.declared.report.SyncPiece.{SyncPiece}
 use Rattle.lawful_run.specs.Callers.{Caller, node_of}
-use Rattle.lawful_run.specs.Asks.{kind_of, object_colours, home_asked, colours_synced, shards, AsksToAppend, Appending, Getting, Dequeuing, Manner, manner_of}
+use Rattle.lawful_run.specs.Asks.{kind_of, object_colours, colours_of, home_of, home_asked, colours_synced, rising, shards, AsksToAppend, Appending, Getting, Committing, Dequeuing, Manner, manner_of}
 use Rattle.lawful_run.specs.Appends.{Appends, AppendsUnshown}
-use Rattle.lawful_run.specs.Reads.{Syncs, IsTrimmed, HidesSyncs, kept_after_piece}
-use Rattle.lawful_run.specs.Objects.{AreObjectNodes, IsChainNode, GetsValue, GetsValues, Takes, own_played, places_within}
+use Rattle.lawful_run.specs.Reads.{Syncs, IsTrimmed, HidesSyncs, kept_after_piece, ReadsAt, AreRead, HidesRead}
+use Rattle.lawful_run.specs.Objects.{AreObjectNodes, AreAnswers, IsChainNode, GetsValue, GetsValues, Takes, own_played, places_within, shown_verdict}
 use Rattle.lawful_run.specs.Refusals.{Hides, hidden}
 use Rattle.lawful_run.specs.Explains.{Explains}
 
@@ -177,6 +183,80 @@ module _ (log : Log) (caller : Caller) (kept : Kept) where
       ),
     ),
   )
+
+  -- A read of a transactional map is explained by its stamped read, and the fold of the nodes that were read.
+  pub explains_read : (object : ℕ) (asked : List (List ℕ)) (stamp : ℕ) (shown : List KeyAnswer)
+      (raises : List RaisePiece) (syncs : List SyncPiece) (read : Kept) (keys : List Key) (objects : List ObjectNode)
+      → ReadsAt log caller kept (rising (colours_of caller object)) stamp raises syncs read
+      → AreRead log caller stamp syncs keys → AreObjectNodes log keys objects
+      → AreAnswers asked (values_after objects asked) shown
+      → Explains log caller kept (whats.Read object asked) (answers.GotKeys stamp shown raises syncs) []
+      (with_read read object (Some (versions_after objects asked)))
+  explains_read object asked stamp shown raises syncs read keys objects reads are_read nodes shows =
+      (refl, read, reads, keys, are_read, objects, nodes, inr (object, asked, refl, shows, refl))
+
+  -- A commit is explained by its append, the stamped read behind it, and the verdict on its own node among what was read.
+  pub explains_verdict : (what : What) (colours : Colours) (text : List ℕ) (own : ℕ) (stood : Kept) (verdict : Value)
+      (stamp : ℕ) (row : Option ℕ) (points : List PointPiece) (read_stamp : ℕ) (raises : List RaisePiece)
+      (syncs : List SyncPiece) (after : Kept) (keys : List Key) (objects : List ObjectNode)
+      → manner_of what ≡ Committing → AsksToAppend caller kept what colours text
+      → Appends log caller kept (node_of caller kept colours text) own row points stood
+      → ReadsAt log caller stood (colours_synced caller what) read_stamp raises syncs after
+      → AreRead log caller read_stamp syncs keys → AreObjectNodes log keys objects
+      → verdict_of objects (entry_key own (node_of caller kept colours text).id) ≡ Some (shown_verdict verdict stamp)
+      → Explains log caller kept what (answers.Ruled verdict stamp row points read_stamp raises syncs) [] after
+  explains_verdict what colours text own stood verdict stamp row points read_stamp raises syncs after keys objects
+      committing asks appends reads are_read nodes rules =
+      (refl, committing, (colours, text, asks, (own, stood, appends, reads, keys, are_read, objects, nodes, rules)))
+
+  -- Its node stands, and the read or the fold behind it was refused.
+  pub explains_unruled : (what : What) (colours : Colours) (text : List ℕ) (stamp colour : ℕ) (base : Counts)
+      (stood after : Kept) → manner_of what ≡ Committing → Contains (colours_synced caller what) colour
+      → AsksToAppend caller kept what colours text
+      → AppendsUnshown log caller kept (node_of caller kept colours text) stamp stood
+      → IsTrimmed log caller stood colour base → HidesRead log caller stood (colours_synced caller what) after
+      → Explains log caller kept what (answers.UnreadTrimmed stamp colour base) [] after
+  explains_unruled what colours text stamp colour base stood after committing has asks appends trimmed hides = (
+    refl,
+    inl committing,
+    has,
+    (
+      colours,
+      text,
+      asks,
+      (
+        stood,
+        appends,
+        trimmed,
+        subst (λ (m : Manner). Hides log caller stood (colours_synced caller what) m after) (sym committing) hides,
+      ),
+    ),
+  )
+
+  pub explains_unruled_without : (what : What) (colours : Colours) (text : List ℕ) (stamp : ℕ) (stood after : Kept)
+      → manner_of what ≡ Committing → AsksToAppend caller kept what colours text
+      → AppendsUnshown log caller kept (node_of caller kept colours text) stamp stood
+      → HidesRead log caller stood (colours_synced caller what) after
+      → Explains log caller kept what (answers.UnreadNoMemory stamp) [] after
+  explains_unruled_without what colours text stamp stood after committing asks appends hides = (
+    refl,
+    inl committing,
+    (
+      colours,
+      text,
+      asks,
+      (
+        stood,
+        appends,
+        subst (λ (m : Manner). Hides log caller stood (colours_synced caller what) m after) (sym committing) hides,
+      ),
+    ),
+  )
+
+  -- A commit whose client keeps no read of the object is refused.
+  pub explains_no_read : (object : ℕ) (pairs : List Pair) → home_of caller object ≡ Some caller.own
+      → kept.reads object ≡ None → Explains log caller kept (whats.Commit object pairs) answers.NoTx [] kept
+  explains_no_read object pairs home none = (refl, refl, object, pairs, refl, home, none)
 
   -- Away from its object's home a client is refused.
   pub explains_away : (what : What) (home : ℕ) → home_asked caller what ≡ Some home → caller.own ≢ home

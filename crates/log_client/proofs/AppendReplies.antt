@@ -1,13 +1,12 @@
 -- What an append of a client to one colour leaves, and what explains its answer.
-use Rattle.std.proofs.Common.{◌≡◌, ◌⊎◌, inl, inr, ℕ, zero, suc, true, ◌+◌, ◌<◌, ◌≤◌, List, [], ◌∷◌, ◌++◌, length, map, take, Some, None, refl, ap, sym, subst, ◌∙◌, arith, eq-eqb, length-append}
-use Rattle.std.specs.Prelude.{IsTrue, replicate, slice_get, slice_index_or, max, ◌==◌}
+use Rattle.std.proofs.Common.{◌≡◌, ◌≢◌, ◌⊎◌, inl, inr, ℕ, zero, suc, true, ◌+◌, ◌<◌, ◌≤◌, List, [], ◌∷◌, ◌++◌, length, map, take, Some, None, Ok, Err, refl, ap, sym, subst, ◌∙◌, arith, length-append}
+use Rattle.std.specs.Prelude.{IsTrue, replicate, slice_get, slice_index_or, max}
+use Rattle.std.specs.List.{range_with_len}
 use Rattle.std.specs.Vec.{with_item}
-use Rattle.std.proofs.lemmas.Option.{slice_get_read}
 use Rattle.log_node.specs.declared.ids.Id.{Id}
 use Rattle.log_node.specs.declared.ids.Key.{Key}
 use Rattle.log_node.specs.declared.ids.Row.{Row}
 use Rattle.log_node.specs.declared.ids.Colours.{Colours}
-use Rattle.log_node.specs.declared.ids.Counts.{Counts}
 use Rattle.log_node.specs.declared.limits.TheConstants.{MAX_STAMP}
 use Rattle.log_node.specs.declared.node.At.TheVariants.{Event}
 use Rattle.log_node.specs.declared.node.Node.{Node}
@@ -19,14 +18,11 @@ use Rattle.col_core.specs.History.{IsAtEnd, line}
 use Rattle.col_core.specs.Computed.{dated}
 use Rattle.col_core.specs.Cuts.{entries_of}
 use Rattle.col_core.specs.Ids.{IsStepOf}
-use Rattle.col_core.specs.Rows.{node_wants, wants_of}
+use Rattle.col_core.specs.Rows.{node_wants}
 use Rattle.col_core.specs.Log.{is_own}
 use Rattle.col_core.specs.Keeping.{Kept, kept_after_single}
-use Rattle.std.specs.List.{range_with_len}
-use Rattle.log_node.specs.Vectors.{zeros}
 use Rattle.col_core.specs.Legal.{MayEnter}
-use Rattle.col_core.proofs.CallerLemmas.{In, if_true, in_filter}
-use Rattle.column.specs.declared.faults.ColumnFault.{ColumnFault}
+use Rattle.col_core.proofs.CallerLemmas.{In, contains_in, in_filter}
 use Rattle.column.specs.declared.faults.ColumnFault.TheVariants as faults
 use Rattle.script_text.specs.declared.script.Object.{Object}
 use Rattle.stamp_board.specs.Seats.{IsLater}
@@ -41,10 +37,15 @@ use Rattle.chain_store.specs.Holds.{IsHold, SameBut, SeesMoreIn, entries_seen, v
 use Rattle.chain_store.proofs.CallerLemmas.{goes_weaken}
 use Rattle.append_core.specs.declared.stood.Stood.{Stood}
 use Rattle.append_core.specs.declared.stood.Point.{Point}
+use Rattle.append_core.specs.declared.several.MultiFault.{MultiFault}
+use Rattle.append_core.specs.declared.several.MultiFault.TheVariants as append_faults
 use Rattle.append_core.specs.Helping.{HelpsOpen}
+use Rattle.append_core.specs.Settled.{IsComplete}
 use Rattle.append_core.specs.Standing.{IsSingleOf, StandsAlone}
-use Rattle.lawful_run.specs.Callers.{Caller, node_of, row_of}
+use Rattle.append_core.proofs.CallerLemmas.{helped_complete}
+use Rattle.lawful_run.specs.Callers.{Caller, node_of}
 use Rattle.lawful_run.specs.Appends.{Appends, none_for_one}
+use Rattle.lawful_run.specs.Lawful.{IsHelp}
 use Rattle.client_law.specs.Knowing.{Rest, log_of}
 use Rattle.client_law.specs.Making.{MakesOnly}
 use Rattle.client_law.specs.Appends.{StandsAlone as Stands}
@@ -52,18 +53,22 @@ use Rattle.client_law.proofs.CallerLemmas.{appends_stand, kept_after_append, law
 use Rattle.log_client.specs.declared.store.Store.{Store}
 use Rattle.log_client.specs.declared.client.Client.{Client}
 use Rattle.log_client.specs.declared.answers.Appended.{Appended}
-use Rattle.log_client.specs.Fits.{Fits, HaveGoneOn}
+use Rattle.log_client.specs.Fits.{Fits}
 use Rattle.log_client.specs.Ending.{IsNoMove}
-use Rattle.log_client.specs.Clients.{holds_of, seen_of, rows_of, starts_of, caller_of, IsClient, AreRows, Keeps, Finished}
+use Rattle.log_client.specs.Clients.{holds_of, seen_of, rows_of, caller_of, IsClient, AreRows, Keeps, Finished}
 use Rattle.log_client.specs.Appends.{next_node, piece_of, AppendsAs, AppendRefused}
 use Rattle.log_client.specs.Calls.{IsExplained}
+use Rattle.log_client.specs.Inside.{CallsAppend}
 use Rattle.log_client.proofs.Seeing.{seen_there}
 use Rattle.log_client.proofs.Alone.{seen_long, seen_at, stands_alone, alone_makes_only}
-use Rattle.log_client.proofs.OwnMore.{own_nodes_single}
+use Rattle.log_client.proofs.OwnMore.{own_nodes_single, step_no_single}
 use Rattle.log_client.proofs.Foreign.{Accounted, goes_accounted, foreign}
-use Rattle.log_client.proofs.AtHome.{ChangesHome, gone_looked, have_gone_on, home_after, others_after, sees_after, client_after, are_regions}
+use Rattle.log_client.proofs.AtHome.{ChangesHome, gone_looked, have_gone_on, home_after, others_after, sees_after, client_after}
 use Rattle.log_client.proofs.Looked.{lawful_after, rows_stay, finished_stays, pulls_stay, tracks_stay, made_looked, keeps_stay}
-use Rattle.log_client.proofs.TrimReplies.{look_nothing}
+use Rattle.log_client.proofs.Helping.{helps_at_home}
+use Rattle.log_client.proofs.TrimReplies.{look_client, look_goes, look_finished, look_nothing}
+use Rattle.log_client.proofs.NextNodes.{hold_read, number_is, counts_on, appends_next, fits_column, id_listed, node_is, id_kept, floor_kept, wants_kept}
+use Rattle.log_client.proofs.AppendsNothing.{one_takes_none, finds_nothing}
 
 -- what it made moves no nodes between regions
 single_moves : (id : Id) (e : event_types.Event) → IsSingleOf id e → IsNoMove e
@@ -75,7 +80,7 @@ single_moves id (events.Give region from) s = absurd s
 single_moves id (events.Carry region start heads) s = absurd s
 single_moves id (events.Trim counts) s = absurd s
 
-step_moves : (id : Id) (e : event_types.Event) → IsStepOf id e → IsNoMove e
+pub step_moves : (id : Id) (e : event_types.Event) → IsStepOf id e → IsNoMove e
 step_moves id (events.Single other floor wants) s = absurd s
 step_moves id (events.Propose other floor wants) s = tt
 step_moves id (events.Settle other outcome) s = tt
@@ -84,63 +89,32 @@ step_moves id (events.Give region from) s = absurd s
 step_moves id (events.Carry region start heads) s = absurd s
 step_moves id (events.Trim counts) s = absurd s
 
-replicated : {A : Type 0} (x : A) (n : ℕ) → slice_get (replicate (suc n) x) n ≡ Some x
+pub replicated : {A : Type 0} (x : A) (n : ℕ) → slice_get (replicate (suc n) x) n ≡ Some x
 replicated x zero = refl
 replicated x (suc n) = replicated x n
 
--- the client's hold of its region, and how many rows it has begun
+-- an append to one colour
 module _ (s : Store) (c : Client) (r : Region) (g : Hold) (k : ℕ) (colours : Colours) (text : List ℕ) (x : Node)
     (is : IsClient s c) (lt : k < s.size.colours) (one_colour : members colours ≡ k ∷ [])
     (there : slice_get s.regions c.region ≡ Some r) (hold : g ≡ slice_index_or c.holds.items c.region g)
-    (x_is : x ≡ next_node c k colours text) where
+    (x_is : x ≡ next_node c colours text) where
   at_g : slice_get (holds_of c) c.region ≡ Some g
-  at_g =
-      let many = is.holds.0 in
-      let within = is.region in
-      slice_get_read (holds_of c) (length (holds_of c)) c.region g refl (omega (arith, many, within)) hold
+  at_g = hold_read s c g is hold
 
   number : g.passes.number ≡ c.number
-  number = is.numbers c.region g at_g
+  number = number_is s c r g colours text x is there at_g x_is
 
-  rests : IsHold r g
-  rests = is.holds.1 c.region r g there at_g
+  pub single_counts_on : c.count + 1 < 9223372036854775808
+  single_counts_on = counts_on s c r g colours text x is there at_g x_is
 
-  few_rows : g.seat.used ≤ 4096
-  few_rows = by_used g.seat.used refl where
-    by_used : (u : ℕ) → g.seat.used ≡ u → g.seat.used ≤ 4096
-    by_used zero e = omega (arith, e)
-    by_used (suc u) e =
-        let on = (rests.owns.fit u (omega (arith, e))).on_board.1 in
-        let most = r.board.is_size.5 in
-        omega (arith, e, on, most)
+  pub single_next : (x.id.client ≡ g.passes.number) × (g.next ≤ x.id.count)
+  single_next = appends_next s c r g colours text x is there at_g x_is
 
-  pub counts_on : c.count + 1 < 9223372036854775808
-  counts_on =
-      let counted = (is.home g at_g).counted in
-      let low = is.floored in
-      let few = few_rows in
-      omega (arith, counted, low, few)
+  has_it : has colours k ≡ true
+  has_it = (in_filter (has colours) k (range_with_len 0 64) (subst (In k) (sym one_colour) (inl refl))).1
 
-  pub appends_next : (x.id.client ≡ g.passes.number) × (g.next ≤ x.id.count)
-  appends_next =
-      let id = ap (λ (y : Node). y.id) x_is in
-      let low = (is.home g at_g).next in
-      let at = ap (λ (i : Id). i.count) id in
-      (ap (λ (i : Id). i.client) id ∙ sym number, omega (arith, low, at))
-
-  coloured : has colours k ≡ true
-  coloured = (in_filter (has colours) k (range_with_len 0 64) (subst (In k) (sym one_colour) (inl refl))).1
-
-  pub fits_column : FitsColumn r.number k x
-  fits_column = record {
-    in_region = ap (λ (y : Node). y.region) x_is ∙ sym (are_regions s c.region r there).0;
-    coloured = subst (λ (y : Node). has y.colours k ≡ true) (sym x_is) coloured;
-    counted =
-        let few = counts_on in
-        let at = ap (λ (y : Node). y.id.count) x_is in
-        omega (arith, few, at);
-    floored = subst (λ (y : Node). y.floor ≤ MAX_STAMP) (sym x_is) is.floored;
-  }
+  pub single_fits : FitsColumn r.number k x
+  single_fits = fits_column s c r g colours text x is there at_g x_is k has_it
 
   -- IT STANDS
 
@@ -196,11 +170,13 @@ module _ (s : Store) (c : Client) (r : Region) (g : Hold) (k : ℕ) (colours : C
     still = goes_weaken (λ i e. ((i ≡ k) × IsSingleOf x.id e) ⊎ HelpsOpen g h e) g h (λ i e. IsNoMove e)
         (λ i e m. elim m [ inl own ↦ single_moves x.id e own.1 | inr helps ↦ step_moves helps.0 e helps.1 ]) a.goes
 
-    id_is : x.id ≡ record { client = c.number; count = length is.nodes }
-    id_is = ap (λ (y : Node). y.id) x_is ∙ (λ i. record { client = c.number; count = sym is.nodes_count i })
+    whole : (i : ℕ) (e : event_types.Event) → ((i ≡ k) × IsSingleOf x.id e) ⊎ HelpsOpen g h e → IsHelp c.number e
+        → (id : Id) → IsStepOf id e → IsComplete h id
+    whole i e (inl own) help id step = absurd (step_no_single id x.id e step own.1)
+    whole i e (inr helps) help id step = helped_complete g h e helps id step
 
-    pub append_client : IsClient s after
-    append_client =
+    single_client : IsClient s after
+    single_client =
         let before = is.home g at_g in
         let counted = before.counted in
         let up = above in
@@ -219,15 +195,10 @@ module _ (s : Store) (c : Client) (r : Region) (g : Hold) (k : ℕ) (colours : C
         (omega (arith, raised, stamp, within, low)) is.colours (is.nodes ++ x ∷ [])
         (length-append is.nodes (x ∷ []) ∙ ap (λ (n : ℕ). n + 1) is.nodes_count)
         (own_nodes_single c.number c.region (holds_of c) (holds_of after) g h is.nodes x at_g at_h
-        (others_after s c after r g h is changed) changed.on id_is is.own_nodes r k st now
+        (others_after s c after r g h is changed) changed.on (id_listed s c r g colours text x is there at_g x_is) is.own_nodes r k st now
         (subst (λ z. k < z.colours) (sym (s.fit.each c.region r there).size) lt) used a)
         (pulls_stay s c after r g h is changed still)
-
-    pub append_goes : HaveGoneOn (holds_of c) (holds_of after)
-    append_goes = have_gone_on s c after r g h is changed
-
-    pub append_finished : Finished c → Finished after
-    append_finished = finished_stays s c after r g h is changed refl
+        (helps_at_home s c after r g h is changed (λ i e. ((i ≡ k) × IsSingleOf x.id e) ⊎ HelpsOpen g h e) a.goes whole)
 
     -- WHAT EXPLAINS IT
 
@@ -252,34 +223,18 @@ module _ (s : Store) (c : Client) (r : Region) (g : Hold) (k : ℕ) (colours : C
       abbrev caller : Caller
       caller = caller_of s c objects
 
-      wants_is : map kept.starts (members colours) ≡ starts_of c k ∷ []
-      wants_is = ap (map kept.starts) one_colour ∙ ap (λ (v : Counts). v ∷ []) (keeps.starts k)
-
-      row_is : row_of c.number kept.rows (members colours) ≡ None
-      row_is = ap (row_of c.number kept.rows) one_colour
-
-      node_is : node_of caller kept colours text ≡ x
-      node_is = (λ i. record {
-        id = record { client = c.number; count = keeps.ids i };
-        region = c.region;
-        colours = colours;
-        text = text;
-        floor = keeps.floor i;
-        wants = wants_is i;
-        row = row_is i;
-      }) ∙ sym x_is
-
       wants_there : node_wants x k ≡ kept.starts k
-      wants_there =
-          ap (λ (y : Node). node_wants y k) x_is
-          ∙ (ap (λ (l : List ℕ). wants_of l (starts_of c k ∷ []) k) one_colour
-          ∙ (if_true (k == k) (starts_of c k) zeros (eq-eqb k k refl) ∙ sym (keeps.starts k)))
+      wants_there = wants_kept s c r g colours text x is there at_g x_is objects kept keeps k
+          (contains_in (members colours) k (subst (In k) (sym one_colour) (inl refl)))
 
-      id_kept : x.id ≡ record { client = c.number; count = kept.ids }
-      id_kept = ap (λ (y : Node). y.id) x_is ∙ (λ i. record { client = c.number; count = sym keeps.ids i })
+      same_node : node_of caller kept colours text ≡ x
+      same_node = node_is s c r g colours text x is there at_g x_is objects kept keeps
 
-      floor_kept : x.floor ≡ kept.floor
-      floor_kept = ap (λ (y : Node). y.floor) x_is ∙ sym keeps.floor
+      of_id : x.id ≡ record { client = c.number; count = kept.ids }
+      of_id = id_kept s c r g colours text x is there at_g x_is objects kept keeps
+
+      of_floor : x.floor ≡ kept.floor
+      of_floor = floor_kept s c r g colours text x is there at_g x_is objects kept keeps
 
       abbrev some_rest : Rest
       some_rest = record { nodes = λ _. replicate (suc kept.ids) x; rows = λ _. [] }
@@ -291,7 +246,7 @@ module _ (s : Store) (c : Client) (r : Region) (g : Hold) (k : ℕ) (colours : C
         unseen = let e = seen_long (holds_of c) c.region g at_g k in let le = a.unseen in omega (arith, e, le);
         entered = entered ∙ (λ i. Some (record {
           by = number i;
-          event = events.Single x.id (floor_kept i) (wants_there i);
+          event = events.Single x.id (of_floor i) (wants_there i);
           stamp = a.stamp;
         }));
         stands = ap (λ (l : List Entry). slice_get (line l) a.position) (seen_there (holds_of after) c.region h at_h k)
@@ -325,10 +280,10 @@ module _ (s : Store) (c : Client) (r : Region) (g : Hold) (k : ℕ) (colours : C
       record_then : (rest : Rest) → Fits (holds_of after) rest
           → AppendsAs colours text answer (log_of (seen_of after) rest) caller kept kept_then
       record_then rest fits = (
-        ap (λ (y : Node). y.id) (sym node_is),
+        ap (λ (y : Node). y.id) (sym same_node),
         ap (λ (q : Key). q.id) a.key,
         subst (λ (y : Node). Appends (log_of (seen_of after) rest) caller kept y st.key.stamp None (map piece_of st.points)
-            kept_then) (sym node_is)
+            kept_then) (sym same_node)
             (subst (λ (l : List Point). Appends (log_of (seen_of after) rest) caller kept x st.key.stamp None (map piece_of l)
             kept_then) (sym a.point)
             (subst (λ (z : ℕ). Appends (log_of (seen_of after) rest) caller kept x z None
@@ -338,8 +293,8 @@ module _ (s : Store) (c : Client) (r : Region) (g : Hold) (k : ℕ) (colours : C
               refl,
               appends_stand (seen_of c) (seen_of after) rest caller kept x k a.stamp a.place a.position
                   (sees_after s c after r g h is changed objects) keeps.by
-                  (stands_alone (holds_of c) (holds_of after) caller g h at_g at_h number x k st a rest kept fits id_kept
-                  floor_kept wants_there),
+                  (stands_alone (holds_of c) (holds_of after) caller g h at_g at_h number x k st a rest kept fits of_id
+                  of_floor wants_there),
               refl,
             ))),
       )
@@ -348,11 +303,21 @@ module _ (s : Store) (c : Client) (r : Region) (g : Hold) (k : ℕ) (colours : C
     explained_so objects kept finished keeps =
         (kept_then objects kept finished keeps, keeps_then objects kept finished keeps, record_then objects kept finished keeps)
 
-    pub append_explained : (id : Id) → id ≡ x.id
-        → IsExplained s c after (AppendsAs colours text (record { id = id; row = None; stood = st }))
-    append_explained id same =
+    pub single_stands : (id : Id) → id ≡ x.id
+        → CallsAppend s c after colours text None (Ok (record { id = id; row = None; stood = st }))
+    single_stands id same = record {
+      client = single_client;
+      same = (refl, refl);
+      goes = have_gone_on s c after r g h is changed;
+      finished = λ finished. inl (finished_stays s c after r g h is changed refl finished);
+      answer = (
+        refl,
         subst (λ (i : Id). IsExplained s c after (AppendsAs colours text (record { id = i; row = None; stood = st })))
-        (sym same) explained_so
+            (sym same) explained_so,
+      );
+      points = ap (map (λ (p : Point). p.colour)) a.point ∙ sym one_colour;
+      full = λ used. (λ e. absurd (let f : ⊥ = cc (e) in f), λ no_row. absurd (one_takes_none s c colours k None used one_colour no_row));
+    }
 
   -- IT IS REFUSED
 
@@ -372,16 +337,34 @@ module _ (s : Store) (c : Client) (r : Region) (g : Hold) (k : ℕ) (colours : C
       on = gone_looked k g h but sees.more same.0;
     }
 
-    pub append_refused : (fault : ColumnFault) → HasSingleCause (entries_seen h k) x.floor fault
-        → AppendRefused s c left colours text k fault
-    append_refused (faults.StampEnd last) cause = λ objects kept finished keeps. (
-      kept,
-      keeps_stay s c left r g h is looked (made_looked k g h but sees) refl refl refl (λ m. refl) objects kept keeps,
-      λ rest fits. none_for_one one_colour
-          (no_stamp_was_left (seen_of c) (seen_of left) rest (caller_of s c objects) kept k
-          (sees_after s c left r g h is looked objects) keeps.by
-          (subst (λ (l : List Entry). IsAtEnd l kept.floor)
-          (sym (seen_there (holds_of left) c.region h (home_after s c left r g h is looked) k))
-          (subst (IsAtEnd (entries_seen h k)) (ap (λ (y : Node). y.floor) x_is ∙ sym keeps.floor) cause.1))),
+    left_with : (fault : MultiFault) → ((used : ℕ) → fault ≢ append_faults.Full used)
+        → AppendRefused s c left colours text None fault → CallsAppend s c left colours text None (Err fault)
+    left_with fault not_full why = record {
+      client = look_client s c r g h k is there hold now but same sees;
+      same = (refl, refl);
+      goes = look_goes s c r g h k is there hold now but same sees;
+      finished = λ finished. inl (look_finished s c r g h k is there hold now but same sees finished);
+      answer = why;
+      points = tt;
+      full = λ used. (λ e. absurd (not_full used (cc e)), λ no_row. absurd (one_takes_none s c colours k None used one_colour no_row));
+    }
+
+    pub single_ended : (clock : ℕ) → HasSingleCause (entries_seen h k) x.floor (faults.StampEnd clock)
+        → CallsAppend s c left colours text None (Err (append_faults.StampEnd k))
+    single_ended clock cause = left_with (append_faults.StampEnd k) (λ used e. let f : ⊥ = cc (e) in f) (
+      refl,
+      λ objects kept finished keeps. (
+        kept,
+        keeps_stay s c left r g h is looked (made_looked k g h but sees) refl refl refl (λ m. refl) objects kept keeps,
+        λ rest fits. none_for_one one_colour
+            (no_stamp_was_left (seen_of c) (seen_of left) rest (caller_of s c objects) kept k
+            (sees_after s c left r g h is looked objects) keeps.by
+            (subst (λ (l : List Entry). IsAtEnd l kept.floor)
+            (sym (seen_there (holds_of left) c.region h (home_after s c left r g h is looked) k))
+            (subst (IsAtEnd (entries_seen h k)) (ap (λ (y : Node). y.floor) x_is ∙ sym keeps.floor) cause.1))),
+      ),
     )
-    append_refused faults.NoMemory cause = look_nothing s c r g h k is there hold now but same sees
+
+    pub single_refused : CallsAppend s c left colours text None (Err append_faults.NoMemory)
+    single_refused = left_with append_faults.NoMemory (λ used e. let f : ⊥ = cc (e) in f)
+        (finds_nothing s c left colours text None (look_nothing s c r g h k is there hold now but same sees))

@@ -17,7 +17,7 @@ use Rattle.client_law.specs.Knowing.{SeesOn}
 use Rattle.log_client.specs.declared.store.Store.{Store}
 use Rattle.log_client.specs.declared.client.Client.{Client}
 use Rattle.log_client.specs.Fits.{HasGoneOn, HaveGoneOn}
-use Rattle.log_client.specs.Ending.{AreRegions, AreHoldsIn, HasOwnNodes, PullsTruly}
+use Rattle.log_client.specs.Ending.{AreRegions, AreHoldsIn, HasOwnNodes, HelpsWhole, PullsTruly}
 use Rattle.log_client.specs.Clients.{holds_of, seen_of, tracks_of, caller_of, IsClient, IsHome}
 use Rattle.log_client.proofs.Seeing.{sees_on}
 use Rattle.log_client.proofs.OwnNodes.{Brings, own_nodes_on}
@@ -132,8 +132,8 @@ module _ (s : Store) (c d : Client) (r : Region) (g h : Hold) (is : IsClient s c
   -- the client at rest
   pub client_after : IsHome d h → d.floor ≤ MAX_STAMP → length (tracks_of d) ≡ s.size.colours
       → (nodes : List Node) → length nodes ≡ d.count → HasOwnNodes d.number (holds_of d) nodes
-      → PullsTruly s.regions (holds_of d) → IsClient s d
-  client_after home floored colours nodes count own pulls = record {
+      → PullsTruly s.regions (holds_of d) → HelpsWhole d.number d.region (holds_of d) → IsClient s d
+  client_after home floored colours nodes count own pulls helps = record {
     holds = holds_after;
     numbers = λ n l at. elim (cases_eq n c.region) [
       | inl same ↦
@@ -152,6 +152,7 @@ module _ (s : Store) (c d : Client) (r : Region) (g h : Hold) (is : IsClient s c
     nodes_count = count;
     own_nodes = own;
     pulls = pulls;
+    helps = helps;
   }
 
   -- the nodes that it appended, where it brought these

@@ -1,3 +1,5 @@
 -- What callers may cite of this crate's proofs; all else there is private.
 pub use Rattle.log_client.proofs.Seeing.{sees_on, seen_there}
 pub use Rattle.log_client.proofs.Fitting.{fits_less, text_named}
+pub use Rattle.log_client.proofs.GoingOn.{client_sees_on, same_caller}
+pub use Rattle.log_client.proofs.LeftOpen.{open_row}

@@ -1,5 +1,6 @@
 -- What a store ends with, for each of its clients.
-use Rattle.std.proofs.Common.{◌≡◌, ℕ, ◌<◌, List, [], length, map, Some, None, slice_get, refl, ap, sym, subst, ◌∙◌, inl, inr, arith}
+use Rattle.std.proofs.Common.{◌≡◌, ◌≢◌, ℕ, ◌<◌, List, [], length, map, Some, None, true, slice_get, refl, ap, sym, subst, ◌∙◌, inl, inr, arith, eq-eqb}
+use Rattle.std.specs.Prelude.{◌==◌}
 use Rattle.std.specs.List.{Contains, filter}
 use Rattle.std.proofs.lemmas.Bool.{cases_eq, cases_lt}
 use Rattle.std.proofs.lemmas.List.{length-map}
@@ -8,38 +9,47 @@ use Rattle.std.proofs.lemmas.Option.{slice_get_within}
 use Rattle.log_node.specs.declared.ids.Id.{Id}
 use Rattle.log_node.specs.declared.ids.Row.{Row}
 use Rattle.log_node.specs.declared.node.Node.{Node}
+use Rattle.log_node.specs.declared.marks.Outcome.TheVariants.{Open}
+use Rattle.log_node.specs.Sets.{has}
 use Rattle.log_node.specs.Standings.{open_entry}
 use mathlib.Core.List.{IsPrefix}
 use Rattle.col_core.specs.declared.Entry.{Entry}
 use Rattle.col_core.specs.History.{entries}
+use Rattle.col_core.specs.Ids.{IsStepOf}
 use Rattle.stamp_board.specs.declared.seats.Seat.{Seat}
 use Rattle.chain_store.proofs.CallerLemmas.{row_place}
 use Rattle.col_core.specs.Log.{Log}
 use Rattle.col_core.specs.Rows.{BegunRow, FitsRow, is_of}
-use Rattle.col_core.proofs.CallerLemmas.{in_contains, in_slice}
+use Rattle.col_core.proofs.CallerLemmas.{In, in_contains, in_filter-back, in_slice}
 use Rattle.stamp_board.specs.declared.view.Size.{Size}
-use Rattle.stamp_board.specs.Views.{KnowsBegun}
+use Rattle.stamp_board.specs.Views.{KnowsBegun, KnowsOutcome}
+use Rattle.chain_store.specs.declared.told.Told.{Told}
 use Rattle.chain_store.specs.declared.hold.Hold.{Hold}
 use Rattle.chain_store.specs.declared.region.Region.{Region}
 use Rattle.chain_store.specs.declared.closed.ClosedRegion.{ClosedRegion}
 use Rattle.chain_store.specs.Owning.{row_of}
-use Rattle.chain_store.specs.Holds.{IsHold, view_of}
-use Rattle.client_law.specs.Making.{own_steps}
+use Rattle.chain_store.specs.Beginning.{begun_for}
+use Rattle.chain_store.specs.Histories.{entries_in}
+use Rattle.chain_store.specs.Holds.{IsHold, entries_seen, made_in, view_of}
+use Rattle.chain_store.specs.Closing.{AgreesWith}
+use Rattle.append_core.specs.Settled.{IsComplete, IsSettledThere}
+use Rattle.lawful_run.specs.Lawful.{IsHelp}
+use Rattle.client_law.specs.Making.{made_of, own_steps}
 use Rattle.client_law.proofs.CallerLemmas.{steps_at_end}
 use Rattle.log_client.specs.declared.store.Store.{Store}
 use Rattle.log_client.specs.declared.client.Client.{Client}
 use Rattle.log_client.specs.declared.closed.Closed.{Closed}
 use Rattle.log_client.specs.declared.closed.Leaving.{Leaving}
-use Rattle.log_client.specs.Ending.{AreRegions, AreHoldsIn, PullsTruly, HasOwnNodes}
+use Rattle.log_client.specs.Ending.{AreRegions, AreHoldsIn, PullsTruly, HasOwnNodes, IsHelpBy}
 use Rattle.log_client.specs.Closing.{AreHoldsAt, HaveEnded, EndsRegion, EndsStore, EndsClient}
-use Rattle.log_client.specs.Clients.{IsClient, Finished, caller_of, holds_of, rows_of, seen_of}
+use Rattle.log_client.specs.Clients.{IsClient, Finished, Helps, caller_of, holds_of, rows_of, seen_of}
 use Rattle.log_client.specs.Leaving.{left_of, AreLeaving}
-use Rattle.log_client.specs.Closes.{AreClients, EndsFor, Closes}
+use Rattle.log_client.specs.Closes.{AreClients, EndsComplete, EndsFor, Closes}
 use Rattle.log_client.proofs.Lists.{got, mapped, same_items, unmapped}
 use Rattle.log_client.proofs.Endings.{store_ends}
 use Rattle.log_client.proofs.EndsClients.{own_row_known, own_row_nodes, steps_same}
-use Rattle.log_client.proofs.LeftOpen.{no_row_open, open_nowhere}
-use Rattle.log_client.proofs.Seeing.{seen_there}
+use Rattle.log_client.proofs.LeftOpen.{closed_in_row, closed_where_settled, ids_not_open, one_row, row_not_open}
+use Rattle.log_client.proofs.Seeing.{made_there, seen_there}
 
 -- clients whose holds these are leave the regions of the store
 pub all_leave : (s : Store) (clients : List Client) (ls : List Leaving) → AreClients s clients
@@ -193,33 +203,120 @@ module _ (s : Store) (clients : List Client) (all : AreClients s clients) (ends 
         × ((u : ℕ) (k : Hold) → slice_get ks u ≡ Some k → IsHold r k × (k.passes.number ≡ u))
     home = region_at c.region rests.region
 
+    -- what its hold has seen of a region's column begins the history
+    begins : (m : ℕ) (h : Hold) (colour : ℕ) → slice_get (holds_of c) m ≡ Some h
+        → IsPrefix (entries_seen h colour) (log.histories m colour)
+    begins m h colour there = subst (λ (l : List Entry). IsPrefix l (log.histories m colour))
+        (seen_there (holds_of c) m h there colour) (client.more m colour)
+
+    -- a row of its own, as it knows it
+    own_row : (b : BegunRow) → Contains (log.rows c.region) b → b.row.client ≡ c.number
+        → (j : ℕ) × AgreesWith home.3 b × (b.row ≡ row_of home.3.passes.number j) × (slice_get (rows_of c) j ≡ Some b.node)
+    own_row b there mine =
+        let m = home in
+        let is = rests.home m.3 m.8 in
+        let place = in_slice (filter (is_of n) (log.rows c.region)) b
+        (in_filter-back (is_of n) b (log.rows c.region) (in_contains (log.rows c.region) b there)
+        (eq-eqb b.row.client n (mine ∙ number))) in
+        let known = own_row_known c.region s.size.colours n (log.histories c.region) (log.rows c.region) m.0 m.1 m.3
+        (rows_of c) m.5.lawful_rows m.5.in_order m.9 m.7 is.rows.many
+        (λ i x got. subst (λ (u : ℕ). KnowsBegun (view_of m.3) (row_of u i) x) number (is.rows.begun i x got))
+        (client.fits c.region m.3 m.8).begun place.0 b place.1 in
+        (place.0, known.0, known.1 ∙ (λ i. row_of (sym (m.9 n m.3 m.7).1 i) place.0), known.2)
+
+    own_decided : Finished c → (b : BegunRow) → Contains (log.rows c.region) b → b.row.client ≡ c.number → b.last ≢ Open
+    own_decided done b there mine undecided =
+        let m = home in
+        let own = own_row b there mine in
+        let is = done m.3 m.8 own.0 b.node own.3 in
+        is.shut
+        (sym (own.1.last is.outcome (subst (λ (r : Row). KnowsOutcome (view_of m.3) r is.outcome) (sym own.2) is.known)) ∙ undecided)
+
     -- none of its ids is left open at home, where it has finished, and none elsewhere
-    closed_at_home : Finished c → (colour : ℕ) (id : Id) → colour < s.size.colours → id.client ≡ n
+    closed_at_home : Finished c → (colour : ℕ) (id : Id) → colour < s.size.colours → id.client ≡ c.number
         → open_entry id (entries (log.histories c.region colour)) ≡ None
     closed_at_home done colour id lt mine =
         let m = home in
-        let is = rests.home m.3 m.8 in
-        open_nowhere c.region (length s.regions) s.size.colours n (log.histories c.region) (log.rows c.region) m.3 (rows_of c)
-        m.5.lawful_rows (m.9 n m.3 m.7).1
-        (λ j b there. own_row_known c.region s.size.colours n (log.histories c.region) (log.rows c.region) m.0 m.1 m.3
-        (rows_of c) m.5.lawful_rows m.5.in_order m.9 m.7 is.rows.many
-        (λ i x got. subst (λ (u : ℕ). KnowsBegun (view_of m.3) (row_of u i) x) number (is.rows.begun i x got))
-        (client.fits c.region m.3 m.8).begun j b there)
-        (done m.3 m.8) colour lt (store.lawful c.region colour)
-        (subst (λ (l : List Entry). IsPrefix l (log.histories c.region colour))
-        (seen_there (holds_of c) c.region m.3 m.8 colour) (client.more c.region colour)) id mine
+        ids_not_open c.region (length s.regions) s.size.colours (log.histories c.region) (log.rows c.region) m.5.lawful_rows
+        colour lt (store.lawful c.region colour) c.number
+        (λ b there its of.
+        let own = own_row b there its in
+        closed_in_row c.region (length s.regions) s.size.colours (log.histories c.region) (log.rows c.region) m.5.lawful_rows
+        colour lt (store.lawful c.region colour) m.3 b own.1 (begins c.region m.3 colour m.8) of own.0 own.2
+        ((done m.3 m.8 own.0 b.node own.3).in_colours colour of))
+        id mine
 
     closed_in : Finished c → (m colour : ℕ) (id : Id) → m < length s.regions → colour < s.size.colours
         → id.client ≡ c.number → open_entry id (entries (log.histories m colour)) ≡ None
     closed_in done m colour id lt in_colours mine = elim (cases_eq m c.region) [
       | inl is ↦
           subst (λ (k : ℕ). open_entry id (entries (log.histories k colour)) ≡ None) (sym is)
-          (closed_at_home done colour id in_colours (mine ∙ number))
+          (closed_at_home done colour id in_colours mine)
       | inr ne ↦
-          no_row_open m (length s.regions) s.size.colours c.number (log.histories m) (log.rows m)
-          (region_at m lt).5.lawful_rows (λ b there its. ne (at_home m b lt there its)) colour in_colours
-          (store.lawful m colour) id mine
+          ids_not_open m (length s.regions) s.size.colours (log.histories m) (log.rows m) (region_at m lt).5.lawful_rows colour
+          in_colours (store.lawful m colour) c.number (λ b there its of. absurd (ne (at_home m b lt there its))) id mine
     ]
+
+    -- what it helped
+
+    made_by_it : (m : ℕ) (h : Hold) (colour : ℕ) (e : Entry) → slice_get (holds_of c) m ≡ Some h
+        → Contains (log.histories m colour) e → e.by ≡ c.number
+        → (k : ℕ) × (t : Told) × (slice_get (made_in h colour) k ≡ Some t) × (t.entry ≡ e)
+    made_by_it m h colour e there among by =
+        let own = in_filter-back (λ (x : Entry). x.by == n) e (log.histories m colour)
+        (in_contains (log.histories m colour) e among) (eq-eqb e.by n (by ∙ number)) in
+        let same = client.made m colour
+        ∙ (ap (made_of n) (seen_there (holds_of c) m h there colour)
+        ∙ made_there h n colour (rests.numbers m h there ∙ number)) in
+        let place = in_slice (entries_in (made_in h colour)) e (subst (In e) same own) in
+        let t = unmapped (λ (t : Told). t.entry) (made_in h colour) place.0 e place.1 in
+        (place.0, t.0, t.1, t.2)
+
+    complete_row : (m : ℕ) (lt : m < length s.regions) (b : BegunRow) → Contains (log.rows m) b
+        → IsComplete (region_at m lt).3 b.node.id → EndsComplete log s.size.colours m b
+    complete_row m lt b there whole =
+        let x = region_at m lt in
+        let h = x.3 in
+        let d = (client.fits m h x.8).begun whole.row whole.node whole.on_board whole.begun in
+        let is = one_row m s.size.colours (log.histories m) (log.rows m) x.5.lawful_rows d.0 b d.1 there
+        (ap (λ (y : Node). y.id) d.3 ∙ whole.of_id) in
+        let agrees = subst (AgreesWith h) is d.4 in
+        let row = ap (λ (y : BegunRow). y.row) (sym is) ∙ d.2 in
+        let node = ap (λ (y : BegunRow). y.node) (sym is) ∙ d.3 in record {
+          decided = λ undecided. whole.shut
+              (sym (agrees.last whole.outcome (subst (λ (r : Row). KnowsOutcome (view_of h) r whole.outcome) (sym row) whole.known))
+              ∙ undecided);
+          open_nowhere = λ colour in_colours.
+              row_not_open m (length s.regions) s.size.colours (log.histories m) (log.rows m) x.5.lawful_rows colour in_colours
+              (store.lawful m colour) b there
+              (λ of. closed_where_settled m (length s.regions) s.size.colours (log.histories m) (log.rows m) x.5.lawful_rows
+              colour in_colours (store.lawful m colour) h b agrees (begins m h colour x.8) of whole.outcome
+              (subst (λ (r : Row). IsSettledThere h (begun_for b.node r) whole.outcome colour) (sym row)
+              (subst (λ (y : Node). IsSettledThere h (begun_for y whole.row) whole.outcome colour) (sym node)
+              (whole.settled colour (subst (λ (y : Node). has y.colours colour ≡ true) node of)))));
+        }
+
+    helped : (m colour : ℕ) (e : Entry) → m < length s.regions → colour < s.size.colours → Contains (log.histories m colour) e
+        → e.by ≡ c.number → IsHelp c.number e.event
+        → Helps c × (m ≡ c.region)
+        × ((b : BegunRow) → Contains (log.rows m) b → IsStepOf b.node.id e.event → EndsComplete log s.size.colours m b)
+    helped m colour e lt in_colours among by helps =
+        let x = region_at m lt in
+        let made = made_by_it m x.3 colour e x.8 among by in
+        let t = made.1 in
+        let it : IsHelpBy c.number (holds_of c) m x.3 t = record {
+          there = x.8;
+          colour = colour;
+          n = made.0;
+          made = made.2;
+          helps = subst (λ (y : Entry). IsHelp c.number y.event) (sym made.3) helps;
+        } in
+        let whole = rests.helps m x.3 t it in (
+          (m, x.3, t, it),
+          whole.0,
+          λ b there step. complete_row m lt b there
+              (whole.1 b.node.id (subst (λ (y : Entry). IsStepOf b.node.id y.event) (sym made.3) step)),
+        )
 
     row_nodes_are : map (λ (b : BegunRow). b.node) (filter (is_of n) (log.rows c.region)) ≡ rows_of c
     row_nodes_are =
@@ -257,6 +354,8 @@ module _ (s : Store) (clients : List Client) (all : AreClients s clients) (ends 
           row_nodes_are;
       rows_at_home = at_home;
       closed = closed_in;
+      decided = own_decided;
+      helped = helped;
       row_nodes = row_node_listed;
     }
 

@@ -192,6 +192,7 @@ module _ (shape : Shape) (s : Store) (n : ℕ) (c : Client) (fresh : IsFresh sha
       carries = λ from to g h k p lt i t made. absurd (none_at (made_in h k) i t (nothing_made p.m h p.to_hold k) made);
       gives = λ from to g h k p lt i t made. absurd (none_at (made_in g k) i t (nothing_made p.n g p.from_hold k) made);
     };
+    helps = λ k h t by. absurd (none_at (made_in h by.colour) by.n t (nothing_made k h by.there by.colour) by.made);
   }
 
   pub new_keeps : (objects : List Object) → Keeps s c objects nothing_kept
@@ -227,4 +228,7 @@ module _ (shape : Shape) (s : Store) (n : ℕ) (c : Client) (fresh : IsFresh sha
     rests = new_client;
     keeps = new_keeps;
     finished = new_finished;
+    idle = λ helps.
+        let by = helps.3 in
+        none_at (made_in helps.1 by.colour) by.n helps.2 (nothing_made helps.0 helps.1 by.there by.colour) by.made;
   }

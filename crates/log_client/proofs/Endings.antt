@@ -1,5 +1,5 @@
 -- The log with which a store ends, put together.
-use Rattle.std.proofs.Common.{◌≡◌, ℕ, ◌<◌, ◌≤◌, List, length, Option, Some, None, slice_get, refl, subst, inl, inr, arith}
+use Rattle.std.proofs.Common.{◌≡◌, ℕ, ◌<◌, ◌≤◌, List, length, Option, Some, None, slice_get, refl, subst, ◌∙◌, inl, inr, arith}
 use Rattle.std.proofs.lemmas.Bool.{cases_lt}
 use Rattle.std.proofs.lemmas.Option.{same_Some, slice_get_within}
 use Rattle.log_node.specs.declared.node.Node.{Node}
@@ -75,6 +75,7 @@ module _ (rs : List Region) (regions colours : ℕ) (clients : List (List Hold))
   store_ends = (
     the_log,
     record {
+      many = ended.0 ∙ few;
       lawful = lawful rs regions colours clients ends nodes are few sizes holds pulls own end_of is_end has_end none_beyond;
       makers = makers rs regions colours clients ends nodes are few sizes holds pulls own end_of is_end has_end none_beyond;
       ends_with = λ n e at. of_region n e at;

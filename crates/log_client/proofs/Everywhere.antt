@@ -21,7 +21,7 @@ use Rattle.log_client.specs.declared.store.Store.{Store}
 use Rattle.log_client.specs.declared.client.Client.{Client}
 use Rattle.log_client.specs.Fits.{HasGoneOn, HaveGoneOn}
 use Rattle.log_client.specs.Ending.{IsNoMove, AreHoldsIn, HasOwnNodes}
-use Rattle.log_client.specs.Clients.{holds_of, seen_of, rows_of, caller_of, counts_in, IsClient, IsHome, IsTrack, AreRows, Finished, AllClosed}
+use Rattle.log_client.specs.Clients.{holds_of, seen_of, rows_of, caller_of, counts_in, IsClient, IsHome, IsTrack, AreRows, Finished, Helps, AllClosed}
 use Rattle.log_client.specs.Calls.{DidNothing}
 use Rattle.log_client.proofs.Lists.{got}
 use Rattle.log_client.proofs.Seeing.{are_lawful, seen_there, sees_on}
@@ -30,6 +30,7 @@ use Rattle.log_client.proofs.Truly.{pulls_truly_stays}
 use Rattle.log_client.proofs.OwnNodes.{own_nodes_on}
 use Rattle.log_client.proofs.AtHome.{are_regions}
 use Rattle.log_client.proofs.Staying.{track_longer, rows_longer, all_closed_longer}
+use Rattle.log_client.proofs.Helping.{GoesIdle, helped_before, idle_client, idle_looked}
 
 -- the hold has gone on, and has made and begun nothing
 pub record GoesAlong (g h : Hold) : Type 0 where
@@ -105,6 +106,14 @@ module _ (s : Store) (c d : Client) (is : IsClient s c) (number : d.number ≡ c
             (before.tracks k track (ap (λ l. slice_get l.items k) (sym tracks) ∙ there)));
       }
 
+  -- they have helped nobody
+  idle : (n : ℕ) (h : Hold) → slice_get (holds_of d) n ≡ Some h
+      → (g : Hold) × (slice_get (holds_of c) n ≡ Some g) × GoesIdle c.number g h
+  idle n h at = let g = was n h at in (g.0, g.1, idle_looked c.number g.0 h g.2.on g.2.made)
+
+  pub idle_along : Helps d → Helps c
+  idle_along = helped_before s c d is number region idle
+
   pub client_along : IsClient s d
   client_along = record {
     holds = holds;
@@ -132,6 +141,7 @@ module _ (s : Store) (c d : Client) (is : IsClient s c) (number : d.number ≡ c
         ))));
     pulls = pulls_truly_stays s.regions (holds_of c) (holds_of d) holds many
         (λ n g h a b. no_move g h (each n g h a b)) is.pulls;
+    helps = idle_client s c d is number region idle;
   }
 
   pub finished_along : Finished c → Finished d

@@ -8,7 +8,6 @@ use Rattle.log_node.specs.declared.ids.Id.{Id}
 use Rattle.log_node.specs.declared.ids.Row.{Row}
 use Rattle.log_node.specs.declared.node.Node.{Node}
 use Rattle.log_node.specs.declared.marks.Why.{Why}
-use Rattle.log_node.specs.declared.marks.Mark.{Mark}
 use Rattle.log_node.specs.declared.marks.Mark.TheVariants.{Fenced}
 use Rattle.log_node.specs.Sets.{has}
 use Rattle.log_node.specs.Standings.{open_entry}
@@ -98,15 +97,10 @@ module _ (r : Region) (g h : Hold) (rests : IsHold r h) where
               ⊎ ((has_entered x.id (entries_in (seen_in g c)) ≡ true)
               × (open_entry x.id (entries (entries_in (seen_in g c))) ≡ None))
           shut j x at c of =
-              let k = closed j x at c of in
-              elim k.done [
-                | inl fenced ↦ inl (
-                  fenced.0,
-                  subst (λ (m : Mark). KnowsMark (view_of g) (row_of h.passes.number j) c m) fenced.1
-                      (subst (λ (u : ℕ). KnowsMark (view_of g) (row_of u j) c k.mark) (sym on.number) k.known),
-                )
-                | inr over ↦ inr over
-              ]
+              subst (λ (u : ℕ). ((why : Why) × KnowsMark (view_of g) (row_of u j) c (Fenced why))
+              ⊎ ((has_entered x.id (entries_in (seen_in g c)) ≡ true)
+              × (open_entry x.id (entries (entries_in (seen_in g c))) ≡ None)))
+              (sym on.number) ((closed j x at).in_colours c of)
 
     -- where it began no row, no own append was helped
     pub foreign : h.seat.used ≡ g.seat.used → (e : event_types.Event) → HelpsOpen g h e → Accounted e

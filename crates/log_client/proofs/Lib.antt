@@ -28,6 +28,8 @@ mod Plays
 mod AtHome
 mod Staying
 mod Looked
+mod GoingOn
+mod Helping
 mod SyncReplies
 mod SyncCalls
 mod TrimReplies
@@ -39,5 +41,11 @@ mod BetweenHolds
 mod PullReplies
 mod PullCalls
 mod StandsLater
+mod NextNodes
+mod Wanting
+mod AppendsNothing
+mod AppendCases
 mod AppendReplies
+mod RowReplies
+mod RowCalls
 pub mod CallerLemmas

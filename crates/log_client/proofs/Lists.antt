@@ -1,7 +1,9 @@
 -- Items of lists by place, and how many of them pass a test.
 use Rattle.std.proofs.Common.{◌≡◌, ◌≢◌, ℕ, zero, suc, ◌+◌, ◌<◌, ◌≤◌, List, [], ◌∷◌, ◌++◌, length, map, set, take, drop, Some, None, slice_get, Bool, true, false, cond, refl, ap, sym, subst, ◌∙◌, inl, inr, ◌⊎◌, arith}
-use Rattle.std.specs.List.{filter}
-use Rattle.std.proofs.lemmas.Option.{same_Some}
+use Rattle.std.specs.Prelude.{slice_index_or}
+use Rattle.std.specs.List.{AllPairs, filter}
+use Rattle.std.proofs.lemmas.Bool.{cases_order}
+use Rattle.std.proofs.lemmas.Option.{same_Some, slice_get_within}
 use mathlib.Core.List.{IsPrefix}
 
 module _ {A : Type 0} where
@@ -14,6 +16,21 @@ module _ {A : Type 0} where
   -- there is one at a place
   pub same_items : (xs : List A) (n : ℕ) (x y : A) → slice_get xs n ≡ Some x → slice_get xs n ≡ Some y → x ≡ y
   same_items xs n x y e f = same_Some x y (sym e ∙ f)
+
+  -- of items that all differ in this, two that do not are one
+  pub same_one : {B : Type 0} (f : A → B) (xs : List A) → AllPairs (λ x y. f x ≢ f y) xs → (i j : ℕ) (x y : A)
+      → slice_get xs i ≡ Some x → slice_get xs j ≡ Some y → f x ≡ f y → x ≡ y
+  same_one f xs apart i j x y a b same = elim (cases_order i j) [
+    | inl is ↦ same_items xs j x y (ap (slice_get xs) (sym is) ∙ a) b
+    | inr (inl less) ↦ absurd (apart i j x less (slice_get_within xs j y b)
+        (ap f (item xs i x x a) ∙ (same ∙ sym (ap f (item xs j y x b)))))
+    | inr (inr more) ↦ absurd (apart j i x more (slice_get_within xs i x a)
+        (ap f (item xs j y x b) ∙ (sym same ∙ sym (ap f (item xs i x x a)))))
+  ] where
+    item : (ys : List A) (n : ℕ) (z d : A) → slice_get ys n ≡ Some z → slice_index_or ys n d ≡ z
+    item [] n z d e = absurd (let f : ⊥ = cc (e) in f)
+    item (w ∷ ws) zero z d e = cc (e)
+    item (w ∷ ws) (suc n) z d e = item ws n z d e
 
   pub got_last : (xs : List A) (x : A) → slice_get (xs ++ x ∷ []) (length xs) ≡ Some x
   got_last [] x = refl

@@ -31,7 +31,7 @@ use Rattle.client_law.proofs.CallerLemmas.{kept_stays}
 use Rattle.log_client.specs.declared.store.Store.{Store}
 use Rattle.log_client.specs.declared.client.Client.{Client}
 use Rattle.log_client.specs.declared.track.Track.{Track}
-use Rattle.log_client.specs.Ending.{IsNoMove, HasOwnNodes, PullsTruly}
+use Rattle.log_client.specs.Ending.{IsNoMove, HasOwnNodes, HelpsWhole, PullsTruly}
 use Rattle.log_client.specs.Clients.{holds_of, seen_of, rows_of, tracks_of, starts_of, caller_of, IsClient, IsTrack, AreRows, Keeps, Finished, AllClosed}
 use Rattle.log_client.specs.Calls.{DidNothing}
 use Rattle.col_core.proofs.CallerLemmas.{contains_in, slice_in}
@@ -202,8 +202,8 @@ module _ (s : Store) (c d : Client) (r : Region) (g h : Hold) (is : IsClient s c
       → h.next ≡ g.next → c.floor ≤ d.floor → d.floor ≤ MAX_STAMP → d.count ≡ c.count → rows_of d ≡ rows_of c
       → length (tracks_of d) ≡ length (tracks_of c)
       → ((k : ℕ) (track : Track) → slice_get (tracks_of d) k ≡ Some track → IsTrack d.region k (seen_in h k) track)
-      → IsClient s d
-  client_looked goes used next floor floored count rows long tracks =
+      → HelpsWhole d.number d.region (holds_of d) → IsClient s d
+  client_looked goes used next floor floored count rows long tracks helps =
       let before = is.home g ch.before in
       let low = before.next in
       let counted = before.counted in
@@ -216,6 +216,7 @@ module _ (s : Store) (c d : Client) (r : Region) (g h : Hold) (is : IsClient s c
       })
       floored (long ∙ is.colours) is.nodes (is.nodes_count ∙ sym count) (own_plain goes used)
       (pulls_stay (goes_weaken (λ c e. IsPlain e) g h (λ c e. IsNoMove e) (λ c e p. plain_moves e p) goes))
+      helps
 
   -- its tracks stay
   pub tracks_stay : tracks_of d ≡ tracks_of c

@@ -18,13 +18,13 @@ use Rattle.log_client.specs.declared.store.Store.{Store}
 use Rattle.log_client.specs.declared.client.Client.{Client}
 use Rattle.log_client.specs.Fits.{HaveGoneOn}
 use Rattle.log_client.specs.Between.{ChangesTwo, PullsBetween, LeavesBetween}
-use Rattle.log_client.specs.Clients.{holds_of, rows_of, tracks_of, IsClient, Finished}
+use Rattle.log_client.specs.Clients.{holds_of, rows_of, tracks_of, IsClient, Finished, Helps}
 use Rattle.log_client.specs.Calls.{IsExplained, PullsAs, PullRefused}
 use Rattle.log_client.proofs.Lists.{got}
 use Rattle.log_client.proofs.Truly.{WasMade}
 use Rattle.log_client.proofs.TrulyPulled.{gave_made, carried_made, looked_made}
 use Rattle.log_client.proofs.AtHome.{are_regions}
-use Rattle.log_client.proofs.PullReplies.{pull_client, pull_goes, pull_finished, pull_explained, gives_explained}
+use Rattle.log_client.proofs.PullReplies.{pull_client, pull_goes, pull_finished, pull_idle, pull_explained, gives_explained}
 
 module _ (s : Store) (c d : Client) (is : IsClient s c) (number : d.number ≡ c.number) (region : d.region ≡ c.region)
     (floor : d.floor ≡ c.floor) (count : d.count ≡ c.count) (rows : rows_of d ≡ rows_of c)
@@ -44,6 +44,7 @@ module _ (s : Store) (c d : Client) (is : IsClient s c) (number : d.number ≡ c
       pub rests : IsClient s d
       pub goes : HaveGoneOn (holds_of c) (holds_of d)
       pub finished : Finished c → Finished d
+      pub idle : Helps d → Helps c
 
     module _ (p : Pulled) (pulls : Pulls from to k g g' h h' p) where
       g_gave : (i : ℕ) (t : Told) → slice_get (made_in g' k) i ≡ Some t
@@ -62,6 +63,8 @@ module _ (s : Store) (c d : Client) (is : IsClient s c) (number : d.number ≡ c
         goes = pull_goes s c d is number region floor count rows tracks n k from to g g' h h' from_there to_there
             (changes g g' h h' two) a b lt origin held g_gave h_carried;
         finished = pull_finished s c d is number region floor count rows tracks n k from to g g' h h' from_there to_there
+            (changes g g' h h' two) a b lt origin held g_gave h_carried;
+        idle = pull_idle s c d is number region floor count rows tracks n k from to g g' h h' from_there to_there
             (changes g g' h h' two) a b lt origin held g_gave h_carried;
       }
 
@@ -86,6 +89,8 @@ module _ (s : Store) (c d : Client) (is : IsClient s c) (number : d.number ≡ c
         goes = pull_goes s c d is number region floor count rows tracks n k from to g g' h h' from_there to_there
             (changes g g' h h' two) a b lt origin held g_alone h_looked;
         finished = pull_finished s c d is number region floor count rows tracks n k from to g g' h h' from_there to_there
+            (changes g g' h h' two) a b lt origin held g_alone h_looked;
+        idle = pull_idle s c d is number region floor count rows tracks n k from to g g' h h' from_there to_there
             (changes g g' h h' two) a b lt origin held g_alone h_looked;
       }
 
@@ -120,6 +125,13 @@ module _ (s : Store) (c d : Client) (is : IsClient s c) (number : d.number ≡ c
           → IfErr q (LeavesBetween from to k (holds_of c) (holds_of d)) → Finished c → Finished d
       by_result (Ok p) x y = (pulled_leaves x.0 x.1 x.2 x.3 x.4 x.5 x.6 x.8 x.9 p x.7).finished
       by_result (Err e) x y = (alone_leaves y.0 y.1 y.2 y.3 y.4 y.5 y.6 y.10 y.11 y.8 y.9).finished
+
+    pub call_idle : Helps d → Helps c
+    call_idle = by_result r ok err where
+      by_result : (q : Result Pulled PullFault) → IfOk q (PullsBetween from to k (holds_of c) (holds_of d))
+          → IfErr q (LeavesBetween from to k (holds_of c) (holds_of d)) → Helps d → Helps c
+      by_result (Ok p) x y = (pulled_leaves x.0 x.1 x.2 x.3 x.4 x.5 x.6 x.8 x.9 p x.7).idle
+      by_result (Err e) x y = (alone_leaves y.0 y.1 y.2 y.3 y.4 y.5 y.6 y.10 y.11 y.8 y.9).idle
 
     pub call_ok : IfOk r (λ p. IsExplained s c d (PullsAs n k p))
     call_ok = by_result r ok where

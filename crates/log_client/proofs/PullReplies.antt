@@ -33,6 +33,7 @@ use Rattle.region_pull.specs.declared.pulled.Pulled.{Pulled}
 use Rattle.region_pull.specs.Origins.{OfOrigin, AsksForHeld}
 use Rattle.region_pull.specs.Pulls.{Gave, Asks, Pulls, GivesAlone}
 use Rattle.lawful_run.specs.Callers.{Caller}
+use Rattle.lawful_run.specs.Lawful.{IsHelp}
 use Rattle.lawful_run.specs.Moves.{GivesAt, GivesTooLow, kept_after_pull, with_places}
 use Rattle.client_law.specs.Knowing.{Rest, log_of, SeesOn}
 use Rattle.client_law.specs.Making.{own_steps, MakesOnly, RiseFrom}
@@ -43,7 +44,7 @@ use Rattle.log_client.specs.declared.client.Client.{Client}
 use Rattle.log_client.specs.Fits.{entries_by, HasGoneOn, HaveGoneOn}
 use Rattle.log_client.specs.Ending.{AreHoldsIn, HasOwnNodes}
 use Rattle.log_client.specs.Between.{ChangesTwo}
-use Rattle.log_client.specs.Clients.{holds_of, seen_of, rows_of, tracks_of, counts_in, caller_of, IsClient, IsHome, IsTrack, AreRows, Keeps, Finished, AllClosed}
+use Rattle.log_client.specs.Clients.{holds_of, seen_of, rows_of, tracks_of, counts_in, caller_of, IsClient, IsHome, IsTrack, AreRows, Keeps, Finished, Helps, AllClosed}
 use Rattle.log_client.specs.Calls.{IsExplained, PullsAs, GaveAlone}
 use Rattle.log_client.proofs.Lists.{got}
 use Rattle.log_client.proofs.Seeing.{are_lawful, seen_there, sees_on}
@@ -54,6 +55,7 @@ use Rattle.log_client.proofs.Pulling.{place_of, places_of_gives, gives_at, too_l
 use Rattle.log_client.proofs.OwnNodes.{Brings, own_nodes_on}
 use Rattle.log_client.proofs.AtHome.{set_there, set_elsewhere, set_long, gone_same, gone_looked, are_regions}
 use Rattle.log_client.proofs.Staying.{track_longer, rows_longer, all_closed_longer}
+use Rattle.log_client.proofs.Helping.{GoesIdle, helped_before, idle_client, idle_same}
 
 no_rest : Rest
 no_rest = record { nodes = λ _. []; rows = λ _. [] }
@@ -262,6 +264,39 @@ module _ (s : Store) (c d : Client) (is : IsClient s c) (number : d.number ≡ c
         rows = λ j less. inl less;
       })
 
+  -- neither hold helped anybody
+  idle : (i : ℕ) (x y : Hold) → slice_get (holds_of c) i ≡ Some x → slice_get (holds_of d) i ≡ Some y
+      → GoesIdle c.number x y
+  idle = by_two (λ i x y. GoesIdle c.number x y)
+      (record {
+        on = g_on;
+        since = λ i j t at helps. elim (cases_eq i k) [
+          | inl same ↦ elim (g_made j t (ap (λ z. slice_get (made_in g' z) j) (sym same) ∙ at)) [
+            | inl old ↦ subst (λ z. WasMade g z t) (sym same) old
+            | inr gave ↦ absurd (subst (IsHelp c.number) gave.1 helps)
+          ]
+          | inr ne ↦ (j, ap (λ l. slice_get l j) (sym (made_same g g' k i a.others ne)) ∙ at)
+        ];
+      })
+      (record {
+        on = h_on;
+        since = λ i j t at helps. elim (cases_eq i k) [
+          | inl same ↦ elim (h_made j t (ap (λ z. slice_get (made_in h' z) j) (sym same) ∙ at)) [
+            | inl old ↦ subst (λ z. WasMade h z t) (sym same) old
+            | inr carried ↦ absurd (subst (IsHelp c.number) carried.2 helps)
+          ]
+          | inr ne ↦ (j, ap (λ l. slice_get l j) (sym (made_same h h' k i b.others ne)) ∙ at)
+        ];
+      })
+      (λ i x far. idle_same c.number x)
+
+  each_idle : (i : ℕ) (y : Hold) → slice_get (holds_of d) i ≡ Some y
+      → (x : Hold) × (slice_get (holds_of c) i ≡ Some x) × GoesIdle c.number x y
+  each_idle i y at = let x = was i y at in (x.0, x.1, idle i x.0 y x.1 at)
+
+  pub pull_idle : Helps d → Helps c
+  pull_idle = helped_before s c d is number region each_idle
+
   in_colours : (i : ℕ) (r : Region) → slice_get s.regions i ≡ Some r → k < r.board.size.colours
   in_colours i r at = subst (λ z. k < z.colours) (sym (s.fit.each i r at).size) lt
 
@@ -292,6 +327,7 @@ module _ (s : Store) (c d : Client) (is : IsClient s c) (number : d.number ≡ c
     pulls = truly_pulled s.regions (length s.regions) (holds_of c) (holds_of d) (are_regions s) pull_holds many n m from to
         g g' h h' k ch.apart from_there to_there ch.first g_new ch.second h_new others a.others b.others a.more b.more g_made
         h_made is.pulls (in_colours n from from_there) (in_colours m to to_there) origin held;
+    helps = idle_client s c d is number region each_idle;
   }
 
   pub pull_finished : Finished c → Finished d

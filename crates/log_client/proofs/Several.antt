@@ -20,8 +20,9 @@ use Rattle.col_core.specs.declared.Event.TheVariants as events
 use Rattle.col_core.specs.declared.Entry.{Entry}
 use Rattle.col_core.specs.History.{entries, has_entered, line}
 use Rattle.col_core.specs.Ids.{IsStepOf}
-use Rattle.col_core.specs.Log.{is_own, HasMark, HasOutcome}
+use Rattle.col_core.specs.Log.{is_own, IsBegunFor, HasMark, HasOutcome}
 use Rattle.col_core.specs.Keeping.{Kept}
+use Rattle.col_core.specs.Rows.{BegunRow}
 use Rattle.stamp_board.specs.declared.view.Size.{Size}
 use Rattle.stamp_board.specs.Rows.{IsRow}
 use Rattle.stamp_board.specs.Views.{KnowsMark}
@@ -42,15 +43,12 @@ use Rattle.lawful_run.specs.Stops.{IsStepWithin}
 use Rattle.client_law.specs.Knowing.{Rest, log_of, SeesOn}
 use Rattle.client_law.specs.Appends.{HasBegun, EntersThere, StandsThere, StandInAll, IsSettledThere, IsSettledEverywhere, EndsAtColour, StopsThere}
 use Rattle.log_client.specs.Fits.{seen_by, Fits}
+use Rattle.log_client.specs.Appends.{piece_of}
 use Rattle.log_client.proofs.Lists.{unmapped}
 use Rattle.log_client.proofs.Seeing.{seen_there}
 use Rattle.log_client.proofs.Fitting.{row_begun, row_listed, mark_there, outcome_there}
 use Rattle.log_client.proofs.Alone.{seen_at, seen_long}
 use Rattle.log_client.proofs.Steps.{steps_of_goes}
-
--- a point as a reply shows it
-abbrev pub piece_of : Point → PointPiece
-piece_of p = record { colour = p.colour; at = p.at; position = p.position }
 
 colours_shown : (ps : List Point)
     → map (λ (p : PointPiece). p.colour) (map piece_of ps) ≡ map (λ (p : Point). p.colour) ps
@@ -105,6 +103,81 @@ step_within n k steps (events.Give region from) s = absurd s
 step_within n k steps (events.Carry region start heads) s = absurd s
 step_within n k steps (events.Trim counts) s = absurd s
 
+-- WITH ANY NODES AND ROWS
+
+module _ (gs hs : List Hold) (caller : Caller) (r : Region) (g h : Hold) (at_g : slice_get gs caller.own ≡ Some g)
+    (at_h : slice_get hs caller.own ≡ Some h) (is : g.passes.number ≡ caller.client) (x : Node) where
+  -- a row has begun, where one of the rows is for the node, which is the client's next
+  pub begun_so : core.HasBegun r g h x → SeesOn caller (seen_by gs) (seen_by hs) → (Made : ℕ → event_types.Event → Type 0)
+      → GoesOn Made g h
+      → ((c : ℕ) (e : event_types.Event) → Made c e → IsTrue (is_own caller.client e) → IsStepOf x.id e)
+      → (rest : Rest) (row : BegunRow) → IsBegunFor (log_of (seen_by hs) rest) x row
+      → (kept : Kept) → slice_get (rest.nodes caller.client) kept.ids ≡ Some x → 2 ≤ length (members x.colours)
+      → kept.rows ≡ g.seat.used → caller.rows ≡ r.board.size.rows
+      → HasBegun (seen_by gs) (seen_by hs) rest caller kept x
+  begun_so b on Made goes each rest row begun kept next several rows board =
+      let room = b.room in
+      record {
+        several = several;
+        next = next;
+        room = omega (arith, room, rows, board);
+        row = row;
+        begun = begun;
+        steps = λ colour. steps_of_goes gs hs caller g h at_g at_h is Made on goes (IsStepOf x.id) colour
+            (λ e made own. each colour e made own);
+      }
+
+  enters_there : (c : ℕ) (at : At) → core.EntersThere g h x c at → EntersThere (seen_by gs) (seen_by hs) caller x c at
+  enters_there c (Event place) e =
+      let old = seen_long gs caller.own g at_g c in
+      let le = e.0 in (
+        omega (arith, old, le),
+        (told_propose c g.passes.number x e.1).entry,
+        seen_at hs caller.own h at_h c place (told_propose c g.passes.number x e.1) e.2,
+        is,
+        refl,
+      )
+  enters_there c (Look seen) e =
+      let old = seen_long gs caller.own g at_g c in
+      let new = seen_long hs caller.own h at_h c in
+      let le = e.0 in
+      let within = e.1 in (
+        omega (arith, old, le),
+        omega (arith, new, within),
+        e.2,
+        e.3,
+        (told_propose c e.4 x e.6).entry,
+        seen_at hs caller.own h at_h c e.2 (told_propose c e.4 x e.6) e.7,
+        λ mine. e.5 (mine ∙ sym is),
+        refl,
+      )
+
+  -- an append stands in all of its colours, where it has begun so and the row has the outcome
+  pub stand_so : (s : Stood) (a : core.StandsInAll r g h x s) (rest : Rest) (kept : Kept)
+      → HasBegun (seen_by gs) (seen_by hs) rest caller kept x → x.floor ≡ kept.floor
+      → HasOutcome (log_of (seen_by hs) rest) x (Final a.stamp)
+      → StandInAll (seen_by gs) (seen_by hs) rest caller kept x a.stamp (map piece_of s.points)
+  stand_so s a rest kept begun floor outcome = record {
+    begun = begun;
+    floor = floor;
+    outcome = outcome;
+    colours = colours_shown s.points ∙ a.colours;
+    each = all_by (StandsThere (seen_by gs) (seen_by hs) caller x a.stamp) (map piece_of s.points) each;
+  } where
+    each : (n : ℕ) (p : PointPiece) → slice_get (map piece_of s.points) n ≡ Some p
+        → StandsThere (seen_by gs) (seen_by hs) caller x a.stamp p
+    each n p at =
+        let q = unmapped piece_of s.points n p at in
+        let t = a.each n q.0 q.1 in
+        subst (StandsThere (seen_by gs) (seen_by hs) caller x a.stamp) q.2
+        (record {
+          entered = enters_there q.0.colour q.0.at t.entered;
+          stands = ap (λ (l : List Entry). slice_get (line l) q.0.position) (seen_there hs caller.own h at_h q.0.colour)
+              ∙ t.stands;
+        })
+
+-- WITH NODES AND ROWS THAT FIT
+
 module _ (gs hs : List Hold) (caller : Caller) (r : Region) (g h : Hold) (at_g : slice_get gs caller.own ≡ Some g)
     (at_h : slice_get hs caller.own ≡ Some h) (is : g.passes.number ≡ caller.client) (rests : IsHold r h)
     (on : SeesOn caller (seen_by gs) (seen_by hs)) (x : Node) (home : x.region ≡ caller.own)
@@ -125,18 +198,11 @@ module _ (gs hs : List Hold) (caller : Caller) (r : Region) (g h : Hold) (at_g :
         → kept.rows ≡ g.seat.used → caller.rows ≡ r.board.size.rows
         → HasBegun (seen_by gs) (seen_by hs) rest caller kept x
     has_begun Made goes each kept id several rows board =
-        let room = b.room in
         let found = row_begun hs rest caller.own h at_h fits (seen_by hs) (core.own_row g) x row_in b.knows home in
-        record {
-          several = several;
-          next = sym (ap (λ (i : Id). slice_get (rest.nodes i.client) i.count) id)
-              ∙ row_listed hs rest caller.own h at_h fits (seen_by hs) (core.own_row g) x row_in b.knows home;
-          room = omega (arith, room, rows, board);
-          row = found.0;
-          begun = found.1;
-          steps = λ colour. steps_of_goes gs hs caller g h at_g at_h is Made on goes (IsStepOf x.id) colour
-              (λ e made own. each colour e made own);
-        }
+        begun_so gs hs caller r g h at_g at_h is x b on Made goes each rest found.0 found.1 kept
+        (sym (ap (λ (i : Id). slice_get (rest.nodes i.client) i.count) id)
+        ∙ row_listed hs rest caller.own h at_h fits (seen_by hs) (core.own_row g) x row_in b.knows home)
+        several rows board
 
     -- a colour of a row that is settled there
     pub settled_now : (o : Outcome) (c : ℕ) → has x.colours c ≡ true → IsSettledNow h (core.own_append g x) o c
@@ -214,50 +280,11 @@ module _ (gs hs : List Hold) (caller : Caller) (r : Region) (g h : Hold) (at_g :
   -- an append stands in all of its colours, where all that it made of its own are its steps
   module _ (s : Stood) (a : core.StandsInAll r g h x s) (Made : ℕ → event_types.Event → Type 0) (goes : GoesOn Made g h)
       (own : (c : ℕ) (e : event_types.Event) → Made c e → IsTrue (is_own caller.client e) → IsStepOf x.id e) where
-    enters_there : (c : ℕ) (at : At) → core.EntersThere g h x c at → EntersThere (seen_by gs) (seen_by hs) caller x c at
-    enters_there c (Event place) e =
-        let old = seen_long gs caller.own g at_g c in
-        let le = e.0 in (
-          omega (arith, old, le),
-          (told_propose c g.passes.number x e.1).entry,
-          seen_at hs caller.own h at_h c place (told_propose c g.passes.number x e.1) e.2,
-          is,
-          refl,
-        )
-    enters_there c (Look seen) e =
-        let old = seen_long gs caller.own g at_g c in
-        let new = seen_long hs caller.own h at_h c in
-        let le = e.0 in
-        let within = e.1 in (
-          omega (arith, old, le),
-          omega (arith, new, within),
-          e.2,
-          e.3,
-          (told_propose c e.4 x e.6).entry,
-          seen_at hs caller.own h at_h c e.2 (told_propose c e.4 x e.6) e.7,
-          λ mine. e.5 (mine ∙ sym is),
-          refl,
-        )
-
     pub stand_in_all : (kept : Kept) → x.id ≡ record { client = caller.client; count = kept.ids } → x.floor ≡ kept.floor
         → 2 ≤ length (members x.colours) → kept.rows ≡ g.seat.used → caller.rows ≡ r.board.size.rows
         → StandInAll (seen_by gs) (seen_by hs) rest caller kept x a.stamp (map piece_of s.points)
-    stand_in_all kept id floor several rows board = record {
-      begun = has_begun a.begun Made goes own kept id several rows board;
-      floor = floor;
-      outcome = outcome_there hs rest caller.own h at_h fits (seen_by hs) (core.own_row g) x (row_in a.begun)
-          a.begun.knows home (Final a.stamp) a.outcome;
-      colours = colours_shown s.points ∙ a.colours;
-      each = all_by (StandsThere (seen_by gs) (seen_by hs) caller x a.stamp) (map piece_of s.points) each;
-    } where
-      each : (n : ℕ) (p : PointPiece) → slice_get (map piece_of s.points) n ≡ Some p
-          → StandsThere (seen_by gs) (seen_by hs) caller x a.stamp p
-      each n p at =
-          let q = unmapped piece_of s.points n p at in
-          let t = a.each n q.0 q.1 in
-          subst (StandsThere (seen_by gs) (seen_by hs) caller x a.stamp) q.2
-          (record {
-            entered = enters_there q.0.colour q.0.at t.entered;
-            stands = ap (λ (l : List Entry). slice_get (line l) q.0.position) (seen_there hs caller.own h at_h q.0.colour)
-                ∙ t.stands;
-          })
+    stand_in_all kept id floor several rows board =
+        stand_so gs hs caller r g h at_g at_h is x s a rest kept
+        (has_begun a.begun Made goes own kept id several rows board) floor
+        (outcome_there hs rest caller.own h at_h fits (seen_by hs) (core.own_row g) x (row_in a.begun)
+        a.begun.knows home (Final a.stamp) a.outcome)

@@ -1,23 +1,33 @@
--- An append to one colour stands by a hold that has seen as much.
-use Rattle.std.proofs.Common.{◌≡◌, ◌⊎◌, inl, inr, ℕ, List, Some, ap, sym, subst, ◌∙◌}
+-- An append stands by a hold that has seen as much.
+use Rattle.std.proofs.Common.{◌≡◌, ◌≢◌, ◌⊎◌, inl, inr, ℕ, ◌<◌, ◌≤◌, List, length, Some, ap, sym, subst, ◌∙◌}
 use Rattle.std.specs.Prelude.{slice_get}
 use mathlib.Core.List.{IsPrefix}
+use Rattle.log_node.specs.declared.node.At.{At}
+use Rattle.log_node.specs.declared.node.At.TheVariants.{Event, Look}
 use Rattle.log_node.specs.declared.node.Node.{Node}
+use Rattle.log_node.specs.declared.marks.Outcome.TheVariants.{Final}
 use Rattle.col_core.specs.declared.Event.{Event as ColumnEvent}
 use Rattle.col_core.specs.History.{line, entry_key}
 use Rattle.turn_cell.specs.Histories.{made_by}
+use Rattle.stamp_board.specs.Seats.{IsLater}
+use Rattle.stamp_board.specs.Views.{Grows}
+use Rattle.stamp_board.proofs.CallerLemmas.{Grows-trans, Learns-from, begun_learnt, outcome_learnt}
 use Rattle.chain_store.specs.declared.told.Told.{Told}
 use Rattle.chain_store.specs.declared.hold.Hold.{Hold}
 use Rattle.chain_store.specs.declared.hold.ColumnPasses.{ColumnPasses}
+use Rattle.chain_store.specs.declared.region.Region.{Region}
 use Rattle.chain_store.specs.Histories.{entries_in, maker}
-use Rattle.chain_store.specs.Columns.{told_single}
-use Rattle.chain_store.specs.Holds.{history_seen, seen_in, made_in}
-use Rattle.chain_store.proofs.CallerLemmas.{goes_weaken}
+use Rattle.chain_store.specs.Columns.{told_propose, told_single}
+use Rattle.chain_store.specs.Going.{GoesOn}
+use Rattle.chain_store.specs.Holds.{history_seen, seen_in, made_in, view_of}
+use Rattle.chain_store.proofs.CallerLemmas.{goes_weaken, prefix_same}
 use Rattle.append_core.specs.declared.stood.Stood.{Stood}
-use Rattle.append_core.specs.Helping.{HelpsOpen}
+use Rattle.append_core.specs.Helping.{HelpsOpen, IsStepIn}
+use Rattle.append_core.specs.Several.{EntersThere, StandsInAll, own_append, own_row}
 use Rattle.append_core.specs.Standing.{IsSingleOf, StandsAlone}
+use Rattle.append_core.proofs.CallerLemmas.{complete_later}
 
-module _ (g h k : Hold) (x : Node) (colour : ℕ) (s : Stood) (same : k.passes ≡ h.passes) where
+module _ (g h k : Hold) (same : k.passes ≡ h.passes) (grows : Grows (view_of h) (view_of k)) where
   seen_same : (c : ℕ) → seen_in h c ≡ seen_in k c
   seen_same c = ap (λ (p : ColumnPasses). history_seen (slice_get p.items.items c)) (sym same)
 
@@ -36,10 +46,24 @@ module _ (g h k : Hold) (x : Node) (colour : ℕ) (s : Stood) (same : k.passes �
       opened = m.2.opened;
       unfenced = m.2.unfenced;
     },
+    complete_later h k (λ c. prefix_same (seen_in h c) (seen_in k c) (sym (seen_same c))) grows.size
+        (Learns-from (view_of h) (view_of k) grows) m.0 m.3,
   )
 
-  pub stands_by : StandsAlone g h x colour s → StandsAlone g k x colour s
-  stands_by a = record {
+  -- what was made, beside what helped
+  goes_by : (Own : ℕ → ColumnEvent → Type 0) → GoesOn (λ c e. Own c e ⊎ HelpsOpen g h e) g h
+      → GoesOn (λ c e. Own c e ⊎ HelpsOpen g k e) g k
+  goes_by Own goes = record {
+    number = ap (λ (p : ColumnPasses). p.number) same ∙ goes.number;
+    more = λ c. subst (IsPrefix (seen_in g c)) (seen_same c) (goes.more c);
+    made = λ c. let m = (goes_weaken (λ i e. Own i e ⊎ HelpsOpen g h e) g h (λ i e. Own i e ⊎ HelpsOpen g k e)
+        (λ i e p. elim p [ inl own ↦ inl own | inr helps ↦ inr (helps_same e helps) ]) goes).made c in
+        (m.0, made_same c ∙ m.1, m.2);
+  }
+
+  -- in one colour
+  pub stands_by : (x : Node) (colour : ℕ) (s : Stood) → StandsAlone g h x colour s → StandsAlone g k x colour s
+  stands_by x colour s a = record {
     stamp = a.stamp;
     place = a.place;
     position = a.position;
@@ -50,12 +74,40 @@ module _ (g h k : Hold) (x : Node) (colour : ℕ) (s : Stood) (same : k.passes �
         (seen_same colour) a.entered;
     stands = subst (λ (l : List Told). slice_get (line (entries_in l)) a.position ≡ Some (entry_key a.stamp x.id))
         (seen_same colour) a.stands;
-    goes = record {
-      number = ap (λ (p : ColumnPasses). p.number) same ∙ a.goes.number;
-      more = λ c. subst (IsPrefix (seen_in g c)) (seen_same c) (a.goes.more c);
-      made = λ c. let m = (goes_weaken (λ i e. ((i ≡ colour) × IsSingleOf x.id e) ⊎ HelpsOpen g h e) g h
-          (λ i e. ((i ≡ colour) × IsSingleOf x.id e) ⊎ HelpsOpen g k e)
-          (λ i e p. elim p [ inl own ↦ inl own | inr helps ↦ inr (helps_same e helps) ]) a.goes).made c in
-          (m.0, made_same c ∙ m.1, m.2);
+    goes = goes_by (λ c e. (c ≡ colour) × IsSingleOf x.id e) a.goes;
+  }
+
+  -- in several
+  enters_by : (x : Node) (c : ℕ) (at : At) → EntersThere g h x c at → EntersThere g k x c at
+  enters_by x c (Event place) e =
+      subst (λ (l : List Told). (length (seen_in g c) ≤ place) × (n : ℕ)
+      × (slice_get l place ≡ Some (told_propose c g.passes.number x n))) (seen_same c) e
+  enters_by x c (Look seen) e =
+      subst (λ (l : List Told). (length (seen_in g c) ≤ seen) × (seen ≤ length l)
+      × (place : ℕ) × (place < seen) × (by : ℕ) × (by ≢ g.passes.number)
+      × (n : ℕ) × (slice_get l place ≡ Some (told_propose c by x n))) (seen_same c) e
+
+  pub stands_in_all_by : (r : Region) (x : Node) (s : Stood) → k.next ≡ h.next → k.seat.used ≡ h.seat.used
+      → StandsInAll r g h x s → StandsInAll r g k x s
+  stands_in_all_by r x s next used a = record {
+    begun = record {
+      row = a.begun.row;
+      room = a.begun.room;
+      knows = begun_learnt (view_of h) (view_of k) (own_row g) grows.size (Learns-from (view_of h) (view_of k) grows) x
+          a.begun.knows;
+      used = used ∙ a.begun.used;
+      next = next ∙ a.begun.next;
+      grows = Grows-trans (view_of g) (view_of h) (view_of k) a.begun.grows grows;
     };
+    stamp = a.stamp;
+    key = a.key;
+    outcome = outcome_learnt (view_of h) (view_of k) (own_row g) grows.size (Learns-from (view_of h) (view_of k) grows)
+        (Final a.stamp) a.outcome;
+    colours = a.colours;
+    each = λ n p at. let t = a.each n p at in record {
+      entered = enters_by x p.colour p.at t.entered;
+      stands = subst (λ (l : List Told). slice_get (line (entries_in l)) p.position ≡ Some (entry_key a.stamp x.id))
+          (seen_same p.colour) t.stands;
+    };
+    goes = goes_by (IsStepIn (own_append g x)) a.goes;
   }

@@ -3,14 +3,15 @@ use Rattle.std.proofs.Common.{◌≡◌, inl, inr, ℕ, true, List, ◌++◌, ap
 use mathlib.Core.List.{IsPrefix}
 use Rattle.log_node.specs.declared.ids.Counts.{Counts}
 use Rattle.log_node.specs.declared.node.Node.{Node}
+use Rattle.log_node.specs.declared.marks.Mark.TheVariants.{Fenced}
 use Rattle.log_node.specs.Seen.{PlacedNode}
 use Rattle.col_core.specs.declared.Entry.{Entry}
 use Rattle.col_core.specs.History.{has_entered}
 use Rattle.col_core.specs.Computed.{dated}
 use Rattle.col_core.specs.Legal.{IsColumnHistory}
 use Rattle.col_core.proofs.CallerLemmas.{entered_longer}
-use Rattle.stamp_board.specs.Views.{KnowsMark}
-use Rattle.stamp_board.proofs.CallerLemmas.{begun_learnt, mark_learnt}
+use Rattle.stamp_board.specs.Views.{KnowsMark, KnowsOutcome}
+use Rattle.stamp_board.proofs.CallerLemmas.{begun_learnt, mark_learnt, outcome_learnt}
 use Rattle.chain_store.specs.declared.told.Tag.{Tag}
 use Rattle.chain_store.specs.declared.told.Told.{Told}
 use Rattle.chain_store.specs.declared.hold.Hold.{Hold}
@@ -58,24 +59,26 @@ rows_longer number g h rows on used are = record {
 -- an append that is closed in a colour stays so
 pub closed_longer : (own regions : ℕ) (g h : Hold) (j : ℕ) (x : Node) (k : ℕ) → HasGoneOn g h
     → IsColumnHistory own regions (dated own (entries_seen h k)) → IsClosedIn g j x k → IsClosedIn h j x k
-closed_longer own regions g h j x k on lawful is = record {
-  mark = is.mark;
-  set = is.set;
-  known = subst (λ (n : ℕ). KnowsMark (view_of h) (row_of n j) k is.mark) (sym on.number)
-      (mark_learnt (view_of g) (view_of h) (row_of g.passes.number j) on.size on.learns k is.mark is.known);
-  done = elim is.done [
-    | inl fenced ↦ inl fenced
-    | inr over ↦
-        (let more = entries_longer (seen_in g k) (seen_in h k) (on.more k) in
-        inr (
-          subst (λ (l : List Entry). has_entered x.id l ≡ true) more.1
-              (entered_longer (entries_seen g k) more.0 x.id over.0),
-          closed_stays own regions (entries_seen g k) (entries_seen h k) x.id lawful more over.0 over.1,
-        ))
-  ];
-}
+closed_longer own regions g h j x k on lawful (inl fenced) = inl (
+  fenced.0,
+  subst (λ (n : ℕ). KnowsMark (view_of h) (row_of n j) k (Fenced fenced.0)) (sym on.number)
+      (mark_learnt (view_of g) (view_of h) (row_of g.passes.number j) on.size on.learns k (Fenced fenced.0) fenced.1),
+)
+closed_longer own regions g h j x k on lawful (inr over) =
+    let more = entries_longer (seen_in g k) (seen_in h k) (on.more k) in
+    inr (
+      subst (λ (l : List Entry). has_entered x.id l ≡ true) more.1
+          (entered_longer (entries_seen g k) more.0 x.id over.0),
+      closed_stays own regions (entries_seen g k) (entries_seen h k) x.id lawful more over.0 over.1,
+    )
 
 pub all_closed_longer : (own regions : ℕ) (g h : Hold) (rows : List Node) → HasGoneOn g h
     → ((k : ℕ) → IsColumnHistory own regions (dated own (entries_seen h k))) → AllClosed g rows → AllClosed h rows
-all_closed_longer own regions g h rows on lawful all j x at k of =
-    closed_longer own regions g h j x k on (lawful k) (all j x at k of)
+all_closed_longer own regions g h rows on lawful all j x at =
+    let is = all j x at in record {
+      outcome = is.outcome;
+      shut = is.shut;
+      known = subst (λ (n : ℕ). KnowsOutcome (view_of h) (row_of n j) is.outcome) (sym on.number)
+          (outcome_learnt (view_of g) (view_of h) (row_of g.passes.number j) on.size on.learns is.outcome is.known);
+      in_colours = λ k of. closed_longer own regions g h j x k on (lawful k) (is.in_colours k of);
+    }

@@ -12,11 +12,12 @@ use Rattle.log_client.specs.declared.track.Track.{Track}
 use Rattle.log_client.specs.declared.answers.Synced.{Synced}
 use Rattle.log_client.specs.declared.faults.SyncFault.{SyncFault}
 use Rattle.log_client.specs.Fits.{HaveGoneOn}
-use Rattle.log_client.specs.Clients.{holds_of, tracks_of, IsClient, IsTrack, Finished}
+use Rattle.log_client.specs.Clients.{holds_of, tracks_of, IsClient, IsTrack, Finished, Helps}
 use Rattle.log_client.specs.Inside.{PlaysOn, IsRefusedOn}
 use Rattle.log_client.specs.Calls.{IsExplained, SyncsAs, SyncRefused, AnswersSync}
 use Rattle.log_client.proofs.AtHome.{ChangesHome, gone_looked, have_gone_on, are_regions}
-use Rattle.log_client.proofs.Looked.{finished_stays}
+use Rattle.log_client.proofs.Looked.{finished_stays, made_looked}
+use Rattle.log_client.proofs.Helping.{helped_at_home, idle_looked}
 use Rattle.log_client.proofs.SyncReplies.{synced_client, synced_explained, synced_answer, refused_client, refused_explained}
 
 set_same : {A : Type 0} (xs : List A) (n : ℕ) (x : A) → slice_get xs n ≡ Some x → slice_set xs n x ≡ xs
@@ -83,6 +84,10 @@ module _ (s : Store) (c : Client) (r : Region) (g : Hold) (k : ℕ) (old : Track
 
     pub sync_finished : Finished c → Finished after
     sync_finished = finished_stays s c after r g h is changed refl
+
+    pub sync_idle : Helps after → Helps c
+    sync_idle = helped_at_home s c after r g h is changed
+        (idle_looked c.number g h changed.on (made_looked old.snapshot.colour g h but sees))
 
     module _ (y : Synced) (stamp : ℕ) (raised : floor ≡ max stamp c.floor) (p : PlaysOn r h old new y stamp) where
       tracks : tracks_of after ≡ slice_set (tracks_of c) old.snapshot.colour new

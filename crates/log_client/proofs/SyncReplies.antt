@@ -37,6 +37,7 @@ use Rattle.log_client.specs.declared.answers.Synced.{Synced}
 use Rattle.log_client.specs.declared.faults.SyncFault.{SyncFault}
 use Rattle.log_client.specs.declared.faults.SyncFault.TheVariants as sync_faults
 use Rattle.log_client.specs.Fits.{Fits}
+use Rattle.log_client.specs.Ending.{HelpsWhole}
 use Rattle.log_client.specs.Clients.{holds_of, seen_of, rows_of, tracks_of, starts_of, played_of, counts_in, nodes_in, caller_of, Plays, HasPlayed, played_then, IsClient, IsTrack, Keeps}
 use Rattle.log_client.specs.Inside.{PlaysOn, IsRefusedOn, dated_seen}
 use Rattle.log_client.specs.Calls.{IsExplained, SyncsAs, SyncRefused, AnswersSync, nodes_played}
@@ -46,6 +47,7 @@ use Rattle.log_client.proofs.Playing.{plays_there}
 use Rattle.log_client.proofs.AtHome.{ChangesHome, set_there, set_elsewhere, set_long, home_after, sees_after, are_regions}
 use Rattle.log_client.proofs.Staying.{played_longer}
 use Rattle.log_client.proofs.Looked.{IsPlain, made_looked, track_stays, kept_before, makes_none, client_looked, keeps_stay, did_nothing}
+use Rattle.log_client.proofs.Helping.{GoesIdle, idle_looked, idle_at_home}
 
 dropped : {A : Type 0} (xs ys : List A) → drop (length xs) (xs ++ ys) ≡ ys
 dropped [] ys = refl
@@ -76,6 +78,13 @@ module _ (s : Store) (c d : Client) (r : Region) (g h : Hold) (old : Track) (is 
 
   goes : GoesOn (λ m e. IsPlain e) g h
   goes = looks_on (λ m e. IsPlain e) k g h but sees
+
+  -- it has helped nobody
+  idle : GoesIdle c.number g h
+  idle = idle_looked c.number g h ch.on made
+
+  helps : HelpsWhole d.number d.region (holds_of d)
+  helps = idle_at_home s c d r g h is ch idle
 
   own : r.number ≡ d.region
   own = (are_regions s c.region r ch.there).0 ∙ sym ch.region
@@ -111,7 +120,7 @@ module _ (s : Store) (c d : Client) (r : Region) (g h : Hold) (old : Track) (is 
         (ap length tracks)
         (λ m track at. subst (λ (n : ℕ). IsTrack n m (seen_in h m) track) (sym ch.region)
         (track_stays s c d r g h is ch m track
-        ((is.home g ch.before).tracks m track (ap (λ (l : List Track). slice_get l m) (sym tracks) ∙ at))))
+        ((is.home g ch.before).tracks m track (ap (λ (l : List Track). slice_get l m) (sym tracks) ∙ at)))) helps
 
     pub refused_explained : (fault : SyncFault) → IsRefusedOn r h old fault → SyncRefused s c d k fault
     refused_explained (sync_faults.Trimmed colour shown) why = (
@@ -185,7 +194,7 @@ module _ (s : Store) (c d : Client) (r : Region) (g h : Hold) (old : Track) (is 
               subst (λ (n : ℕ). IsTrack n m (seen_in h m) track) (sym ch.region)
               (track_stays s c d r g h is ch m track
               ((is.home g ch.before).tracks m track (sym (others_there m ne) ∙ at)))
-        ])
+        ]) helps
 
     -- the answer
     was_played : played_of c k ≡ old.nodes

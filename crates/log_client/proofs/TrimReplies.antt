@@ -18,12 +18,13 @@ use Rattle.client_law.proofs.CallerLemmas.{kept_after, trims_stand}
 use Rattle.log_client.specs.declared.store.Store.{Store}
 use Rattle.log_client.specs.declared.client.Client.{Client}
 use Rattle.log_client.specs.Fits.{HaveGoneOn}
-use Rattle.log_client.specs.Clients.{holds_of, seen_of, caller_of, IsClient, Finished}
+use Rattle.log_client.specs.Clients.{holds_of, seen_of, caller_of, IsClient, Finished, Helps}
 use Rattle.log_client.specs.Calls.{IsExplained, DidNothing, TrimsAs}
 use Rattle.log_client.proofs.Steps.{more_last}
 use Rattle.log_client.proofs.Trims.{trims_there, makes_only_last}
 use Rattle.log_client.proofs.AtHome.{ChangesHome, gone_looked, have_gone_on, home_after, others_after, sees_after, are_regions}
 use Rattle.log_client.proofs.Looked.{IsPlain, made_looked, finished_stays, client_looked, tracks_stay, did_nothing}
+use Rattle.log_client.proofs.Helping.{GoesIdle, IsNoStep, helped_at_home, idle_at_home, idle_looked, idle_on, no_help}
 
 -- the client's hold, changed by a call on one colour's column
 module _ (s : Store) (c : Client) (r : Region) (g h : Hold) (k : ℕ) (is : IsClient s c)
@@ -55,6 +56,11 @@ module _ (s : Store) (c : Client) (r : Region) (g h : Hold) (k : ℕ) (is : IsCl
     look_client =
         client_looked s c after r g h is looked (looks_on (λ m e. IsPlain e) k g h but sees) (ap (λ q. q.used) same.0) same.1
         (omega arith) is.floored refl refl refl (tracks_stay s c after r g h is looked refl)
+        (idle_at_home s c after r g h is looked (idle_looked c.number g h looked.on (made_looked k g h but sees)))
+
+    pub look_idle : Helps after → Helps c
+    look_idle = helped_at_home s c after r g h is looked
+        (idle_looked c.number g h looked.on (made_looked k g h but sees))
 
     pub look_goes : HaveGoneOn (holds_of c) (holds_of after)
     look_goes = have_gone_on s c after r g h is looked
@@ -67,7 +73,7 @@ module _ (s : Store) (c : Client) (r : Region) (g h : Hold) (k : ℕ) (is : IsCl
 
   -- by an event that is plain
   module _ (t : Told) (at : At) (m : MakesOneIn k g h t at) (by : t.entry.by ≡ g.passes.number)
-      (plain : IsPlain t.entry.event) where
+      (plain : IsPlain t.entry.event) (no_step : IsNoStep t.entry.event) where
     pub made : ChangesHome s c after r g h
     made = record {
       number = refl;
@@ -79,10 +85,18 @@ module _ (s : Store) (c : Client) (r : Region) (g h : Hold) (k : ℕ) (is : IsCl
       on = gone_looked k g h but (more_last g.passes.number t (seen_in g k) (seen_in h k) at m by) same.0;
     }
 
+    idle : GoesIdle c.number g h
+    idle = idle_on (λ n e. IsNoStep e) c.number g h made.on (makes_on (λ n e. IsNoStep e) k g h but t at m by no_step)
+        (λ n e p. no_help c.number e p)
+
+    pub event_idle : Helps after → Helps c
+    event_idle = helped_at_home s c after r g h is made idle
+
     pub event_client : IsClient s after
     event_client =
         client_looked s c after r g h is made (makes_on (λ n e. IsPlain e) k g h but t at m by plain) (ap (λ q. q.used) same.0)
         same.1 (omega arith) is.floored refl refl refl (tracks_stay s c after r g h is made refl)
+        (idle_at_home s c after r g h is made idle)
 
     pub event_goes : HaveGoneOn (holds_of c) (holds_of after)
     event_goes = have_gone_on s c after r g h is made
@@ -96,19 +110,22 @@ module _ (s : Store) (c : Client) (r : Region) (g h : Hold) (k : ℕ) (is : IsCl
     t = told_event g.passes.number (events.Trim counts)
 
     pub trim_client : IsClient s after
-    trim_client = event_client t at trims.0 refl tt
+    trim_client = event_client t at trims.0 refl tt tt
+
+    pub trim_idle : Helps after → Helps c
+    trim_idle = event_idle t at trims.0 refl tt tt
 
     pub trim_goes : HaveGoneOn (holds_of c) (holds_of after)
-    trim_goes = event_goes t at trims.0 refl tt
+    trim_goes = event_goes t at trims.0 refl tt tt
 
     pub trim_finished : Finished c → Finished after
-    trim_finished = event_finished t at trims.0 refl tt
+    trim_finished = event_finished t at trims.0 refl tt tt
 
     number : g.passes.number ≡ c.number
     number = is.numbers c.region g at_g
 
     ch : ChangesHome s c after r g h
-    ch = made t at trims.0 refl tt
+    ch = made t at trims.0 refl tt tt
 
     pub trim_explained : IsExplained s c after (TrimsAs k counts at answer)
     trim_explained objects kept finished keeps =

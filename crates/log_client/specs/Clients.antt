@@ -11,15 +11,16 @@ use Rattle.log_node.specs.Vectors.{zeros}
 use Rattle.log_node.specs.Reach.{Reachable}
 use Rattle.log_node.specs.Standings.{open_entry}
 use Rattle.log_node.specs.declared.marks.Why.{Why}
-use Rattle.log_node.specs.declared.marks.Mark.{Mark}
-use Rattle.log_node.specs.declared.marks.Mark.TheVariants as marks
+use Rattle.log_node.specs.declared.marks.Mark.TheVariants.{Fenced}
+use Rattle.log_node.specs.declared.marks.Outcome.{Outcome}
+use Rattle.log_node.specs.declared.marks.Outcome.TheVariants.{Open}
 use Rattle.col_core.specs.History.{entries, has_entered}
 use Rattle.col_core.specs.Cuts.{chain}
 use Rattle.col_core.specs.Computed.{dated}
 use Rattle.col_core.specs.PlayOrder.{Place, Stands, IsPlayOrder}
 use Rattle.col_core.specs.Keeping.{Kept}
 use Rattle.script_text.specs.declared.script.Object.{Object}
-use Rattle.stamp_board.specs.Views.{KnowsBegun, KnowsMark}
+use Rattle.stamp_board.specs.Views.{KnowsBegun, KnowsMark, KnowsOutcome}
 use Rattle.chain_store.specs.declared.told.Told.{Told}
 use Rattle.chain_store.specs.declared.hold.Hold.{Hold}
 use Rattle.chain_store.specs.Histories.{entries_in, Names}
@@ -32,7 +33,7 @@ use Rattle.log_client.specs.declared.store.Store.{Store}
 use Rattle.log_client.specs.declared.client.Client.{Client}
 use Rattle.log_client.specs.declared.track.Track.{Track}
 use Rattle.log_client.specs.Fits.{seen_by}
-use Rattle.log_client.specs.Ending.{AreHoldsIn, PullsTruly, HasOwnNodes}
+use Rattle.log_client.specs.Ending.{AreHoldsIn, PullsTruly, HasOwnNodes, IsHelpBy, HelpsWhole}
 
 -- its holds, by region
 abbrev pub holds_of : Client → List Hold
@@ -129,6 +130,7 @@ pub record IsClient (s : Store) (c : Client) : Type 0 where
   pub nodes_count : length nodes ≡ c.count
   pub own_nodes : HasOwnNodes c.number (holds_of c) nodes
   pub pulls : PullsTruly s.regions (holds_of c)
+  pub helps : HelpsWhole c.number c.region (holds_of c)
 
 -- WHAT IT KEEPS
 
@@ -140,21 +142,28 @@ pub record Keeps (s : Store) (c : Client) (objects : List Object) (kept : Kept) 
   pub rows : kept.rows ≡ length (rows_of c)
   pub starts : (colour : ℕ) → kept.starts colour ≡ starts_of c colour
 
--- The row's append is closed for good in a colour, as far as the hold has seen: its mark is known, and it is fenced, or its
--- id has entered and is open no more.
-pub record IsClosedIn (h : Hold) (number : ℕ) (x : Node) (colour : ℕ) : Type 0 where
-  pub mark : Mark
-  pub set : mark ≢ marks.None
-  pub known : KnowsMark (view_of h) (row_of h.passes.number number) colour mark
-  pub done : ((why : Why) × (mark ≡ marks.Fenced why))
-      ⊎ ((has_entered x.id (entries_seen h colour) ≡ true)
-      × (open_entry x.id (entries (entries_seen h colour)) ≡ None))
+-- The row's append is closed for good in a colour, as far as the hold has seen: it is fenced there, or its id has entered
+-- and is open no more.
+abbrev pub IsClosedIn : Hold → ℕ → Node → ℕ → Type 0
+IsClosedIn h number x colour =
+    ((why : Why) × KnowsMark (view_of h) (row_of h.passes.number number) colour (Fenced why))
+    ⊎ ((has_entered x.id (entries_seen h colour) ≡ true) × (open_entry x.id (entries (entries_seen h colour)) ≡ None))
 
--- the appends of its rows are closed in all their colours
+-- The row's append is closed for good: the row has an outcome, and the append is closed in each of its node's colours.
+pub record IsClosed (h : Hold) (number : ℕ) (x : Node) : Type 0 where
+  pub outcome : Outcome
+  pub shut : outcome ≢ Open
+  pub known : KnowsOutcome (view_of h) (row_of h.passes.number number) outcome
+  pub in_colours : (colour : ℕ) → has x.colours colour ≡ true → IsClosedIn h number x colour
+
+-- the appends of its rows are closed
 abbrev pub AllClosed : Hold → List Node → Type 0
-AllClosed h rows =
-    (j : ℕ) (x : Node) → slice_get rows j ≡ Some x → (colour : ℕ) → has x.colours colour ≡ true → IsClosedIn h j x colour
+AllClosed h rows = (j : ℕ) (x : Node) → slice_get rows j ≡ Some x → IsClosed h j x
 
 -- Each append that the client began is closed for good; only a stop leaves one that is not.
 abbrev pub Finished : Client → Type 0
 Finished c = (h : Hold) → slice_get (holds_of c) c.region ≡ Some h → AllClosed h (rows_of c)
+
+-- The client has completed another's append.
+abbrev pub Helps : Client → Type 0
+Helps c = (region : ℕ) × (h : Hold) × (t : Told) × IsHelpBy c.number (holds_of c) region h t

@@ -78,6 +78,7 @@ Enters colour x event = (event ≡ single_event colour x) ⊎ (event ≡ propose
 -- The store ended with a log of so many regions and colours. Its histories are lawful, made by its clients, with true
 -- copies, and each id that enters one is that of the node which its client appended.
 pub record EndsStore (regions colours : ℕ) (clients : List (List Hold)) (ends : List ClosedRegion) (log : Log) : Type 0 where
+  pub many : length ends ≡ regions
   pub lawful : AreLawful regions log.histories
   pub makers : (region colour n : ℕ) (e : Entry) → slice_get (log.histories region colour) n ≡ Some e
       → e.by < length clients

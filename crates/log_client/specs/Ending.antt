@@ -1,8 +1,10 @@
 -- What the end of a store needs of each client. All is said of lists of regions and of a client's holds, by region.
 use Rattle.std.specs.Prelude.{◌≡◌, ◌≢◌, ℕ, ◌<◌, List, [], ◌∷◌, length, Some, slice_get}
+use Rattle.log_node.specs.declared.ids.Id.{Id}
 use Rattle.log_node.specs.declared.node.Node.{Node}
 use Rattle.col_core.specs.declared.Event.{Event}
 use Rattle.col_core.specs.declared.Event.TheVariants.{Single, Propose, Settle, Raise, Give, Carry, Trim}
+use Rattle.col_core.specs.Ids.{IsStepOf}
 use Rattle.stamp_board.specs.Views.{KnowsBegun}
 use Rattle.chain_store.specs.declared.told.Told.{Told}
 use Rattle.chain_store.specs.declared.hold.Hold.{Hold}
@@ -10,7 +12,9 @@ use Rattle.chain_store.specs.declared.region.Region.{Region}
 use Rattle.chain_store.specs.Owning.{row_of}
 use Rattle.chain_store.specs.Holds.{IsHold, made_in, view_of}
 use Rattle.region_pull.specs.Origins.{OfOrigin, AsksForHeld}
+use Rattle.append_core.specs.Settled.{IsComplete}
 use Rattle.append_core.specs.Standing.{IsSingleOf}
+use Rattle.lawful_run.specs.Lawful.{IsHelp}
 
 -- the event moves no nodes between regions
 abbrev pub IsNoMove : Event → Type 0
@@ -58,3 +62,17 @@ pub record HasOwnNodes (number : ℕ) (hs : List Hold) (nodes : List Node) : Typ
       → slice_get nodes x.id.count ≡ Some x
   pub rows : (region j : ℕ) (h : Hold) → slice_get hs region ≡ Some h → j < h.seat.used
       → (x : Node) × KnowsBegun (view_of h) (row_of number j) x × (slice_get nodes x.id.count ≡ Some x)
+
+-- The client made this entry by its hold of a region, and by it completes the append of another client.
+pub record IsHelpBy (number : ℕ) (hs : List Hold) (region : ℕ) (h : Hold) (t : Told) : Type 0 where
+  pub there : slice_get hs region ≡ Some h
+  pub colour : ℕ
+  pub n : ℕ
+  pub made : slice_get (made_in h colour) n ≡ Some t
+  pub helps : IsHelp number t.entry.event
+
+-- Whatever the client helped is of its own region, and complete.
+abbrev pub HelpsWhole : ℕ → ℕ → List Hold → Type 0
+HelpsWhole number own hs =
+    (region : ℕ) (h : Hold) (t : Told) → IsHelpBy number hs region h t
+    → (region ≡ own) × ((id : Id) → IsStepOf id t.entry.event → IsComplete h id)

@@ -1,7 +1,9 @@
--- What the functions of this crate say of each other: plays on a track.
-use Rattle.std.specs.Prelude.{◌≡◌, ℕ, false, ◌≤◌, List, ◌++◌, length}
+-- What the functions of this crate say of each other: appends, and plays on a track.
+use Rattle.std.specs.Prelude.{◌≡◌, ◌⊎◌, ◌↔◌, ℕ, false, ◌≤◌, List, ◌++◌, length, map, Option, None, Result, Err, IfOk, MatchResult}
+use Rattle.log_node.specs.declared.ids.Colours.{Colours}
 use Rattle.log_node.specs.declared.limits.TheConstants.{MAX_STAMP}
 use Rattle.log_node.specs.Seen.{PlacedNode}
+use Rattle.log_node.specs.Sets.{members}
 use Rattle.log_node.specs.Vectors.{IsWithin, is_within}
 use Rattle.col_core.specs.Cuts.{Dated, base}
 use Rattle.col_core.specs.Computed.{cut, dated}
@@ -9,12 +11,34 @@ use Rattle.chain_store.specs.declared.hold.Hold.{Hold}
 use Rattle.chain_store.specs.declared.region.Region.{Region}
 use Rattle.chain_store.specs.Holds.{seen_in, entries_seen}
 use Rattle.lawful_run.specs.Reads.{greatest_stamp}
+use Rattle.append_core.specs.declared.several.MultiFault.{MultiFault}
+use Rattle.append_core.specs.declared.stood.Point.{Point}
+use Rattle.append_core.specs.declared.several.MultiFault.TheVariants as append_faults
 use Rattle.playback.specs.declared.player.Played.{Played}
+use Rattle.log_client.specs.declared.store.Store.{Store}
+use Rattle.log_client.specs.declared.client.Client.{Client}
 use Rattle.log_client.specs.declared.track.Track.{Track}
+use Rattle.log_client.specs.declared.answers.Appended.{Appended}
 use Rattle.log_client.specs.declared.answers.Synced.{Synced}
 use Rattle.log_client.specs.declared.faults.SyncFault.{SyncFault}
 use Rattle.log_client.specs.declared.faults.SyncFault.TheVariants.{Trimmed, NoMemory}
-use Rattle.log_client.specs.Clients.{Plays}
+use Rattle.log_client.specs.Fits.{HaveGoneOn}
+use Rattle.log_client.specs.Clients.{IsClient, Finished, Plays, holds_of}
+use Rattle.log_client.specs.Calls.{IsExplained, IsSame}
+use Rattle.log_client.specs.Appends.{AppendsAs, AppendRefused, HasNoRow, HasStopped}
+
+-- An append of a client that was called with colours, a text and a stop: what it left of the client, and why it answered so.
+pub record CallsAppend (s : Store) (c d : Client) (colours : Colours) (text : List ℕ) (stop : Option ℕ)
+    (result : Result Appended MultiFault) : Type 0 where
+  pub client : IsClient s d
+  pub same : IsSame c d
+  pub goes : HaveGoneOn (holds_of c) (holds_of d)
+  pub finished : Finished c → Finished d ⊎ HasStopped result
+  pub answer : MatchResult result
+      (λ a. (stop ≡ None) × IsExplained s c d (AppendsAs colours text a))
+      (AppendRefused s c d colours text stop)
+  pub points : IfOk result (λ a. map (λ (p : Point). p.colour) a.stood.points ≡ members colours)
+  pub full : (used : ℕ) → (result ≡ Err (append_faults.Full used)) ↔ HasNoRow s c colours stop used
 
 -- the column of a colour, as the hold has seen it, with its cuts
 abbrev pub dated_seen : Region → Hold → ℕ → List Dated

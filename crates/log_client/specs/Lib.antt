@@ -3,10 +3,10 @@ pub mod Fits
 pub mod Ending
 pub mod Closing
 pub mod Clients
-pub mod Inside
 pub mod Between
 pub mod Calls
 pub mod Appends
+pub mod Inside
 pub mod Notes
 pub mod Opening
 pub mod Leaving

@@ -11,7 +11,7 @@ use Rattle.script_text.specs.declared.script.Object.{Object}
 use Rattle.log_client.specs.declared.store.Store.{Store}
 use Rattle.log_client.specs.declared.client.Client.{Client}
 use Rattle.log_client.specs.declared.track.Track.{Track}
-use Rattle.log_client.specs.Clients.{IsClient, Keeps, Finished, holds_of}
+use Rattle.log_client.specs.Clients.{IsClient, Keeps, Finished, Helps, holds_of}
 
 -- nothing is played on it
 abbrev pub fresh_track : ℕ → ℕ → Track
@@ -77,6 +77,7 @@ pub record IsNewClient (shape : Shape) (s : Store) (n : ℕ) (c : Client) : Type
   pub rests : IsClient s c
   pub keeps : (objects : List Object) → Keeps s c objects nothing_kept
   pub finished : Finished c
+  pub idle : Helps c → ⊥
 
 -- new clients of all homes, by number
 abbrev pub AreNewClients : Shape → Store → List Client → Type 0

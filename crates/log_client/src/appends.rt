@@ -1,24 +1,32 @@
-// Appends to one colour.
-ghost use Rattle.std.specs.Prelude.{◌≡◌, ◌<◌, ◌≤◌, ◌+◌, [], ◌∷◌, length, None, IfErr, IfOk, OnErr, OnOk};
+// Appends.
+ghost use Rattle.std.specs.Prelude.{◌≡◌, ◌≢◌, ◌⊎◌, ◌↔◌, ◌<◌, ◌≤◌, ◌^◌, ◌+◌, ℕ, true, nat_lt, [], ◌∷◌, ◌++◌, length, map, None, Some, Err, IfErr, IfOk, IfSome, OnErr, OnOk};
 ghost use Rattle.log_node.specs.declared.ids.Row.{Row};
-ghost use Rattle.log_node.specs.Sets.{members};
+ghost use Rattle.log_node.specs.declared.limits.TheConstants.{MAX_STAMP};
+ghost use Rattle.log_node.specs.Sets.{has, members};
+ghost use Rattle.stamp_board.specs.Rows.{AreColours};
 ghost use Rattle.stamp_board.specs.Seats.{IsLater};
+ghost use Rattle.stamp_board.specs.Views.{Grows};
 ghost use Rattle.chain_store.specs.Histories.{FitsColumn};
 ghost use Rattle.chain_store.specs.Rows.{OneNode};
 ghost use Rattle.chain_store.specs.Steps.{HasSingleCause};
 ghost use Rattle.chain_store.specs.Holds.{IsHold, SameBut, SeesMoreIn, entries_seen, view_of};
+ghost use Rattle.append_core.specs.declared.stood.Point.{Point};
 ghost use Rattle.append_core.specs.Standing.{StandsAlone};
+ghost use Rattle.append_core.specs.Several.{IsStopOf, Leaves, StandsInAll, own_row};
+ghost use Rattle.lawful_run.specs.Callers.{row_of};
 ghost use Rattle.log_client.specs.Fits.{HaveGoneOn};
-ghost use Rattle.log_client.specs.Clients.{IsClient, Finished, holds_of, tracks_of};
-ghost use Rattle.log_client.specs.Appends.{next_node, AppendsAs, AppendRefused};
+ghost use Rattle.log_client.specs.Clients.{IsClient, Finished, holds_of, rows_of, starts_of, tracks_of};
+ghost use Rattle.log_client.specs.Appends.{AreColoursOf, IsStopWithin, next_node, AppendsAs, AppendRefused, HasNoRow, HasStopped};
 ghost use Rattle.log_client.specs.Calls.{IsExplained, IsSame};
+ghost use Rattle.log_client.specs.Inside.{CallsAppend};
 
 use crate::answers::Appended;
 use crate::client::Client;
 use crate::store::Store;
-use append_core::{Stood, single};
+use append_core::{MultiFault, Stood, multi, single};
 use chain_store::{Hold, Region};
 use column::ColumnFault;
+use fuzzy_io::Gate;
 use log_node::{Colours, Id, Node, Row, Text, Wants};
 use std::alloc::{AllocError, Global};
 use std::sync::{Arc, Wait};
@@ -60,20 +68,91 @@ fn stand<R: Wait>(
     }
 }
 
+// Why an append to several colours does not stand, and whether its row was begun.
+#[derive(Clone, Copy)]
+struct Left {
+    fault: MultiFault,
+    begun: bool,
+}
+
+// Whether the row of the hold's client is begun.
+fn is_begun(region: &Region, hold: &Hold, row: Row) -> bool
+    requires { IsHold region.now hold.now }
+    ensures { result ≡ nat_lt row.number hold.now.seat.used }
+{
+    match region.next_row(hold) {
+        Ok(next) => row.number < next.number,
+        Err(full) => row.number < full.used,
+    }
+}
+
+// The node, which names the client's next row, enters its colours and stands in all of them. As in `stand`, what is loaded
+// at the end shows that the client helped no older append of its own.
+fn stand_in_all<R: Wait, G: Gate>(
+    rt: &R,
+    alloc: Global,
+    region: &Region,
+    hold: &mut Hold,
+    gate: &G,
+    node: &Arc<Node>,
+    row: Row,
+    stop: Option<u8>,
+) -> Result<Stood, Left>
+    requires hold { IsHold region.now hold.old }
+    requires id { (node.now.value.id.client ≡ hold.old.passes.number) × (hold.old.next ≤ node.now.value.id.count) }
+    requires count { node.now.value.id.count < 2 ^ 63 }
+    requires row { (row ≡ own_row hold.old) × (node.now.value.row ≡ Some row) }
+    requires room { hold.old.seat.used < region.now.board.size.rows }
+    requires region { node.now.value.region ≡ region.now.number }
+    requires colours { AreColours region.now.board.size node.now.value.colours }
+    requires floor { node.now.value.floor ≤ MAX_STAMP }
+    requires stop { IfSome stop (IsStopOf node.now.value) }
+    ensures hold { IsHold region.now hold.new }
+    ensures seat { Grows (view_of hold.old) (view_of hold.new) }
+    ensures ok { IfOk result (StandsInAll region.now hold.old hold.new node.now.value) }
+    ensures one { OnOk result ((other : Row) → OneNode (view_of hold.new) other) }
+    ensures whole { OnOk result (stop ≡ None) }
+    ensures err { IfErr result (λ left. Leaves region.now hold.old hold.new node.now.value stop left.fault) }
+    ensures begun { IfErr result (λ left. left.begun ≡ nat_lt hold.old.seat.used hold.new.seat.used) }
+{
+    match multi(rt, alloc, region, hold, gate, node, stop) {
+        Ok(stood) => {
+            let _last = region.last(hold, row);
+            Ok(stood)
+        }
+        Err(fault) => {
+            let begun = is_begun(region, hold, row);
+            Err(Left { fault, begun })
+        }
+    }
+}
+
 impl Client {
-    // The client's next node, which has this one colour.
-    fn node_of_one(
-        &self,
-        alloc: Global,
-        colour: u8,
-        colours: Colours,
-        text: Text,
-    ) -> Result<Arc<Node>, AllocError>
-        requires { colour < length (tracks_of self.now) }
-        ensures { IfOk result (λ node. node.value ≡ next_node self.now colour colours text) }
+    // What the client has played of the colours.
+    fn played_counts(&self, alloc: Global, colours: Colours) -> Result<Wants, AllocError>
+        requires { (c : ℕ) → has colours c ≡ true → c < length (tracks_of self.now) }
+        ensures { IfOk result (λ wants. wants ≡ map (starts_of self.now) (members colours)) }
     {
         let mut wants = Wants::new(alloc);
-        wants.push(self.tracks[colour as usize].snapshot.counts)?;
+        for colour in colours.members() {
+            wants.push(self.snapshot(colour).counts)?;
+        }
+        Ok(wants)
+    }
+
+    // The client's next node.
+    fn next_node(
+        &self,
+        alloc: Global,
+        colours: Colours,
+        text: Text,
+        row: Option<Row>,
+    ) -> Result<Arc<Node>, AllocError>
+        requires colours { (c : ℕ) → has colours c ≡ true → c < length (tracks_of self.now) }
+        requires row { row ≡ row_of self.now.number (length (rows_of self.now)) (members colours) }
+        ensures { IfOk result (λ node. node.value ≡ next_node self.now colours text) }
+    {
+        let wants = self.played_counts(alloc, colours)?;
         let node = Node {
             id: Id {
                 client: self.number,
@@ -84,15 +163,13 @@ impl Client {
             text,
             floor: self.floor,
             wants,
-            row: None,
+            row,
         };
         Ok(Arc::new(alloc, node)?)
     }
 
-    /// The client's next node, which has one colour, enters the column of the client's region and stands in its line,
-    /// behind all nodes that the client knew to stand there. Open entries before it are helped. Waits for turns of the
-    /// columns.
-    pub fn append_one<R: Wait>(
+    // An append to one colour.
+    fn append_alone<R: Wait>(
         &mut self,
         rt: &R,
         alloc: Global,
@@ -100,19 +177,15 @@ impl Client {
         colour: u8,
         colours: Colours,
         text: Text,
-    ) -> Result<Appended, ColumnFault>
+    ) -> Result<Appended, MultiFault>
         requires client { IsClient store.now self.old }
         requires colour { colour < store.now.size.colours }
-        requires colours { members colours ≡ colour ∷ [] }
-        ensures client { IsClient store.now self.new }
-        ensures same { IsSame self.old self.new }
-        ensures goes { HaveGoneOn (holds_of self.old) (holds_of self.new) }
-        ensures finished { Finished self.old → Finished self.new }
-        ensures ok { IfOk result (λ a. IsExplained store.now self.old self.new (AppendsAs colours text a)) }
-        ensures err { IfErr result (AppendRefused store.now self.old self.new colours text colour) }
+        requires colours { AreColoursOf store.now colours }
+        requires one { members colours ≡ colour ∷ [] }
+        ensures { CallsAppend store.now self.old self.new colours text None result }
     {
-        let Ok(node) = self.node_of_one(alloc, colour, colours, text) else {
-            return Err(ColumnFault::NoMemory);
+        let Ok(node) = self.next_node(alloc, colours, text, None) else {
+            return Err(MultiFault::NoMemory);
         };
         let id = node.id;
         let region = store.region(self.region);
@@ -127,7 +200,102 @@ impl Client {
                     stood,
                 })
             }
-            Err(fault) => Err(fault),
+            Err(ColumnFault::StampEnd { clock: _ }) => Err(MultiFault::StampEnd { colour }),
+            Err(ColumnFault::NoMemory) => Err(MultiFault::NoMemory),
+        }
+    }
+
+    // An append to several colours. The place for its node among those of the client's rows is taken before its row is
+    // begun.
+    fn append_several<R: Wait, G: Gate>(
+        &mut self,
+        rt: &R,
+        alloc: Global,
+        store: &Store,
+        gate: &G,
+        colours: Colours,
+        text: Text,
+        stop: Option<u8>,
+    ) -> Result<Appended, MultiFault>
+        requires client { IsClient store.now self.old }
+        requires colours { AreColours store.now.size colours }
+        requires stop { IfSome stop (IsStopWithin colours) }
+        requires not_at_once { stop ≢ Some 0 }
+        ensures { CallsAppend store.now self.old self.new colours text stop result }
+    {
+        let region = store.region(self.region);
+        let row = match region.next_row(&self.holds[self.region as usize]) {
+            Ok(row) => row,
+            Err(full) => return Err(MultiFault::Full { used: full.used }),
+        };
+        let Ok(node) = self.next_node(alloc, colours, text, Some(row)) else {
+            return Err(MultiFault::NoMemory);
+        };
+        let Ok(()) = self.rows.reserve(1) else {
+            return Err(MultiFault::NoMemory);
+        };
+        let id = node.id;
+        let hold = &mut self.holds[self.region as usize];
+        match stand_in_all(rt, alloc, region, hold, gate, &node, row, stop) {
+            Ok(stood) => {
+                self.rows.push_reserved(node);
+                self.count += 1;
+                self.floor = stood.key.stamp.max(self.floor);
+                Ok(Appended {
+                    id,
+                    row: Some(row.number),
+                    stood,
+                })
+            }
+            Err(left) => {
+                if left.begun {
+                    self.rows.push_reserved(node);
+                    self.count += 1;
+                    return Err(left.fault);
+                }
+                Err(left.fault)
+            }
+        }
+    }
+
+    /// Appends the client's next node to the colours of its region's columns, with the client's floor and what it has
+    /// played of them as wants. On Ok it stands in the lines of all of them, behind all nodes that the client knew to stand
+    /// there. Several colours take the client's next row; the gate is passed between their steps, and with a stop the append
+    /// stops after so many. Open entries in its way are helped. Waits for turns of the columns.
+    pub fn append<R: Wait, G: Gate>(
+        &mut self,
+        rt: &R,
+        alloc: Global,
+        store: &Store,
+        gate: &G,
+        colours: Colours,
+        text: Text,
+        stop: Option<u8>,
+    ) -> Result<Appended, MultiFault>
+        requires client { IsClient store.now self.old }
+        requires colours { AreColoursOf store.now colours }
+        requires stop { IfSome stop (IsStopWithin colours) }
+        ensures client { IsClient store.now self.new }
+        ensures same { IsSame self.old self.new }
+        ensures goes { HaveGoneOn (holds_of self.old) (holds_of self.new) }
+        ensures finished { Finished self.old → Finished self.new ⊎ HasStopped result }
+        ensures ok { IfOk result (λ a. IsExplained store.now self.old self.new (AppendsAs colours text a)) }
+        ensures whole { OnOk result (stop ≡ None) }
+        ensures points { IfOk result (λ a. map (λ (p : Point). p.colour) a.stood.points ≡ members colours) }
+        ensures err { IfErr result (AppendRefused store.now self.old self.new colours text stop) }
+        // Two answers come before memory is asked for.
+        ensures at_once { stop ≡ Some 0 → (result ≡ Err (MultiFault.Stopped 0)) × (self.new ≡ self.old) }
+        ensures full { (used : ℕ) → (result ≡ Err (MultiFault.Full used)) ↔ HasNoRow store.now self.old colours stop used }
+    {
+        if stop == Some(0) {
+            return Err(MultiFault::Stopped { steps: 0 });
+        }
+        if colours.count() > 1 {
+            return self.append_several(rt, alloc, store, gate, colours, text, stop);
+        }
+        match colours.first() {
+            Some(colour) => self.append_alone(rt, alloc, store, colour, colours, text),
+            None => unreachable!(),
         }
     }
 }

@@ -3,7 +3,7 @@ ghost use Rattle.std.specs.Prelude.{◌≡◌, ◌<◌, length, IfOk, OnErr};
 ghost use Rattle.chain_store.specs.declared.region.Region.{Region};
 ghost use Rattle.log_client.specs.Fits.{HaveGoneOn};
 ghost use Rattle.log_client.specs.Ending.{AreHoldsIn};
-ghost use Rattle.log_client.specs.Clients.{IsClient, Finished, holds_of};
+ghost use Rattle.log_client.specs.Clients.{IsClient, Finished, Helps, holds_of};
 ghost use Rattle.log_client.specs.Notes.{AreNotes, IsNoteOf, TellsAll, KnowSame, HearAll, TellsSeen, HearsSeen};
 ghost use Rattle.log_client.specs.Calls.{DidNothing, IsSame};
 
@@ -57,6 +57,7 @@ impl Client {
         ensures same { IsSame self.old self.new }
         ensures goes { HaveGoneOn (holds_of self.old) (holds_of self.new) }
         ensures finished { Finished self.old → Finished self.new }
+        ensures idle { Helps self.new → Helps self.old }
         ensures nothing { DidNothing store.now self.old self.new }
         ensures note { IfOk result (λ note. IsNoteOf store.now note × TellsSeen self.old note) }
     {
@@ -72,6 +73,7 @@ impl Client {
         ensures same { IsSame self.old self.new }
         ensures goes { HaveGoneOn (holds_of self.old) (holds_of self.new) }
         ensures finished { Finished self.old → Finished self.new }
+        ensures idle { Helps self.new → Helps self.old }
         ensures nothing { DidNothing store.now self.old self.new }
         ensures hears { HearsSeen self.old note self.new }
     {

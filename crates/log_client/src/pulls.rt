@@ -4,7 +4,7 @@ ghost use Rattle.chain_store.specs.declared.hold.Hold.{Hold};
 ghost use Rattle.chain_store.specs.Holds.{IsHold};
 ghost use Rattle.region_pull.specs.Stores.{AreOfOneStore};
 ghost use Rattle.log_client.specs.Fits.{HaveGoneOn};
-ghost use Rattle.log_client.specs.Clients.{IsClient, Finished, holds_of};
+ghost use Rattle.log_client.specs.Clients.{IsClient, Finished, Helps, holds_of};
 ghost use Rattle.log_client.specs.Between.{PullsBetween, LeavesBetween};
 ghost use Rattle.log_client.specs.Calls.{IsExplained, IsSame, PullsAs, PullRefused};
 
@@ -61,6 +61,7 @@ impl Client {
         ensures same { IsSame self.old self.new }
         ensures goes { HaveGoneOn (holds_of self.old) (holds_of self.new) }
         ensures finished { Finished self.old → Finished self.new }
+        ensures idle { Helps self.new → Helps self.old }
         ensures ok { IfOk result (λ p. IsExplained store.now self.old self.new (PullsAs from colour p)) }
         ensures same_region { (result ≡ Err PullFault.SameRegion) ↔ (from ≡ self.old.region) }
         ensures err { IfErr result (PullRefused store.now self.old self.new from colour) }

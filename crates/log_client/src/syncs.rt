@@ -4,7 +4,7 @@ ghost use Rattle.log_node.specs.declared.limits.TheConstants.{MAX_STAMP};
 ghost use Rattle.lawful_run.specs.Reads.{greatest_stamp};
 ghost use Rattle.chain_store.specs.Holds.{IsHold, SameBut, SeesMoreIn, seen_in};
 ghost use Rattle.log_client.specs.Fits.{HaveGoneOn};
-ghost use Rattle.log_client.specs.Clients.{IsClient, IsTrack, Finished, holds_of};
+ghost use Rattle.log_client.specs.Clients.{IsClient, IsTrack, Finished, Helps, holds_of};
 ghost use Rattle.log_client.specs.Inside.{PlaysOn, IsRefusedOn, Extends};
 ghost use Rattle.log_client.specs.Calls.{IsExplained, SyncsAs, AnswersSync, SyncRefused, IsSame};
 
@@ -110,6 +110,7 @@ impl Client {
         ensures same { IsSame self.old self.new }
         ensures goes { HaveGoneOn (holds_of self.old) (holds_of self.new) }
         ensures finished { Finished self.old → Finished self.new }
+        ensures idle { Helps self.new → Helps self.old }
         ensures answer { IfOk result (AnswersSync self.old self.new colour) }
         ensures ok { IfOk result (λ y. IsExplained store.now self.old self.new (SyncsAs self.new colour y)) }
         ensures err { IfErr result (SyncRefused store.now self.old self.new colour) }

@@ -1,7 +1,7 @@
 // Trims.
 ghost use Rattle.std.specs.Prelude.{◌<◌, IfOk, IfErr, OnOk};
 ghost use Rattle.log_client.specs.Fits.{HaveGoneOn};
-ghost use Rattle.log_client.specs.Clients.{IsClient, Finished, holds_of};
+ghost use Rattle.log_client.specs.Clients.{IsClient, Finished, Helps, holds_of};
 ghost use Rattle.log_client.specs.Calls.{IsExplained, IsSame, IsOfColumn, TrimsAs, TrimRefused};
 
 use crate::client::Client;
@@ -27,6 +27,7 @@ impl Client {
         ensures same { IsSame self.old self.new }
         ensures goes { HaveGoneOn (holds_of self.old) (holds_of self.new) }
         ensures finished { Finished self.old → Finished self.new }
+        ensures idle { Helps self.new → Helps self.old }
         ensures column { OnOk result (IsOfColumn self.old colour snapshot.now) }
         ensures ok { IfOk result (λ r.
             IsExplained store.now self.old self.new (TrimsAs colour snapshot.now.counts r.0 r.1)) }

@@ -1,9 +1,9 @@
--- The columns of a region and of all regions, shown one after another.
-use Rattle.std.proofs.Common.{◌≡◌, ◌∙◌, refl, ap, sym, subst, ℕ, suc, zero, ◌+◌, ◌<◌, ◌≤◌, List, [], ◌∷◌, ◌++◌, length}
+-- The columns of all regions, shown one after another.
+use Rattle.std.proofs.Common.{◌≡◌, ◌∙◌, refl, ap, sym, subst, ℕ, suc, zero, ◌+◌, ◌<◌, List, [], ◌∷◌, ◌++◌, Some, length}
 use Rattle.std.proofs.Common.{map, get_or, arith, zero-add}
-use Rattle.std.specs.Prelude.{slice_index_or}
+use Rattle.std.specs.Prelude.{slice_get, slice_index_or}
 use Rattle.std.specs.List.{All, flat_map, range_with_len, enumerate_from}
-use Rattle.std.proofs.lemmas.List.{map-append, append_assoc}
+use Rattle.std.proofs.lemmas.Option.{get_or_from_slice_get, slice_get_within}
 use Rattle.script_text.specs.declared.script.Script.{Script}
 use Rattle.report_text.specs.declared.report.ClientReport.{ClientReport}
 use Rattle.report_text.specs.declared.report.RowReport.{RowReport}
@@ -11,42 +11,13 @@ use Rattle.report_text.specs.declared.report.ColumnReport.{ColumnReport}
 use Rattle.report_text.specs.declared.report.Report.{Report}
 use Rattle.column.specs.Columns.{ColumnState}
 use Rattle.log_node.specs.declared.node.Shape.{Shape}
+use Rattle.world_laws.specs.Worlds.{World}
 use Rattle.world_code.specs.WorldView.{WorldView, no_column, IsPlaced, IsWhole, column_at, world_of}
+use Rattle.closing_report.specs.Columns.{column_shown, AreOfRegion}
 use Rattle.script_meaning.specs.Meaning.{column_report, report_of}
 use Rattle.script_in_order.specs.Runs.{RunView, state_of}
-use Rattle.script_in_order.specs.Reports.{client_shown, column_shown, region_shown, columns_shown, region_rows_shown}
+use Rattle.script_in_order.specs.Reports.{client_shown, columns_shown, region_rows_shown}
 use Rattle.script_in_order.proofs.RunReplies.{any_default}
-use Rattle.script_in_order.proofs.ListsShown.{range_more, flat_map_range_more}
-
--- the report of a colour's column
-abbrev pub colour_shown : Script → ℕ → List ColumnState → ℕ → ColumnReport
-colour_shown script region columns colour =
-    column_shown script region colour (slice_index_or columns colour no_column).journal
-
--- the reports of a region's first so many columns
-abbrev pub columns_of_first : Script → ℕ → List ColumnState → ℕ → List ColumnReport
-columns_of_first script region columns n = map (colour_shown script region columns) (range_with_len 0 n)
-
--- the reports of the columns of a region, by its number
-abbrev pub region_at : Script → List (List ColumnState) → ℕ → List ColumnReport
-region_at script regions region = region_shown script region (slice_index_or regions region [])
-
--- the reports of the columns of the first so many regions
-abbrev pub regions_of_first : Script → List (List ColumnState) → ℕ → List ColumnReport
-regions_of_first script regions n = flat_map (region_at script regions) (range_with_len 0 n)
-
--- one column more
-pub columns_more : (script : Script) (region n : ℕ) (columns : List ColumnState) (old reports new : List ColumnReport)
-    (report : ColumnReport) → reports ≡ old ++ columns_of_first script region columns n → new ≡ reports ++ report ∷ []
-    → report ≡ colour_shown script region columns n → new ≡ old ++ columns_of_first script region columns (n + 1)
-columns_more script region n columns old reports new report was is same =
-    let f = colour_shown script region columns in
-    is ∙ (ap (λ (l : List ColumnReport). l ++ report ∷ []) was
-    ∙ (append_assoc old (map f (range_with_len 0 n)) (report ∷ [])
-    ∙ ap (λ (l : List ColumnReport). old ++ l)
-    (ap (λ (r : ColumnReport). map f (range_with_len 0 n) ++ r ∷ []) same
-    ∙ sym (ap (map f) (range_more 0 n ∙ ap (λ (k : ℕ). range_with_len 0 n ++ k ∷ []) (zero-add n))
-    ∙ map-append f (range_with_len 0 n) (n ∷ [])))))
 
 -- the item that is read next
 pub next_read : {A : Type 0} (items xs : List A) (n k : ℕ) (x d : A) → items ≡ xs → k ≡ n
@@ -58,37 +29,48 @@ next_read {A} items xs n k x d same place here =
           (sym place))),
     )
 
--- The columns of all regions
-
--- one region more
-pub regions_more : (script : Script) (regions : List (List ColumnState)) (n : ℕ) (columns : List ColumnState)
-    (reports new : List ColumnReport) → reports ≡ regions_of_first script regions n
-    → new ≡ reports ++ region_shown script n columns → columns ≡ slice_index_or regions n []
-    → new ≡ regions_of_first script regions (n + 1)
-regions_more script regions n columns reports new was is same =
-    is ∙ (ap (λ (l : List ColumnReport). l ++ region_shown script n columns) was
-    ∙ (ap (λ (cs : List ColumnState). regions_of_first script regions n ++ region_shown script n cs) same
-    ∙ sym (flat_map_range_more (region_at script regions) n)))
-
 -- the columns of a region, in their places
 pub region_placed : (regions : List (List ColumnState)) (region many wide : ℕ) (columns : List ColumnState)
     → columns ≡ slice_index_or regions region [] → region < length regions → length regions ≡ many
     → All (λ (cs : List ColumnState). length cs ≡ wide) regions
     → ((r colour : ℕ) → r < many → colour < wide → IsPlaced (column_at regions r colour) r colour many)
-    → (colour : ℕ) → colour < length columns → IsPlaced (slice_index_or columns colour no_column) region colour many
-region_placed regions region many wide columns is low all each placed colour lt =
+    → (colour : ℕ) (column : ColumnState) → slice_get columns colour ≡ Some column
+    → IsPlaced column region colour many
+region_placed regions region many wide columns is low all each placed colour column at =
     let long : length columns ≡ wide = ap (λ (cs : List ColumnState). length cs) is ∙ each region [] low in
-    subst (λ (cs : List ColumnState). IsPlaced (slice_index_or cs colour no_column) region colour many) (sym is)
+    let lt : colour < length columns = slice_get_within columns colour column at in
+    let here : column_at regions region colour ≡ column =
+    ap (λ (cs : List ColumnState). slice_index_or cs colour no_column) (sym is)
+    ∙ get_or_from_slice_get columns colour column no_column at in
+    subst (λ (q : ColumnState). IsPlaced q region colour many) here
     (placed region colour (omega (arith, low, all)) (omega (arith, lt, long)))
 
--- lists made over a range alike
-flat_map_range_same : {A : Type 0} (f g : ℕ → List A) (a n : ℕ) → ((k : ℕ) → a ≤ k → k < a + n → f k ≡ g k)
-    → flat_map f (range_with_len a n) ≡ flat_map g (range_with_len a n)
-flat_map_range_same f g a zero same = refl
-flat_map_range_same {A} f g a (suc n) same =
-    ap (λ (l : List A). l ++ flat_map f (range_with_len (a + 1) n)) (same a (omega arith) (omega arith))
-    ∙ ap (λ (l : List A). g a ++ l)
-    (flat_map_range_same f g (a + 1) n (λ k low high. same k (omega (arith, low)) (omega (arith, high))))
+-- lists made of items, and over the range of their places
+map_range : {A B : Type 0} (f : A → B) (g : ℕ → B) (xs : List A) (a : ℕ)
+    → ((k : ℕ) (x : A) → slice_get xs k ≡ Some x → f x ≡ g (a + k)) → map f xs ≡ map g (range_with_len a (length xs))
+map_range f g [] a same = refl
+map_range {A} {B} f g (x ∷ xs) a same =
+    let zeroth : a + 0 ≡ a = omega arith in
+    ap (λ (y : B). y ∷ map f xs) (same 0 x refl ∙ ap g zeroth)
+    ∙ ap (λ (l : List B). g a ∷ l) (map_range f g xs (a + 1)
+    (λ k y at. let next : a + suc k ≡ a + 1 + k = omega arith in same (suc k) y at ∙ ap g next))
+
+flat_map_range : {A B : Type 0} (f : A → List B) (g : ℕ → List B) (xs : List A) (a : ℕ)
+    → ((k : ℕ) (x : A) → slice_get xs k ≡ Some x → f x ≡ g (a + k))
+    → flat_map f xs ≡ flat_map g (range_with_len a (length xs))
+flat_map_range f g [] a same = refl
+flat_map_range {A} {B} f g (x ∷ xs) a same =
+    let zeroth : a + 0 ≡ a = omega arith in
+    ap (λ (l : List B). l ++ flat_map f xs) (same 0 x refl ∙ ap g zeroth)
+    ∙ ap (λ (l : List B). g a ++ l) (flat_map_range f g xs (a + 1)
+    (λ k y at. let next : a + suc k ≡ a + 1 + k = omega arith in same (suc k) y at ∙ ap g next))
+
+-- a column in its place is shown as that of its region and colour
+shown_at : (script : Script) (w : World) (region colour : ℕ) (column : ColumnState)
+    → IsPlaced column region colour script.shape.regions → column.journal ≡ w.histories region colour
+    → column_shown script.regions script.colours column ≡ column_report script w region colour
+shown_at script w region colour column placed is =
+    rw (placed.in_region, placed.of_colour, placed.of_regions, is) refl
 
 -- the columns of a whole world are those that its report has
 pub columns_are : (script : Script) (code : WorldView) → IsWhole code → code.shape ≡ script.shape
@@ -98,12 +80,27 @@ pub columns_are : (script : Script) (code : WorldView) → IsWhole code → code
 columns_are script code w same =
     let colours = script.shape.colours in
     let many : length code.columns ≡ script.shape.regions = w.regions ∙ ap (λ (s : Shape). s.regions) same in
-    flat_map_range_same (region_at script code.columns)
-    (λ region. map (column_report script (world_of code) region) (range_with_len 0 colours)) 0 (length code.columns)
-    (λ k low high. ap (λ (n : ℕ). map (column_report script (world_of code) k) (range_with_len 0 n))
-    (w.wide k [] (omega (arith, high)) ∙ ap (λ (s : Shape). s.colours) same))
-    ∙ ap (λ (n : ℕ). flat_map (λ region. map (column_report script (world_of code) region) (range_with_len 0 colours))
-    (range_with_len 0 n)) many
+    let shown : ColumnState → ColumnReport = column_shown script.regions script.colours in
+    let report : ℕ → ℕ → ColumnReport = column_report script (world_of code) in
+    let of_region : ℕ → List ColumnReport = λ region. map (report region) (range_with_len 0 colours) in
+    flat_map_range (map shown) of_region code.columns 0
+    (λ region columns at.
+    let there = get_or_from_slice_get code.columns region columns [] at in
+    let low = slice_get_within code.columns region columns at in
+    let wide : length columns ≡ colours =
+    ap (λ (cs : List ColumnState). length cs) (sym there) ∙ (w.wide region [] low ∙ ap (λ (s : Shape). s.colours) same) in
+    map_range shown (report region) columns 0
+    (λ colour column at_colour.
+    let here = get_or_from_slice_get columns colour column no_column at_colour in
+    let placed = region_placed code.columns region code.shape.regions code.shape.colours columns (sym there) low
+    w.regions w.wide w.placed colour column at_colour in
+    shown_at script (world_of code) region colour column
+    (subst (λ (s : Shape). IsPlaced column region colour s.regions) same placed)
+    (ap (λ (q : ColumnState). q.journal) (sym here)
+    ∙ ap (λ (cs : List ColumnState). (slice_index_or cs colour no_column).journal) (sym there))
+    ∙ ap (report region) (sym (zero-add colour)))
+    ∙ (ap (λ (n : ℕ). map (report region) (range_with_len 0 n)) wide ∙ ap of_region (sym (zero-add region))))
+    ∙ ap (λ (n : ℕ). flat_map of_region (range_with_len 0 n)) many
 
 -- The report
 

@@ -18,6 +18,7 @@ use Rattle.script_meaning.specs.Moves.{nodes_played, synced, with_give, with_car
 use Rattle.script_meaning.proofs.Clearing.{Finished}
 use Rattle.script_meaning.proofs.Kept.{Does}
 use Rattle.script_meaning.proofs.MoveCases.{play_answer, trimmed_answer, pull_answer, with_trim, base_answer, played, refused, synced_is, stayed, carried, given, pulled_is, from_is, trimmed_is}
+use Rattle.script_meaning.proofs.FitCommands as fits
 use Rattle.script_meaning.proofs.Invariant.{IsStopped, Runs, IsFit, runs_done}
 use Rattle.script_meaning.proofs.Pulling as pulling
 use Rattle.script_meaning.proofs.Reached.{held_of, cuts_of}
@@ -40,21 +41,14 @@ module _ (script : Script) (commands : List Command) (state : State) (command : 
   abbrev commands' : List Command
   commands' = commands ++ command ∷ []
 
-  own_region : home_of w u < w.shape.regions
-  own_region = subst (λ (s : Shape). slice_index s.homes u < s.regions) (sym runs.shape) fit.home
+  own_few : home_of w u < 4
+  own_few = fits.own_few script commands state command runs fit
 
-  pub own_few : home_of w u < 4
-  own_few =
-      let a : slice_index script.shape.homes u < 4 = let b = fit.home in let c = fit.few in omega (arith, b, c) in
-      subst (λ (s : Shape). slice_index s.homes u < 4) (sym runs.shape) a
+  client_ok : is_client w u ≡ true
+  client_ok = fits.client_ok script commands state command runs fit
 
-  pub client_ok : is_client w u ≡ true
-  client_ok = lt-ltb u (length w.shape.homes)
-      (subst (λ (s : Shape). u < length s.homes) (sym runs.shape) fit.caller)
-
-  pub column_ok : (c : ℕ) → c < script.shape.colours → is_column w (home_of w u) c ≡ true
-  column_ok c lt = and_from _ _ (lt-ltb _ _ own_region)
-      (lt-ltb c w.shape.colours (subst (λ (s : Shape). c < s.colours) (sym runs.shape) lt))
+  column_ok : (c : ℕ) → c < script.shape.colours → is_column w (home_of w u) c ≡ true
+  column_ok = fits.column_ok script commands state command runs fit
 
   -- a sync
 

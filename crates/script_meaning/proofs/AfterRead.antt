@@ -18,9 +18,10 @@ use Rattle.lawful_run.specs.Asks.{Manner, Reading, manner_of, may_help, colours_
 use Rattle.lawful_run.specs.Reads.{HidesRead}
 use Rattle.lawful_run.specs.Refusals.{Hides, hidden}
 use Rattle.script_meaning.specs.States.{State, Grants, answered}
-use Rattle.script_meaning.specs.Stamped.{read_stamp, ReadEnd, Whole, Refused, Unraised, StampedRead, stamped_read, ended_by}
+use Rattle.script_meaning.specs.Stamped.{read_stamp, ReadEnd, Whole, Refused, Unraised, StampedRead, stamped_read, ended_so, ended_by}
 use Rattle.script_meaning.proofs.Clearing.{Finished}
 use Rattle.script_meaning.proofs.Kept.{caller_in, IsKeptBy, Does, KeptAfter}
+use Rattle.script_meaning.proofs.ReadsLeft.{FindsNone}
 use Rattle.script_meaning.proofs.StampedEnds.{DidRead, Ends, EndsWhole, KeepsHidden, did_read}
 use Rattle.script_meaning.proofs.StampedPlays.{MayLook}
 use Rattle.script_meaning.proofs.StampedRaises.{AreDistinct}
@@ -52,7 +53,7 @@ module _ (objects : List Object) (S : ℕ → Type 0) (state : State) (command :
   abbrev pub EndsTold : ℕ → List RaisePiece → List SyncPiece → List Key → Type 0
   EndsTold = EndsWhole objects S command.what may w reached fin u free colours distinct look first is_first read.world
 
-  did : DidRead objects S command.what may w reached fin u free colours distinct look first is_first read
+  pub did : DidRead objects S command.what may w reached fin u free colours distinct look first is_first read
   did = did_read objects S command.what may w reached fin u free colours distinct look first is_first grants
 
   pub read_reached : IsReached read.world
@@ -84,31 +85,29 @@ module _ (objects : List Object) (S : ℕ → Type 0) (state : State) (command :
       subst (λ (m : Manner). Hides log caller kept (colours_synced caller command.what) m h.after) (sym reading)
       (subst (λ (cs : List ℕ). HidesRead log caller kept cs h.after) (sym (synced read.world)) h.hides)
 
-  -- Whatever follows from each answer, follows from how the read ended.
-  module _ (answer : ℕ → List RaisePiece → List SyncPiece → List Key → Answer) (shown : List Key → List PlacedNode)
-      (Goal : State → Type 0)
-      (done : (answer : Answer) (nodes : List PlacedNode) → Does objects u command.what w read.world answer nodes
-      → Finished S read.world → Goal (answered state command read.world answer nodes))
-      (told : (stamp : ℕ) (raises : List RaisePiece) (syncs : List SyncPiece) (keys : List Key)
-      → EndsTold stamp raises syncs keys → (kept : Kept) → IsKeptBy w u kept
-      → KeptAfter read.world objects u kept command.what (answer stamp raises syncs keys) (shown keys)) where
+  -- Whatever follows where it was refused and where it is whole, follows from how the read ended.
+  module _ (whole : ℕ → List RaisePiece → List SyncPiece → List Key → State) (Goal : State → Type 0)
+      (refused : (answer : Answer) (nodes : List PlacedNode) → FindsNone command.what answer
+      → Does objects u command.what w read.world answer nodes → Finished S read.world
+      → Goal (answered state command read.world answer nodes))
+      (is_whole : (stamp : ℕ) (raises : List RaisePiece) (syncs : List SyncPiece) (keys : List Key)
+      → EndsTold stamp raises syncs keys → Goal (whole stamp raises syncs keys)) where
     no_memory : ((kept : Kept) → IsKeptBy w u kept → Unseen kept)
         → Goal (answered state command read.world answers.NoMemory [])
-    no_memory keeps = done answers.NoMemory [] (does answers.NoMemory [] (λ kept k.
+    no_memory keeps = refused answers.NoMemory [] (inr (λ _ _ _ _ e. absurd (let f : ⊥ = cc in f)))
+        (does answers.NoMemory [] (λ kept k.
         let h = keeps kept k in
         record { after = h.after; keeps = h.keeps; explains = (refl, hidden h.after (hides kept h)) }))
         did.to.finished
 
-    by_end : (ends : ReadEnd) → EndsSo ends
-        → Goal (ended_by grants state command answer shown read.world ends)
-    by_end (Whole stamp raises syncs keys) ended =
-        choice Goal grants.items (answered state command read.world (answer stamp raises syncs keys) (shown keys))
+    so_by_end : (ends : ReadEnd) → EndsSo ends → Goal (ended_so grants state command whole read.world ends)
+    so_by_end (Whole stamp raises syncs keys) ended =
+        choice Goal grants.items (whole stamp raises syncs keys)
         (answered state command read.world answers.NoMemory [])
-        (λ _. done (answer stamp raises syncs keys) (shown keys)
-        (does (answer stamp raises syncs keys) (shown keys) (told stamp raises syncs keys ended)) did.to.finished)
-        (λ _. no_memory ended.hidden)
-    by_end (Refused colour base) ended =
-        done (answers.Trimmed colour base) [] (does (answers.Trimmed colour base) [] (λ kept k.
+        (λ _. is_whole stamp raises syncs keys ended) (λ _. no_memory ended.hidden)
+    so_by_end (Refused colour base) ended =
+        refused (answers.Trimmed colour base) [] (inr (λ _ _ _ _ e. absurd (let f : ⊥ = cc in f)))
+        (does (answers.Trimmed colour base) [] (λ kept k.
         let h = ended.hidden kept k in
         record {
           after = h.after;
@@ -121,7 +120,23 @@ module _ (objects : List Object) (S : ℕ → Type 0) (state : State) (command :
             hides kept h,
           );
         })) did.to.finished
-    by_end Unraised ended = no_memory ended
+    so_by_end Unraised ended = no_memory ended
 
+    pub after_read_so : Goal (ended_so grants state command whole read.world read.ends)
+    after_read_so = so_by_end read.ends did.ends
+
+  -- Whatever follows from each answer, follows from how the read ended.
+  module _ (answer : ℕ → List RaisePiece → List SyncPiece → List Key → Answer) (shown : List Key → List PlacedNode)
+      (Goal : State → Type 0)
+      (done : (answer : Answer) (nodes : List PlacedNode) → Does objects u command.what w read.world answer nodes
+      → Finished S read.world → Goal (answered state command read.world answer nodes))
+      (told : (stamp : ℕ) (raises : List RaisePiece) (syncs : List SyncPiece) (keys : List Key)
+      → EndsTold stamp raises syncs keys → (kept : Kept) → IsKeptBy w u kept
+      → KeptAfter read.world objects u kept command.what (answer stamp raises syncs keys) (shown keys)) where
     pub after_read : Goal (ended_by grants state command answer shown read.world read.ends)
-    after_read = by_end read.ends did.ends
+    after_read =
+        after_read_so
+        (λ stamp raises syncs keys. answered state command read.world (answer stamp raises syncs keys) (shown keys))
+        Goal (λ answer nodes _ d fin. done answer nodes d fin)
+        (λ stamp raises syncs keys ended. done (answer stamp raises syncs keys) (shown keys)
+        (does (answer stamp raises syncs keys) (shown keys) (told stamp raises syncs keys ended)) did.to.finished)

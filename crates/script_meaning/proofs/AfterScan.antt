@@ -24,7 +24,7 @@ use Rattle.lawful_run.specs.Asks.{manner_of, colours_synced}
 use Rattle.script_meaning.specs.States.{State, Grants}
 use Rattle.script_meaning.specs.Helping.{node_with}
 use Rattle.script_meaning.specs.Stamped.{read_stamp, stamped_read, shown_key, scan_answer, scanned}
-use Rattle.script_meaning.proofs.AfterMoves as moving
+use Rattle.script_meaning.proofs.FitCommands as fits
 use Rattle.script_meaning.proofs.Invariant.{IsStopped, Runs, IsFit, free, runs_done}
 use Rattle.script_meaning.proofs.Kept.{caller_in, IsKeptBy, KeptAfter}
 use Rattle.script_meaning.proofs.Lists.{in_range}
@@ -83,16 +83,6 @@ module _ (script : Script) (commands : List Command) (state : State) (command : 
   going : S u → ⊥
   going = free script commands state command runs fit
 
-  -- colours of the script may be read
-  pub may_look : (colours : List ℕ) → ((c : ℕ) → In c colours → c < script.shape.colours)
-      → MayLook script.objects S u (read_stamp w u colours) w colours
-  may_look colours below = record {
-    reached = runs.reached;
-    few = moving.own_few script commands state command runs fit;
-    caller = moving.client_ok script commands state command runs fit;
-    columns = λ c i. moving.column_ok script commands state command runs fit c (below c i);
-  }
-
   module _ (colours : Colours) (asked : command.what ≡ whats.Scan colours)
       (below : (c : ℕ) → In c (members colours) → c < script.shape.colours) (first : ℕ)
       (is_first : In first (members colours)) where
@@ -107,11 +97,11 @@ module _ (script : Script) (commands : List Command) (state : State) (command : 
 
     reached : IsReached x
     reached = read_reached script.objects S state command grants runs.reached runs.finished going (ap manner_of asked)
-        cs synced (members_distinct colours) (may_look cs below) first is_first
+        cs synced (members_distinct colours) (fits.may_look script commands state command runs fit cs below) first is_first
 
     told : (stamp : ℕ) (raises : List RaisePiece) (syncs : List SyncPiece) (keys : List Key)
         → EndsTold script.objects S state command grants runs.reached runs.finished going (ap manner_of asked) cs synced
-        (members_distinct colours) (may_look cs below) first is_first stamp raises syncs keys
+        (members_distinct colours) (fits.may_look script commands state command runs fit cs below) first is_first stamp raises syncs keys
         → (kept : Kept) → IsKeptBy w u kept
         → KeptAfter x script.objects u kept command.what (scan_answer stamp raises syncs keys) (map (shown_key x) keys)
     told stamp raises syncs keys ended kept k =
@@ -135,6 +125,6 @@ module _ (script : Script) (commands : List Command) (state : State) (command : 
     pub runs_scan : Runs script (commands ++ command ∷ []) (scanned grants state command (members colours))
     runs_scan =
         after_read script.objects S state command grants runs.reached runs.finished going (ap manner_of asked) cs synced
-        (members_distinct colours) (may_look cs below) first is_first scan_answer (map (shown_key x))
+        (members_distinct colours) (fits.may_look script commands state command runs fit cs below) first is_first scan_answer (map (shown_key x))
         (Runs script (commands ++ command ∷ []))
         (λ answer nodes d fin. runs_done script commands state command runs fit x answer nodes d fin) told

@@ -1,25 +1,32 @@
 -- For those who do the commands: each state to which commands lead has a world of the script's shape that steps have
 -- made.
-use Rattle.std.proofs.Common.{◌≡◌, ℕ, List, [], refl, subst, ◌∙◌, ap, sym}
+use Rattle.std.proofs.Common.{◌≡◌, ℕ, List, [], ◌++◌, Some, refl, subst, ◌∙◌, ap, sym}
+use Rattle.std.specs.Prelude.{IsTrue}
+use Rattle.std.specs.List.{All}
+use Rattle.log_node.specs.declared.forms.Version.{Version}
+use Rattle.object_form.specs.Forms.{AreVersions}
+use Rattle.object_form.specs.Laws.{ReadsBack}
 use Rattle.world_laws.specs.Worlds.{World}
 use Rattle.world_laws.specs.Laws.{IsReached}
 use Rattle.world_laws.proofs.CallerLemmas.{opened_reached, run_reached, run_grows}
 use Rattle.script_text.specs.declared.script.Command.{Command}
 use Rattle.script_text.specs.declared.script.Script.{Script}
-use Rattle.script_meaning.specs.States.{State, Grants}
 use Rattle.script_text.specs.declared.script.Object.{Object}
+use Rattle.script_text.specs.Fitting.{IsFitting}
+use Rattle.script_meaning.specs.States.{State, Grants, no_reads, is_built, StopsAreLast}
 use Rattle.script_meaning.specs.Meaning.{LeadTo, nothing, next, done}
 use Rattle.script_meaning.specs.Appends.{with_single}
 use Rattle.script_meaning.proofs.GrantedCommands.{done_extends, single_runs}
+use Rattle.script_meaning.proofs.InvariantHolds.{runs_lead}
 pub use Rattle.script_meaning.proofs.Lines.{final_stays}
 pub use Rattle.script_meaning.proofs.Rows.{standing_as}
-pub use Rattle.script_meaning.proofs.HelpGrants.{single_same}
+pub use Rattle.script_meaning.proofs.HelpGrants.{single_same, all_cleared_same}
 pub use Rattle.script_meaning.proofs.CausalAnswers.{causal_answer, one_answer}
 pub use Rattle.script_meaning.proofs.CausalNodes.{AtPlace, at_place, causal_node_is, place_within}
 pub use Rattle.script_meaning.proofs.ChainNodes.{line_node}
-pub use Rattle.script_meaning.proofs.StampedEnds.{rising_line, keys_listed}
+pub use Rattle.script_meaning.proofs.StampedEnds.{rising_line, keys_listed, keys_stand}
 pub use Rattle.script_meaning.proofs.StampedReads.{stamp_low}
-pub use Rattle.script_meaning.proofs.ShardSets.{keys_set, set_one, shard_members, set_has, shard_below, shards_below, shards_has, key_in}
+pub use Rattle.script_meaning.proofs.ShardSets.{keys_set, set_one, shard_members, set_has, shard_below, shards_below, shards_has, key_in, rising_members, rising_some, rising_below, own_below}
 pub use Rattle.script_meaning.proofs.GrantedSteps.{RunsTo, stays_there}
 pub use Rattle.script_meaning.proofs.GrantedReads.{read_runs}
 pub use Rattle.script_meaning.proofs.LaterNodes.{line_longer, nodes_stay, new_behind, whole_stamp, read_behind}
@@ -42,10 +49,19 @@ lead_shape script (next {commands} {state} command grants leads) =
     ap (λ (x : World). x.shape) (sym more.run)
     ∙ ((run_grows state.world more.steps).shape ∙ lead_shape script leads)
 
+-- what a kept read found is such as the text of a transaction may name
+pub reads_fit : ReadsBack → (script : Script) → IsFitting script
+    → All (λ (c : Command). IsTrue (is_built script.objects c.what)) script.commands → StopsAreLast script
+    → {commands : List Command} {state : State} → LeadTo script commands state → (rest : List Command)
+    → script.commands ≡ commands ++ rest → (client object : ℕ) (versions : List Version)
+    → state.reads client object ≡ Some versions → AreVersions versions
+reads_fit back script fits built last leads rest is client object versions found =
+    (runs_lead back script fits built last leads rest is).versions client object versions found
+
 -- what an append to one colour leads to, and that it leaves the shape
 pub single_to : (grants : Grants) (w : World) (command : Command) (text : List ℕ) (c : ℕ)
     → RunsTo w (with_single grants w command.client text c)
-single_to grants w command text c = single_runs [] grants (record { world = w; replies = λ _. [] }) command text c
+single_to grants w command text c = single_runs [] grants (record { world = w; replies = λ _. []; reads = λ _. no_reads }) command text c
 
 pub single_shape : (grants : Grants) (w : World) (command : Command) (text : List ℕ) (c : ℕ)
     → (with_single grants w command.client text c).shape ≡ w.shape

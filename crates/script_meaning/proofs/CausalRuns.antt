@@ -29,7 +29,7 @@ use Rattle.lawful_run.proofs.CallerLemmas.{explains_values, one_shard}
 use Rattle.script_meaning.specs.States.{State, Grants, kind_in}
 use Rattle.script_meaning.specs.CausalGets.{causal_node, nodes_up_to_cut, causal_values, got_values}
 use Rattle.script_meaning.specs.Dequeues.{sync_now}
-use Rattle.script_meaning.proofs.AfterMoves as moving
+use Rattle.script_meaning.proofs.FitCommands as fits
 use Rattle.script_meaning.proofs.CausalAnswers.{causal_answer}
 use Rattle.script_meaning.proofs.CausalNodes.{AtPlace, at_place, causal_node_is, place_within}
 use Rattle.script_meaning.proofs.GetRuns.{runs_get_by}
@@ -75,10 +75,10 @@ module _ (script : Script) (commands : List Command) (state : State) (command : 
       ∙ ap (λ (d : ℕ). d ∷ []) one_colour))
 
   client_ok : is_client w u ≡ true
-  client_ok = moving.client_ok script commands state command runs fit
+  client_ok = fits.client_ok script commands state command runs fit
 
   column_ok : is_column w own c ≡ true
-  column_ok = moving.column_ok script commands state command runs fit c lt
+  column_ok = fits.column_ok script commands state command runs fit c lt
 
   -- each node that is asked stands in its chain
   stands : (place : Place) → In place (places_within (played_cut w u c))
@@ -116,7 +116,7 @@ module _ (script : Script) (commands : List Command) (state : State) (command : 
       (causal_values (nodes_up_to_cut w u c) key) kind syncs
       (subst (λ (ds : List Dated). AllZip (IsChainNode (log_of w) (chain own ds)) (places_within (played_cut w u c))
       (nodes_up_to_cut w u c))
-      (sym (sync.all script.objects w runs.reached u c (moving.own_few script commands state command runs fit) client_ok
+      (sym (sync.all script.objects w runs.reached u c (fits.own_few script commands state command runs fit) client_ok
       column_ok))
       (beside (IsChainNode (log_of w) (chains_after own (w.histories own c)))
       (causal_node w (chains_after own (w.histories own c))) (places_within (played_cut w u c)) stands))

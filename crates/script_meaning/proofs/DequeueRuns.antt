@@ -37,7 +37,7 @@ use Rattle.script_meaning.proofs.Dequeuing.{are_objects, did_take, did_find_none
 use Rattle.script_meaning.proofs.OwnEvents.{finished_client}
 use Rattle.script_meaning.proofs.ObjectKinds.{queue_colour}
 use Rattle.script_meaning.proofs.AppendOne as one
-use Rattle.script_meaning.proofs.AfterMoves as moving
+use Rattle.script_meaning.proofs.FitCommands as fits
 use Rattle.script_meaning.proofs.Refusing.{did_end_one}
 use Rattle.script_meaning.proofs.Invariant.{IsStopped, Runs, IsFit, runs_done, free}
 
@@ -62,10 +62,10 @@ module _ (script : Script) (commands : List Command) (state : State) (command : 
   going = free script commands state command runs fit
 
   client_ok : is_client w u ≡ true
-  client_ok = moving.client_ok script commands state command runs fit
+  client_ok = fits.client_ok script commands state command runs fit
 
   column_ok : (c : ℕ) → c < script.shape.colours → is_column w (home_of w u) c ≡ true
-  column_ok = moving.column_ok script commands state command runs fit
+  column_ok = fits.column_ok script commands state command runs fit
 
   -- a dequeue on a colour
   module _ (colours : Colours) (c : ℕ) (only : members colours ≡ c ∷ []) (set : colours ≡ record { 0 = 2 ^ c })
@@ -96,7 +96,7 @@ module _ (script : Script) (commands : List Command) (state : State) (command : 
 
       few_is : home_of v u < 4
       few_is = subst (λ (s : Shape). slice_index s.homes u < 4) (sym shape_is)
-          (moving.own_few script commands state command runs fit)
+          (fits.own_few script commands state command runs fit)
 
       client_is : is_client v u ≡ true
       client_is = subst (λ (s : Shape). nat_lt u (length s.homes) ≡ true) (sym shape_is) client_ok

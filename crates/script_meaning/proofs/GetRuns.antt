@@ -38,9 +38,9 @@ use Rattle.script_meaning.specs.States.{State, Grants, answered, kind_in}
 use Rattle.script_meaning.specs.Stamped.{read_stamp, keys_read, stamped_read}
 use Rattle.script_meaning.specs.Dequeues.{object_at, first_nodes, sync_now, base_now}
 use Rattle.script_meaning.specs.Gets.{value_now, got_value, value_up_to, key_answers, keys_answer, got_keys}
-use Rattle.script_meaning.proofs.AfterMoves as moving
+use Rattle.script_meaning.proofs.FitCommands as fits
 use Rattle.script_meaning.proofs.AfterRead.{EndsTold, read_reached, after_read}
-use Rattle.script_meaning.proofs.AfterScan.{filtered_distinct, may_look}
+use Rattle.script_meaning.proofs.AfterScan.{filtered_distinct}
 use Rattle.script_meaning.proofs.Clearing.{Finished}
 use Rattle.script_meaning.proofs.Dequeuing.{are_objects, listed_objects}
 use Rattle.script_meaning.proofs.Getting.{did_get, did_refuse_get}
@@ -54,12 +54,12 @@ use Rattle.script_meaning.proofs.StampedPlays.{MayLook}
 use Rattle.script_meaning.proofs.StampedRaises.{AreDistinct}
 
 -- keys with their values
-answered_keys : (value_of : List ℕ → Value) (keys : List (List ℕ))
+pub answered_keys : (value_of : List ℕ → Value) (keys : List (List ℕ))
     → map (λ (k : KeyAnswer). k.key) (key_answers value_of keys) ≡ keys
 answered_keys value_of [] = refl
 answered_keys value_of (key ∷ keys) = ap (λ (l : List (List ℕ)). key ∷ l) (answered_keys value_of keys)
 
-answered_values : (value_of : List ℕ → Value) (keys : List (List ℕ))
+pub answered_values : (value_of : List ℕ → Value) (keys : List (List ℕ))
     → map (λ (k : KeyAnswer). k.value) (key_answers value_of keys) ≡ map value_of keys
 answered_values value_of [] = refl
 answered_values value_of (key ∷ keys) = ap (λ (l : List Value). value_of key ∷ l) (answered_values value_of keys)
@@ -97,9 +97,9 @@ module _ (script : Script) (commands : List Command) (state : State) (command : 
       → Runs script commands' (if may_play w u c then answered state command (after w (Play u c)) answer []
       else answered state command w (answers.Trimmed c (base_now w u c)) [])
   runs_get_by c low getting synced answer says =
-      let few = moving.own_few script commands state command runs fit in
-      let client_ok = moving.client_ok script commands state command runs fit in
-      let column_ok = moving.column_ok script commands state command runs fit c low in
+      let few = fits.own_few script commands state command runs fit in
+      let client_ok = fits.client_ok script commands state command runs fit in
+      let column_ok = fits.column_ok script commands state command runs fit c low in
       choice (Runs script commands') (may_play w u c) (answered state command (after w (Play u c)) answer [])
       (answered state command w (answers.Trimmed c (base_now w u c)) [])
       (λ ok. runs_done script commands state command runs fit (after w (Play u c)) answer []
@@ -179,7 +179,7 @@ module _ (script : Script) (commands : List Command) (state : State) (command : 
     distinct = filtered_distinct (λ c. list_any (λ k. shard_of its_colours k == c) keys) 64 0
 
     look : MayLook script.objects S u (read_stamp w u cs) w cs
-    look = may_look script commands state command grants runs fit cs below
+    look = fits.may_look script commands state command runs fit cs below
 
     going : S u → ⊥
     going = free script commands state command runs fit

@@ -6,6 +6,8 @@ use Rattle.log_node.specs.declared.ids.Row.{Row}
 use Rattle.log_node.specs.declared.ids.Colours.{Colours}
 use Rattle.log_node.specs.Seen.{PlacedNode}
 use Rattle.log_node.specs.Sets.{members}
+use Rattle.log_node.specs.declared.forms.Pair.{Pair}
+use Rattle.log_node.specs.declared.forms.Version.{Version}
 use Rattle.log_node.specs.declared.forms.Form.TheVariants as forms
 use Rattle.object_form.specs.Forms.{form_text}
 use Rattle.log_node.specs.declared.marks.Why.TheVariants.{Memory, StampEnd}
@@ -30,20 +32,22 @@ use Rattle.report_text.specs.declared.report.SyncPiece.{SyncPiece}
 use Rattle.report_text.specs.declared.report.ReplyLine.{ReplyLine}
 use Rattle.object_fold.specs.Nodes.{shard_of}
 use Rattle.object_fold.specs.Queues.{front_after}
+use Rattle.object_fold.specs.Transactions.{value_of, writes_after}
 use Rattle.script_meaning.specs.States.{State, Grants, all_granted, answered, kind_in}
 use Rattle.script_meaning.specs.Helping.{all_cleared}
-use Rattle.script_meaning.specs.Appends.{with_single, appended_one, appended_by, appended_several, appended, stopped, is_full, append_steps, ended_colour, point_in}
+use Rattle.script_meaning.specs.Appends.{with_single, Follows, answered_stood, appended_one_so, appended_by_so, appended_several_so, appended_so, appended, stopped, is_full, append_steps, ended_colour, point_in}
 use Rattle.script_meaning.specs.Moves.{nodes_played, synced, lacking, with_give, with_carry, pulled_from, pulled, trimmed}
-use Rattle.script_meaning.specs.Stamped.{ReadEnd, Whole, Refused, Unraised, StampedRead, stamped_read, shown_key, scan_answer, ended_by}
+use Rattle.script_meaning.specs.Stamped.{ReadEnd, Whole, Refused, Unraised, StampedRead, stamped_read, shown_key, scan_answer, ended_so, ended_by}
 use Rattle.script_meaning.proofs.GrantedReads.{IsRaised, read_runs, read_exact}
 use Rattle.script_meaning.proofs.MoveCases.{play_answer, trimmed_answer, pull_answer, with_trim, base_answer, played, refused, synced_is, stayed, carried, given, pulled_is, from_is, from_all, trimmed_is}
 use Rattle.script_text.specs.Items.{set_of}
 use Rattle.lawful_run.specs.Callers.{Caller}
 use Rattle.lawful_run.specs.Asks.{kind_of, colours_of, keys_of, put_form, shards}
 use Rattle.script_meaning.specs.Objects.{caller_in, refusing_home, shard_set}
-use Rattle.script_meaning.specs.Dequeues.{first_nodes, sync_now, base_now, dequeued_at, dequeued_by}
+use Rattle.script_meaning.specs.Dequeues.{object_at, first_nodes, sync_now, base_now, dequeued_at, dequeued_by}
+use Rattle.script_meaning.specs.Gets.{value_now, got, key_answers, keys_answer}
+use Rattle.script_meaning.specs.Transactions.{all_colours, found_by, ruled, verdict_in, ruled_by, read_behind, version_keys, committed_by}
 use Rattle.script_meaning.specs.CausalGets.{causal_values, nodes_up_to_cut}
-use Rattle.script_meaning.specs.Gets.{value_now, got, keys_answer}
 use Rattle.script_meaning.specs.Meaning.{done_one, done_from, done, TellsNoWant}
 use Rattle.script_meaning.proofs.GrantedSteps.{IsClean, RunsTo, stays_there, runs_on, clean_from, complete_exact, taken_exact, clears_run, clears_exact}
 use Rattle.script_meaning.proofs.Invariant.{line_of}
@@ -80,52 +84,67 @@ module _ (objects : List Object) (grants : Grants) (state : State) (command : Co
       (record { steps = Single u c text ∷ []; run = refl })
       (clears_run grants u (entry_key (single_stamp w u c) (next_id w u)) (c ∷ []) (after w (Single u c text)))
 
-  by_runs : (v : World) (row : Row) (cs : List ℕ) (last : Outcome)
-      → RunsTo v (appended_by grants state command v row cs last).world
-  by_runs v row cs Open = stays_there v
-  by_runs v row cs (Gone Memory) = stays_there v
-  by_runs v row cs (Gone StampEnd) = stays_there v
-  by_runs v row cs (Final f) =
-      runs_on v (after v (Seen u f)) (all_cleared grants u (entry_key f (next_id w u)) cs (after v (Seen u f)))
-      (record { steps = Seen u f ∷ []; run = refl })
-      (clears_run grants u (entry_key f (next_id w u)) cs (after v (Seen u f)))
+  -- an append, whatever follows it
+  module _ (follows : Follows)
+      (goes : (v : World) (stamp : ℕ) (row : Option ℕ) (points : List PointPiece)
+      → RunsTo v (follows v stamp row points).world) where
+    by_runs : (v : World) (row : Row) (cs : List ℕ) (last : Outcome)
+        → RunsTo v (appended_by_so grants state command v row cs last follows).world
+    by_runs v row cs Open = stays_there v
+    by_runs v row cs (Gone Memory) = stays_there v
+    by_runs v row cs (Gone StampEnd) = stays_there v
+    by_runs v row cs (Final f) =
+        let v' = all_cleared grants u (entry_key f (next_id w u)) cs (after v (Seen u f)) in
+        let points = map (point_in w v' u (next_id w u)) cs in
+        runs_on v v' (follows v' f (Some row.number) points).world
+        (runs_on v (after v (Seen u f)) v' (record { steps = Seen u f ∷ []; run = refl })
+        (clears_run grants u (entry_key f (next_id w u)) cs (after v (Seen u f))))
+        (goes v' f (Some row.number) points)
 
-  by_extends : (v : World) (row : Row) (cs : List ℕ) (last : Outcome) → RunsTo w v
-      → Extends state (appended_by grants state command v row cs last)
-  by_extends v row cs Open r = answer_extends state command v answers.NoMemory [] r
-  by_extends v row cs (Gone Memory) r = answer_extends state command v answers.NoMemory [] r
-  by_extends v row cs (Gone StampEnd) r =
-      answer_extends state command v (answers.StampEnd (ended_colour v row cs)) [] r
-  by_extends v row cs (Final f) r =
-      let v' = all_cleared grants u (entry_key f (next_id w u)) cs (after v (Seen u f)) in
-      answer_extends state command v' (answers.Stood f (Some row.number) (map (point_in w v' u (next_id w u)) cs)) []
-      (runs_on w v v' r (by_runs v row cs (Final f)))
+  module _ (follows : Follows)
+      (each : (v : World) (stamp : ℕ) (row : Option ℕ) (points : List PointPiece) → RunsTo w v
+      → Extends state (follows v stamp row points)) where
+    by_extends : (v : World) (row : Row) (cs : List ℕ) (last : Outcome) → RunsTo w v
+        → Extends state (appended_by_so grants state command v row cs last follows)
+    by_extends v row cs Open r = answer_extends state command v answers.NoMemory [] r
+    by_extends v row cs (Gone Memory) r = answer_extends state command v answers.NoMemory [] r
+    by_extends v row cs (Gone StampEnd) r =
+        answer_extends state command v (answers.StampEnd (ended_colour v row cs)) [] r
+    by_extends v row cs (Final f) r =
+        let v' = all_cleared grants u (entry_key f (next_id w u)) cs (after v (Seen u f)) in
+        each v' f (Some row.number) (map (point_in w v' u (next_id w u)) cs)
+        (runs_on w v v' r (runs_on v (after v (Seen u f)) v' (record { steps = Seen u f ∷ []; run = refl })
+        (clears_run grants u (entry_key f (next_id w u)) cs (after v (Seen u f)))))
 
-  one_extends : (text : List ℕ) (c : ℕ) → Extends state (appended_one grants state command text c)
-  one_extends text c =
-      let v = with_single grants w u text c in
-      choice (Extends state) (may_single w u c)
-      (answered state command v (answers.Stood (single_stamp w u c) None (point_in w v u (next_id w u) c ∷ [])) [])
-      (answered state command w (answers.StampEnd c) [])
-      (λ _. answer_extends state command v
-      (answers.Stood (single_stamp w u c) None (point_in w v u (next_id w u) c ∷ [])) [] (single_runs text c))
-      (λ _. answer_extends state command w (answers.StampEnd c) [] (stays_there w))
+    one_extends : (text : List ℕ) (c : ℕ) → Extends state (appended_one_so grants state command text c follows)
+    one_extends text c =
+        let v = with_single grants w u text c in
+        let points = point_in w v u (next_id w u) c ∷ [] in
+        choice (Extends state) (may_single w u c) (follows v (single_stamp w u c) None points)
+        (answered state command w (answers.StampEnd c) [])
+        (λ _. each v (single_stamp w u c) None points (single_runs text c))
+        (λ _. answer_extends state command w (answers.StampEnd c) [] (stays_there w))
 
-  several_extends : (colours : Colours) (text : List ℕ)
-      → Extends state (appended_several grants state command colours text)
-  several_extends colours text =
-      let v = run_steps w (append_steps grants w u colours text) in
-      choice (Extends state) (is_full w u) (answered state command w (answers.Full (w.clients u).used) [])
-      (appended_by grants state command v (next_row w u) (members colours) (row_of v (next_row w u)).last)
-      (λ _. answer_extends state command w (answers.Full (w.clients u).used) [] (stays_there w))
-      (λ _. by_extends v (next_row w u) (members colours) (row_of v (next_row w u)).last
-      (record { steps = append_steps grants w u colours text; run = refl }))
+    several_extends : (colours : Colours) (text : List ℕ)
+        → Extends state (appended_several_so grants state command colours text follows)
+    several_extends colours text =
+        let v = run_steps w (append_steps grants w u colours text) in
+        choice (Extends state) (is_full w u) (answered state command w (answers.Full (w.clients u).used) [])
+        (appended_by_so grants state command v (next_row w u) (members colours) (row_of v (next_row w u)).last follows)
+        (λ _. answer_extends state command w (answers.Full (w.clients u).used) [] (stays_there w))
+        (λ _. by_extends v (next_row w u) (members colours) (row_of v (next_row w u)).last
+        (record { steps = append_steps grants w u colours text; run = refl }))
+
+    append_so_extends : (colours : Colours) (text ms : List ℕ)
+        → Extends state (appended_so grants state command colours text ms follows)
+    append_so_extends colours text [] = answer_extends state command w answers.NoMemory [] (stays_there w)
+    append_so_extends colours text (c ∷ []) = one_extends text c
+    append_so_extends colours text (c ∷ d ∷ ms) = several_extends colours text
 
   append_extends : (colours : Colours) (text ms : List ℕ)
       → Extends state (appended grants state command colours text ms)
-  append_extends colours text [] = answer_extends state command w answers.NoMemory [] (stays_there w)
-  append_extends colours text (c ∷ []) = one_extends text c
-  append_extends colours text (c ∷ d ∷ ms) = several_extends colours text
+  append_extends = append_so_extends (answered_stood state command)
+      (λ v stamp row points. answer_extends state command v (answers.Stood stamp row points) [])
 
   stop_extends : (colours : Colours) (text : List ℕ) (n : ℕ) → Extends state
       (stopped grants state command colours text n)
@@ -168,23 +187,68 @@ module _ (objects : List Object) (grants : Grants) (state : State) (command : Co
       (record { steps = Trim u (home_of w u) c ((w.clients u).played c) ∷ []; run = refl }))
 
   -- by how a read of colours ended
-  read_extends : (colours : List ℕ) (answer : ℕ → List RaisePiece → List SyncPiece → List Key → Answer)
-      (shown : List Key → List PlacedNode) → Extends state
-      (ended_by grants state command answer shown (stamped_read grants w u colours).world
-      (stamped_read grants w u colours).ends)
-  read_extends colours answer shown =
+  read_so_extends : (colours : List ℕ) (whole : World → ℕ → List RaisePiece → List SyncPiece → List Key → State)
+      → ((v : World) (stamp : ℕ) (raises : List RaisePiece) (syncs : List SyncPiece) (keys : List Key) → RunsTo w v
+      → Extends state (whole v stamp raises syncs keys))
+      → let read = stamped_read grants w u colours in
+      Extends state (ended_so grants state command (whole read.world) read.world read.ends)
+  read_so_extends colours whole each =
       let read = stamped_read grants w u colours in
       by_end read.world read.ends (read_runs grants w u colours) where
         by_end : (v : World) (ends : ReadEnd) → RunsTo w v
-            → Extends state (ended_by grants state command answer shown v ends)
+            → Extends state (ended_so grants state command (whole v) v ends)
         by_end v (Whole stamp raises syncs keys) r =
-            choice (Extends state) grants.items
-            (answered state command v (answer stamp raises syncs keys) (shown keys))
-            (answered state command v answers.NoMemory [])
-            (λ _. answer_extends state command v (answer stamp raises syncs keys) (shown keys) r)
+            choice (Extends state) grants.items (whole v stamp raises syncs keys)
+            (answered state command v answers.NoMemory []) (λ _. each v stamp raises syncs keys r)
             (λ _. answer_extends state command v answers.NoMemory [] r)
         by_end v (Refused colour base) r = answer_extends state command v (answers.Trimmed colour base) [] r
         by_end v Unraised r = answer_extends state command v answers.NoMemory [] r
+
+  read_extends : (colours : List ℕ) (answer : World → ℕ → List RaisePiece → List SyncPiece → List Key → Answer)
+      (shown : World → List Key → List PlacedNode) → let read = stamped_read grants w u colours in
+      Extends state (ended_by grants state command (answer read.world) (shown read.world) read.world read.ends)
+  read_extends colours answer shown =
+      read_so_extends colours
+      (λ v stamp raises syncs keys. answered state command v (answer v stamp raises syncs keys) (shown v keys))
+      (λ v stamp raises syncs keys. answer_extends state command v (answer v stamp raises syncs keys) (shown v keys))
+
+  -- a commit behind its append
+  ruled_world : (g : Grants) (own : Key) (row : Option ℕ) (points : List PointPiece) (v : World)
+      (ends : ReadEnd) → (ruled_by g state command own row points v ends).world ≡ v
+  ruled_world g own row points v (Whole at raises syncs keys) =
+      choice (λ (s : State). s.world ≡ v) g.items
+      (answered state command v (ruled (verdict_in v keys own) row points at raises syncs) [])
+      (answered state command v (answers.UnreadNoMemory own.stamp) []) (λ _. refl) (λ _. refl)
+  ruled_world g own row points v (Refused colour base) = refl
+  ruled_world g own row points v Unraised = refl
+
+  ruled_extends : (own : Key) (row : Option ℕ) (points : List PointPiece) (v : World)
+      (ends : ReadEnd) → RunsTo w v → Extends state (ruled_by grants state command own row points v ends)
+  ruled_extends own row points v (Whole at raises syncs keys) r =
+      let answer = ruled (verdict_in v keys own) row points at raises syncs in
+      choice (Extends state) grants.items (answered state command v answer [])
+      (answered state command v (answers.UnreadNoMemory own.stamp) [])
+      (λ _. answer_extends state command v answer [] r)
+      (λ _. answer_extends state command v (answers.UnreadNoMemory own.stamp) [] r)
+  ruled_extends own row points v (Refused colour base) r =
+      answer_extends state command v (answers.UnreadTrimmed own.stamp colour base) [] r
+  ruled_extends own row points v Unraised r =
+      answer_extends state command v (answers.UnreadNoMemory own.stamp) [] r
+
+  -- the grants of a read behind an append
+  abbrev behind : Grants → Grants
+  behind g = record g { helps = g.read_helps }
+
+  commit_extends : (object : ℕ) (pairs : List Pair) (found : Option (List Version))
+      → Extends state (committed_by objects grants state command object pairs found)
+  commit_extends object pairs None = answer_extends state command w answers.NoTx [] (stays_there w)
+  commit_extends object pairs (Some versions) =
+      let set = shard_set (colours_of caller object) (version_keys versions ++ keys_of pairs) in
+      append_so_extends (read_behind objects grants state command object)
+      (λ v stamp row points r. let read = stamped_read (behind grants) v u (all_colours objects state command object) in
+      ruled_extends (entry_key stamp (next_id w u)) row points read.world read.ends
+      (runs_on w v read.world r (read_runs (behind grants) v u (all_colours objects state command object))))
+      set (form_text (forms.Transaction versions pairs)) (members set)
 
   nothing_done : Extends state state
   nothing_done = record { world = stays_there w; replies = λ n r i. i }
@@ -256,7 +320,7 @@ module _ (objects : List Object) (grants : Grants) (state : State) (command : Co
   one_command_extends (whats.Stop steps colours text) = stop_extends colours text steps
   one_command_extends (whats.Sync colour) = sync_extends colour
   one_command_extends (whats.Scan colours) =
-      read_extends (members colours) scan_answer (map (shown_key (stamped_read grants w u (members colours)).world))
+      read_extends (members colours) (λ _. scan_answer) (λ v. map (shown_key v))
   one_command_extends (whats.Pull region colour) = pull_extends region colour
   one_command_extends (whats.Trim colour) = trim_extends colour
   one_command_extends (whats.Put object key value) =
@@ -272,10 +336,14 @@ module _ (objects : List Object) (grants : Grants) (state : State) (command : Co
       (form_text (forms.PutAll pairs)) (members (shard_set (colours_of caller object) (keys_of pairs)))
   one_command_extends (whats.GetAll object keys) =
       let colours = colours_of caller object in
-      let read = stamped_read grants w u (shards colours keys) in
-      read_extends (shards colours keys) (keys_answer read.world u colours keys) (λ _. [])
-  one_command_extends (whats.Read object keys) = nothing_done
-  one_command_extends (whats.Commit object pairs) = nothing_done
+      read_extends (shards colours keys) (λ v. keys_answer v u colours keys) (λ _ _. [])
+  one_command_extends (whats.Read object keys) =
+      read_so_extends (all_colours objects state command object) (found_by state command object keys)
+      (λ v stamp raises syncs read r. let nodes = map (object_at v) read in
+      let e = answer_extends state command v
+      (answers.GotKeys stamp (key_answers (value_of (writes_after nodes)) keys) raises syncs) [] r in
+      record { world = e.world; replies = e.replies })
+  one_command_extends (whats.Commit object pairs) = commit_extends object pairs (state.reads u object)
   one_command_extends (whats.Enq object value) =
       append_extends (set_of (colours_of caller object)) (form_text (forms.Enqueue value))
       (members (set_of (colours_of caller object)))
@@ -299,61 +367,106 @@ module _ (objects : List Object) (grants : Grants) (state : State) (command : Co
   single_exact text c clean =
       clears_exact grants u (entry_key (single_stamp w u c) (next_id w u)) (c ∷ []) (after w (Single u c text)) clean
 
-  one_exact : (text : List ℕ) (c : ℕ) → IsClean (appended_one grants state command text c).world
-      → appended_one grants state command text c ≡ appended_one all_granted state command text c
-  one_exact text c clean =
-      by_test _ (may_single w u c)
-      (λ t. let is : appended_one grants state command text c ≡ of_world (with_single grants w u text c) =
-      if_true (may_single w u c) _ _ t in
-      is ∙ (ap of_world (single_exact text c (subst (λ (s : State). IsClean s.world) is clean))
-      ∙ sym (if_true (may_single w u c) (of_world (with_single all_granted w u text c))
-      (answered state command w (answers.StampEnd c) []) t)))
-      (λ f. if_false (may_single w u c) (of_world (with_single grants w u text c))
-      (answered state command w (answers.StampEnd c) []) f
-      ∙ sym (if_false (may_single w u c) (of_world (with_single all_granted w u text c))
-      (answered state command w (answers.StampEnd c) []) f)) where
-        of_world : World → State
-        of_world x =
-            answered state command x (answers.Stood (single_stamp w u c) None (point_in w x u (next_id w u) c ∷ [])) []
+  -- the client is nowhere answered with want of memory
+  abbrev TellsNone : State → Type 0
+  TellsNone s = (r : ReplyLine) → In r (s.replies u) → TellsNoWant r.answer
 
-  by_exact : (v : World) (row : Row) (cs : List ℕ) (last : Outcome)
-      → IsClean (appended_by grants state command v row cs last).world
-      → appended_by grants state command v row cs last ≡ appended_by all_granted state command v row cs last
-  by_exact v row cs Open clean = refl
-  by_exact v row cs (Gone Memory) clean = refl
-  by_exact v row cs (Gone StampEnd) clean = refl
-  by_exact v row cs (Final f) clean =
-      ap (λ (x : World). answered state command x
-      (answers.Stood f (Some row.number) (map (point_in w x u (next_id w u)) cs)) [])
-      (clears_exact grants u (entry_key f (next_id w u)) cs (after v (Seen u f)) clean)
+  -- what was answered so tells of it
+  told : (v : World) (answer : Answer) → TellsNone (answered state command v answer []) → TellsNoWant answer
+  told v answer tells =
+      let line = line_of command answer [] in
+      tells line
+      (subst (λ (l : List ReplyLine). In line l) (sym (updated-here state.replies u (state.replies u ++ line ∷ [])))
+      (in_right line (state.replies u) (line ∷ []) (inl refl)))
 
-  several_exact : (colours : Colours) (text : List ℕ)
-      → IsClean (appended_several grants state command colours text).world
-      → appended_several grants state command colours text ≡ appended_several all_granted state command colours text
-  several_exact colours text clean =
-      let row = next_row w u in
-      let cs = members colours in
-      let full : State = answered state command w (answers.Full (w.clients u).used) [] in
-      let v = run_steps w (append_steps grants w u colours text) in
-      let v' = run_steps w (append_steps all_granted w u colours text) in
-      let rest : State = appended_by grants state command v row cs (row_of v row).last in
-      let rest' : State = appended_by all_granted state command v' row cs (row_of v' row).last in
-      by_test _ (is_full w u)
-      (λ t. if_true (is_full w u) full rest t ∙ sym (if_true (is_full w u) full rest' t))
-      (λ f. let is : appended_several grants state command colours text ≡ rest = if_false (is_full w u) full rest f in
-      let clean' : IsClean rest.world = subst (λ (s : State). IsClean s.world) is clean in
-      let same : v ≡ v' = complete_exact (after w (Begin u colours text)) u row grants.marks
-      (clean_from v rest.world (by_runs v row cs (row_of v row).last) clean') in
-      is ∙ (by_exact v row cs (row_of v row).last clean'
-      ∙ (ap (λ (x : World). appended_by all_granted state command x row cs (row_of x row).last) same
-      ∙ sym (if_false (is_full w u) full rest' f))))
+  told_so : (v : World) → TellsNone (answered state command v answers.NoMemory []) → ⊥
+  told_so v tells = (told v answers.NoMemory tells).refused refl
+
+  told_unread : (v : World) (stamp : ℕ) → TellsNone (answered state command v (answers.UnreadNoMemory stamp) []) → ⊥
+  told_unread v stamp tells = (told v (answers.UnreadNoMemory stamp) tells).unread stamp refl
+
+  -- an append, where all that follows it is the same
+  module _ (follows full : Follows)
+      (goes : (v : World) (stamp : ℕ) (row : Option ℕ) (points : List PointPiece)
+      → RunsTo v (follows v stamp row points).world)
+      (same : (v : World) (stamp : ℕ) (row : Option ℕ) (points : List PointPiece)
+      → IsClean (follows v stamp row points).world → TellsNone (follows v stamp row points)
+      → follows v stamp row points ≡ full v stamp row points) where
+    one_exact : (text : List ℕ) (c : ℕ) → IsClean (appended_one_so grants state command text c follows).world
+        → TellsNone (appended_one_so grants state command text c follows)
+        → appended_one_so grants state command text c follows ≡ appended_one_so all_granted state command text c full
+    one_exact text c clean tells =
+        let stamp = single_stamp w u c in
+        let points : World → List PointPiece = λ x. point_in w x u (next_id w u) c ∷ [] in
+        let v = with_single grants w u text c in
+        let v' = with_single all_granted w u text c in
+        let stood : State = follows v stamp None (points v) in
+        let ended : State = answered state command w (answers.StampEnd c) [] in
+        by_test _ (may_single w u c)
+        (λ t. let is = if_true (may_single w u c) stood ended t in
+        let clean' : IsClean stood.world = subst (λ (s : State). IsClean s.world) is clean in
+        is ∙ (same v stamp None (points v) clean' (subst TellsNone is tells)
+        ∙ (ap (λ (x : World). full x stamp None (points x))
+        (single_exact text c (clean_from v stood.world (goes v stamp None (points v)) clean'))
+        ∙ sym (if_true (may_single w u c) (full v' stamp None (points v')) ended t))))
+        (λ f. if_false (may_single w u c) stood ended f
+        ∙ sym (if_false (may_single w u c) (full v' stamp None (points v')) ended f))
+
+    by_exact : (v : World) (row : Row) (cs : List ℕ) (last : Outcome)
+        → IsClean (appended_by_so grants state command v row cs last follows).world
+        → TellsNone (appended_by_so grants state command v row cs last follows)
+        → appended_by_so grants state command v row cs last follows
+        ≡ appended_by_so all_granted state command v row cs last full
+    by_exact v row cs Open clean tells = refl
+    by_exact v row cs (Gone Memory) clean tells = refl
+    by_exact v row cs (Gone StampEnd) clean tells = refl
+    by_exact v row cs (Final f) clean tells =
+        let x = all_cleared grants u (entry_key f (next_id w u)) cs (after v (Seen u f)) in
+        let points : World → List PointPiece = λ y. map (point_in w y u (next_id w u)) cs in
+        same x f (Some row.number) (points x) clean tells
+        ∙ ap (λ (y : World). full y f (Some row.number) (points y))
+        (clears_exact grants u (entry_key f (next_id w u)) cs (after v (Seen u f))
+        (clean_from x (follows x f (Some row.number) (points x)).world (goes x f (Some row.number) (points x)) clean))
+
+    several_exact : (colours : Colours) (text : List ℕ)
+        → IsClean (appended_several_so grants state command colours text follows).world
+        → TellsNone (appended_several_so grants state command colours text follows)
+        → appended_several_so grants state command colours text follows
+        ≡ appended_several_so all_granted state command colours text full
+    several_exact colours text clean tells =
+        let row = next_row w u in
+        let cs = members colours in
+        let refused : State = answered state command w (answers.Full (w.clients u).used) [] in
+        let v = run_steps w (append_steps grants w u colours text) in
+        let v' = run_steps w (append_steps all_granted w u colours text) in
+        let rest : State = appended_by_so grants state command v row cs (row_of v row).last follows in
+        let rest' : State = appended_by_so all_granted state command v' row cs (row_of v' row).last full in
+        by_test _ (is_full w u)
+        (λ t. if_true (is_full w u) refused rest t ∙ sym (if_true (is_full w u) refused rest' t))
+        (λ f. let is : appended_several_so grants state command colours text follows ≡ rest =
+        if_false (is_full w u) refused rest f in
+        let clean' : IsClean rest.world = subst (λ (s : State). IsClean s.world) is clean in
+        let met : v ≡ v' = complete_exact (after w (Begin u colours text)) u row grants.marks
+        (clean_from v rest.world (by_runs follows goes v row cs (row_of v row).last) clean') in
+        is ∙ (by_exact v row cs (row_of v row).last clean' (subst TellsNone is tells)
+        ∙ (ap (λ (x : World). appended_by_so all_granted state command x row cs (row_of x row).last full) met
+        ∙ sym (if_false (is_full w u) refused rest' f))))
+
+    append_so_exact : (colours : Colours) (text ms : List ℕ)
+        → IsClean (appended_so grants state command colours text ms follows).world
+        → TellsNone (appended_so grants state command colours text ms follows)
+        → appended_so grants state command colours text ms follows
+        ≡ appended_so all_granted state command colours text ms full
+    append_so_exact colours text [] clean tells = refl
+    append_so_exact colours text (c ∷ []) clean tells = one_exact text c clean tells
+    append_so_exact colours text (c ∷ d ∷ ms) clean tells = several_exact colours text clean tells
 
   append_exact : (colours : Colours) (text ms : List ℕ)
       → IsClean (appended grants state command colours text ms).world
+      → TellsNone (appended grants state command colours text ms)
       → appended grants state command colours text ms ≡ appended all_granted state command colours text ms
-  append_exact colours text [] clean = refl
-  append_exact colours text (c ∷ []) clean = one_exact text c clean
-  append_exact colours text (c ∷ d ∷ ms) clean = several_exact colours text clean
+  append_exact = append_so_exact (answered_stood state command) (answered_stood state command)
+      (λ v stamp row points. stays_there v) (λ v stamp row points clean tells. refl)
 
   stop_exact : (colours : Colours) (text : List ℕ) (n : ℕ)
       → IsClean (stopped grants state command colours text n).world
@@ -372,24 +485,6 @@ module _ (objects : List Object) (grants : Grants) (state : State) (command : Co
       (taken_exact (after w (Begin u colours text)) u (next_row w u) grants.marks n
       (subst (λ (s : State). IsClean s.world) is clean))
       ∙ sym (if_false (is_full w u) full rest' f)))
-
-  -- the client is nowhere answered with want of memory
-  abbrev TellsNone : State → Type 0
-  TellsNone s = (r : ReplyLine) → In r (s.replies u) → TellsNoWant r.answer
-
-  -- what was answered so tells of it
-  told : (v : World) (answer : Answer) → TellsNone (answered state command v answer []) → TellsNoWant answer
-  told v answer tells =
-      let line = line_of command answer [] in
-      tells line
-      (subst (λ (l : List ReplyLine). In line l) (sym (updated-here state.replies u (state.replies u ++ line ∷ [])))
-      (in_right line (state.replies u) (line ∷ []) (inl refl)))
-
-  told_so : (v : World) → TellsNone (answered state command v answers.NoMemory []) → ⊥
-  told_so v tells = (told v answers.NoMemory tells).refused refl
-
-  told_unread : (v : World) (stamp : ℕ) → TellsNone (answered state command v (answers.UnreadNoMemory stamp) []) → ⊥
-  told_unread v stamp tells = (told v (answers.UnreadNoMemory stamp) tells).unread stamp refl
 
   pull_exact : (region c : ℕ) → TellsNone (pulled grants state command region c)
       → pulled grants state command region c ≡ pulled all_granted state command region c
@@ -457,13 +552,15 @@ module _ (objects : List Object) (grants : Grants) (state : State) (command : Co
       ∙ sym (if_false (may_single w u c)
       (dequeued_at all_granted state command v' stamp (point_in w v' u (next_id w u) c)) ended f))
 
-  -- the answer by how a read ended
-  module _ (answer : ℕ → List RaisePiece → List SyncPiece → List Key → Answer) (shown : List Key → List PlacedNode) where
-    end_exact : (v : World) (ends : ReadEnd) → TellsNone (ended_by grants state command answer shown v ends)
-        → IsRaised ends × (ended_by grants state command answer shown v ends
-        ≡ ended_by all_granted state command answer shown v ends)
+  -- by how a read ended
+  module _ (whole : World → ℕ → List RaisePiece → List SyncPiece → List Key → State)
+      (at : (v : World) (stamp : ℕ) (raises : List RaisePiece) (syncs : List SyncPiece) (keys : List Key)
+      → (whole v stamp raises syncs keys).world ≡ v) where
+    end_exact : (v : World) (ends : ReadEnd) → TellsNone (ended_so grants state command (whole v) v ends)
+        → IsRaised ends × (ended_so grants state command (whole v) v ends
+        ≡ ended_so all_granted state command (whole v) v ends)
     end_exact v (Whole stamp raises syncs keys) tells =
-        let told : State = answered state command v (answer stamp raises syncs keys) (shown keys) in
+        let told : State = whole v stamp raises syncs keys in
         let refused : State = answered state command v answers.NoMemory [] in
         let t : all_granted.items ≡ true = refl in (
           tt,
@@ -474,28 +571,84 @@ module _ (objects : List Object) (grants : Grants) (state : State) (command : Co
     end_exact v (Refused colour base) tells = (tt, refl)
     end_exact v Unraised tells = absurd (told_so v tells)
 
-    ended_world : (v : World) (ends : ReadEnd) → (ended_by grants state command answer shown v ends).world ≡ v
+    ended_world : (v : World) (ends : ReadEnd) → (ended_so grants state command (whole v) v ends).world ≡ v
     ended_world v (Whole stamp raises syncs keys) =
-        choice (λ (s : State). s.world ≡ v) grants.items
-        (answered state command v (answer stamp raises syncs keys) (shown keys))
-        (answered state command v answers.NoMemory []) (λ _. refl) (λ _. refl)
+        choice (λ (s : State). s.world ≡ v) grants.items (whole v stamp raises syncs keys)
+        (answered state command v answers.NoMemory []) (λ _. at v stamp raises syncs keys) (λ _. refl)
     ended_world v (Refused colour base) = refl
     ended_world v Unraised = refl
 
-  -- a command that makes a stamped read
+    -- a command that makes a stamped read
+    reads_so_exact : (colours : List ℕ)
+        → let by = λ (g : Grants) (r : StampedRead). ended_so g state command (whole r.world) r.world r.ends in
+        IsClean (by grants (stamped_read grants w u colours)).world
+        → TellsNone (by grants (stamped_read grants w u colours))
+        → by grants (stamped_read grants w u colours) ≡ by all_granted (stamped_read all_granted w u colours)
+    reads_so_exact colours clean tells =
+        let read = stamped_read grants w u colours in
+        let ended = end_exact read.world read.ends tells in
+        ended.1
+        ∙ ap (λ (r : StampedRead). ended_so all_granted state command (whole r.world) r.world r.ends)
+        (read_exact grants w u colours (subst IsClean (ended_world read.world read.ends) clean) ended.0)
+
   reads_exact : (colours : List ℕ) (answer : World → ℕ → List RaisePiece → List SyncPiece → List Key → Answer)
       (shown : World → List Key → List PlacedNode)
       → let by = λ (g : Grants) (r : StampedRead). ended_by g state command (answer r.world) (shown r.world) r.world r.ends in
       IsClean (by grants (stamped_read grants w u colours)).world
       → TellsNone (by grants (stamped_read grants w u colours))
       → by grants (stamped_read grants w u colours) ≡ by all_granted (stamped_read all_granted w u colours)
-  reads_exact colours answer shown clean tells =
-      let read = stamped_read grants w u colours in
-      let ended = end_exact (answer read.world) (shown read.world) read.world read.ends tells in
-      ended.1
-      ∙ ap (λ (r : StampedRead). ended_by all_granted state command (answer r.world) (shown r.world) r.world r.ends)
-      (read_exact grants w u colours
-      (subst IsClean (ended_world (answer read.world) (shown read.world) read.world read.ends) clean) ended.0)
+  reads_exact colours answer shown =
+      reads_so_exact
+      (λ v stamp raises syncs keys. answered state command v (answer v stamp raises syncs keys) (shown v keys))
+      (λ v stamp raises syncs keys. refl) colours
+
+  -- the read behind a commit's append
+  ruled_exact : (own : Key) (row : Option ℕ) (points : List PointPiece) (v : World)
+      (ends : ReadEnd) → TellsNone (ruled_by grants state command own row points v ends)
+      → IsRaised ends × (ruled_by grants state command own row points v ends
+      ≡ ruled_by all_granted state command own row points v ends)
+  ruled_exact own row points v (Whole at raises syncs keys) tells =
+      let told : State = answered state command v (ruled (verdict_in v keys own) row points at raises syncs) [] in
+      let unread : State = answered state command v (answers.UnreadNoMemory own.stamp) [] in
+      let t : all_granted.items ≡ true = refl in (
+        tt,
+        by_test _ grants.items
+            (λ is. if_true grants.items told unread is ∙ sym (if_true all_granted.items told unread t))
+            (λ f. absurd (told_unread v own.stamp (subst TellsNone (if_false grants.items told unread f) tells))),
+      )
+  ruled_exact own row points v (Refused colour base) tells = (tt, refl)
+  ruled_exact own row points v Unraised tells = absurd (told_unread v own.stamp tells)
+
+  commit_exact : (object : ℕ) (pairs : List Pair) (found : Option (List Version))
+      → IsClean (committed_by objects grants state command object pairs found).world
+      → TellsNone (committed_by objects grants state command object pairs found)
+      → committed_by objects grants state command object pairs found
+      ≡ committed_by objects all_granted state command object pairs found
+  commit_exact object pairs None clean tells = refl
+  commit_exact object pairs (Some versions) clean tells =
+      let set = shard_set (colours_of caller object) (version_keys versions ++ keys_of pairs) in
+      append_so_exact (read_behind objects grants state command object)
+      (read_behind objects all_granted state command object)
+      (λ v stamp row points. let read = stamped_read (behind grants) v u cs in
+      subst (RunsTo v) (sym (ruled_world grants (entry_key stamp (next_id w u)) row points read.world read.ends))
+      (read_runs (behind grants) v u cs)) same set (form_text (forms.Transaction versions pairs)) (members set) clean tells
+    where
+      cs : List ℕ
+      cs = all_colours objects state command object
+
+      same : (v : World) (stamp : ℕ) (row : Option ℕ) (points : List PointPiece)
+          → IsClean (read_behind objects grants state command object v stamp row points).world
+          → TellsNone (read_behind objects grants state command object v stamp row points)
+          → read_behind objects grants state command object v stamp row points
+          ≡ read_behind objects all_granted state command object v stamp row points
+      same v stamp row points clean tells =
+          let own = entry_key stamp (next_id w u) in
+          let read = stamped_read (behind grants) v u (all_colours objects state command object) in
+          let ended = ruled_exact own row points read.world read.ends tells in
+          ended.1
+          ∙ ap (λ (r : StampedRead). ruled_by all_granted state command own row points r.world r.ends)
+          (read_exact (behind grants) v u (all_colours objects state command object)
+          (subst IsClean (ruled_world grants own row points read.world read.ends) clean) ended.0)
 
   got_exact : (kind : Option Kind) (key : List ℕ) → IsClean (got grants state command kind key).world
       → TellsNone (got grants state command kind key)
@@ -509,7 +662,7 @@ module _ (objects : List Object) (grants : Grants) (state : State) (command : Co
   one_command_exact : (what : What) → IsClean (done_one objects grants state command what).world
       → TellsNone (done_one objects grants state command what)
       → done_one objects grants state command what ≡ done_one objects all_granted state command what
-  one_command_exact (whats.Append colours text) clean tells = append_exact colours text (members colours) clean
+  one_command_exact (whats.Append colours text) clean tells = append_exact colours text (members colours) clean tells
   one_command_exact (whats.Stop steps colours text) clean tells = stop_exact colours text steps clean
   one_command_exact (whats.Sync colour) clean tells = refl
   one_command_exact (whats.Scan colours) clean tells =
@@ -519,22 +672,25 @@ module _ (objects : List Object) (grants : Grants) (state : State) (command : Co
   one_command_exact (whats.Put object key value) clean tells =
       append_exact (shard_set (colours_of caller object) (key ∷ []))
       (form_text (put_form (kind_of caller object) key value))
-      (members (shard_set (colours_of caller object) (key ∷ []))) clean
+      (members (shard_set (colours_of caller object) (key ∷ []))) clean tells
   one_command_exact (whats.Get object key) clean tells = got_exact (kind_in objects object) key clean tells
   one_command_exact (whats.Del object key) clean tells =
       append_exact (shard_set (colours_of caller object) (key ∷ []))
-      (form_text (forms.Delete key)) (members (shard_set (colours_of caller object) (key ∷ []))) clean
+      (form_text (forms.Delete key)) (members (shard_set (colours_of caller object) (key ∷ []))) clean tells
   one_command_exact (whats.PutAll object pairs) clean tells =
       append_exact (shard_set (colours_of caller object) (keys_of pairs))
-      (form_text (forms.PutAll pairs)) (members (shard_set (colours_of caller object) (keys_of pairs))) clean
+      (form_text (forms.PutAll pairs)) (members (shard_set (colours_of caller object) (keys_of pairs))) clean tells
   one_command_exact (whats.GetAll object keys) clean tells =
       let colours = colours_of caller object in
       reads_exact (shards colours keys) (λ v. keys_answer v u colours keys) (λ _ _. []) clean tells
-  one_command_exact (whats.Read object keys) clean tells = refl
-  one_command_exact (whats.Commit object pairs) clean tells = refl
+  one_command_exact (whats.Read object keys) clean tells =
+      reads_so_exact (found_by state command object keys) (λ v stamp raises syncs read. refl)
+      (all_colours objects state command object) clean tells
+  one_command_exact (whats.Commit object pairs) clean tells =
+      commit_exact object pairs (state.reads u object) clean tells
   one_command_exact (whats.Enq object value) clean tells =
       append_exact (set_of (colours_of caller object)) (form_text (forms.Enqueue value))
-      (members (set_of (colours_of caller object))) clean
+      (members (set_of (colours_of caller object))) clean tells
   one_command_exact (whats.Deq object) clean tells = deq_exact (colours_of caller object) clean tells
 
   from_exact : (home : Option ℕ) → IsClean (done_from home objects grants state command).world

@@ -1,5 +1,6 @@
 -- Of what is granted to a command, an append to one colour asks for its helps alone.
 use Rattle.std.proofs.Common.{◌≡◌, ℕ, zero, suc, ◌+◌, Bool, List, [], ◌∷◌, length, Option, Some, None, refl, ap, ◌∙◌}
+use Rattle.std.specs.List.{fold}
 use Rattle.log_node.specs.declared.ids.Key.{Key}
 use Rattle.log_node.specs.declared.ids.Row.{Row}
 use Rattle.log_node.specs.declared.node.Node.{Node}
@@ -9,7 +10,7 @@ use Rattle.world_laws.specs.declared.steps.Step.TheVariants.{Single}
 use Rattle.world_laws.specs.Worlds.{World, home_history, run_steps, next_id, single_stamp, after}
 use Rattle.world_laws.specs.Completing.{complete_steps}
 use Rattle.script_meaning.specs.States.{Grants}
-use Rattle.script_meaning.specs.Helping.{Helping, node_with, open_below, helped_row, helped_node, helped_first, helped_times}
+use Rattle.script_meaning.specs.Helping.{Helping, node_with, open_below, helped_row, helped_node, helped_first, helped_times, cleared, all_cleared}
 use Rattle.script_meaning.specs.Appends.{with_single}
 
 module _ (g g' : Grants) (same : g.helps ≡ g'.helps) where
@@ -42,3 +43,15 @@ module _ (g g' : Grants) (same : g.helps ≡ g'.helps) where
       let h : Helping = record { world = after w (Single client c text); helps = 0 } in
       ap (λ (x : Helping). x.world)
       (times_same (length (open_below key (home_history h.world client c))) client c key h)
+
+  -- and so do the helps of any command
+  pub all_cleared_same : (client : ℕ) (key : Key) (colours : List ℕ) (w : World)
+      → all_cleared g client key colours w ≡ all_cleared g' client key colours w
+  all_cleared_same client key colours w =
+      ap (λ (x : Helping). x.world) (folded colours (record { world = w; helps = 0 })) where
+        folded : (cs : List ℕ) (h : Helping) → fold (cleared g client key) h cs ≡ fold (cleared g' client key) h cs
+        folded [] h = refl
+        folded (c ∷ cs) h =
+            ap (λ (x : Helping). fold (cleared g client key) x cs)
+            (times_same (length (open_below key (home_history h.world client c))) client c key h)
+            ∙ folded cs (cleared g' client key h c)

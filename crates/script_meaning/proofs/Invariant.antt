@@ -1,14 +1,16 @@
 -- What holds of the state after each command.
-use Rattle.std.proofs.Common.{◌≡◌, ◌≢◌, ◌⊎◌, inl, inr, ℕ, ◌<◌, ◌≤◌, List, [], ◌∷◌, ◌++◌, length, true, refl, ap, sym, subst, ◌∙◌, arith, eq-eqb}
+use Rattle.std.proofs.Common.{◌≡◌, ◌≢◌, ◌⊎◌, inl, inr, ℕ, ◌+◌, ◌^◌, ◌<◌, ◌≤◌, List, [], ◌∷◌, ◌++◌, length, Some, true, refl, ap, sym, subst, ◌∙◌, arith, eq-eqb}
 use Rattle.std.specs.Prelude.{IsTrue, nat_lt, slice_index, ◌==◌}
 use Rattle.std.specs.List.{All}
 use Rattle.std.proofs.lemmas.Bool.{eqb-true, ltb-true}
 use Rattle.log_node.specs.declared.ids.Row.{Row}
 use Rattle.log_node.specs.declared.node.Shape.{Shape}
+use Rattle.log_node.specs.declared.forms.Version.{Version}
 use Rattle.log_node.specs.Seen.{PlacedNode}
+use Rattle.object_form.specs.Forms.{AreVersions}
 use Rattle.col_core.specs.declared.Entry.{Entry}
 use Rattle.col_core.specs.Log.{Log}
-use Rattle.col_core.specs.Keeping.{Kept, nothing_kept}
+use Rattle.col_core.specs.Keeping.{Kept, nothing_kept, updated}
 use Rattle.col_core.proofs.CallerLemmas.{by_test, apart, In}
 use Rattle.world_laws.specs.Worlds.{World, home_of}
 use Rattle.world_laws.specs.Laws.{IsReached, log_of}
@@ -30,59 +32,32 @@ use Rattle.lawful_run.specs.Asks.{manner_of, may_help, home_asked}
 use Rattle.lawful_run.specs.Refusals.{IsAway, IsHomeRefusal, kept_before, kept_behind}
 use Rattle.lawful_run.specs.Explains.{Explains, Answers, Explained, start, next}
 use Rattle.lawful_run.specs.Lawful.{IsHelp}
-use Rattle.lawful_run.proofs.CallerLemmas.{explained_later}
-use Rattle.script_meaning.specs.States.{State, opening, is_built, answered}
+use Rattle.lawful_run.proofs.CallerLemmas.{explained_later, explained_ids}
+use Rattle.script_meaning.specs.States.{State, Reads, reads_left, opening, is_built, answered}
+use Rattle.script_meaning.proofs.Additions.{adds_map}
 use Rattle.script_meaning.proofs.Reached.{held_of}
 use Rattle.script_meaning.proofs.Rows.{IsDone}
 use Rattle.script_meaning.proofs.StaysComplete.{OfDone, of_done_stays}
 use Rattle.script_meaning.proofs.Clearing.{Finished}
-use Rattle.script_meaning.proofs.Kept.{caller_in, IsKeptBy, MadeBy, Does, later_log, kept_other}
+use Rattle.script_meaning.proofs.Kept.{caller_in, IsKeptBy, MadeBy, Does, later_log, kept_beside}
+use Rattle.script_meaning.proofs.ReadsLeft.{DoesOver, LeavesReads, FindsNone, over_reads, over_any, behind_kept, left_before}
 use Rattle.script_meaning.proofs.Lists.{asked_by, asked-own, asked-other}
 
 -- Replies
-
--- no read of an object begins or ends with the command
-pub record IsPlain (what : What) : Type 0 where
-  pub before : (kept : Kept) → kept_before what kept ≡ kept
-  pub behind : (kept : Kept) → kept_behind what kept ≡ kept
-
--- the commands that are built are such
-pub plain : (objects : List Object) (what : What) → is_built objects what ≡ true → IsPlain what
-plain objects (whats.Append colours text) b = record { before = λ k. refl; behind = λ k. refl }
-plain objects (whats.Stop steps colours text) b = record { before = λ k. refl; behind = λ k. refl }
-plain objects (whats.Sync colour) b = record { before = λ k. refl; behind = λ k. refl }
-plain objects (whats.Scan colours) b = record { before = λ k. refl; behind = λ k. refl }
-plain objects (whats.Pull region colour) b = record { before = λ k. refl; behind = λ k. refl }
-plain objects (whats.Trim colour) b = record { before = λ k. refl; behind = λ k. refl }
-plain objects (whats.Put object key value) b = record { before = λ k. refl; behind = λ k. refl }
-plain objects (whats.Get object key) b = record { before = λ k. refl; behind = λ k. refl }
-plain objects (whats.Del object key) b = record { before = λ k. refl; behind = λ k. refl }
-plain objects (whats.PutAll object pairs) b = record { before = λ k. refl; behind = λ k. refl }
-plain objects (whats.GetAll object keys) b = record { before = λ k. refl; behind = λ k. refl }
-plain objects (whats.Read object keys) b = absurd (let f : ⊥ = cc in f)
-plain objects (whats.Commit object pairs) b = absurd (let f : ⊥ = cc in f)
-plain objects (whats.Enq object value) b = record { before = λ k. refl; behind = λ k. refl }
-plain objects (whats.Deq object) b = record { before = λ k. refl; behind = λ k. refl }
 
 -- a reply line of a command
 abbrev pub line_of : Command → Answer → List PlacedNode → ReplyLine
 line_of command answer nodes =
     record { line = command.line; word = word_of command.what; answer = answer; nodes = nodes }
 
--- the answer to such a command, where the log explains it
-pub answers_plainly : (log : Log) (caller : Caller) (kept : Kept) (command : Command) (answer : Answer)
-    (nodes : List PlacedNode) (after : Kept) → IsPlain command.what
+-- the answer to a command, where the log explains it
+pub answers_so : (log : Log) (caller : Caller) (kept : Kept) (command : Command) (answer : Answer)
+    (nodes : List PlacedNode) (after : Kept)
     → (IsAway caller (home_asked caller command.what) → IsHomeRefusal answer)
-    → Explains log caller kept command.what answer nodes after
-    → Answers log caller kept command (line_of command answer nodes) after
-answers_plainly log caller kept command answer nodes after is away e = record {
-  line = refl;
-  word = refl;
-  answered = after;
-  explained = subst (λ (k : Kept). Explains log caller k command.what answer nodes after) (sym (is.before kept)) e;
-  after_is = sym (is.behind after);
-  away = away;
-}
+    → Explains log caller (kept_before command.what kept) command.what answer nodes after
+    → Answers log caller kept command (line_of command answer nodes) (kept_behind command.what after)
+answers_so log caller kept command answer nodes after away e =
+    record { line = refl; word = refl; answered = after; explained = e; after_is = refl; away = away }
 
 -- What holds
 
@@ -98,12 +73,17 @@ pub record IsStopped (commands : List Command) (replies : ℕ → List ReplyLine
   pub steps : ℕ
   pub stopped : reply.answer ≡ answers.Stopped steps
 
--- the log explains the client's replies, and the world has what it keeps
-pub record IsExplained (script : Script) (w : World) (client : ℕ) (commands : List Command) (replies : List ReplyLine) :
-    Type 0 where
+-- the log explains the client's replies, the world has what it keeps, and it keeps these reads
+pub record IsExplained (script : Script) (w : World) (client : ℕ) (commands : List Command) (replies : List ReplyLine)
+    (found : Reads) : Type 0 where
   pub kept : Kept
   pub explained : Explained (log_of w) (caller_of script client) commands replies kept
   pub keeps : IsKeptBy w client kept
+  pub reads : kept.reads ≡ found
+
+-- the versions of each read are such as the text of a transaction may name
+abbrev pub AreFit : Reads → Type 0
+AreFit reads = (object : ℕ) (versions : List Version) → reads object ≡ Some versions → AreVersions versions
 
 -- a help in a column of the region: its maker is of the region and asked a command that may help, and the append that
 -- it helps is complete
@@ -114,18 +94,26 @@ pub record IsFitHelp (script : Script) (commands : List Command) (w : World) (re
   pub home : slice_index script.shape.homes e.by ≡ region
   pub complete : OfDone w e.event
 
+-- each client has appended no more nodes than it has asked commands
+abbrev pub AreFew : List Command → World → Type 0
+AreFew commands w = (n : ℕ) → (w.clients n).count ≤ length (asked_by n commands)
+
 -- what holds after the first commands
 pub record Runs (script : Script) (commands : List Command) (state : State) : Type 0 where
   pub reached : IsReached state.world
   pub shape : state.world.shape ≡ script.shape
-  pub clients : (n : ℕ) → IsExplained script state.world n (asked_by n commands) (state.replies n)
+  pub clients : (n : ℕ)
+      → IsExplained script state.world n (asked_by n commands) (state.replies n) (state.reads n)
+  pub versions : (n : ℕ) → AreFit (state.reads n)
   pub makers : (r c : ℕ) (e : Entry) → In e (state.world.histories r c) → e.by < length script.shape.homes
   pub helpers : (r c : ℕ) (e : Entry) → In e (state.world.histories r c) → IsHelp e.by e.event
       → IsFitHelp script commands state.world r e
   pub finished : Finished (IsStopped commands state.replies) state.world
 
--- a command of a client of the script that has not stopped; what follows where the client is away from its object's home
-pub record IsFitWhere (script : Script) (commands : List Command) (command : Command) (Away : Type 0) : Type 0 where
+-- a command of a client of the script that has not stopped; what follows where the client is away from its object's
+-- home, and where the command is a read of an object
+pub record IsFitWhere (script : Script) (commands : List Command) (command : Command) (Away Read : Type 0) :
+    Type 0 where
   pub caller : command.client < length script.shape.homes
   pub home : slice_index script.shape.homes command.client < script.shape.regions
   pub few : script.shape.regions ≤ 4
@@ -135,11 +123,15 @@ pub record IsFitWhere (script : Script) (commands : List Command) (command : Com
   pub uses : UsesObject script.objects command.what
   pub kinds : All (λ (o : Object). IsKindWithin script.shape.regions script.shape.colours o.kind) script.objects
   pub few_colours : script.shape.colours ≤ 16
+  pub few_clients : length script.shape.homes ≤ 16
+  pub callers : (c : Command) → In c commands → c.client < length script.shape.homes
+  pub short : length commands + 1 < 2 ^ 15
   pub away : IsAway (caller_of script command.client) (home_asked (caller_of script command.client) command.what) → Away
+  pub read : (object : ℕ) (asked : List (List ℕ)) → command.what ≡ whats.Read object asked → Read
 
--- the client is not away
+-- the client is not away, and the command is no read of an object
 abbrev pub IsFit : Script → List Command → Command → Type 0
-IsFit script commands command = IsFitWhere script commands command ⊥
+IsFit script commands command = IsFitWhere script commands command ⊥ ⊥
 
 pub runs_opening : (script : Script) → Runs script [] (opening script)
 runs_opening script = record {
@@ -157,7 +149,9 @@ runs_opening script = record {
       ids = refl;
       rows = refl;
     };
+    reads = refl;
   };
+  versions = λ n object versions e. absurd (let f : ⊥ = cc in f);
   makers = λ r c e i. absurd i;
   helpers = λ r c e i h. absurd i;
   finished = λ row b. absurd (none row.number b);
@@ -166,8 +160,8 @@ runs_opening script = record {
   none n b = let x = ltb-true n 0 b in omega (arith, x)
 
 module _ (script : Script) (commands : List Command) (state : State) (command : Command)
-    (runs : Runs script commands state) {Away : Type 0}
-    (fit : IsFitWhere script commands command Away) where
+    (runs : Runs script commands state) {Away Read : Type 0}
+    (fit : IsFitWhere script commands command Away Read) where
   abbrev u : ℕ
   u = command.client
 
@@ -189,10 +183,12 @@ module _ (script : Script) (commands : List Command) (state : State) (command : 
       objects = script.objects;
     }
 
-  module _ (w' : World) (answer : Answer) (nodes : List PlacedNode)
-      (does : Does script.objects u command.what w w' answer nodes) (refusal : Away → IsHomeRefusal answer) where
+  module _ (w' : World) (answer : Answer) (nodes : List PlacedNode) (left : Reads)
+      (does : DoesOver script.objects u command.what w w' answer nodes (state.reads u) left)
+      (fit_left : AreFew (commands ++ command ∷ []) w' → AreFit left)
+      (refusal : Away → IsHomeRefusal answer) where
     abbrev state' : State
-    state' = answered state command w' answer nodes
+    state' = record (answered state command w' answer nodes) { reads = updated state.reads u left }
 
     reached' : IsReached w'
     reached' = subst IsReached does.run (run_reached w does.steps runs.reached)
@@ -204,24 +200,26 @@ module _ (script : Script) (commands : List Command) (state : State) (command : 
     replies' = state.replies u ++ line_of command answer nodes ∷ []
 
     -- the client's own part
-    own_after : IsExplained script w' u (asked_by u commands') replies'
+    own_after : IsExplained script w' u (asked_by u commands') replies' left
     own_after =
         let c = runs.clients u in
-        let d = does.keeps c.kept c.keeps in
+        let d = does.keeps c.kept c.keeps c.reads in
         let later = later_log w w' does.steps runs.reached does.run in
         let called : caller_in w' script.objects u ≡ caller_of script u =
         ap (λ (s : Shape). of_shape s) does.shape ∙ caller_is u in
         record {
-          kept = d.after;
-          explained = subst (λ (cs : List Command). Explained (log_of w') (caller_of script u) cs replies' d.after)
+          kept = kept_behind command.what d.after;
+          explained = subst (λ (cs : List Command). Explained (log_of w') (caller_of script u) cs replies'
+              (kept_behind command.what d.after))
               (sym (asked-own u commands command refl))
               (next command (line_of command answer nodes)
               (explained_later (log_of w) (log_of w') later (caller_of script u) c.explained)
-              (answers_plainly (log_of w') (caller_of script u) c.kept command answer nodes d.after
-              (plain script.objects command.what fit.built) (λ a. refusal (fit.away a))
+              (answers_so (log_of w') (caller_of script u) c.kept command answer nodes d.after
+              (λ a. refusal (fit.away a))
               (subst (λ (x : Caller). Explains
-              (log_of w') x c.kept command.what answer nodes d.after) called d.explains)));
-          keeps = d.keeps;
+              (log_of w') x (kept_before command.what c.kept) command.what answer nodes d.after) called d.explains)));
+          keeps = behind_kept w' u command.what d.after d.keeps;
+          reads = d.reads;
         } where
           of_shape : Shape → Caller
           of_shape s = record {
@@ -233,7 +231,7 @@ module _ (script : Script) (commands : List Command) (state : State) (command : 
           }
 
     -- another client's part
-    other_after : (n : ℕ) → n ≢ u → IsExplained script w' n (asked_by n commands') (state.replies n)
+    other_after : (n : ℕ) → n ≢ u → IsExplained script w' n (asked_by n commands') (state.replies n) (state.reads n)
     other_after n ne =
         let c = runs.clients n in
         record {
@@ -243,15 +241,33 @@ module _ (script : Script) (commands : List Command) (state : State) (command : 
               (sym (asked-other n commands command (λ e. ne (sym e))))
               (explained_later (log_of w) (log_of w') (later_log w w' does.steps runs.reached does.run)
               (caller_of script n) c.explained);
-          keeps = kept_other script.objects u command.what w w' answer nodes does runs.reached n ne c.kept c.keeps;
+          keeps = kept_beside u w w' does.steps runs.reached does.run does.shape does.others
+              (λ r d. adds_map (MadeBy u command.what w' (home_of w u) r) (λ (e : Entry). e.by ≡ u) (w.histories r d)
+              (w'.histories r d) (λ e m. m.made) (does.adds r d))
+              n ne c.kept c.keeps;
+          reads = c.reads;
         }
 
-    clients_after : (n : ℕ) → IsExplained script w' n (asked_by n commands') (state'.replies n)
+    clients_after : (n : ℕ) → IsExplained script w' n (asked_by n commands') (state'.replies n) (state'.reads n)
     clients_after n =
-        at_updated (λ (rs : List ReplyLine). IsExplained script w' n
-        (asked_by n commands') rs) state.replies u replies' n
-        (λ e. subst (λ (k : ℕ). IsExplained script w' k (asked_by k commands') replies') (sym e) own_after)
-        (λ f. other_after n (λ e. apart (n == u) (eq-eqb n u e) f))
+        at_updated (λ (rs : List ReplyLine). IsExplained script w' n (asked_by n commands') rs (state'.reads n))
+        state.replies u replies' n
+        (λ e. at_updated (λ (x : Reads). IsExplained script w' n (asked_by n commands') replies' x) state.reads u left n
+        (λ _. subst (λ (k : ℕ). IsExplained script w' k (asked_by k commands') replies' left) (sym e) own_after)
+        (λ f. absurd (apart (n == u) (eq-eqb n u e) f)))
+        (λ f. at_updated (λ (x : Reads). IsExplained script w' n (asked_by n commands') (state.replies n) x)
+        state.reads u left n (λ e. absurd (apart (n == u) (eq-eqb n u e) f))
+        (λ _. other_after n (λ e. apart (n == u) (eq-eqb n u e) f)))
+
+    few_after : AreFew commands' w'
+    few_after n =
+        let c = clients_after n in
+        let few = explained_ids c.explained in
+        let same = c.keeps.ids in
+        omega (arith, few, same)
+
+    versions_after : (n : ℕ) → AreFit (state'.reads n)
+    versions_after n = at_updated AreFit state.reads u left n (λ _. fit_left few_after) (λ _. runs.versions n)
 
     in_history : (r c : ℕ) (e : Entry) → In e (w'.histories r c)
         → In e (w.histories r c) ⊎ MadeBy u command.what w' (home_of w u) r e
@@ -329,14 +345,15 @@ module _ (script : Script) (commands : List Command) (state : State) (command : 
       reached = reached';
       shape = does.shape ∙ runs.shape;
       clients = clients_after;
+      versions = versions_after;
       makers = makers_after;
       helpers = helpers_after;
       finished = f;
     }
 
     -- where no row is left open that was done
-    pub runs_answered : Finished (IsStopped commands state.replies) w' → Runs script commands' state'
-    runs_answered f = runs_next (finished_still f)
+    pub runs_over : Finished (IsStopped commands state.replies) w' → Runs script commands' state'
+    runs_over f = runs_next (finished_still f)
 
     -- where the client stopped, its own rows may be left open
     pub runs_stopped_so : (steps : ℕ) → answer ≡ answers.Stopped steps → IsTrue (is_stop command.what)
@@ -361,15 +378,41 @@ module _ (script : Script) (commands : List Command) (state : State) (command : 
       turn row (inl (inr e)) = inl (subst (IsStopped commands' state'.replies) (sym e) now)
       turn row (inr d) = inr d
 
+  fit_left : (w' : World) → AreFew (commands ++ command ∷ []) w' → AreFit (reads_left command.what (state.reads u))
+  fit_left w' few object versions e = runs.versions u object versions (left_before command.what (state.reads u) object versions e)
+
+  -- a command that found nothing
+  pub runs_answered : (w' : World) (answer : Answer) (nodes : List PlacedNode) → FindsNone command.what answer
+      → Does script.objects u command.what w w' answer nodes → (Away → IsHomeRefusal answer)
+      → Finished (IsStopped commands state.replies) w'
+      → Runs script (commands ++ command ∷ []) (answered state command w' answer nodes)
+  runs_answered w' answer nodes none does refusal =
+      runs_over w' answer nodes (reads_left command.what (state.reads u))
+      (over_any script.objects u command.what w w' answer nodes (state.reads u) none does) (fit_left w') refusal
+
+  -- one that may rest on the reads that are kept
+  pub runs_left : (w' : World) (answer : Answer) (nodes : List PlacedNode) → FindsNone command.what answer
+      → LeavesReads script.objects u command.what w w' answer nodes (state.reads u) → (Away → IsHomeRefusal answer)
+      → Finished (IsStopped commands state.replies) w'
+      → Runs script (commands ++ command ∷ []) (answered state command w' answer nodes)
+  runs_left w' answer nodes none does refusal =
+      runs_over w' answer nodes (reads_left command.what (state.reads u))
+      (over_reads script.objects u command.what w w' answer nodes (state.reads u) none does) (fit_left w') refusal
+
 -- the same of a client that is not away
 module _ (script : Script) (commands : List Command) (state : State) (command : Command)
     (runs : Runs script commands state) (fit : IsFit script commands command) (w' : World) (answer : Answer)
     (nodes : List PlacedNode) (does : Does script.objects command.client command.what state.world w' answer nodes) where
   pub runs_done : Finished (IsStopped commands state.replies) w'
       → Runs script (commands ++ command ∷ []) (answered state command w' answer nodes)
-  runs_done = runs_answered script commands state command runs fit w' answer nodes does (λ a. absurd a)
+  runs_done = runs_answered script commands state command runs fit w' answer nodes (inl fit.read) does (λ a. absurd a)
 
   pub runs_stopped : (steps : ℕ) → answer ≡ answers.Stopped steps → IsTrue (is_stop command.what)
       → Finished (λ n. IsStopped commands state.replies n ⊎ (n ≡ command.client)) w'
       → Runs script (commands ++ command ∷ []) (answered state command w' answer nodes)
-  runs_stopped = runs_stopped_so script commands state command runs fit w' answer nodes does (λ a. absurd a)
+  runs_stopped = runs_stopped_so script commands state command runs fit w' answer nodes
+      (reads_left command.what (state.reads command.client))
+      (over_any script.objects command.client command.what state.world w' answer nodes (state.reads command.client)
+      (inl fit.read) does)
+      (λ few object versions e. runs.versions command.client object versions
+      (left_before command.what (state.reads command.client) object versions e)) (λ a. absurd a)

@@ -8,6 +8,7 @@ use Rattle.log_node.specs.declared.ids.Colours.{Colours}
 use Rattle.log_node.specs.declared.forms.Form.TheVariants as forms
 use Rattle.log_node.specs.Sets.{members}
 use Rattle.object_form.specs.Forms.{form_text}
+use Rattle.object_form.specs.Laws.{ReadsBack}
 use Rattle.log_node.specs.declared.marks.Why.TheVariants.{Memory, StampEnd}
 use Rattle.log_node.specs.declared.marks.Outcome.{Outcome}
 use Rattle.log_node.specs.declared.marks.Outcome.TheVariants.{Open, Gone, Final}
@@ -15,7 +16,7 @@ use Rattle.col_core.proofs.CallerLemmas.{choice, both, apart, not_true, if_true,
 use Rattle.world_laws.specs.declared.steps.Step.TheVariants.{Seen}
 use Rattle.world_laws.specs.Worlds.{World, home_of, after, run_steps, row_of, next_row, is_client, is_column, may_begin, may_single, after_begin, single_stamp, next_id}
 use Rattle.world_laws.specs.Completing.{complete_steps}
-use Rattle.world_laws.proofs.CallerLemmas.{contains_in, in_slice, in_right}
+use Rattle.world_laws.proofs.CallerLemmas.{contains_in, in_slice, in_left, in_right}
 use Rattle.script_text.specs.declared.script.Kind.{Kind}
 use Rattle.script_text.specs.declared.script.Kind.TheVariants as kinds
 use Rattle.script_text.specs.declared.script.What.{What}
@@ -34,7 +35,7 @@ use Rattle.lawful_run.proofs.CallerLemmas.{get_within, get-append}
 use Rattle.script_meaning.specs.States.{State, Grants, has_colours, kind_in, is_get_built, is_built, StopsAreLast, answered}
 use Rattle.script_meaning.specs.Gets.{got}
 use Rattle.script_meaning.specs.Helping.{all_cleared}
-use Rattle.script_meaning.specs.Appends.{appended_one, appended_by, appended_several, appended, stopped, is_full, append_steps, with_single, point_in, ended_colour}
+use Rattle.script_meaning.specs.Appends.{answered_stood, appended, stopped, is_full, append_steps, with_single, point_in, ended_colour}
 use Rattle.script_meaning.specs.Stamped.{scanned}
 use Rattle.script_meaning.specs.Objects.{caller_in, refusing_home, shard_set}
 use Rattle.script_meaning.specs.Meaning.{done_one, done_from, done, LeadTo, nothing, next}
@@ -47,9 +48,13 @@ use Rattle.script_meaning.proofs.ObjectAppends.{AsksIn, does_as}
 use Rattle.script_meaning.proofs.DequeueRuns as dequeues
 use Rattle.script_meaning.proofs.CausalRuns as causal
 use Rattle.script_meaning.proofs.GetRuns as gets
+use Rattle.script_meaning.proofs.TransactionReads as reading
+use Rattle.script_meaning.proofs.CommitRuns as commits
 use Rattle.script_meaning.proofs.ObjectKinds.{some_of, causal_colour, object_has, queue_one, not_away, is_away, did_stay_away}
 use Rattle.script_meaning.proofs.AppendOne as one
 use Rattle.script_meaning.proofs.AfterMoves as moving
+use Rattle.script_meaning.proofs.AppendCases as cases
+use Rattle.script_meaning.proofs.FitCommands as fits
 use Rattle.script_meaning.proofs.AfterScan as scanning
 use Rattle.script_meaning.proofs.BeginRow as begun
 use Rattle.script_meaning.proofs.AppendSeveral as several
@@ -61,12 +66,8 @@ use Rattle.script_meaning.proofs.Invariant.{IsStopped, Runs, IsFitWhere, IsFit, 
 pub all_at : {A : Type 0} (P : A → Type 0) (xs : List A) → All P xs → (x : A) → In x xs → P x
 all_at P xs all x i = let c = contains_in xs x i in subst P c.2 (all c.0 x c.1)
 
-each_true : (test : ℕ → Bool) (xs : List ℕ) → ((x : ℕ) → In x xs → test x ≡ true) → list_all test xs ≡ true
-each_true test [] h = refl
-each_true test (x ∷ xs) h = and_from (test x) _ (h x (inl refl)) (each_true test xs (λ y i. h y (inr i)))
-
-module _ (script : Script) (commands : List Command) (state : State) (command : Command) (grants : Grants)
-    (runs : Runs script commands state) (fit : IsFit script commands command) where
+module _ (back : ReadsBack) (script : Script) (commands : List Command) (state : State) (command : Command)
+    (grants : Grants) (runs : Runs script commands state) (fit : IsFit script commands command) where
   abbrev u : ℕ
   u = command.client
 
@@ -83,104 +84,16 @@ module _ (script : Script) (commands : List Command) (state : State) (command : 
   going = free script commands state command runs fit
 
   client_ok : is_client w u ≡ true
-  client_ok = moving.client_ok script commands state command runs fit
+  client_ok = fits.client_ok script commands state command runs fit
 
   column_ok : (c : ℕ) → c < script.shape.colours → is_column w (home_of w u) c ≡ true
-  column_ok = moving.column_ok script commands state command runs fit
+  column_ok = fits.column_ok script commands state command runs fit
 
   -- what an append does, the command does
   abbrev IsAppend : Colours → List ℕ → Type 0
   IsAppend colours text =
       (w' : World) (answer : Answer) → Does script.objects u (whats.Append colours text) w w' answer []
       → Does script.objects u command.what w w' answer []
-
-  -- an append to one colour
-  runs_one_colour : (colours : Colours) (text : List ℕ) (c : ℕ) → IsAppend colours text
-      → members colours ≡ c ∷ [] → colours.0 < 2 ^ 64 → c < script.shape.colours
-      → Runs script commands' (appended_one grants state command text c)
-  runs_one_colour colours text c asked only low lt =
-      choice (Runs script commands') (may_single w u c)
-      (answered state command (with_single grants w u text c)
-      (answers.Stood (single_stamp w u c) None (point_in w (with_single grants w u text c) u (next_id w u) c ∷ [])) [])
-      (answered state command w (answers.StampEnd c) [])
-      (λ ok. runs_done script commands state command runs fit (with_single grants w u text c)
-      (answers.Stood (single_stamp w u c) None (point_in w (with_single grants w u text c) u (next_id w u) c ∷ [])) []
-      (asked (with_single grants w u text c)
-      (answers.Stood (single_stamp w u c) None (point_in w (with_single grants w u text c) u (next_id w u) c ∷ []))
-      (one.does script.objects S grants w runs.reached runs.finished u c text going ok colours only
-      (one_is_power colours c only low)))
-      (subst (Finished S) (sym (one.after_is script.objects S grants w runs.reached runs.finished u c text going ok))
-      (one.finished2 script.objects S grants w runs.reached runs.finished u c text going ok)))
-      (λ refused. runs_done script commands state command runs fit w (answers.StampEnd c) []
-      (asked w (answers.StampEnd c)
-      (did_end_one script.objects u c colours text w only client_ok (column_ok c lt) refused)) runs.finished)
-
-  -- the row of an append to several colours may begin
-  begins : (colours : Colours) → 1 < length (members colours)
-      → ((c : ℕ) → In c (members colours) → c < script.shape.colours) → is_full w u ≡ false → may_begin w u colours
-      ≡ true
-  begins colours many below full =
-      and_from (is_client w u) _ client_ok
-      (and_from (nat_lt (w.clients u).used w.shape.rows) _ (left (nat_lt (w.clients u).used w.shape.rows) full)
-      (and_from (nat_lt 1 (length (members colours))) _ (lt-ltb 1 (length (members colours)) many)
-      (each_true (is_column w (home_of w u)) (members colours) (λ c i. column_ok c (below c i))))) where
-        left : (b : Bool) → not b ≡ false → b ≡ true
-        left true e = refl
-        left false e = absurd (let f : ⊥ = cc in f)
-
-  -- an append to several colours
-  module _ (colours : Colours) (text : List ℕ) (asked : IsAppend colours text)
-      (many : 1 < length (members colours)) (below : (c : ℕ) → In c (members colours) → c < script.shape.colours) where
-    abbrev row : Row
-    row = next_row w u
-
-    abbrev w3 : World
-    w3 = run_steps (after_begin w u colours text) (complete_steps (after_begin w u colours text) u row grants.marks)
-
-    by_outcome : (ok : may_begin w u colours ≡ true) (last : Outcome) → (row_of w3 row).last ≡ last
-        → Runs script commands' (appended_by grants state command w3 row (members colours) last)
-    by_outcome ok Open e =
-        absurd ((several.done3 script.objects S grants w runs.reached runs.finished u colours text going ok).decided e)
-    by_outcome ok (Gone Memory) e =
-        runs_done script commands state command runs fit w3 answers.NoMemory []
-        (asked w3 answers.NoMemory
-        (several.does_gone_memory script.objects S grants w runs.reached runs.finished u colours text going ok e))
-        (several.finished3 script.objects S grants w runs.reached runs.finished u colours text going ok)
-    by_outcome ok (Gone StampEnd) e =
-        runs_done script commands state command runs fit w3 (answers.StampEnd
-        (ended_colour w3 row (members colours))) []
-        (asked w3 (answers.StampEnd (ended_colour w3 row (members colours)))
-        (several.does_gone_end script.objects S grants w runs.reached runs.finished u colours text going ok e))
-        (several.finished3 script.objects S grants w runs.reached runs.finished u colours text going ok)
-    by_outcome ok (Final f) e =
-        let after_all = all_cleared grants u (entry_key f (next_id w u)) (members colours) (after w3 (Seen u f)) in
-        let answer = answers.Stood f (Some row.number) (map (point_in w after_all u (next_id w u)) (members colours)) in
-        runs_done script commands state command runs fit after_all answer []
-        (asked after_all answer
-        (final.does_final script.objects S grants w runs.reached runs.finished u colours text going ok f e))
-        (subst (Finished S) (sym
-        (final.after_is script.objects S grants w runs.reached runs.finished u colours text going ok f e))
-        (final.finished6 script.objects S grants w runs.reached runs.finished u colours text going ok f e))
-
-    stepped_is : (ok : may_begin w u colours ≡ true) → run_steps w (append_steps grants w u colours text) ≡ w3
-    stepped_is ok =
-        ap (λ (x : World). run_steps x (complete_steps x u row grants.marks))
-        (if_true (may_begin w u colours) (after_begin w u colours text) w ok)
-
-    runs_several : Runs script commands' (appended_several grants state command colours text)
-    runs_several =
-        choice (Runs script commands') (is_full w u)
-        (answered state command w (answers.Full (w.clients u).used) [])
-        (appended_by grants state command (run_steps w (append_steps grants w u colours text)) row (members colours)
-        (row_of (run_steps w (append_steps grants w u colours text)) row).last)
-        (λ full. runs_done script commands state command runs fit w (answers.Full (w.clients u).used) []
-        (asked w (answers.Full (w.clients u).used)
-        (did_full script.objects u (whats.Append colours text) colours text w runs.reached (λ caller kept. (refl, refl))
-        (λ a b e. absurd (let f : ⊥ = cc in f)) many full)) runs.finished)
-        (λ room. let ok = begins colours many below room in
-        subst (λ (x : World). Runs script commands'
-        (appended_by grants state command x row (members colours) (row_of x row).last)) (sym (stepped_is ok))
-        (by_outcome ok (row_of w3 row).last refl))
 
   -- a stop
   module _ (colours : Colours) (text : List ℕ) (many : 1 < length (members colours))
@@ -216,34 +129,18 @@ module _ (script : Script) (commands : List Command) (state : State) (command : 
         (subst (λ (what : What). Does script.objects u what w w (answers.Full (w.clients u).used) []) (sym asked)
         (did_full script.objects u (whats.Stop (suc n) colours text) colours text w runs.reached
         (λ caller kept. (refl, refl)) (λ a b e. absurd (let f : ⊥ = cc in f)) many full)) runs.finished)
-        (λ room. stop_done n (begins colours many below room) asked)
+        (λ room. stop_done n (cases.begins script commands state command runs fit colours many below room) asked)
 
   -- the command, by what it asks
-  has_low : (count : ℕ) (colours : Colours) → has_colours count colours ≡ true
-      → (count ≤ length (members colours)) × (colours.0 < 2 ^ 64)
-  unfolding has_colours
-  has_low count colours e =
-      let p = both (not (nat_lt (length (members colours)) count)) _ e in
-      (enough (cases_lt (length (members colours)) count) (not_true _ p.0), ltb-true colours.0 (2 ^ 64) p.1) where
-        enough : (length (members colours) < count) ⊎ (count ≤ length (members colours))
-            → nat_lt (length (members colours)) count ≡ false → count ≤ length (members colours)
-        enough (inl lt) f = absurd (apart _ (lt-ltb _ _ lt) f)
-        enough (inr le) f = le
-
-  runs_append : (colours : Colours) (text : List ℕ) (ms : List ℕ) → members colours ≡ ms
-      → IsAppend colours text → has_colours 1 colours ≡ true
+  runs_append : (colours : Colours) (text : List ℕ) → IsAppend colours text → has_colours 1 colours ≡ true
       → ((c : ℕ) → In c (members colours) → c < script.shape.colours)
-      → Runs script commands' (appended grants state command colours text ms)
-  runs_append colours text [] is asked b all =
-      let n = (has_low 1 colours b).0 in
-      let z : length (members colours) ≡ 0 = ap length is in
-      absurd (let f : ⊥ = omega (arith, n, z) in f)
-  runs_append colours text (c ∷ []) is asked b all =
-      runs_one_colour colours text c asked is (has_low 1 colours b).1
-      (all c (subst (λ (l : List ℕ). In c l) (sym is) (inl refl)))
-  runs_append colours text (c ∷ d ∷ ms) is asked b all =
-      runs_several colours text asked
-      (let z : length (members colours) ≡ suc (suc (length ms)) = ap length is in omega (arith, z)) all
+      → Runs script commands' (appended grants state command colours text (members colours))
+  runs_append colours text asked has below =
+      cases.by_append script commands state command grants runs fit colours text has below
+      (answered_stood state command) (Runs script commands')
+      (λ w' answer refusal d fin. runs_done script commands state command runs fit w' answer [] (asked w' answer d) fin)
+      (λ v stamp row points d fin. runs_done script commands state command runs fit v
+      (answers.Stood stamp row points) [] (asked v (answers.Stood stamp row points) d) fin)
 
   abbrev caller : Caller
   caller = caller_in w script.objects u
@@ -254,7 +151,7 @@ module _ (script : Script) (commands : List Command) (state : State) (command : 
       → members set ≡ colours → ((c : ℕ) → In c colours → c < script.shape.colours)
       → Runs script commands' (appended grants state command set text (members set))
   runs_form set colours text appending asks has is below =
-      runs_append set text (members set) refl
+      runs_append set text
       (λ w' answer d. does_as script.objects u command.what set text appending asks w w' answer [] d) has
       (λ c i. below c (subst (λ (l : List ℕ). In c l) is i))
 
@@ -317,15 +214,15 @@ module _ (script : Script) (commands : List Command) (state : State) (command : 
       → IsWithin script.shape.regions script.shape.colours what → UsesObject script.objects what
       → Runs script commands' (done_one script.objects grants state command what)
   runs_what (whats.Append colours text) asked b within uses =
-      runs_append colours text (members colours) refl
+      runs_append colours text
       (λ w' answer d. subst (λ (what : What). Does script.objects u what w w' answer []) (sym asked) d) b
       (λ c i. all_at (λ d. d < script.shape.colours) (members colours) within c i)
   runs_what (whats.Stop steps colours text) asked b within uses =
-      runs_stop colours text (let n = (has_low 2 colours b).0 in omega (arith, n))
+      runs_stop colours text (let n = (cases.has_low 2 colours b).0 in omega (arith, n))
       (λ x i. all_at (λ y. y < script.shape.colours) (members colours) within x i) steps asked
   runs_what (whats.Sync colour) asked b within uses =
       moving.runs_sync script commands state command runs fit colour asked within
-  runs_what (whats.Scan colours) asked b within uses = runs_scan_of colours asked (has_low 1 colours b).0 within
+  runs_what (whats.Scan colours) asked b within uses = runs_scan_of colours asked (cases.has_low 1 colours b).0 within
   runs_what (whats.Pull region colour) asked b within uses =
       moving.runs_pull script commands state command runs fit grants region colour asked within.0 within.1
   runs_what (whats.Trim colour) asked b within uses =
@@ -353,8 +250,9 @@ module _ (script : Script) (commands : List Command) (state : State) (command : 
   runs_what (whats.GetAll object keys) asked b within uses =
       let key = some_of keys (leb-true 1 _ (both _ _ (both _ _ uses.1).0).0) in
       gets.runs_get_keys script commands state command grants runs fit object keys key.0 key.1 asked uses.0
-  runs_what (whats.Read object keys) asked b within uses = absurd (let f : ⊥ = cc in f)
-  runs_what (whats.Commit object pairs) asked b within uses = absurd (let f : ⊥ = cc in f)
+  runs_what (whats.Read object keys) asked b within uses = absurd (fit.read object keys asked)
+  runs_what (whats.Commit object pairs) asked b within uses =
+      commits.runs_commit back script commands state command grants runs fit object pairs asked
   runs_what (whats.Enq object value) asked b within uses =
       runs_queue object (form_text (forms.Enqueue value)) uses.0 (ap manner_of asked)
       (λ is w' kept. subst (λ (what : What). AsksToAppend (caller_in w' script.objects u) kept what
@@ -362,27 +260,78 @@ module _ (script : Script) (commands : List Command) (state : State) (command : 
   runs_what (whats.Deq object) asked b within uses =
       dequeues.runs_dequeue script commands state command grants runs fit object asked uses
 
-module _ (script : Script) (commands : List Command) (state : State) (command : Command) (grants : Grants)
-    (runs : Runs script commands state) where
+-- whether a command is a read of an object
+read_or_not : (what : What)
+    → ((object : ℕ) × (keys : List (List ℕ)) × (what ≡ whats.Read object keys))
+    ⊎ ((object : ℕ) (keys : List (List ℕ)) → what ≡ whats.Read object keys → ⊥)
+read_or_not (whats.Append colours text) = inr (λ o k e. let f : ⊥ = cc in f)
+read_or_not (whats.Stop steps colours text) = inr (λ o k e. let f : ⊥ = cc in f)
+read_or_not (whats.Sync colour) = inr (λ o k e. let f : ⊥ = cc in f)
+read_or_not (whats.Scan colours) = inr (λ o k e. let f : ⊥ = cc in f)
+read_or_not (whats.Pull region colour) = inr (λ o k e. let f : ⊥ = cc in f)
+read_or_not (whats.Trim colour) = inr (λ o k e. let f : ⊥ = cc in f)
+read_or_not (whats.Put object key value) = inr (λ o k e. let f : ⊥ = cc in f)
+read_or_not (whats.Get object key) = inr (λ o k e. let f : ⊥ = cc in f)
+read_or_not (whats.Del object key) = inr (λ o k e. let f : ⊥ = cc in f)
+read_or_not (whats.PutAll object pairs) = inr (λ o k e. let f : ⊥ = cc in f)
+read_or_not (whats.GetAll object keys) = inr (λ o k e. let f : ⊥ = cc in f)
+read_or_not (whats.Read object keys) = inl (object, keys, refl)
+read_or_not (whats.Commit object pairs) = inr (λ o k e. let f : ⊥ = cc in f)
+read_or_not (whats.Enq object value) = inr (λ o k e. let f : ⊥ = cc in f)
+read_or_not (whats.Deq object) = inr (λ o k e. let f : ⊥ = cc in f)
+
+module _ (script : Script) (commands : List Command) (command : Command)
+    (fit : IsFitWhere script commands command ⊥ (Unit {0}))
+    (other : (object : ℕ) (keys : List (List ℕ)) → command.what ≡ whats.Read object keys → ⊥) where
+  no_read : IsFit script commands command
+  no_read = record {
+    caller = fit.caller;
+    home = fit.home;
+    few = fit.few;
+    within = fit.within;
+    built = fit.built;
+    going = fit.going;
+    uses = fit.uses;
+    kinds = fit.kinds;
+    few_colours = fit.few_colours;
+    few_clients = fit.few_clients;
+    callers = fit.callers;
+    short = fit.short;
+    away = fit.away;
+    read = other;
+  }
+
+module _ (back : ReadsBack) (script : Script) (commands : List Command) (state : State) (command : Command)
+    (grants : Grants) (runs : Runs script commands state) where
   abbrev caller_now : Caller
   caller_now = caller_in state.world script.objects command.client
 
   -- where the home of the command's object refuses it, and where it does not
-  runs_from : (IsFitWhere script commands command (Unit {0})) → (home : Option ℕ)
+  runs_from : (IsFitWhere script commands command (Unit {0}) (Unit {0})) → (home : Option ℕ)
       → refusing_home caller_now command.what ≡ home
-      → ((IsAway caller_now (home_asked caller_now command.what) → ⊥) → IsFit script commands command)
+      → ((IsAway caller_now (home_asked caller_now command.what) → ⊥)
+      → IsFitWhere script commands command ⊥ (Unit {0}))
       → Runs script (commands ++ command ∷ []) (done_from home script.objects grants state command)
   runs_from any None is fit =
       let near = fit (not_away caller_now (home_asked caller_now command.what) is) in
-      runs_what script commands state command grants runs near command.what refl near.built near.within near.uses
+      elim (read_or_not command.what) [
+        | inl r ↦ subst (λ (what : What). Runs script (commands ++ command ∷ [])
+            (done_one script.objects grants state command what)) (sym r.2)
+            (reading.runs_read script commands state command grants runs near r.0 r.1 r.2)
+        | inr other ↦ let fits = no_read script commands command near other in
+            runs_what back script commands state command grants runs fits command.what refl near.built near.within
+            near.uses
+      ]
   runs_from any (Some home) is fit =
       let away = is_away caller_now (home_asked caller_now command.what) home is in
       runs_answered script commands state command runs any state.world (answers.NotHome home) []
+      (inr (λ _ _ _ _ e. absurd (let f : ⊥ = cc in f)))
       (did_stay_away script.objects command.client command.what state.world home away.0 away.1)
       (λ _. inr (home, refl)) runs.finished
 
-  pub runs_command : (IsFitWhere script commands command (Unit {0}))
-      → ((IsAway caller_now (home_asked caller_now command.what) → ⊥) → IsFit script commands command)
+  pub runs_command : (IsFitWhere script commands command (Unit {0}) (Unit {0}))
+      → ((IsAway caller_now (home_asked caller_now command.what) → ⊥)
+      → IsFitWhere script commands command ⊥ (Unit {0}))
       → Runs script (commands ++ command ∷ []) (done script.objects grants state command)
   runs_command any fit =
       choice (Runs script (commands ++ command ∷ [])) grants.start
@@ -390,16 +339,17 @@ module _ (script : Script) (commands : List Command) (state : State) (command : 
       (answered state command state.world answers.NoMemory [])
       (λ _. runs_from any (refusing_home caller_now command.what) refl fit)
       (λ _. runs_answered script commands state command runs any state.world answers.NoMemory []
+      (inr (λ _ _ _ _ e. absurd (let f : ⊥ = cc in f)))
       (did_nothing script.objects command.client command.what state.world) (λ _. inl refl) runs.finished)
 
 -- The commands of a script
 
-module _ (script : Script) (fits : IsFitting script)
+module _ (back : ReadsBack) (script : Script) (fits : IsFitting script)
     (built : All (λ (c : Command). IsTrue (is_built script.objects c.what)) script.commands) (last : StopsAreLast script) where
   fit_at : (commands : List Command) (command : Command) (rest : List Command)
       → script.commands ≡ commands ++ command ∷ rest → (Away : Type 0)
       → (IsAway (caller_of script command.client) (home_asked (caller_of script command.client) command.what) → Away)
-      → IsFitWhere script commands command Away
+      → IsFitWhere script commands command Away (Unit {0})
   fit_at commands command rest is Away away =
       let there : In command script.commands =
       subst (λ (l : List Command). In command l) (sym is) (in_right command commands (command ∷ rest) (inl refl)) in
@@ -433,7 +383,15 @@ module _ (script : Script) (fits : IsFitting script)
         uses = all_at (λ (c : Command). UsesObject script.objects c.what) script.commands fits.uses command there;
         kinds = fits.objects;
         few_colours = fits.shape.few_colours;
+        few_clients = fits.shape.few_clients;
+        callers = λ c i. all_at (λ (c : Command). c.client < length script.shape.homes) script.commands fits.callers c
+            (subst (λ (l : List Command). In c l) (sym is) (in_left c commands (command ∷ rest) i));
+        short =
+            let total : length script.commands ≡ length commands + suc (length rest) =
+            ap length is ∙ length-append commands (command ∷ rest) in
+            let few = fits.few in omega (arith, total, few);
         away = away;
+        read = λ _ _ _. tt;
       } where
         home_at : (n : ℕ) → n < length script.shape.homes → slice_index script.shape.homes n < script.shape.regions
         home_at n lt = fits.shape.homes n 0 lt
@@ -446,7 +404,7 @@ module _ (script : Script) (fits : IsFitting script)
       let runs = runs_lead leads (command ∷ rest) whole in
       let any = fit_at commands command rest whole (Unit {0}) (λ _. tt) in
       let same = caller_is script commands state command runs any command.client in
-      runs_command script commands state command grants runs any
+      runs_command back script commands state command grants runs any
       (λ near. fit_at commands command rest whole ⊥
       (subst (λ (c : Caller). IsAway c (home_asked c command.what) → ⊥) same near))
 

@@ -88,28 +88,28 @@ pub later_log : (w w' : World) (steps : List Step) → IsReached w → run_steps
 later_log w w' steps r run =
     subst (λ (x : World). IsLater (log_of w) (log_of x)) run (log_grows w (held_of w r) (told_of w r) steps)
 
--- what another client keeps is still what the world has of it
-pub kept_other : (objects : List Object) (client : ℕ) (what : What) (w w' : World) (answer : Answer)
-    (nodes : List PlacedNode) → Does objects client what w w' answer nodes → IsReached w → (n : ℕ) → n ≢ client
-    → (kept : Kept) → IsKeptBy w n kept → IsKeptBy w' n kept
-kept_other objects client what w w' answer nodes d r n ne kept k =
-    let later = later_log w w' d.steps r d.run in
+-- What another client keeps is still what the world has of it, after steps of which all events are of the one.
+pub kept_beside : (client : ℕ) (w w' : World) (steps : List Step) → IsReached w → run_steps w steps ≡ w'
+    → w'.shape ≡ w.shape → ((n : ℕ) → n ≢ client → w'.clients n ≡ w.clients n)
+    → ((r c : ℕ) → Adds (λ (e : Entry). e.by ≡ client) (w.histories r c) (w'.histories r c))
+    → (n : ℕ) → n ≢ client → (kept : Kept) → IsKeptBy w n kept → IsKeptBy w' n kept
+kept_beside client w w' steps r run shape others adds n ne kept k =
+    let later = later_log w w' steps r run in
     record {
-      floor = k.floor ∙ ap (λ (s : ClientState). s.floor) (sym (d.others n ne));
-      starts = k.starts ∙ ap (λ (s : ClientState). s.played) (sym (d.others n ne));
+      floor = k.floor ∙ ap (λ (s : ClientState). s.floor) (sym (others n ne));
+      starts = k.starts ∙ ap (λ (s : ClientState). s.played) (sym (others n ne));
       seen = λ a c. let x = k.seen a c in
           let y = prefix_length (w.histories a c) (w'.histories a c) (later.histories a c) in omega (arith, x, y);
       known = λ c. let x = k.known c in
           let y = prefix_length (line (home_history w n c)) (line (w'.histories (home_of w n) c))
           (later.lines (home_of w n) c) in
           subst (λ (s : ℕ). kept.known c ≤ length (line (w'.histories s c)))
-          (sym (ap (λ (s : Shape). slice_index s.homes n) d.shape)) (omega (arith, x, y));
+          (sym (ap (λ (s : Shape). slice_index s.homes n) shape)) (omega (arith, x, y));
       made = λ a c. others_places n (w.histories a c) (w'.histories a c)
-          (adds_map (MadeBy client what w' (home_of w client) a) (λ (e : Entry). e.by ≡ n → ⊥) (w.histories a c)
-          (w'.histories a c)
-          (λ e m same. ne (sym same ∙ m.made)) (d.adds a c)) ∙ k.made a c;
-      ids = k.ids ∙ ap (λ (s : ClientState). s.count) (sym (d.others n ne));
-      rows = k.rows ∙ ap (λ (s : ClientState). s.used) (sym (d.others n ne));
+          (adds_map (λ (e : Entry). e.by ≡ client) (λ (e : Entry). e.by ≡ n → ⊥) (w.histories a c) (w'.histories a c)
+          (λ e made same. ne (sym same ∙ made)) (adds a c)) ∙ k.made a c;
+      ids = k.ids ∙ ap (λ (s : ClientState). s.count) (sym (others n ne));
+      rows = k.rows ∙ ap (λ (s : ClientState). s.used) (sym (others n ne));
     }
 
 -- a command that is granted no memory did nothing

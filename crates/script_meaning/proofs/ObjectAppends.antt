@@ -13,7 +13,7 @@ use Rattle.script_text.specs.declared.script.What.{What}
 use Rattle.script_text.specs.declared.script.What.TheVariants as whats
 use Rattle.report_text.specs.declared.report.Answer.{Answer}
 use Rattle.report_text.specs.declared.report.Answer.TheVariants as answers
-use Rattle.lawful_run.specs.Callers.{node_of}
+use Rattle.lawful_run.specs.Callers.{Caller, node_of}
 use Rattle.lawful_run.specs.Asks.{AsksToAppend, Manner, Appending, Stopping, manner_of, may_help}
 use Rattle.lawful_run.specs.Appends.{IsGoneForMemory}
 use Rattle.lawful_run.specs.Explains.{Explains, AppendsBy, IsNoStopAtOnce}
@@ -26,32 +26,31 @@ abbrev pub AsksIn : List Object → ℕ → What → Colours → List ℕ → Ty
 AsksIn objects u what colours text =
     (w : World) (kept : Kept) → AsksToAppend (caller_in w objects u) kept what colours text
 
-module _ (objects : List Object) (u : ℕ) (what : What) (colours : Colours) (text : List ℕ)
-    (appending : manner_of what ≡ Appending) (asks : AsksIn objects u what colours text) where
-  by_asks : (w : World) (kept : Kept) (Says : Colours → List ℕ → Type 0)
-      → AppendsBy (caller_in w objects u) kept (whats.Append colours text) Says
-      → AppendsBy (caller_in w objects u) kept what Says
-  by_asks w kept Says e = (
+-- what the command appends is what this append does
+module _ (log : Log) (caller : Caller) (kept : Kept) (what : What) (colours : Colours) (text : List ℕ)
+    (asks : AsksToAppend caller kept what colours text) where
+  pub by_asks : (Says : Colours → List ℕ → Type 0) → AppendsBy caller kept (whats.Append colours text) Says
+      → AppendsBy caller kept what Says
+  by_asks Says e = (
     colours,
     text,
-    asks w kept,
+    asks,
     subst (λ (c : Colours). Says c text) e.2.0 (subst (λ (t : List ℕ). Says e.0 t) e.2.1 e.3),
   )
 
-  no_memory : (log : Log) (w : World) (kept after : Kept)
-      → FindsNoMemory log (caller_in w objects u) kept (whats.Append colours text) after
-      → FindsNoMemory log (caller_in w objects u) kept what after
-  no_memory log w kept after nothing = nothing
-  no_memory log w kept after (gone c t places is g) =
-      gone colours text places (asks w kept)
-      (subst (λ (x : Colours). IsGoneForMemory log (caller_in w objects u) kept
-      (node_of (caller_in w objects u) kept x text) places) is.0
-      (subst (λ (x : List ℕ). IsGoneForMemory log (caller_in w objects u) kept
-      (node_of (caller_in w objects u) kept c x) places) is.1 g))
-  no_memory log w kept after (gave region colour too_low gives is a b c) = absurd (let f : ⊥ = cc in f)
-  no_memory log w kept after (hidden other h) =
-      subst (λ (k : Kept). FindsNoMemory log (caller_in w objects u) kept what k) (sym h) nothing
+  pub finds_no_memory : (after : Kept) → FindsNoMemory log caller kept (whats.Append colours text) after
+      → FindsNoMemory log caller kept what after
+  finds_no_memory after nothing = nothing
+  finds_no_memory after (gone c t places is g) =
+      gone colours text places asks
+      (subst (λ (x : Colours). IsGoneForMemory log caller kept (node_of caller kept x text) places) is.0
+      (subst (λ (x : List ℕ). IsGoneForMemory log caller kept (node_of caller kept c x) places) is.1 g))
+  finds_no_memory after (gave region colour too_low gives is a b c) = absurd (let f : ⊥ = cc in f)
+  finds_no_memory after (hidden other h) =
+      subst (λ (k : Kept). FindsNoMemory log caller kept what k) (sym h) nothing
 
+module _ (objects : List Object) (u : ℕ) (what : What) (colours : Colours) (text : List ℕ)
+    (appending : manner_of what ≡ Appending) (asks : AsksIn objects u what colours text) where
   not_stopping : manner_of what ≢ Stopping
   not_stopping e = let x : Appending ≡ Stopping = sym appending ∙ e in absurd (let f : ⊥ = cc in f)
 
@@ -61,11 +60,12 @@ module _ (objects : List Object) (u : ℕ) (what : What) (colours : Colours) (te
   explains_as : (log : Log) (w : World) (kept : Kept) (answer : Answer) (nodes : List PlacedNode) (after : Kept)
       → Explains log (caller_in w objects u) kept (whats.Append colours text) answer nodes after
       → Explains log (caller_in w objects u) kept what answer nodes after
-  explains_as log w kept answers.NoMemory nodes after e = (e.0, no_memory log w kept after e.1)
+  explains_as log w kept answers.NoMemory nodes after e =
+      (e.0, finds_no_memory log (caller_in w objects u) kept what colours text (asks w kept) after e.1)
   explains_as log w kept (answers.Stood stamp row points) nodes after e =
-      (e.0, appending, by_asks w kept _ e.2)
-  explains_as log w kept (answers.StampEnd colour) nodes after e = (e.0, not_stopping, by_asks w kept _ e.2)
-  explains_as log w kept (answers.Full used) nodes after e = (e.0, no_stop, e.2, by_asks w kept _ e.3)
+      (e.0, appending, by_asks log (caller_in w objects u) kept what colours text (asks w kept) _ e.2)
+  explains_as log w kept (answers.StampEnd colour) nodes after e = (e.0, not_stopping, by_asks log (caller_in w objects u) kept what colours text (asks w kept) _ e.2)
+  explains_as log w kept (answers.Full used) nodes after e = (e.0, no_stop, e.2, by_asks log (caller_in w objects u) kept what colours text (asks w kept) _ e.3)
   explains_as log w kept (answers.Stopped steps) nodes after e = let x = e.3 in absurd (let f : ⊥ = cc in f)
   explains_as log w kept (answers.Synced sync plays) nodes after e = let x = e.0 in absurd (let f : ⊥ = cc in f)
   explains_as log w kept (answers.Scanned stamp count raises syncs) nodes after e =

@@ -68,6 +68,19 @@ distinct before (key ∷ keys) e =
     (ap not (none_later (before ++ key ∷ []) keys key (covers_last before key) a.1))
     (distinct (before ++ key ∷ []) keys a.1)
 
+words : (before keys : List (List ℕ)) → are_new_keys before keys ≡ true → list_all is_word keys ≡ true
+words before [] e = refl
+words before (key ∷ keys) e =
+    let a = both _ _ e in
+    and_from (is_word key) (list_all is_word keys) (both _ _ a.0).0 (words (before ++ key ∷ []) keys a.1)
+
+-- the keys of a script are words, no two of them equal
+pub keys_are_words : (keys : List (List ℕ)) → are_new_keys [] keys ≡ true → list_all is_word keys ≡ true
+keys_are_words keys e = words [] keys e
+
+pub keys_distinct : (keys : List (List ℕ)) → are_new_keys [] keys ≡ true → are_distinct keys ≡ true
+keys_distinct keys e = distinct [] keys e
+
 all_words : (before : List (List ℕ)) (pairs : List Pair) → are_new_keys before (map (λ (p : Pair). p.key) pairs) ≡ true
     → list_all (λ (p : Pair). is_word p.key) pairs ≡ true
 all_words before [] e = refl

@@ -12,10 +12,10 @@ use Rattle.script_text.specs.declared.script.Kind.TheVariants as kinds
 use Rattle.script_text.specs.declared.script.Object.{Object}
 use Rattle.script_text.specs.declared.script.What.{What}
 use Rattle.script_text.specs.Items.{set_of}
-use Rattle.script_text.specs.Fitting.{AreObjectColours, IsKindWithin, is_queue, is_any_map, HasObject}
+use Rattle.script_text.specs.Fitting.{AreObjectColours, IsKindWithin, is_tx, is_queue, is_any_map, HasObject}
 use Rattle.report_text.specs.declared.report.Answer.TheVariants as answers
 use Rattle.lawful_run.specs.Callers.{Caller}
-use Rattle.lawful_run.specs.Asks.{object_colours, home_asked}
+use Rattle.lawful_run.specs.Asks.{object_colours, object_home, home_asked}
 use Rattle.lawful_run.specs.Refusals.{IsAway}
 use Rattle.lawful_run.proofs.CallerLemmas.{get_within}
 use Rattle.script_meaning.specs.Objects.{other_home}
@@ -88,6 +88,13 @@ queue_colour objects regions count all object has =
     (q.0, sym (colours_are objects regions count all object is_queue has) ∙ q.1, q.2)
 
 -- Homes
+
+-- a transactional map has a home
+pub tx_home : (kind : Kind) → is_tx kind ≡ true → (home : ℕ) × (object_home (Some kind) ≡ Some home)
+tx_home (kinds.Map home colours) t = absurd (let f : ⊥ = cc in f)
+tx_home (kinds.Tx home colours) t = (home, refl)
+tx_home (kinds.Causal colour) t = absurd (let f : ⊥ = cc in f)
+tx_home (kinds.Queue home colour) t = absurd (let f : ⊥ = cc in f)
 
 none_some : {A : Type 0} (x : A) → Some x ≡ None → ⊥
 none_some x e = let f : ⊥ = cc in f

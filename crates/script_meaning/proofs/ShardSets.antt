@@ -1,6 +1,6 @@
 -- The sets of the colours of shards.
 use Rattle.std.proofs.Common.{◌≡◌, ◌≢◌, ◌⊎◌, inl, inr, ℕ, zero, suc, ◌+◌, ◌<◌, ◌≤◌, ◌^◌, Bool, true, false, cond, List, [], ◌∷◌, length, map, refl, ap, sym, subst, ◌∙◌, arith, bit_or, eq-eqb}
-use Rattle.std.specs.Prelude.{◌==◌, ◌||◌, ◌%◌, not, nat_lt, sum}
+use Rattle.std.specs.Prelude.{◌==◌, ◌||◌, ◌%◌, not, nat_lt, sum, slice_index_or}
 use Rattle.std.specs.List.{All, filter, fold, list_any, range_with_len}
 use Rattle.std.proofs.Math.Nat.{mod-lt}
 use Rattle.std.proofs.Math.Pow.{pow-lt}
@@ -10,11 +10,11 @@ use Rattle.std.proofs.lemmas.Nat.Bits.{same_from_bits_below, bit_at-lt}
 use Rattle.std.specs.Int.{bit_at}
 use Rattle.log_node.specs.Sets.{has, members}
 use Rattle.object_fold.specs.Nodes.{shard_of}
-use Rattle.col_core.proofs.CallerLemmas.{by_test, apart, if_true, if_false, In, in_filter, in_filter-back}
+use Rattle.col_core.proofs.CallerLemmas.{by_test, apart, if_true, if_false, contains_in, In, in_filter, in_filter-back}
 use Rattle.script_text.specs.Items.{set_of}
 use Rattle.script_text.specs.Fitting.{AreObjectColours}
 use Rattle.script_text.proofs.CallerLemmas.{has_set}
-use Rattle.lawful_run.specs.Asks.{colours_where, shards}
+use Rattle.lawful_run.specs.Asks.{colours_where, shards, rising}
 use Rattle.script_meaning.specs.States.{has_colours}
 use Rattle.script_meaning.specs.Objects.{shard_set}
 use Rattle.script_meaning.proofs.Lists.{range_in}
@@ -137,6 +137,15 @@ pub shard_below : (count : ℕ) (colours : List ℕ) → 1 ≤ length colours �
 shard_below count colours some all key =
     all (sum key % length colours) 0 (mod-lt (sum key) (omega (arith, some)))
 
+in_index : (xs : List ℕ) (k : ℕ) → k < length xs → In (slice_index_or xs k 0) xs
+in_index [] k lt = absurd (let f : ⊥ = omega (arith, lt) in f)
+in_index (x ∷ xs) zero lt = inl refl
+in_index (x ∷ xs) (suc k) lt = inr (in_index xs k (omega (arith, lt)))
+
+pub shard_in : (colours : List ℕ) → 1 ≤ length colours → (key : List ℕ) → In (shard_of colours key) colours
+shard_in colours some key =
+    in_index colours (sum key % length colours) (mod-lt (sum key) (omega (arith, some)))
+
 -- each colour of the shards is a key's
 pub of_key : (colours : List ℕ) (keys : List (List ℕ)) (c : ℕ) → In c (shards colours keys)
     → (key : List ℕ) × In key keys × (shard_of colours key ≡ c)
@@ -179,6 +188,38 @@ module _ (count : ℕ) (few : count ≤ 16) (colours : List ℕ) (some : 1 ≤ l
       (subst (λ (l : List ℕ). 1 ≤ length l)
       (sym (set_where (λ c. list_any (λ key. shard_of colours key == c) keys)))
       (in_some (shards colours keys) (shard_of colours key) (key_in colours keys key i (omega (arith, low, few)))))
+
+-- All colours of an object
+
+pub rising_in : (colours : List ℕ) (c : ℕ) → In c colours → c < 64 → In c (rising colours)
+rising_in colours c i low =
+    in_filter-back (λ x. list_any (λ d. d == x) colours) c (range_with_len 0 64)
+    (range_in 0 64 c (omega arith) (omega (arith, low))) (any_in c colours i)
+
+pub in_rising : (colours : List ℕ) (c : ℕ) → In c (rising colours) → In c colours
+in_rising colours c i =
+    let t = (in_filter (λ x. list_any (λ d. d == x) colours) c (range_with_len 0 64) i).1 in
+    let r = in_any (λ d. d == c) colours t in
+    subst (λ (x : ℕ). In x colours) (eqb-true r.0 c r.2) r.1
+
+pub rising_members : (colours : List ℕ) → members (set_of colours) ≡ rising colours
+rising_members colours =
+    same_filter (has (set_of colours)) (λ x. list_any (λ d. d == x) colours) (range_with_len 0 64)
+    (λ x i. has_set colours x)
+
+module _ (count : ℕ) (few : count ≤ 16) (colours : List ℕ) (own : AreObjectColours count colours) where
+  pub own_below : (c : ℕ) → In c colours → c < count
+  own_below c i = let k = contains_in colours c i in subst (λ (x : ℕ). x < count) k.2 (own.below k.0 c k.1)
+
+  pub rising_below : (c : ℕ) → In c (rising colours) → c < count
+  rising_below c i = own_below c (in_rising colours c i)
+
+  pub rising_some : (c : ℕ) × In c (rising colours)
+  rising_some = some colours own.some (λ c i. rising_in colours c i (let lt = own_below c i in omega (arith, lt, few)))
+    where
+      some : (cs : List ℕ) → 1 ≤ length cs → ((c : ℕ) → In c cs → In c (rising colours)) → (c : ℕ) × In c (rising colours)
+      some [] le all = absurd (let f : ⊥ = omega (arith, le) in f)
+      some (c ∷ cs) le all = (c, all c (inl refl))
 
 -- a bit is as its test says
 same_bit : (a b : ℕ) → a < 2 → b < 2 → (a == 1) ≡ (b == 1) → a ≡ b

@@ -22,7 +22,7 @@ use Rattle.world_laws.specs.declared.steps.Step.{Step}
 use Rattle.world_laws.specs.declared.steps.Step.TheVariants.{Seen}
 use Rattle.world_laws.specs.Worlds.{World, ClientState, home_of, home_history, run_steps, after, base_after, is_client, is_column, may_play}
 use Rattle.world_laws.specs.Laws.{IsReached, log_of}
-use Rattle.world_laws.proofs.CallerLemmas.{in_map, run_reached, run_steps-append}
+use Rattle.world_laws.proofs.CallerLemmas.{in_left, in_map, run_reached, run_steps-append}
 use Rattle.playback.specs.Merging.{AreRising, region_order}
 use Rattle.playback.proofs.CallerLemmas.{order_is_merged}
 use Rattle.script_text.specs.declared.script.What.{What}
@@ -110,15 +110,21 @@ keys_ordered w reached u stamp colours =
           (in_contains (map (λ c. line (home_history w u c)) colours) l c) in
           subst AreRising m.2 (rising_line w reached (home_of w u) m.0)
 
--- and each has its node
-pub keys_listed : (w : World) → IsReached w → (u stamp : ℕ) (colours : List ℕ) (key : Key)
-    → In key (keys_read w u stamp colours) → (node : Node) × (node_with w key.id ≡ Some node)
-keys_listed w reached u stamp colours key i =
+-- each stands in the line of a colour
+pub keys_stand : (w : World) → IsReached w → (u stamp : ℕ) (colours : List ℕ) (key : Key)
+    → In key (keys_read w u stamp colours) → (c : ℕ) × In c colours × In key (line (home_history w u c))
+keys_stand w reached u stamp colours key i =
     let o = (keys_ordered w reached u stamp colours).no_other key
     (contains_in (keys_read w u stamp colours) key i) in
     let m = in_map (λ c. line (home_history w u c)) colours o.1
     (in_contains (map (λ c. line (home_history w u c)) colours) o.1 o.2) in
-    line_node w reached (home_of w u) m.0 key (subst (λ (l : List Key). In key l) (sym m.2) (in_contains o.1 key o.3))
+    (m.0, m.1, subst (λ (l : List Key). In key l) (sym m.2) (in_contains o.1 key o.3))
+
+-- and each has its node
+pub keys_listed : (w : World) → IsReached w → (u stamp : ℕ) (colours : List ℕ) (key : Key)
+    → In key (keys_read w u stamp colours) → (node : Node) × (node_with w key.id ≡ Some node)
+keys_listed w reached u stamp colours key i =
+    let s = keys_stand w reached u stamp colours key i in line_node w reached (home_of w u) s.0 key s.2
 
 module _ (objects : List Object) (S : ℕ → Type 0) (what : What) (may : may_help (manner_of what) ≡ true) (w : World)
     (reached : IsReached w) (fin : Finished S w) (u : ℕ) (free : S u → ⊥) (colours : List ℕ)
@@ -160,6 +166,9 @@ module _ (objects : List Object) (S : ℕ → Type 0) (what : What) (may : may_h
     pub is : at ≡ stamp
     pub read : AreRead (log_of w') (caller_in w' objects u) stamp syncs keys
     pub nodes : (key : Key) → In key keys → (node : Node) × (node_with w' key.id ≡ Some node)
+    pub stand : (key : Key) → In key keys → (c : ℕ) × In key (line (home_history w' u c))
+    pub has : (c : ℕ) → In c colours → (key : Key) → In key (line (home_history w u c)) → key.stamp ≤ stamp
+        → In key keys
     pub clear : (c : ℕ) → In c colours → IsClearUpTo stamp (home_history w' u c)
     pub keys_are : keys ≡ keys_read w' u stamp colours
     pub kept : (kept : Kept) → IsKeptBy w u kept → KeepsRead w' raises syncs kept
@@ -434,6 +443,34 @@ module _ (objects : List Object) (S : ℕ → Type 0) (what : What) (may : may_h
           let n = keys_listed w2 reached2 u stamp colours key (subst (λ (l : List Key). In key l) same_keys i) in
           (n.0, ap (λ (l : Log). slice_get (l.nodes key.id.client) key.id.count) log4 ∙ n.1)
 
+      stand : (key : Key) → In key (keys_read w4 u stamp colours) → (c : ℕ) × In key (line (home_history w4 u c))
+      stand key i =
+          let s = keys_stand w2 reached2 u stamp colours key (subst (λ (l : List Key). In key l) same_keys i) in (
+            s.0,
+            subst (λ (r : ℕ). In key (line (w4.histories r s.0)))
+                (sym (ap (λ (s : Shape). slice_index s.homes u) shape42))
+                (subst (λ (f : ℕ → ℕ → List Entry). In key (line (f (home_of w2 u) s.0))) (sym histories4) s.2),
+          )
+
+      later : IsLater (log_of w) (log_of w2)
+      later = later_log w w2 (raised.steps ++ helped.steps) reached
+          (run_steps-append w raised.steps helped.steps
+          ∙ (ap (λ (y : World). run_steps y helped.steps) raised.run ∙ helped.run))
+
+      -- what stood before is read
+      has : (c : ℕ) → In c colours → (key : Key) → In key (line (home_history w u c)) → key.stamp ≤ stamp
+          → In key (keys_read w4 u stamp colours)
+      has c i key stood low =
+          let lines = map (λ c. line (home_history w2 u c)) colours in
+          let p = later.lines own c in
+          let now : In key (line (home_history w2 u c)) =
+          subst (λ (r : ℕ). In key (line (w2.histories r c))) (sym (ap (λ (s : Shape). slice_index s.homes u) shape2))
+          (subst (λ (l : List Key). In key l) p.1 (in_left key (line (w.histories own c)) p.0 stood)) in
+          subst (λ (l : List Key). In key l) (sym same_keys)
+          (in_contains (keys_read w2 u stamp colours) key (ordered.all (line (home_history w2 u c)) key
+          (contains_in lines (line (home_history w2 u c)) (in_map_back (λ c. line (home_history w2 u c)) colours c i))
+          (contains_in (line (home_history w2 u c)) key now) low))
+
       -- no open entry up to the stamp is left
       clear_still : (c : ℕ) → In c colours → IsClearUpTo stamp (home_history w4 u c)
       clear_still c i =
@@ -454,11 +491,6 @@ module _ (objects : List Object) (S : ℕ → Type 0) (what : What) (may : may_h
         shown = playing.show_all objects S u stamp w2 w2 colours refl refl look2
             (λ c i. subst (λ (r : ℕ). IsClearUpTo stamp (w2.histories r c))
             (sym (ap (λ (s : Shape). slice_index s.homes u) shape2)) (clear c i)) all (kept1 kept k).after keeps2
-
-        later : IsLater (log_of w) (log_of w2)
-        later = later_log w w2 (raised.steps ++ helped.steps) reached
-            (run_steps-append w raised.steps helped.steps
-            ∙ (ap (λ (y : World). run_steps y helped.steps) raised.run ∙ helped.run))
 
         whole : (c : ℕ) → take (length (w.histories own c)) (w2.histories own c) ≡ w.histories own c
         whole c = prefix_take (w.histories own c) (w2.histories own c) (length (w.histories own c))
@@ -547,6 +579,8 @@ module _ (objects : List Object) (S : ℕ → Type 0) (what : What) (may : may_h
           is = refl;
           read = are_read;
           nodes = nodes;
+          stand = stand;
+          has = has;
           clear = clear_still;
           keys_are = refl;
           kept = keeps_read;

@@ -27,7 +27,7 @@ use Rattle.report_text.specs.declared.report.Answer.{Answer}
 use Rattle.report_text.specs.declared.report.Answer.TheVariants.{Stood, StampEnd, Full, Stopped, Synced, NoMemory}
 use Rattle.report_text.specs.declared.report.PointPiece.{PointPiece}
 use Rattle.report_text.specs.declared.report.ReplyLine.{ReplyLine}
-use Rattle.script_meaning.specs.States.{State, opening, all_granted}
+use Rattle.script_meaning.specs.States.{State, opening, no_reads, all_granted}
 use Rattle.script_meaning.specs.Meaning.{done}
 
 -- the clients a, b and c in the region r, with the colours x and y
@@ -251,6 +251,7 @@ abbrev ended : State
 ended = done [] all_granted (record {
   world = run_steps (opened (script 4 []).shape) (Raise b 0 x last_stamp ∷ []);
   replies = λ _. [];
+  reads = λ _. no_reads;
 }) (asks 8 a (Append on_both (codes "p")))
 
 ended-a : answers_to ended a ≡ StampEnd x ∷ []

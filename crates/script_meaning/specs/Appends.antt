@@ -1,5 +1,5 @@
 -- Appends and stops.
-use Rattle.std.specs.Prelude.{Bool, ℕ, zero, suc, nat_lt, not, List, [], ◌∷◌, length, take, map, Some, None, slice_index_or, if◌then◌else◌}
+use Rattle.std.specs.Prelude.{Bool, ℕ, zero, suc, nat_lt, not, List, [], ◌∷◌, length, take, map, Option, Some, None, slice_index_or, if◌then◌else◌}
 use Rattle.std.specs.List.{filter}
 use Rattle.log_node.specs.declared.ids.Id.{Id}
 use Rattle.log_node.specs.declared.ids.Row.{Row}
@@ -36,17 +36,28 @@ with_single grants w client text colour =
     all_cleared grants client (entry_key (single_stamp w client colour) (next_id w client)) (colour ∷ [])
     (after w (Single client colour text))
 
--- An append to one colour: refused where no stamp is left.
-abbrev pub appended_one : Grants → State → Command → List ℕ → ℕ → State
-appended_one grants state command text colour =
+-- What follows an append that stands, by the world then, its stamp, its row and its points.
+abbrev pub Follows : Type 0
+Follows = World → ℕ → Option ℕ → List PointPiece → State
+
+-- it is answered so
+abbrev pub answered_stood : State → Command → Follows
+answered_stood state command w stamp row points = answered state command w (answers.Stood stamp row points) []
+
+-- An append to one colour, and what follows it: refused where no stamp is left.
+abbrev pub appended_one_so : Grants → State → Command → List ℕ → ℕ → Follows → State
+appended_one_so grants state command text colour follows =
     let w = state.world in
     let client = command.client in
     let after_all = with_single grants w client text colour in
     if may_single w client colour then
-    answered state command after_all
-    (answers.Stood (single_stamp w client colour) None
-    (point_in w after_all client (next_id w client) colour ∷ [])) []
+    follows after_all (single_stamp w client colour) None
+    (point_in w after_all client (next_id w client) colour ∷ [])
     else answered state command w (answers.StampEnd colour) []
+
+abbrev pub appended_one : Grants → State → Command → List ℕ → ℕ → State
+appended_one grants state command text colour =
+    appended_one_so grants state command text colour (answered_stood state command)
 
 -- the client has begun as many rows as it may
 abbrev pub is_full : World → ℕ → Bool
@@ -64,36 +75,49 @@ abbrev pub ended_colour : World → Row → List ℕ → ℕ
 ended_colour w row colours =
     slice_index_or (filter (λ colour. is_stamp_end_fence ((row_of w row).marks colour)) colours) 0 0
 
--- An append, after whose steps the world is this one, is answered by the outcome of its row: where that is final the
+-- An append, after whose steps the world is this one, goes on by the outcome of its row: where that is final the
 -- client has seen the stamp, and each colour is cleared below the node's key.
-abbrev pub appended_by : Grants → State → Command → World → Row → List ℕ → Outcome → State
-appended_by grants state command w row colours Open = answered state command w answers.NoMemory []
-appended_by grants state command w row colours (Gone Memory) = answered state command w answers.NoMemory []
-appended_by grants state command w row colours (Gone StampEnd) =
+abbrev pub appended_by_so : Grants → State → Command → World → Row → List ℕ → Outcome → Follows → State
+appended_by_so grants state command w row colours Open follows = answered state command w answers.NoMemory []
+appended_by_so grants state command w row colours (Gone Memory) follows =
+    answered state command w answers.NoMemory []
+appended_by_so grants state command w row colours (Gone StampEnd) follows =
     answered state command w (answers.StampEnd (ended_colour w row colours)) []
-appended_by grants state command w row colours (Final stamp) =
+appended_by_so grants state command w row colours (Final stamp) follows =
     let client = command.client in
     let id = next_id state.world client in
     let after_all = all_cleared grants client (entry_key stamp id) colours (after w (Seen client stamp)) in
-    answered state command after_all
-    (answers.Stood stamp (Some row.number) (map (point_in state.world after_all client id) colours)) []
+    follows after_all stamp (Some row.number) (map (point_in state.world after_all client id) colours)
 
--- an append to several colours: refused where no row is left
-abbrev pub appended_several : Grants → State → Command → Colours → List ℕ → State
-appended_several grants state command colours text =
+abbrev pub appended_by : Grants → State → Command → World → Row → List ℕ → Outcome → State
+appended_by grants state command w row colours outcome =
+    appended_by_so grants state command w row colours outcome (answered_stood state command)
+
+-- an append to several colours, and what follows it: refused where no row is left
+abbrev pub appended_several_so : Grants → State → Command → Colours → List ℕ → Follows → State
+appended_several_so grants state command colours text follows =
     let w = state.world in
     let client = command.client in
     let row = next_row w client in
     let stepped = run_steps w (append_steps grants w client colours text) in
     if is_full w client then answered state command w (answers.Full (w.clients client).used) []
-    else appended_by grants state command stepped row (members colours) (row_of stepped row).last
+    else appended_by_so grants state command stepped row (members colours) (row_of stepped row).last follows
 
--- an append to the members of a set
+abbrev pub appended_several : Grants → State → Command → Colours → List ℕ → State
+appended_several grants state command colours text =
+    appended_several_so grants state command colours text (answered_stood state command)
+
+-- an append to the members of a set, and what follows it
+abbrev pub appended_so : Grants → State → Command → Colours → List ℕ → List ℕ → Follows → State
+appended_so grants state command colours text [] follows = answered state command state.world answers.NoMemory []
+appended_so grants state command colours text (colour ∷ []) follows =
+    appended_one_so grants state command text colour follows
+appended_so grants state command colours text (colour ∷ other ∷ others) follows =
+    appended_several_so grants state command colours text follows
+
 abbrev pub appended : Grants → State → Command → Colours → List ℕ → List ℕ → State
-appended grants state command colours text [] = answered state command state.world answers.NoMemory []
-appended grants state command colours text (colour ∷ []) = appended_one grants state command text colour
-appended grants state command colours text (colour ∷ other ∷ others) =
-    appended_several grants state command colours text
+appended grants state command colours text ms =
+    appended_so grants state command colours text ms (answered_stood state command)
 
 -- the first so many steps of an append to several colours are done; where it has one or more, a row must be left
 abbrev pub stopped : Grants → State → Command → Colours → List ℕ → ℕ → State

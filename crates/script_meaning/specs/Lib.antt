@@ -7,5 +7,6 @@ pub mod Objects
 pub mod Dequeues
 pub mod CausalGets
 pub mod Gets
+pub mod Transactions
 pub mod Meaning
 pub mod Laws

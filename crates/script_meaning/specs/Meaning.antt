@@ -29,6 +29,7 @@ use Rattle.script_meaning.specs.Stamped.{scanned}
 use Rattle.script_meaning.specs.Objects.{caller_in, refusing_home, put_into, deleted_from, put_all_into, enqueued_in}
 use Rattle.script_meaning.specs.Dequeues.{dequeued}
 use Rattle.script_meaning.specs.Gets.{got, got_keys}
+use Rattle.script_meaning.specs.Transactions.{read_in, committed}
 
 -- the state after a command that is built and was granted memory before it did anything; another changes nothing
 abbrev pub done_one : List Object → Grants → State → Command → What → State
@@ -48,8 +49,9 @@ done_one objects grants state command (whats.PutAll object pairs) =
     put_all_into objects grants state command object pairs
 done_one objects grants state command (whats.GetAll object keys) =
     got_keys objects grants state command object keys
-done_one objects grants state command (whats.Read object keys) = state
-done_one objects grants state command (whats.Commit object pairs) = state
+done_one objects grants state command (whats.Read object keys) = read_in objects grants state command object keys
+done_one objects grants state command (whats.Commit object pairs) =
+    committed objects grants state command object pairs
 done_one objects grants state command (whats.Enq object value) =
     enqueued_in objects grants state command object value
 done_one objects grants state command (whats.Deq object) = dequeued objects grants state command object

@@ -113,16 +113,22 @@ stamped_read grants w client colours =
 abbrev pub shown_key : World → Key → PlacedNode
 shown_key w key = placed w (record { key = key; needs = zeros })
 
--- How a command is answered that makes a stamped read, by how that ended: one that is whole by its stamp, raises, syncs
--- and keys, and with nodes that are shown of its keys.
+-- What a command comes to that makes a stamped read, by how that ended: one that is whole by its stamp, raises, syncs and
+-- keys, where memory for what is made of them is granted.
+abbrev pub ended_so : Grants → State → Command → (ℕ → List RaisePiece → List SyncPiece → List Key → State) → World
+    → ReadEnd → State
+ended_so grants state command whole w (Whole stamp raises syncs keys) =
+    if grants.items then whole stamp raises syncs keys else answered state command w answers.NoMemory []
+ended_so grants state command whole w (Refused colour base) =
+    answered state command w (answers.Trimmed colour base) []
+ended_so grants state command whole w Unraised = answered state command w answers.NoMemory []
+
+-- How it is answered: one that is whole with nodes that are shown of its keys.
 abbrev pub ended_by : Grants → State → Command → (ℕ → List RaisePiece → List SyncPiece → List Key → Answer)
     → (List Key → List PlacedNode) → World → ReadEnd → State
-ended_by grants state command answer shown w (Whole stamp raises syncs keys) =
-    if grants.items then answered state command w (answer stamp raises syncs keys) (shown keys)
-    else answered state command w answers.NoMemory []
-ended_by grants state command answer shown w (Refused colour base) =
-    answered state command w (answers.Trimmed colour base) []
-ended_by grants state command answer shown w Unraised = answered state command w answers.NoMemory []
+ended_by grants state command answer shown w ends =
+    ended_so grants state command
+    (λ stamp raises syncs keys. answered state command w (answer stamp raises syncs keys) (shown keys)) w ends
 
 -- the answer to a scan that is whole
 abbrev pub scan_answer : ℕ → List RaisePiece → List SyncPiece → List Key → Answer

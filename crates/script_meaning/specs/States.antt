@@ -5,10 +5,11 @@ use Rattle.std.specs.Option.{option_map}
 use Rattle.log_node.specs.declared.ids.Id.{Id}
 use Rattle.log_node.specs.declared.ids.Key.{Key}
 use Rattle.log_node.specs.declared.ids.Colours.{Colours}
+use Rattle.log_node.specs.declared.forms.Version.{Version}
 use Rattle.log_node.specs.Order.{same_id}
 use Rattle.log_node.specs.Seen.{PlacedNode}
 use Rattle.log_node.specs.Sets.{members}
-use Rattle.col_core.specs.Keeping.{updated}
+use Rattle.col_core.specs.Keeping.{nothing_kept, updated}
 use Rattle.world_laws.specs.Worlds.{World, opened}
 use Rattle.script_text.specs.declared.script.Kind.{Kind}
 use Rattle.script_text.specs.declared.script.Kind.TheVariants as kinds
@@ -21,6 +22,7 @@ use Rattle.script_text.specs.Items.{is_stop}
 use Rattle.script_text.specs.Words.{word_of}
 use Rattle.report_text.specs.declared.report.Answer.{Answer}
 use Rattle.report_text.specs.declared.report.ReplyLine.{ReplyLine}
+use Rattle.lawful_run.specs.Refusals.{kept_before, kept_behind}
 
 -- a set with so many colours at least, of the 64 that a set may have
 unfoldable pub has_colours : ℕ → Colours → Bool
@@ -52,8 +54,8 @@ is_built objects (whats.Get object key) = is_get_built (kind_in objects object)
 is_built objects (whats.Del object key) = true
 is_built objects (whats.PutAll object pairs) = true
 is_built objects (whats.GetAll object keys) = true
-is_built objects (whats.Read object keys) = false
-is_built objects (whats.Commit object pairs) = false
+is_built objects (whats.Read object keys) = true
+is_built objects (whats.Commit object pairs) = true
 is_built objects (whats.Enq object value) = true
 is_built objects (whats.Deq object) = true
 
@@ -61,14 +63,23 @@ is_built objects (whats.Deq object) = true
 abbrev pub StopsAreLast : Script → Type 0
 StopsAreLast script = AllPairs (λ (c d : Command). IsTrue (is_stop c.what) → d.client ≢ c.client) script.commands
 
--- the world, and the replies to each client
+-- for each object what a client's last read of it found, until a commit uses that up
+abbrev pub Reads : Type 0
+Reads = ℕ → Option (List Version)
+
+-- no read is kept
+abbrev pub no_reads : Reads
+no_reads object = None
+
+-- the world, the replies to each client, and the reads that each keeps
 pub record State : Type 0 where
   pub world : World
   pub replies : ℕ → List ReplyLine
+  pub reads : ℕ → Reads
 
 -- before the first command
 abbrev pub opening : Script → State
-opening script = record { world = opened script.shape; replies = λ _. [] }
+opening script = record { world = opened script.shape; replies = λ _. []; reads = λ _. no_reads }
 
 -- Which requests for memory are granted to a command: before it does anything, for the proposal of its own node in each
 -- colour, for each of its helps, counted from 0, in each colour, for what a pull carries, for what an object's answer
@@ -97,12 +108,17 @@ all_granted = record {
   items = true;
 }
 
--- the world then, and one reply more, to the client that asked
+-- the reads that a client is left with by a command: a read and a commit let that of their object go
+abbrev pub reads_left : What → Reads → Reads
+reads_left what reads = (kept_behind what (kept_before what (record nothing_kept { reads = reads }))).reads
+
+-- the world then, one reply more to the client that asked, and the reads that it is left with
 abbrev pub answered : State → Command → World → Answer → List PlacedNode → State
 answered state command w answer nodes = record {
   world = w;
   replies = updated state.replies command.client (state.replies command.client
       ++ record { line = command.line; word = word_of command.what; answer = answer; nodes = nodes } ∷ []);
+  reads = updated state.reads command.client (reads_left command.what (state.reads command.client));
 }
 
 -- at which position the id stands in a line, or how long the line is where it does not

@@ -30,7 +30,7 @@ loop-turn-preserved g c =
       next = e.next ∙ i.next;
       under = under_later c.args.region.now l.hold h c.args.colour c.args.key e.hold c.requires.colour
           (e.goes.more c.args.colour) i.under;
-      goes = helps_then c.args.hold.now l.hold h i.goes i.seat.grows e.goes;
+      goes = helps_then c.args.hold.now l.hold h i.goes i.seat.grows e.goes e.seat.grows;
       few = omega (arith, e.fewer, e.count, i.few);
     }
 
@@ -50,7 +50,7 @@ pub returns-then-found-le1-clause-goes : goal.returns-then-found-le1-clause-goes
 returns-then-found-le1-clause-goes g c =
     let l = c.loop-turn in
     helps_then c.args.hold.now l.hold c.help_first-found.new.hold l.invariant.goes l.invariant.seat.grows
-    c.help_first-found.ensures.goes
+    c.help_first-found.ensures.goes c.help_first-found.ensures.seat.grows
 
 pub returns-then-found-le1-clause-none : goal.returns-then-found-le1-clause-none
 returns-then-found-le1-clause-none g c =

@@ -12,6 +12,7 @@ use Rattle.chain_store.specs.Holds.{KnowsAppend, seen_in, entries_seen, view_of}
 use Rattle.chain_store.specs.Proposals.{IsMarkedOpen}
 use Rattle.append_core.specs.Helping.{HelpsOpen}
 use Rattle.chain_store.proofs.CallerLemmas.{later_then, looks_on}
+use Rattle.append_core.proofs.Complete.{complete_by}
 use Rattle.append_core.proofs.Cleared.{under_later, fewer_later, less_later, first_open, none_open, helped_open}
 use Rattle.append_core.proofs.clearing.help_first.Goals as goal
 
@@ -33,6 +34,8 @@ returns-in-Some-clause-goes g c =
     helped_open r g m c.help.new.hold c.in-Some.begun k c.args.key c.requires.hold e.others e.look.0
     (sym (ap (λ (o : Option BegunAppend). option_map (λ (b : BegunAppend). b.id) o) c.in-Some.is) ∙ e.first_id)
     known.1 marked c.help.ensures.goes
+    (complete_by r m c.help.new.hold c.in-Some.begun c.help.result known.0 c.help.ensures.hold c.help.ensures.seat.grows
+    c.help.ensures.outcome.0 c.help.ensures.outcome.1 c.help.ensures.settled)
 
 pub returns-in-Some-clause-count : goal.returns-in-Some-clause-count
 returns-in-Some-clause-count g c =

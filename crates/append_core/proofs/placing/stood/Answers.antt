@@ -56,7 +56,7 @@ loop-n-preserved g c =
       hold = e.hold;
       seat = later_then h.seat l.hold.seat k.seat i.seat e.seat;
       next = e.next ∙ i.next;
-      goes = helps_then h l.hold k i.goes i.seat.grows e.goes;
+      goes = helps_then h l.hold k i.goes i.seat.grows e.goes e.seat.grows;
       colours = map-set_same (λ (z : Point). z.colour) points l.n new q
           (ap (λ (z : Point). z.colour) (sym (get_or_from_slice_get points l.n q q write))) ∙ i.colours;
       long = length-set points l.n new ∙ i.long;

@@ -1,6 +1,10 @@
-use Rattle.std.proofs.Common.{◌∙◌, sym}
+use Rattle.std.proofs.Common.{◌∙◌, subst, sym}
 use Rattle.col_core.specs.History.{line}
-use Rattle.chain_store.specs.Holds.{entries_seen}
+use Rattle.stamp_board.specs.declared.seats.Seat.{Seat}
+use Rattle.stamp_board.specs.Seats.{seen as seat_seen}
+use Rattle.stamp_board.specs.Views.{Grows}
+use Rattle.stamp_board.proofs.CallerLemmas.{Grows-refl}
+use Rattle.chain_store.specs.Holds.{entries_seen, view_of}
 use Rattle.append_core.specs.Helping.{HelpsOpen}
 use Rattle.chain_store.proofs.CallerLemmas.{looks_on}
 use Rattle.append_core.proofs.Helped.{helps_then}
@@ -31,6 +35,7 @@ returns-clause-goes g c =
     let h = c.place-position.new.hold in
     helps_then c.args.hold.now m h c.clear.ensures.goes c.clear.ensures.seat.grows
     (looks_on (λ k e. HelpsOpen m h e) c.args.colour m h c.place-position.ensures.others c.place-position.ensures.look.0)
+    (subst (λ (s : Seat). Grows (view_of m) (seat_seen s)) (sym c.place-position.ensures.same.0) (Grows-refl (view_of m)))
 
 pub returns-clause-stands : goal.returns-clause-stands
 returns-clause-stands g c = key_placed (line (entries_seen c.place-position.new.hold c.args.colour)) c.args.key c.in-Some.position

@@ -1,10 +1,10 @@
 use Rattle.std.proofs.Common.{◌≡◌, length}
-use Rattle.script_in_order.proofs.ColumnsShown.{regions_of_first}
+use Rattle.script_in_order.specs.Reports.{columns_shown}
 use Rattle.script_in_order.proofs.reports.column_reports.Given as goal
 
 -- the columns of the regions so far
 abbrev pub invariant-loop-columns : goal.invariant-loop-columns
 invariant-loop-columns l = record {
   place : l.region ≡ length l.yielded;
-  reports_are : l.reports ≡ regions_of_first l.script l.fn.regions.items l.region;
+  reports_are : l.reports ≡ columns_shown l.script l.yielded;
 }

@@ -1,5 +1,5 @@
 use Rattle.std.proofs.Common.{refl}
-use Rattle.log_client.proofs.PullCalls.{call_client, call_goes, call_finished, call_ok, call_err, hold_there}
+use Rattle.log_client.proofs.PullCalls.{call_client, call_goes, call_finished, call_idle, call_ok, call_err, hold_there}
 use Rattle.log_client.proofs.client.Client.pull.Goals as goal
 
 pub pull_between-requires-clause-from_hold : goal.pull_between-requires-clause-from_hold
@@ -29,6 +29,13 @@ returns-clause-goes g c =
 pub returns-clause-finished : goal.returns-clause-finished
 returns-clause-finished g c =
     call_finished c.args.store.now c.args.self.now (record c.args.self.now { holds = c.pull_between.new.holds }) c.requires.client refl
+    refl refl refl refl refl c.args.from c.args.colour c.region-other.result.now c.region-own.result.now
+    c.region-other.ensures.there c.region-own.ensures.there c.requires.colour c.pull_between.result c.pull_between.ensures.ok
+    c.pull_between.ensures.err
+
+pub returns-clause-idle : goal.returns-clause-idle
+returns-clause-idle g c =
+    call_idle c.args.store.now c.args.self.now (record c.args.self.now { holds = c.pull_between.new.holds }) c.requires.client refl
     refl refl refl refl refl c.args.from c.args.colour c.region-other.result.now c.region-own.result.now
     c.region-other.ensures.there c.region-own.ensures.there c.requires.colour c.pull_between.result c.pull_between.ensures.ok
     c.pull_between.ensures.err

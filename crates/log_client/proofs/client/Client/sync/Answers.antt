@@ -1,6 +1,6 @@
 use Rattle.std.proofs.Common.{refl, arith, ap}
 use Rattle.stamp_board.specs.declared.view.Size.{Size}
-use Rattle.log_client.proofs.SyncCalls.{colour_there, plays_from, sync_goes, sync_finished, sync_client, sync_answer, sync_explained, sync_refused_client, sync_refused}
+use Rattle.log_client.proofs.SyncCalls.{colour_there, plays_from, sync_goes, sync_finished, sync_idle, sync_client, sync_answer, sync_explained, sync_refused_client, sync_refused}
 use Rattle.log_client.proofs.client.Client.sync.Goals as goal
 
 pub play_on-requires-clause-colour : goal.play_on-requires-clause-colour
@@ -48,6 +48,15 @@ returns-in-Ok-clause-finished g c =
     c.index_mut-hold.ensures.value c.index_mut-track.ensures.value
     c.play_on.new.hold c.play_on.new.track c.max-self.result e.hold e.others e.same e.sees
 
+pub returns-in-Ok-clause-idle : goal.returns-in-Ok-clause-idle
+returns-in-Ok-clause-idle g c =
+    let e = c.in-Ok.ensures in
+    sync_idle
+    c.args.store.now c.args.self.now c.region-region.result.now c.index_mut-hold.result.now c.args.colour
+    c.index_mut-track.result.now c.requires.client c.requires.colour c.region-region.ensures.there
+    c.index_mut-hold.ensures.value c.index_mut-track.ensures.value
+    c.play_on.new.hold c.play_on.new.track c.max-self.result e.hold e.others e.same e.sees
+
 pub returns-in-Ok-clause-answer : goal.returns-in-Ok-clause-answer
 returns-in-Ok-clause-answer g c =
     let e = c.in-Ok.ensures in
@@ -90,6 +99,15 @@ pub returns-in-Err-clause-finished : goal.returns-in-Err-clause-finished
 returns-in-Err-clause-finished g c =
     let e = c.in-Err.ensures in
     sync_finished
+    c.args.store.now c.args.self.now c.region-region.result.now c.index_mut-hold.result.now c.args.colour
+    c.index_mut-track.result.now c.requires.client c.requires.colour c.region-region.ensures.there
+    c.index_mut-hold.ensures.value c.index_mut-track.ensures.value
+    c.play_on.new.hold c.play_on.new.track c.args.self.now.floor e.hold e.others e.same e.sees
+
+pub returns-in-Err-clause-idle : goal.returns-in-Err-clause-idle
+returns-in-Err-clause-idle g c =
+    let e = c.in-Err.ensures in
+    sync_idle
     c.args.store.now c.args.self.now c.region-region.result.now c.index_mut-hold.result.now c.args.colour
     c.index_mut-track.result.now c.requires.client c.requires.colour c.region-region.ensures.there
     c.index_mut-hold.ensures.value c.index_mut-track.ensures.value

@@ -2,7 +2,7 @@ use Rattle.std.proofs.Common.{List, refl, subst}
 use Rattle.chain_store.specs.declared.region.Region.{Region}
 use Rattle.log_client.specs.Ending.{AreHoldsIn}
 use Rattle.log_client.proofs.TellingAll.{told_all}
-use Rattle.log_client.proofs.Everywhere.{client_along, finished_along, nothing_along}
+use Rattle.log_client.proofs.Everywhere.{client_along, finished_along, idle_along, nothing_along}
 use Rattle.log_client.proofs.client.Client.tell.Goals as goal
 
 pub returns-in_err-holds-clause-client : goal.returns-in_err-holds-clause-client
@@ -20,6 +20,15 @@ returns-in_err-holds-clause-finished c =
     let old = c.args.self.now in
     let e = c.tell_all.ensures.holds in
     finished_along s old (record old { holds = c.tell_all.new.holds }) c.requires.client refl refl refl refl refl refl
+    (subst (λ (l : List Region). AreHoldsIn l c.tell_all.new.holds.items) c.as_slice.ensures e.0)
+    (told_all old.holds.items c.tell_all.new.holds.items e.1)
+
+pub returns-in_err-holds-clause-idle : goal.returns-in_err-holds-clause-idle
+returns-in_err-holds-clause-idle c =
+    let s = c.args.store.now in
+    let old = c.args.self.now in
+    let e = c.tell_all.ensures.holds in
+    idle_along s old (record old { holds = c.tell_all.new.holds }) c.requires.client refl refl refl refl refl refl
     (subst (λ (l : List Region). AreHoldsIn l c.tell_all.new.holds.items) c.as_slice.ensures e.0)
     (told_all old.holds.items c.tell_all.new.holds.items e.1)
 
@@ -47,6 +56,15 @@ returns-clause-finished c =
     let old = c.args.self.now in
     let e = c.tell_all.ensures.holds in
     finished_along s old (record old { holds = c.tell_all.new.holds }) c.requires.client refl refl refl refl refl refl
+    (subst (λ (l : List Region). AreHoldsIn l c.tell_all.new.holds.items) c.as_slice.ensures e.0)
+    (told_all old.holds.items c.tell_all.new.holds.items e.1)
+
+pub returns-clause-idle : goal.returns-clause-idle
+returns-clause-idle c =
+    let s = c.args.store.now in
+    let old = c.args.self.now in
+    let e = c.tell_all.ensures.holds in
+    idle_along s old (record old { holds = c.tell_all.new.holds }) c.requires.client refl refl refl refl refl refl
     (subst (λ (l : List Region). AreHoldsIn l c.tell_all.new.holds.items) c.as_slice.ensures e.0)
     (told_all old.holds.items c.tell_all.new.holds.items e.1)
 

@@ -1,5 +1,5 @@
 use Rattle.std.proofs.Common.{arith}
-use Rattle.log_client.proofs.TrimReplies.{look_client, look_goes, look_finished, look_nothing, trim_client, trim_goes, trim_finished, trim_explained}
+use Rattle.log_client.proofs.TrimReplies.{look_client, look_goes, look_finished, look_idle, look_nothing, trim_client, trim_goes, trim_finished, trim_idle, trim_explained}
 use Rattle.log_client.proofs.client.Client.trim.Goals as goal
 
 pub returns-in-Ok-clause-client : goal.returns-in-Ok-clause-client
@@ -22,6 +22,14 @@ pub returns-in-Ok-clause-finished : goal.returns-in-Ok-clause-finished
 returns-in-Ok-clause-finished g c =
     let e = c.in-Ok.ensures in
     trim_finished
+    c.args.store.now c.args.self.now c.region-region.result.now c.index_mut-hold.result.now c.trim.new.hold c.args.colour
+    c.requires.client c.region-region.ensures.there c.index_mut-hold.ensures.value e.hold e.others e.same
+    c.args.snapshot.now.counts c.in-Ok.answer.1 c.in-Ok.answer.0 e.ok
+
+pub returns-in-Ok-clause-idle : goal.returns-in-Ok-clause-idle
+returns-in-Ok-clause-idle g c =
+    let e = c.in-Ok.ensures in
+    trim_idle
     c.args.store.now c.args.self.now c.region-region.result.now c.index_mut-hold.result.now c.trim.new.hold c.args.colour
     c.requires.client c.region-region.ensures.there c.index_mut-hold.ensures.value e.hold e.others e.same
     c.args.snapshot.now.counts c.in-Ok.answer.1 c.in-Ok.answer.0 e.ok
@@ -52,6 +60,13 @@ pub returns-in-Err-clause-finished : goal.returns-in-Err-clause-finished
 returns-in-Err-clause-finished g c =
     let e = c.in-Err.ensures in
     look_finished
+    c.args.store.now c.args.self.now c.region-region.result.now c.index_mut-hold.result.now c.trim.new.hold c.args.colour
+    c.requires.client c.region-region.ensures.there c.index_mut-hold.ensures.value e.hold e.others e.same e.err
+
+pub returns-in-Err-clause-idle : goal.returns-in-Err-clause-idle
+returns-in-Err-clause-idle g c =
+    let e = c.in-Err.ensures in
+    look_idle
     c.args.store.now c.args.self.now c.region-region.result.now c.index_mut-hold.result.now c.trim.new.hold c.args.colour
     c.requires.client c.region-region.ensures.there c.index_mut-hold.ensures.value e.hold e.others e.same e.err
 

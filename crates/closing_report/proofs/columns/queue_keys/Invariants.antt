@@ -1,8 +1,8 @@
 use Rattle.std.proofs.Common.{◌≡◌, ◌-◌, length, map, take}
 use Rattle.log_node.specs.Standings.{queue_of}
 use Rattle.col_core.specs.History.{entries}
-use Rattle.script_in_order.specs.Reports.{waiting_shown}
-use Rattle.script_in_order.proofs.reports.queue_keys.Given as goal
+use Rattle.closing_report.specs.Columns.{waiting_shown}
+use Rattle.closing_report.proofs.columns.queue_keys.Given as goal
 
 -- the keys so far
 abbrev pub invariant-loop-key : goal.invariant-loop-key

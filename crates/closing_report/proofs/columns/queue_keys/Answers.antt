@@ -4,9 +4,9 @@ use Rattle.std.specs.Option.{option_map}
 use Rattle.log_node.specs.Standings.{Standing, queue_of}
 use Rattle.col_core.specs.History.{entries}
 use Rattle.report_text.specs.declared.report.QueueKey.{QueueKey}
-use Rattle.script_in_order.specs.Reports.{waiting_shown}
-use Rattle.script_in_order.proofs.ListsShown.{waiting_more, waiting_all}
-use Rattle.script_in_order.proofs.reports.queue_keys.Goals as goal
+use Rattle.closing_report.specs.Columns.{waiting_shown}
+use Rattle.closing_report.proofs.Waiting.{waiting_more, waiting_all}
+use Rattle.closing_report.proofs.columns.queue_keys.Goals as goal
 
 pub loop-key-preserved : goal.loop-key-preserved
 loop-key-preserved c =

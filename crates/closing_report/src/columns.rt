@@ -1,0 +1,87 @@
+// Columns in the end.
+ghost use Rattle.std.specs.Prelude.{◌≡◌, ◌<◌, ◌≤◌, ◌++◌, [], length, map, unwrap_or, slice_get, IfOk, OnOk};
+ghost use Rattle.log_node.specs.Standings.{queue_of};
+ghost use Rattle.col_core.specs.History.{entries};
+ghost use Rattle.closing_report.specs.Columns.{waiting_shown, column_shown, AreOfRegion};
+
+use column::Column;
+use log_node::{Key, ListOf, MAX_COLOURS, Names, Text};
+use report_text::{ColumnReport, QueueKey};
+use std::alloc::{AllocError, Global};
+
+// The keys of a line.
+fn copied_keys(alloc: Global, keys: &[Key]) -> Result<ListOf<Key>, AllocError>
+    ensures { IfOk result (λ list. list ≡ keys.now) }
+{
+    Ok(ListOf::from(Vec::from_slice(alloc, keys)?))
+}
+
+// The entries that are not in the line.
+fn queue_keys(alloc: Global, column: &Column) -> Result<ListOf<QueueKey>, AllocError>
+    ensures { IfOk result (λ keys. keys ≡ map waiting_shown (queue_of (entries column.now.journal))) }
+{
+    let mut keys = ListOf::new(alloc);
+    while let Some((key, settled)) = column.waiting(keys.len() as u64) {
+        keys.push(QueueKey { key, settled })?;
+    }
+    Ok(keys)
+}
+
+// A name once more.
+fn name_at(alloc: Global, names: &Names, at: u8) -> Result<Text, AllocError>
+    requires { at < length names.now }
+    ensures { IfOk result (λ name. name ≡ unwrap_or (slice_get names.now at) []) }
+{
+    Text::copied(alloc, names.as_slice()[at as usize].as_bytes())
+}
+
+// The column of a region and a colour.
+fn column_report(
+    alloc: Global,
+    regions: &Names,
+    colours: &Names,
+    region: u8,
+    colour: u8,
+    column: Column,
+) -> Result<ColumnReport, AllocError>
+    requires region { (column.region ≡ region) × (region < length regions.now) }
+    requires colour { (column.colour ≡ colour) × (colour < length colours.now) }
+    ensures { IfOk result (λ shown. shown ≡ column_shown regions.now colours.now column) }
+{
+    Ok(ColumnReport {
+        region,
+        colour,
+        region_name: name_at(alloc, regions, region)?,
+        colour_name: name_at(alloc, colours, colour)?,
+        clock: column.clock(),
+        line: copied_keys(alloc, column.line())?,
+        queue: queue_keys(alloc, &column)?,
+        cut: column.cut(),
+        base: column.base(),
+        journal: column.into_journal(),
+    })
+}
+
+/// Takes the columns of a region, by colour, into the reports, under the names of regions and colours. Where memory is
+/// refused, some may have been taken.
+pub fn push_columns(
+    alloc: Global,
+    regions: &Names,
+    colours: &Names,
+    region: u8,
+    columns: Vec<Column>,
+    reports: &mut ListOf<ColumnReport>,
+) -> Result<(), AllocError>
+    requires region { region < length regions.now }
+    requires colours { length columns.items ≤ length colours.now }
+    requires few { length columns.items ≤ MAX_COLOURS }
+    requires placed { AreOfRegion region columns.items }
+    ensures { OnOk result (reports.new ≡ reports.old ++ map (column_shown regions.now colours.now) columns.items) }
+{
+    let mut colour = 0;
+    for column in columns {
+        reports.push(column_report(alloc, regions, colours, region, colour, column)?)?;
+        colour += 1;
+    }
+    Ok(())
+}

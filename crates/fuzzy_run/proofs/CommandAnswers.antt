@@ -1,0 +1,206 @@
+-- What the records of a client's calls say of the replies to its commands.
+use Rattle.std.proofs.Common.{◌≡◌, ◌≢◌, ◌⊎◌, ℕ, zero, suc, ◌≤◌, List, [], ◌∷◌, length, Some, refl, ap, sym, subst, ◌∙◌, inl, inr}
+use Rattle.std.specs.List.{All, AllZip, Contains}
+use Rattle.log_node.specs.declared.ids.Colours.{Colours}
+use Rattle.log_node.specs.declared.ids.Counts.{Counts}
+use Rattle.log_node.specs.declared.ids.Key.{Key}
+use Rattle.log_node.specs.declared.node.At.{At}
+use Rattle.log_node.specs.declared.node.At.TheVariants.{Event}
+use Rattle.log_node.specs.Seen.{PlacedNode}
+use Rattle.log_node.specs.Sets.{members}
+use Rattle.col_core.specs.Keeping.{Kept, kept_after_event, kept_after_sync, with_made, with_row}
+use Rattle.col_core.specs.Log.{Log}
+use Rattle.col_core.proofs.CallerLemmas.{contains_in}
+use Rattle.script_text.specs.declared.script.Command.{Command}
+use Rattle.script_text.specs.declared.script.Object.{Object}
+use Rattle.script_text.specs.declared.script.What.{What}
+use Rattle.script_text.specs.declared.script.What.TheVariants as whats
+use Rattle.script_text.specs.Words.{word_of}
+use Rattle.report_text.specs.declared.report.Answer.TheVariants as answers
+use Rattle.report_text.specs.declared.report.PointPiece.{PointPiece}
+use Rattle.report_text.specs.declared.report.RaisePiece.{RaisePiece}
+use Rattle.report_text.specs.declared.report.ReplyLine.{ReplyLine}
+use Rattle.report_text.specs.declared.report.SyncPiece.{SyncPiece}
+use Rattle.lawful_run.specs.Appends.{Appends, HasNoStamp, IsFull, IsGoneForMemory}
+use Rattle.lawful_run.specs.Asks.{home_asked}
+use Rattle.lawful_run.specs.Callers.{Caller, node_of}
+use Rattle.lawful_run.specs.Explains.{Answers, Explains}
+use Rattle.lawful_run.specs.Moves.{GivesAt, GivesTooLow, Pulls, Trims, kept_after_pull, with_places}
+use Rattle.lawful_run.specs.Reads.{AreRead, HidesRead, IsTrimmed, ReadsAt, ShowsKey, ShowsPlayed, Syncs, greatest_stamp}
+use Rattle.lawful_run.specs.Refusals.{FindsNoMemory, IsAway, gave, gone, hidden, kept_before, kept_behind, nothing}
+use Rattle.lawful_run.specs.Stops.{Stops}
+use Rattle.client_law.specs.Knowing.{Rest, log_of}
+use Rattle.log_client.specs.declared.client.Client.{Client}
+use Rattle.log_client.specs.declared.store.Store.{Store}
+use Rattle.log_client.specs.Calls.{IsExplained}
+use Rattle.log_client.specs.Clients.{Finished, Keeps, caller_of, holds_of, seen_of}
+use Rattle.log_client.specs.Fits.{Fits}
+
+-- the command is answered by the log alone: it names no object
+abbrev pub IsOfLog : What → Type 0
+IsOfLog (whats.Append colours text) = Unit {0}
+IsOfLog (whats.Stop steps colours text) = Unit {0}
+IsOfLog (whats.Sync colour) = Unit {0}
+IsOfLog (whats.Scan colours) = Unit {0}
+IsOfLog (whats.Pull region colour) = Unit {0}
+IsOfLog (whats.Trim colour) = Unit {0}
+IsOfLog (whats.Put object key value) = ⊥
+IsOfLog (whats.Get object key) = ⊥
+IsOfLog (whats.Del object key) = ⊥
+IsOfLog (whats.PutAll object pairs) = ⊥
+IsOfLog (whats.GetAll object keys) = ⊥
+IsOfLog (whats.Read object keys) = ⊥
+IsOfLog (whats.Commit object pairs) = ⊥
+IsOfLog (whats.Enq object value) = ⊥
+IsOfLog (whats.Deq object) = ⊥
+
+-- it lets no read go, and has no home
+of_log : (what : What) (kept : Kept) → IsOfLog what → (kept_before what kept ≡ kept) × (kept_behind what kept ≡ kept)
+    × ((caller : Caller) → IsAway caller (home_asked caller what) → ⊥)
+of_log (whats.Append colours text) kept of = (refl, refl, λ caller away. away)
+of_log (whats.Stop steps colours text) kept of = (refl, refl, λ caller away. away)
+of_log (whats.Sync colour) kept of = (refl, refl, λ caller away. away)
+of_log (whats.Scan colours) kept of = (refl, refl, λ caller away. away)
+of_log (whats.Pull region colour) kept of = (refl, refl, λ caller away. away)
+of_log (whats.Trim colour) kept of = (refl, refl, λ caller away. away)
+of_log (whats.Put object key value) kept of = absurd of
+of_log (whats.Get object key) kept of = absurd of
+of_log (whats.Del object key) kept of = absurd of
+of_log (whats.PutAll object pairs) kept of = absurd of
+of_log (whats.GetAll object keys) kept of = absurd of
+of_log (whats.Read object keys) kept of = absurd of
+of_log (whats.Commit object pairs) kept of = absurd of
+of_log (whats.Enq object value) kept of = absurd of
+of_log (whats.Deq object) kept of = absurd of
+
+-- a reply that stands for such a command
+pub answers_so : (log : Log) (caller : Caller) (kept after : Kept) (command : Command) (reply : ReplyLine)
+    → IsOfLog command.what → reply.line ≡ command.line → reply.word ≡ word_of command.what
+    → Explains log caller kept command.what reply.answer reply.nodes after → Answers log caller kept command reply after
+answers_so log caller kept after command reply of line word explained = record {
+  line = line;
+  word = word;
+  answered = after;
+  explained = subst (λ (k : Kept). Explains log caller k command.what reply.answer reply.nodes after)
+      (sym (of_log command.what kept of).0) explained;
+  after_is = sym (of_log command.what after of).1;
+  away = λ away. absurd ((of_log command.what kept of).2 caller away);
+}
+
+-- a call that a record explains, and the reply that the record explains
+pub answered_by : (s : Store) (objects : List Object) (c d : Client) (command : Command) (reply : ReplyLine)
+    (Record : Log → Caller → Kept → Kept → Type 0) → IsOfLog command.what → reply.line ≡ command.line
+    → reply.word ≡ word_of command.what → IsExplained s c d Record
+    → ((log : Log) (caller : Caller) (kept after : Kept) → Record log caller kept after
+    → Explains log caller kept command.what reply.answer reply.nodes after)
+    → (kept : Kept) → Finished c → Keeps s c objects kept → (after : Kept) × Keeps s d objects after
+    × ((rest : Rest) → Fits (holds_of d) rest
+    → Answers (log_of (seen_of d) rest) (caller_of s d objects) kept command reply after)
+answered_by s objects c d command reply Record of line word is explains kept finished keeps =
+    let e = is objects kept finished keeps in (
+      e.0,
+      e.1,
+      λ rest fits. answers_so (log_of (seen_of d) rest) (caller_of s d objects) kept e.0 command reply of line word
+          (explains (log_of (seen_of d) rest) (caller_of s d objects) kept e.0 (e.2 rest fits)),
+    )
+
+module _ (log : Log) (caller : Caller) (kept after : Kept) where
+  -- APPENDS
+
+  module _ (colours : Colours) (text : List ℕ) where
+    pub stood : (stamp : ℕ) (row : _) (points : List PointPiece)
+        → Appends log caller kept (node_of caller kept colours text) stamp row points after
+        → Explains log caller kept (whats.Append colours text) (answers.Stood stamp row points) [] after
+    stood stamp row points is = (refl, refl, (colours, text, (refl, refl), is))
+
+    pub ended : (colour : ℕ) → HasNoStamp log caller kept (node_of caller kept colours text) colour after
+        → Explains log caller kept (whats.Append colours text) (answers.StampEnd colour) [] after
+    ended colour is = (refl, λ e. let f : ⊥ = cc (e) in f, (colours, text, (refl, refl), is))
+
+    pub full : (used : ℕ) → IsFull caller kept colours used → after ≡ kept
+        → Explains log caller kept (whats.Append colours text) (answers.Full used) [] after
+    full used is same = (refl, λ c t e. let f : ⊥ = cc (e) in f, same, (colours, text, (refl, refl), is))
+
+    pub gone_for_memory : (places : ℕ → List ℕ)
+        → IsGoneForMemory log caller kept (node_of caller kept colours text) places
+        → after ≡ with_made (with_row kept) caller.own places
+        → Explains log caller kept (whats.Append colours text) answers.NoMemory [] after
+    gone_for_memory places is same = (
+      refl,
+      subst (FindsNoMemory log caller kept (whats.Append colours text)) (sym same)
+          (gone colours text places (refl, refl) is),
+    )
+
+    -- STOPS
+
+    pub stopped : (steps : ℕ) → Stops log caller kept (node_of caller kept colours text) steps after
+        → Explains log caller kept (whats.Stop steps colours text) (answers.Stopped steps) [] after
+    stopped steps is = (refl, colours, text, refl, is)
+
+    pub full_stop : (steps used : ℕ) → steps ≢ 0 → IsFull caller kept colours used → after ≡ kept
+        → Explains log caller kept (whats.Stop steps colours text) (answers.Full used) [] after
+    full_stop steps used later is same = (refl, λ c t e. later (cc (e)), same, (colours, text, (refl, refl), is))
+
+  -- want of memory, where nothing was done
+  pub no_memory : (what : What) → after ≡ kept → Explains log caller kept what answers.NoMemory [] after
+  no_memory what same = (refl, subst (FindsNoMemory log caller kept what) (sym same) nothing)
+
+  -- SYNCS
+
+  module _ (colour : ℕ) where
+    pub synced : (events plays : ℕ) (counts : Counts) (nodes : List PlacedNode) → plays ≡ length nodes
+        → Syncs log caller kept colour events counts → ShowsPlayed log caller kept colour events counts nodes
+        → after ≡ kept_after_sync kept caller.own colour events counts (greatest_stamp nodes)
+        → Explains log caller kept (whats.Sync colour)
+        (answers.Synced (record { colour = colour; events = events; counts = counts }) plays) nodes after
+    synced events plays counts nodes many syncs shows same = (refl, many, syncs, shows, same)
+
+    pub sync_trimmed : (base : Counts) → IsTrimmed log caller kept colour base → after ≡ kept
+        → Explains log caller kept (whats.Sync colour) (answers.Trimmed colour base) [] after
+    sync_trimmed base is same = (refl, inl refl, contains_in (colour ∷ []) colour (inl refl), is, same)
+
+  -- STAMPED READS
+
+  module _ (colours : Colours) where
+    pub scanned : (stamp : ℕ) (raises : List RaisePiece) (syncs : List SyncPiece) (keys : List Key) (nodes : List PlacedNode)
+        → ReadsAt log caller kept (members colours) stamp raises syncs after → AreRead log caller stamp syncs keys
+        → AllZip (ShowsKey log) keys nodes
+        → Explains log caller kept (whats.Scan colours) (answers.Scanned stamp (length nodes) raises syncs) nodes after
+    scanned stamp raises syncs keys nodes reads are shows = (colours, refl, refl, reads, keys, are, shows)
+
+    pub scan_trimmed : (colour : ℕ) (base : Counts) → Contains (members colours) colour → IsTrimmed log caller kept colour base
+        → HidesRead log caller kept (members colours) after
+        → Explains log caller kept (whats.Scan colours) (answers.Trimmed colour base) [] after
+    scan_trimmed colour base among is hides = (refl, inr (inr refl), among, is, hides)
+
+    pub scan_no_memory : HidesRead log caller kept (members colours) after
+        → Explains log caller kept (whats.Scan colours) answers.NoMemory [] after
+    scan_no_memory hides = (refl, hidden after hides)
+
+  -- PULLS AND TRIMS
+
+  module _ (region colour : ℕ) where
+    pub pulled : (nodes place : ℕ) (give carry : At) (too_low : List ℕ) → give ≡ Event place
+        → Pulls log caller kept region colour nodes place carry too_low
+        → after ≡ kept_after_pull kept caller.own region colour place carry too_low
+        → Explains log caller kept (whats.Pull region colour) (answers.Pulled nodes give carry) [] after
+    pulled nodes place give carry too_low at is same = (refl, region, colour, refl, place, at, too_low, is, same)
+
+    pub same_region : region ≡ caller.own → after ≡ kept
+        → Explains log caller kept (whats.Pull region colour) answers.SameRegion [] after
+    same_region own same = (refl, same, colour, ap (λ (r : ℕ). whats.Pull r colour) own)
+
+    pub pull_no_memory : (too_low gives : List ℕ) → All (GivesTooLow log caller region colour) too_low → length gives ≤ 1
+        → All (λ place. (from : ℕ) × GivesAt log caller region colour place from) gives
+        → after ≡ with_places (with_places kept region colour too_low) region colour gives
+        → Explains log caller kept (whats.Pull region colour) answers.NoMemory [] after
+    pull_no_memory too_low gives low few are same = (
+      refl,
+      subst (FindsNoMemory log caller kept (whats.Pull region colour)) (sym same)
+          (gave region colour too_low gives refl low few are),
+    )
+
+  pub trimmed : (colour place : ℕ) (at : At) (base : Counts) → at ≡ Event place → Trims log caller kept colour place base
+      → after ≡ kept_after_event kept caller.own colour place
+      → Explains log caller kept (whats.Trim colour) (answers.Based at base) [] after
+  trimmed colour place at base is trims same = (refl, colour, refl, place, is, trims, same)
