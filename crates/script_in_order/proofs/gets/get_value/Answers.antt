@@ -1,4 +1,4 @@
-use Rattle.std.proofs.Common.{◌≡◌, ◌≤◌, ◌∙◌, ℕ, List, [], ◌∷◌, Some, length, ap, sym, subst, arith}
+use Rattle.std.proofs.Common.{◌≡◌, ◌≤◌, ◌∙◌, ℕ, List, [], ◌∷◌, Some, length, refl, ap, sym, subst, arith}
 use Rattle.log_node.specs.Vectors.{at}
 use Rattle.col_core.specs.History.{line}
 use Rattle.object_fold.specs.Nodes.{ObjectNode}
@@ -83,7 +83,13 @@ returns-in-Some-clause-ok c = λ colours is_at.
     (shard_is c.args.objects.now c.args.object (home_of w c.args.command.now.client) colours is_at
     c.index-objects-object.result c.shard-colour.result c.as_bytes.result.now c.args.key.now c.shard-colour.ensures
     c.as_bytes.ensures)
-    c.in-Some.base c.in-Some.ensures.some.0 c.in-Some.ensures.some.1 ?
+    c.in-Some.base c.in-Some.ensures.some.0 c.in-Some.ensures.some.1 refl
+
+pub returns-in_err-value-clause-folded : goal.returns-in_err-value-clause-folded
+returns-in_err-value-clause-folded c =
+    let at_home = c.requires.at_home in
+    c.in_err-value.ensures.folded c.args.objects.now at_home.0
+    (at_home.1 ∙ ap (λ (h : ℕ). Some (kinds.Map h at_home.0)) (sym c.home-region.ensures.home)) c.requires.folded
 
 pub returns-clause-ok : goal.returns-clause-ok
 returns-clause-ok c = λ colours is_at.
