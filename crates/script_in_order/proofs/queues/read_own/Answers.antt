@@ -24,3 +24,21 @@ front-front-requires-clause-may c =
         };
       },
     )
+
+pub returns-in-Ok-clause-folded : goal.returns-in-Ok-clause-folded
+returns-in-Ok-clause-folded c = λ objects at f.
+    let w = world_of c.args.world.now in
+    folds_stay w (world_of c.play-played.new.self) c.is_whole.ensures.reached
+    (record { steps = Play c.args.client c.args.point.colour ∷ []; run = sym c.play-played.ensures.world })
+    objects c.front-front.new.self
+    (c.front-front.ensures.folded objects
+    (at ∙ ap (λ (r : ℕ). Some (kinds.Queue r c.args.point.colour)) (sym c.home.ensures.home)) f)
+
+pub returns-in-Err-clause-folded : goal.returns-in-Err-clause-folded
+returns-in-Err-clause-folded c = λ objects at f.
+    let w = world_of c.args.world.now in
+    folds_stay w (world_of c.play-played.new.self) c.is_whole.ensures.reached
+    (record { steps = Play c.args.client c.args.point.colour ∷ []; run = sym c.play-played.ensures.world })
+    objects c.front-front.new.self
+    (c.front-front.ensures.folded objects
+    (at ∙ ap (λ (r : ℕ). Some (kinds.Queue r c.args.point.colour)) (sym c.home.ensures.home)) f)
