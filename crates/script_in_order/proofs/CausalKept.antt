@@ -53,6 +53,12 @@ object_within w objects all object colour f is =
     let e = f.many in omega (arith, lt, e)
 
 -- what stands there
+-- an object is of the kind that is got from the list
+pub kind_at : (objects : List Object) (n : ℕ) (o : Object) (kind : Kind) → n < length objects
+    → (get_or objects n o).kind ≡ kind → kind_in objects n ≡ Some kind
+kind_at objects n o kind lt is =
+    ap (option_map (λ (x : Object). x.kind)) (slice_get-get_or objects n o lt) ∙ ap (λ (k : Kind). Some k) is
+
 pub there_in : {A : Type 0} (xs : List A) (n : ℕ) (x : A) → n < length xs → x ≡ get_or xs n x → slice_get xs n ≡ Some x
 there_in {A} xs n x lt is = slice_get-get_or xs n x lt ∙ ap (λ (y : A). Some y) (sym is)
 
