@@ -11,3 +11,4 @@ mod EndsShown
 mod ClientsShown
 mod SomeRows
 mod RunningBeside
+mod RunsOf

@@ -1,5 +1,5 @@
 -- Clients who were dealt their commands, before they are served and after.
-use Rattle.std.proofs.Common.{◌≡◌, ℕ, ◌<◌, ◌≤◌, List, [], ◌∷◌, length, map, Some, slice_get, Ok, Err, refl, ap, sym, subst, ◌∙◌, arith}
+use Rattle.std.proofs.Common.{◌≡◌, ℕ, ◌<◌, ◌≤◌, List, [], ◌∷◌, ◌++◌, length, map, take, drop, Some, slice_get, Ok, Err, refl, ap, sym, subst, ◌∙◌, arith}
 use Rattle.std.specs.Prelude.{IsTrue, IfOk, Result, ◌==◌, slice_index_or}
 use Rattle.std.specs.List.{All, filter}
 use Rattle.std.specs.Option.{option_map}
@@ -109,6 +109,34 @@ module _ (script : Script) (fits : IsFitting script)
     } where
       same_there : (a b : Client) → Some a ≡ Some b → a ≡ b
       same_there a b e = cc
+
+-- The same as the run has it: of the commands that were moved to the clients, of the slice of clients that was served, and
+-- of the clients and replies that were taken out.
+pub were_served : (script : Script) → IsFitting script
+    → All (λ (c : Command). IsTrue (is_served c.what)) script.commands → StopsAreLast script → (s : Store)
+    → s.size ≡ size_of script.shape → length s.regions ≡ script.shape.regions → (opened : List Client)
+    → AreNewClients script.shape s opened → (commands : List Command) → commands ≡ script.commands
+    → (before lent after : List Served) → lent ≡ before → AreDealt opened commands before → length after ≡ length lent
+    → ((n : ℕ) (x y : Served) → slice_get lent n ≡ Some x → slice_get after n ≡ Some y → IsServed s x y)
+    → (n : ℕ) → n ≡ length before → (clients : List Client) (replies : List (List ReplyLine))
+    → clients ≡ map (λ (x : Served). x.client) (take n (after ++ drop (length after) before))
+    → replies ≡ map (λ (x : Served). x.replies.items) (take n (after ++ drop (length after) before))
+    → AreServed script s clients replies
+were_served script fits built stops s size regions opened new commands moved before lent after same dealt long served n
+  many clients replies are given =
+    let dealt' : AreDealt opened script.commands before = subst (λ (l : List Command). AreDealt opened l before) moved dealt in
+    let all = are_served script fits built stops s size regions opened new before dealt' after (long ∙ ap length same)
+    (λ n x y at later. served n x y (subst (λ (l : List Served). slice_get l n ≡ Some x) (sym same) at) later) in
+    let whole : take n (after ++ drop (length after) before) ≡ after =
+    front_of n after (drop (length after) before) (long ∙ (ap length same ∙ sym many)) in
+    subst (λ (cs : List Client). AreServed script s cs replies) (sym (are ∙ ap (map (λ (x : Served). x.client)) whole))
+    (subst (λ (rs : List (List ReplyLine)). AreServed script s (map (λ (x : Served). x.client) after) rs)
+    (sym (given ∙ ap (map (λ (x : Served). x.replies.items)) whole)) all) where
+      front_of : (k : ℕ) (xs ys : List Served) → length xs ≡ k → take k (xs ++ ys) ≡ xs
+      front_of k xs ys is = subst (λ (j : ℕ). take j (xs ++ ys) ≡ xs) is (front xs ys) where
+        front : (xs ys : List Served) → take (length xs) (xs ++ ys) ≡ xs
+        front [] ys = refl
+        front (x ∷ xs) ys = ap (λ (l : List Served). x ∷ l) (front xs ys)
 
 -- clients who were served are all clients of the store
 pub are_clients : (script : Script) (s : Store) (clients : List Client) (replies : List (List ReplyLine))

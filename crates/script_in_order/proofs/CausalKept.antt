@@ -1,5 +1,5 @@
 -- The folds of a causal map among those of all objects.
-use Rattle.std.proofs.Common.{◌≡◌, ℕ, ◌<◌, List, [], ◌∷◌, length, get_or, set, Option, Some, None, refl, ap, sym, subst, ◌∙◌, arith}
+use Rattle.std.proofs.Common.{◌≡◌, ◌⊎◌, inl, inr, ℕ, zero, suc, ◌<◌, List, [], ◌∷◌, ◌++◌, length, get_or, set, Option, Some, None, refl, ap, sym, subst, ◌∙◌, arith, length-append}
 use Rattle.std.specs.Prelude.{slice_get}
 use Rattle.std.specs.Option.{option_map}
 use Rattle.std.proofs.lemmas.Option.{slice_get-get_or}
@@ -13,7 +13,8 @@ use Rattle.script_in_order.specs.declared.causal.CausalFold.{CausalFold}
 use Rattle.script_in_order.specs.declared.folds.Fold.{Fold}
 use Rattle.script_in_order.specs.declared.folds.Fold.TheVariants as folds
 use Rattle.script_in_order.specs.CausalFolds.{IsCausalFold, AreCausalFolds}
-use Rattle.script_in_order.specs.Folds.{IsFoldOf, AreFolded}
+use Rattle.script_in_order.specs.declared.folds.ShardFold.{ShardFold}
+use Rattle.script_in_order.specs.Folds.{IsShardFold, IsFoldOf, AreFolded}
 use Rattle.script_in_order.proofs.FoldsKept.{causal_with, folds_with}
 
 -- the fold is of a causal map on the colour, and right
@@ -52,6 +53,12 @@ object_within w objects all object colour f is =
     let e = f.many in omega (arith, lt, e)
 
 -- what stands there
+-- an object is of the kind that is got from the list
+pub kind_at : (objects : List Object) (n : ℕ) (o : Object) (kind : Kind) → n < length objects
+    → (get_or objects n o).kind ≡ kind → kind_in objects n ≡ Some kind
+kind_at objects n o kind lt is =
+    ap (option_map (λ (x : Object). x.kind)) (slice_get-get_or objects n o lt) ∙ ap (λ (k : Kind). Some k) is
+
 pub there_in : {A : Type 0} (xs : List A) (n : ℕ) (x : A) → n < length xs → x ≡ get_or xs n x → slice_get xs n ≡ Some x
 there_in {A} xs n x lt is = slice_get-get_or xs n x lt ∙ ap (λ (y : A). Some y) (sym is)
 
@@ -81,3 +88,44 @@ causal_put w objects all object colour fold f is right =
       by_fold o at (folds.Queue queue) r = absurd r
       by_fold o at (folds.Causal regions) r = (colour, same_kind o at, r)
       by_fold o at folds.Nothing r = absurd r
+
+-- one item more at the end of a list
+pub pushed : {A : Type 0} (xs : List A) (x : A) (n : ℕ) (y : A) → slice_get (xs ++ x ∷ []) n ≡ Some y
+    → (slice_get xs n ≡ Some y) ⊎ ((n ≡ length xs) × (x ≡ y))
+pushed [] x zero y e = inr (refl, let f : x ≡ y = cc in f)
+pushed [] x (suc n) y e = absurd (let f : ⊥ = cc in f)
+pushed (z ∷ xs) x zero y e = inl e
+pushed {A} (z ∷ xs) x (suc n) y e = turn (pushed xs x n y e) where
+  turn : (slice_get xs n ≡ Some y) ⊎ ((n ≡ length xs) × (x ≡ y))
+      → (slice_get xs n ≡ Some y) ⊎ ((suc n ≡ suc (length xs)) × (x ≡ y))
+  turn (inl old) = inl old
+  turn (inr new) = inr (ap suc new.0, new.1)
+
+-- one object more, with its fold
+pub folds_more : (w : World) (objects : List Object) (all : List Fold) (o : Object) (fold : Fold) → AreFolded w objects all
+    → IsFoldOf w o.kind fold → AreFolded w (objects ++ o ∷ []) (all ++ fold ∷ [])
+folds_more w objects all o fold f right = record {
+  many = let a = length-append all (fold ∷ []) in
+      let b = length-append objects (o ∷ []) in let c = f.many in omega (arith, a, b, c);
+  each = λ n p g at there. turn n p g (pushed objects o n p at) (pushed all fold n g there);
+} where
+  turn : (n : ℕ) (p : Object) (g : Fold) → (slice_get objects n ≡ Some p) ⊎ ((n ≡ length objects) × (o ≡ p))
+      → (slice_get all n ≡ Some g) ⊎ ((n ≡ length all) × (fold ≡ g)) → IsFoldOf w p.kind g
+  turn n p g (inl at) (inl there) = f.each n p g at there
+  turn n p g (inl at) (inr there) =
+      let a = get_within objects n p at in let b = there.0 in let c = f.many in absurd (let x : ⊥ = omega (arith, a, b, c) in x)
+  turn n p g (inr at) (inl there) =
+      let a = get_within all n g there in let b = at.0 in let c = f.many in absurd (let x : ⊥ = omega (arith, a, b, c) in x)
+  turn n p g (inr at) (inr there) =
+      subst (IsFoldOf w p.kind) there.1 (subst (λ (x : Object). IsFoldOf w x.kind fold) at.1 right)
+
+-- one shard more of a map
+pub shard_more : (w : World) (home : ℕ) (colours : List ℕ) (shards : List ShardFold) (fold : ShardFold)
+    → ((c : ℕ) (other : ShardFold) → slice_get shards c ≡ Some other → IsShardFold w home colours c other)
+    → IsShardFold w home colours (length shards) fold → (c : ℕ) (other : ShardFold)
+    → slice_get (shards ++ fold ∷ []) c ≡ Some other → IsShardFold w home colours c other
+shard_more w home colours shards fold each right c other there = turn (pushed shards fold c other there) where
+  turn : (slice_get shards c ≡ Some other) ⊎ ((c ≡ length shards) × (fold ≡ other)) → IsShardFold w home colours c other
+  turn (inl old) = each c other old
+  turn (inr new) =
+      subst (IsShardFold w home colours c) new.1 (subst (λ (n : ℕ). IsShardFold w home colours n fold) (sym new.0) right)

@@ -4,6 +4,8 @@ use Rattle.log_node.specs.declared.ids.Counts.{Counts}
 use Rattle.log_node.specs.declared.ids.Id.{Id}
 use Rattle.log_node.specs.declared.ids.Key.{Key}
 use Rattle.log_node.specs.Order.{same_id}
+use Rattle.log_node.specs.declared.node.Shape.{Shape}
+use Rattle.std.specs.Prelude.{slice_index}
 use Rattle.log_node.specs.declared.forms.Form.TheVariants as forms
 use Rattle.object_form.specs.Forms.{form_text}
 use Rattle.object_fold.specs.Nodes.{shard_of}
@@ -12,7 +14,8 @@ use Rattle.object_fold.specs.Queues.{front_after}
 use Rattle.col_core.specs.History.{line}
 use Rattle.col_core.proofs.CallerLemmas.{by_test, choice, if_true, if_false}
 use Rattle.world_laws.specs.declared.steps.Step.TheVariants.{Play}
-use Rattle.world_laws.specs.Worlds.{World, after, may_single, may_play, single_stamp, next_id, home_history}
+use Rattle.world_laws.specs.Worlds.{World, after, may_single, may_play, single_stamp, next_id, home_of, home_history}
+use Rattle.world_laws.specs.Laws.{IsReached}
 use Rattle.world_laws.proofs.CallerLemmas.{updated-here}
 use Rattle.script_text.specs.declared.script.Command.{Command}
 use Rattle.report_text.specs.declared.report.Answer.{Answer}
@@ -20,10 +23,10 @@ use Rattle.report_text.specs.declared.report.Answer.TheVariants as answers
 use Rattle.report_text.specs.declared.report.PointPiece.{PointPiece}
 use Rattle.report_text.specs.declared.report.SyncPiece.{SyncPiece}
 use Rattle.report_text.specs.declared.report.ReplyLine.{ReplyLine}
-use Rattle.script_meaning.specs.States.{State, Grants, all_granted, no_reads, answered, position_of}
+use Rattle.script_meaning.specs.States.{State, Grants, all_granted, answered, position_of}
 use Rattle.script_meaning.specs.Appends.{appended_one, with_single, point_in}
 use Rattle.script_meaning.specs.Dequeues.{first_nodes, sync_now, base_now, dequeued_at, dequeued_on, dequeued_by}
-use Rattle.script_meaning.proofs.CallerLemmas.{RunsTo, stays_there, single_same, single_shape, single_to}
+use Rattle.script_meaning.proofs.CallerLemmas.{RunsTo, stays_there, new_behind, single_same, single_shape, single_to}
 use Rattle.script_in_order.specs.Doing.{DoneBy, with_replies}
 use Rattle.script_in_order.specs.Reading.{ReadsOwn}
 use Rattle.script_in_order.specs.Runs.{reply_of}
@@ -35,7 +38,7 @@ first_answer [] = answers.NoMemory
 first_answer (r ∷ rs) = r.answer
 
 abbrev unanswered : World → State
-unanswered w = record { world = w; replies = λ _. []; reads = λ _. no_reads }
+unanswered w = with_replies w (λ _. [])
 
 shown_answer : (w new : World) (command : Command) (answer : Answer)
     → first_answer ((answered (unanswered w) command new answer []).replies command.client) ≡ answer
@@ -72,10 +75,10 @@ entered_of command text colour w new answer d =
     let no : State = answered (unanswered w) command w (answers.StampEnd colour) [] in
     by_test _ (may_single w client colour)
     (λ t. let e = same_answer w v new command (stood v) answer
-    (sym (if_true (may_single w client colour) yes no t) ∙ d.is (unanswered w)) in
+    (sym (if_true (may_single w client colour) yes no t) ∙ d.is (λ _. [])) in
     entered g d.begun t e.0 (ap stood (sym e.0) ∙ e.1))
     (λ f. let e = same_answer w w new command (answers.StampEnd colour) answer
-    (sym (if_false (may_single w client colour) yes no f) ∙ d.is (unanswered w)) in
+    (sym (if_false (may_single w client colour) yes no f) ∙ d.is (λ _. [])) in
     ended f e.0 e.1)
 
 -- What is read then
@@ -237,6 +240,29 @@ module _ (command : Command) (text : List ℕ) (colour : ℕ) (w new : World) (s
       subst (λ (p : PointPiece). p.position ≤ length (line (home_history new command.client p.colour)))
       (sym (first_point its_point d list list_is))
       (position_low (next_id w command.client) (line (home_history new command.client colour)))
+
+-- its point is of the colour, behind all that stood before
+module _ (command : Command) (text : List ℕ) (colour : ℕ) (w new : World) (stamp : ℕ) (points list : List PointPiece)
+    (is : list ≡ points) (s : StoodSo command text colour w new stamp points) (d : PointPiece) where
+  abbrev at_point : PointPiece
+  at_point = point_in w new command.client (next_id w command.client) colour
+
+  same_point : get_or list 0 d ≡ at_point
+  same_point = first_point at_point d list (s.points_are ∙ sym is)
+
+  pub colour_same : (get_or list 0 d).colour ≡ colour
+  colour_same = ap (λ (p : PointPiece). p.colour) same_point
+
+  pub position_on : IsReached w
+      → length (line (home_history w command.client colour)) ≤ (get_or list 0 d).position
+  position_on reached =
+      let to = subst (RunsTo w) s.single (single_to s.grants w command text colour) in
+      let shape : new.shape ≡ w.shape = ap (λ (x : World). x.shape) (sym s.single) ∙ single_shape s.grants w command text colour in
+      subst (λ (p : PointPiece). length (line (home_history w command.client colour)) ≤ p.position) (sym same_point)
+      (subst (λ (r : ℕ). length (line (home_history w command.client colour))
+      ≤ position_of (next_id w command.client) (line (new.histories r colour)))
+      (ap (λ (x : Shape). slice_index x.homes command.client) (sym shape))
+      (new_behind w new reached to command.client (home_of w command.client) colour))
 
 -- where the append was no answer of that kind, no stamp was left
 pub behind_ended : (command : Command) (colour : ℕ) (w new : World) (answer : Answer)

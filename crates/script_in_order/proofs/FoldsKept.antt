@@ -3,6 +3,7 @@ use Rattle.std.proofs.Common.{◌≡◌, ℕ, zero, suc, ◌+◌, ◌<◌, ◌�
 use Rattle.std.specs.Prelude.{◌≢◌, slice_get}
 use Rattle.std.specs.List.{Contains}
 use Rattle.std.specs.Option.{option_map}
+use Rattle.std.specs.Vec.{with_item}
 use Rattle.std.proofs.lemmas.Option.{slice_get-get_or}
 use Rattle.log_node.specs.declared.ids.Key.{Key}
 use Rattle.object_fold.specs.Nodes.{ObjectNode}
@@ -325,17 +326,13 @@ module _ (w : World) (home colour : ℕ) where
   only_queue (folds.Causal regions) (c, e, right) n = let g : ⊥ = cc in g
   only_queue folds.Nothing f n = f.1 home colour refl
 
--- the same vector with another item at a place
-abbrev pub with_shard : Vec ShardFold Global → ℕ → ShardFold → Vec ShardFold Global
-with_shard shards n fold = record shards { items = set shards.items n fold }
-
 -- a shard that was folded on is within its bound
 pub within_with : (all : List Fold) (object : ℕ) (shards : Vec ShardFold Global) (n : ℕ) (fold : ShardFold)
     (cs : List ℕ) (bound : ℕ → ℕ) → slice_get all object ≡ Some (folds.Map shards)
     → ShardsWithin all object cs bound → fold.count ≤ bound n
-    → ShardsWithin (set all object (folds.Map (with_shard shards n fold))) object cs bound
+    → ShardsWithin (set all object (folds.Map (with_item shards n fold))) object cs bound
 within_with all object shards n fold cs bound there old low = λ c i others other at_object at_colour.
-    by_place c i others other (set_cases all object object (folds.Map (with_shard shards n fold)) (folds.Map others) at_object) at_colour where
+    by_place c i others other (set_cases all object object (folds.Map (with_item shards n fold)) (folds.Map others) at_object) at_colour where
       by_colour : (c : ℕ) → Contains cs c → (other : ShardFold)
           → ((c ≡ n) × (fold ≡ other)) ⊎ ((c ≢ n) × (slice_get shards.items c ≡ Some other)) → other.count ≤ bound c
       by_colour c i other (inl p) =
@@ -343,11 +340,11 @@ within_with all object shards n fold cs bound there old low = λ c i others othe
       by_colour c i other (inr p) = old c i shards other there p.1
 
       by_place : (c : ℕ) → Contains cs c → (others : Vec ShardFold Global) (other : ShardFold)
-          → ((object ≡ object) × (folds.Map (with_shard shards n fold) ≡ folds.Map others))
+          → ((object ≡ object) × (folds.Map (with_item shards n fold) ≡ folds.Map others))
           ⊎ ((object ≢ object) × (slice_get all object ≡ Some (folds.Map others)))
           → slice_get others.items c ≡ Some other → other.count ≤ bound c
       by_place c i others other (inl p) at =
-          let same : with_shard shards n fold ≡ others = let e = p.1 in cc in
+          let same : with_item shards n fold ≡ others = let e = p.1 in cc in
           by_colour c i other (set_cases shards.items n c fold other
           (ap (λ (v : Vec ShardFold Global). slice_get v.items c) same ∙ at))
       by_place c i others other (inr p) at = absurd (p.0 refl)

@@ -19,7 +19,7 @@ use Rattle.script_meaning.specs.Appends.{appended_one}
 use Rattle.script_meaning.specs.Objects.{caller_in, refusing_home}
 use Rattle.script_meaning.proofs.CallerLemmas.{RunsTo, queue_colour}
 use Rattle.script_in_order.specs.Doing.{DoneBy}
-use Rattle.script_in_order.specs.Folds.{IsQueueAt}
+use Rattle.script_in_order.specs.Folds.{IsQueueAt, AreFolded}
 use Rattle.script_in_order.proofs.FoldsKept.{folds_stay, queue_within}
 use Rattle.script_in_order.proofs.ObjectHomes.{queue_at}
 use Rattle.script_meaning.specs.States.{kind_in}
@@ -134,3 +134,27 @@ returns-clause-ok c =
     (c.read_behind.ensures.done w
     (did c.args.command.now c.in_ok-text.text c.shard-colour.result w (world_of c.append_one.new.world)
     c.in_ok-appended.appended c.in_ok-text.ensures c.in_ok-appended.ensures.ok))
+
+pub returns-clause-folded : goal.returns-clause-folded
+returns-clause-folded c =
+    let w = world_of c.args.world.now in
+    let v = world_of c.append_one.new.world in
+    let client = c.args.command.now.client in
+    let at = its_colour c.args.world.now.shape.regions c.args.world.now.shape.colours c.args.objects.now
+    c.requires.kinds c.args.object c.index-objects-object.result c.shard-colour.result c.requires.uses
+    c.shard-colour.ensures in
+    let did_so = c.in_ok-appended.ensures.ok in
+    c.read_behind.ensures.folded c.args.objects.now
+    (subst (λ (s : Shape). kind_in c.args.objects.now c.args.object
+    ≡ Some (kinds.Queue (slice_index s.homes client) c.shard-colour.result))
+    (sym (entered_shape c.args.command.now c.in_ok-text.text c.shard-colour.result w v
+    c.in_ok-appended.appended (entered_of c.args.command.now c.in_ok-text.text c.shard-colour.result w v
+    c.in_ok-appended.appended did_so)))
+    (queue_is w client c.args.objects.now c.args.object c.shard-colour.result c.requires.uses c.requires.near at.0))
+    (folds_stay w v c.agrees.ensures (to w v c.agrees.ensures c.args.command.now c.in_ok-text.text
+    c.shard-colour.result c.in_ok-appended.appended did_so) c.args.objects.now c.args.folds.now c.requires.folded)
+
+pub returns-in_err-appended-clause-folded : goal.returns-in_err-appended-clause-folded
+returns-in_err-appended-clause-folded c =
+    subst (λ (x : World). AreFolded x c.args.objects.now c.args.folds.now) (sym c.in_err-appended.ensures.err)
+    c.requires.folded

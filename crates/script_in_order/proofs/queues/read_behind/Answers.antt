@@ -1,9 +1,10 @@
-use Rattle.std.proofs.Common.{List, sym, subst}
+use Rattle.std.proofs.Common.{ℕ, List, sym, subst, arith}
 use Rattle.log_node.specs.declared.forms.Form.TheVariants as forms
 use Rattle.object_form.specs.Forms.{form_text}
 use Rattle.report_text.specs.declared.report.PointPiece.{PointPiece}
 use Rattle.world_code.specs.WorldView.{world_of}
-use Rattle.script_in_order.proofs.DequeueSteps.{StoodSo, entered_of, stood_so, one_there, colour_low, position_there, behind_ended, behind_read}
+use Rattle.script_in_order.specs.Folds.{IsQueueAt}
+use Rattle.script_in_order.proofs.DequeueSteps.{StoodSo, entered_of, stood_so, one_there, colour_low, position_there, colour_same, position_on, behind_ended, behind_read}
 use Rattle.script_in_order.proofs.queues.read_behind.Goals as goal
 
 pub bounds-as_slice-0 : goal.bounds-as_slice-0
@@ -39,6 +40,53 @@ read_own-requires-clause-count c =
     c.as_slice.ensures
     (stood_so command text c.args.colour before v c.args.appended c.in-Stood.stamp c.in-Stood._row c.in-Stood.points
     c.in-Stood.is (entered_of command text c.args.colour before v c.args.appended c.requires.appended.1)) _
+
+-- how the append stood
+abbrev stood_text : List ℕ
+stood_text = form_text forms.Dequeue
+
+pub read_own-requires-clause-folded : goal.read_own-requires-clause-folded
+read_own-requires-clause-folded c =
+    let command = c.args.command.now in
+    let before = c.requires.appended.0 in
+    let v = world_of c.args.world.now in
+    let f = c.requires.folded in (
+      f.0,
+      subst (λ (n : ℕ). IsQueueAt v command.client f.0 c.args.object n)
+          (sym (colour_same command stood_text c.args.colour before v c.in-Stood.stamp c.in-Stood.points
+          c.as_slice.result.now c.as_slice.ensures
+          (stood_so command stood_text c.args.colour before v c.args.appended c.in-Stood.stamp c.in-Stood._row
+          c.in-Stood.points c.in-Stood.is
+          (entered_of command stood_text c.args.colour before v c.args.appended c.requires.appended.1)) _)) f.1,
+      f.2,
+    )
+
+pub read_own-requires-clause-behind : goal.read_own-requires-clause-behind
+read_own-requires-clause-behind c = λ fold there.
+    let command = c.args.command.now in
+    let before = c.requires.appended.0 in
+    let v = world_of c.args.world.now in
+    let low = c.requires.appended.2 fold there in
+    let on = position_on command stood_text c.args.colour before v c.in-Stood.stamp c.in-Stood.points
+    c.as_slice.result.now c.as_slice.ensures
+    (stood_so command stood_text c.args.colour before v c.args.appended c.in-Stood.stamp c.in-Stood._row
+    c.in-Stood.points c.in-Stood.is
+    (entered_of command stood_text c.args.colour before v c.args.appended c.requires.appended.1)) _
+    c.requires.appended.3 in
+    omega (arith, low, on)
+
+pub returns-in-Stood-clause-folded : goal.returns-in-Stood-clause-folded
+returns-in-Stood-clause-folded c = λ objects at f.
+    let command = c.args.command.now in
+    let before = c.requires.appended.0 in
+    let v = world_of c.args.world.now in
+    c.read_own.ensures.folded objects
+    (subst (λ (n : ℕ). IsQueueAt v command.client objects c.args.object n)
+    (sym (colour_same command stood_text c.args.colour before v c.in-Stood.stamp c.in-Stood.points
+    c.as_slice.result.now c.as_slice.ensures
+    (stood_so command stood_text c.args.colour before v c.args.appended c.in-Stood.stamp c.in-Stood._row
+    c.in-Stood.points c.in-Stood.is
+    (entered_of command stood_text c.args.colour before v c.args.appended c.requires.appended.1)) _)) at) f
 
 pub returns-in-Stood-clause-done : goal.returns-in-Stood-clause-done
 returns-in-Stood-clause-done c = λ before d.

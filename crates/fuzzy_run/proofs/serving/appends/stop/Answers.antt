@@ -9,8 +9,8 @@ returns-in-Err-Full g c =
     c.args.steps c.in-Err-Full.used
     (λ none. absurd (let at_once = (e.at_once (ap Some none)).0 in let is = c.in-Err-Full.is in
     let fault = c.in-Err-Full.field-0-is in let no : ⊥ = cc (at_once, is, fault) in no))
-    (not_stopped _ (λ steps f. absurd (let is = c.in-Err-Full.is in let fault = c.in-Err-Full.field-0-is in
-    let no : ⊥ = cc (f, is, fault) in no)) e.finished)
+    (not_stopped c.args.client.now c.append.new.self _ (λ steps f. absurd (let fault = c.in-Err-Full.field-0-is in
+    let no : ⊥ = cc (f, fault) in no)) e.finished)
     (rw c.in-Err-Full.field-0-is at e.err)
 
 pub returns-in-Err-Stopped : goal.returns-in-Err-Stopped
@@ -24,6 +24,6 @@ returns-in-Err-NoMemory g c =
     let e = c.in-Err-NoMemory.ensures in
     gives_no_stop c.args.store.now c.args.client.now c.append.new.self e.client e.same e.goes c.args.colours c.args.text
     c.args.steps
-    (not_stopped _ (λ steps f. absurd (let is = c.in-Err-NoMemory.is in let fault = c.in-Err-NoMemory.field-0-is in
-    let no : ⊥ = cc (f, is, fault) in no)) e.finished)
+    (not_stopped c.args.client.now c.append.new.self _ (λ steps f. absurd (let fault = c.in-Err-NoMemory.field-0-is in
+    let no : ⊥ = cc (f, fault) in no)) e.finished)
     (rw c.in-Err-NoMemory.field-0-is at e.err)

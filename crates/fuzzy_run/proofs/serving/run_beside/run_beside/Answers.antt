@@ -1,15 +1,10 @@
-use Rattle.std.proofs.Common.{◌≡◌, ◌∙◌, ap, sym, subst, arith, refl, List, length, Some}
+use Rattle.std.proofs.Common.{◌≡◌, ◌∙◌, subst, arith, List, Some}
 use Rattle.std.specs.Prelude.{slice_get}
 use Rattle.script_text.specs.declared.script.Command.{Command}
-use Rattle.report_text.specs.declared.report.ReplyLine.{ReplyLine}
-use Rattle.log_client.specs.declared.client.Client.{Client}
-use Rattle.log_client.specs.Closes.{AreClients, Closes}
 use Rattle.fuzzy_run.specs.declared.serving.served.Served.{Served}
 use Rattle.fuzzy_run.specs.Dealing.{AreDealt}
-use Rattle.fuzzy_run.specs.Served.{IsServed}
-use Rattle.fuzzy_run.specs.Serving.{AreServed}
 use Rattle.fuzzy_run.proofs.ClosingRuns.{can_be_shown, runs_end_lawfully}
-use Rattle.fuzzy_run.proofs.RunningBeside.{are_clients, are_served, can_serve, lawful_if}
+use Rattle.fuzzy_run.proofs.RunningBeside.{are_clients, can_serve, lawful_if, were_served}
 use Rattle.fuzzy_run.proofs.serving.run_beside.run_beside.Goals as goal
 
 pub open-requires-clause-size : goal.open-requires-clause-size
@@ -19,7 +14,11 @@ open-requires-clause-size g c =
     let few_colours = f.few_colours in
     let few_rows = c.requires.rows in (
       f.a_client,
-      (omega (arith, few_clients), (f.a_colour, (omega (arith, few_colours), (c.requires.some_rows, omega (arith, few_rows))))),
+      (omega (arith, few_clients)),
+      f.a_colour,
+      (omega (arith, few_colours)),
+      c.requires.some_rows,
+      (omega (arith, few_rows)),
     )
 
 pub serve_beside-requires-after_bounds : goal.serve_beside-requires-after_bounds
@@ -31,38 +30,38 @@ serve_beside-requires-after_bounds g c κs within = λ n x at.
     c.replace-commands.ensures.value c.in_ok-served.ensures) n x
     (subst (λ (l : List Served). slice_get l n ≡ Some x) c.as_mut_slice.ensures.value at)
 
-module _ (g : _) (c : goal.After-into g) where
-  abbrev before : List Served
-  before = c.in_ok-served.served.items
-
-  abbrev after : List Served
-  after = c.serve_beside.new.served
-
-  served : AreServed c.args.script c.in_ok-store.store c.into.result c.in_ok-clients.replies.items
-  served =
-      let e = c.in_ok-store.ensures in
-      subst (λ (cs : List Client). AreServed c.args.script c.in_ok-store.store cs c.in_ok-clients.replies.items)
-      (sym (c.into.ensures ∙ c.in_ok-clients.ensures.clients))
-      (subst (λ (rs : List (List ReplyLine)). AreServed c.args.script c.in_ok-store.store _ rs)
-      (sym c.in_ok-clients.ensures.replies)
-      (are_served c.args.script c.requires.fits c.requires.built c.requires.stops c.in_ok-store.store e.size e.regions
-      c.in_ok-store.clients e.clients before
-      (subst (λ (l : List Command). AreDealt c.in_ok-store.clients l before)
-      c.replace-commands.ensures.value c.in_ok-served.ensures) after
-      (c.serve_beside.ensures.len ∙ ap length c.as_mut_slice.ensures.value)
-      (λ n x y at later. c.serve_beside.ensures.served n x y
-      (subst (λ (l : List Served). slice_get l n ≡ Some x) (sym c.as_mut_slice.ensures.value) at) later)))
-
 pub close-requires : goal.close-requires
-close-requires g c = are_clients c.args.script c.in_ok-store.store c.into.result c.in_ok-clients.replies.items (served g c)
+close-requires g c =
+    let e = c.in_ok-store.ensures in
+    let served = were_served c.args.script c.requires.fits c.requires.built c.requires.stops c.in_ok-store.store e.size
+    e.regions c.in_ok-store.clients e.clients c.replace-commands.result c.replace-commands.ensures.value
+    c.in_ok-served.served.items c.as_mut_slice.result.now c.serve_beside.new.served c.as_mut_slice.ensures.value
+    c.in_ok-served.ensures c.serve_beside.ensures.len c.serve_beside.ensures.served
+    c.in_ok-served.served.len c.in_ok-served.served.ok.0 c.into.result c.in_ok-clients.replies.items
+    (c.into.ensures ∙ c.in_ok-clients.ensures.clients) c.in_ok-clients.ensures.replies in
+    are_clients c.args.script c.in_ok-store.store c.into.result c.in_ok-clients.replies.items served
 
 pub end_report-requires-clause-regions : goal.end_report-requires-clause-regions
 end_report-requires-clause-regions g c =
-    can_be_shown c.args.script c.requires.fits c.in_ok-store.store c.into.result c.in_ok-clients.replies.items (served g c)
+    let e = c.in_ok-store.ensures in
+    let served = were_served c.args.script c.requires.fits c.requires.built c.requires.stops c.in_ok-store.store e.size
+    e.regions c.in_ok-store.clients e.clients c.replace-commands.result c.replace-commands.ensures.value
+    c.in_ok-served.served.items c.as_mut_slice.result.now c.serve_beside.new.served c.as_mut_slice.ensures.value
+    c.in_ok-served.ensures c.serve_beside.ensures.len c.serve_beside.ensures.served
+    c.in_ok-served.served.len c.in_ok-served.served.ok.0 c.into.result c.in_ok-clients.replies.items
+    (c.into.ensures ∙ c.in_ok-clients.ensures.clients) c.in_ok-clients.ensures.replies in
+    can_be_shown c.args.script c.requires.fits c.in_ok-store.store c.into.result c.in_ok-clients.replies.items served
     c.in_ok-closed.closed c.in_ok-closed.ensures
 
 pub returns : goal.returns
 returns g c =
+    let e = c.in_ok-store.ensures in
+    let served = were_served c.args.script c.requires.fits c.requires.built c.requires.stops c.in_ok-store.store e.size
+    e.regions c.in_ok-store.clients e.clients c.replace-commands.result c.replace-commands.ensures.value
+    c.in_ok-served.served.items c.as_mut_slice.result.now c.serve_beside.new.served c.as_mut_slice.ensures.value
+    c.in_ok-served.ensures c.serve_beside.ensures.len c.serve_beside.ensures.served
+    c.in_ok-served.served.len c.in_ok-served.served.ok.0 c.into.result c.in_ok-clients.replies.items
+    (c.into.ensures ∙ c.in_ok-clients.ensures.clients) c.in_ok-clients.ensures.replies in
     lawful_if c.args.script _ c.end_report.result c.end_report.ensures
     (runs_end_lawfully c.args.script c.requires.fits c.in_ok-store.store c.into.result c.in_ok-clients.replies.items
-    (served g c) c.in_ok-closed.closed c.in_ok-closed.ensures)
+    served c.in_ok-closed.closed c.in_ok-closed.ensures)

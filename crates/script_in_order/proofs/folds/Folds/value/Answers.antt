@@ -1,5 +1,6 @@
 use Rattle.std.proofs.Common.{◌≡◌, ◌<◌, ℕ, List, Vec, Global, Some, get_or, set, length, refl, ap, sym, subst, ◌∙◌, arith}
 use Rattle.std.specs.Prelude.{slice_get}
+use Rattle.std.specs.Vec.{with_item}
 use Rattle.world_laws.specs.Worlds.{World}
 use Rattle.world_code.specs.WorldView.{world_of}
 use Rattle.script_text.specs.declared.script.Object.{Object}
@@ -9,7 +10,7 @@ use Rattle.script_in_order.specs.declared.folds.ShardFold.{ShardFold}
 use Rattle.script_in_order.specs.declared.folds.Fold.{Fold}
 use Rattle.script_in_order.specs.declared.folds.Fold.TheVariants as folds
 use Rattle.script_in_order.specs.Folds.{IsShardFold, AreShardFolds, IsFoldOf, AreFolded, ShardsWithin}
-use Rattle.script_in_order.proofs.FoldsKept.{object_low, fold_there, fold_put, there_at, map_shards, only_map, shards_with, with_shard, within_with}
+use Rattle.script_in_order.proofs.FoldsKept.{object_low, fold_there, fold_put, there_at, map_shards, only_map, shards_with, within_with}
 use Rattle.script_in_order.proofs.folds.Folds.value.Goals as goal
 
 -- the shards of the object's map
@@ -39,9 +40,10 @@ index_mut-requires-in-Map c =
     let m = c.requires.may in
     let there = subst (λ (l : List Fold). c.index_mut.result.now ≡ get_or l c.args.object c.index_mut.result.now)
     c.self.view_is c.index_mut.ensures.value in
-    shard_low w c.args.first.region m.1 c.in-Map.shards.items c.args.first.colour
+    let low = shard_low w c.args.first.region m.1 c.in-Map.shards.items c.args.first.colour
     (shards_of w m.0 c.args.self.now c.args.object c.args.first.region m.1 c.index_mut.result.now c.in-Map.shards
-    m.2.folded m.2.is_kind there c.in-Map.is) m.2.there.colour
+    m.2.folded m.2.is_kind there c.in-Map.is) m.2.there.colour in
+    omega (arith, low)
 
 pub value-requires-clause-there : goal.value-requires-clause-there
 value-requires-clause-there c = c.requires.may.2.there
@@ -109,7 +111,7 @@ returns-clause-folded c = λ objects colours is folded.
     (there_at c.in-Map.shards.items c.args.first.colour c.index_mut-in-Map.result.now
     (shard_low w c.args.first.region colours c.in-Map.shards.items c.args.first.colour f c.requires.may.2.there.colour)
     c.index_mut-in-Map.ensures.value)) in
-    let new : Fold = folds.Map (with_shard c.in-Map.shards c.args.first.colour c.value.new.self) in
+    let new : Fold = folds.Map (with_item c.in-Map.shards c.args.first.colour c.value.new.self) in
     subst (λ (l : List Fold). AreFolded w objects (set l c.args.object new)) (sym c.self.view_is)
     (fold_put w objects c.args.self.now c.args.object (kinds.Map c.args.first.region colours) folded is new
     (c.args.first.region, colours, refl,
@@ -121,7 +123,7 @@ returns-clause-within c = λ cs bound old low.
     let m = c.requires.may in
     let there = subst (λ (l : List Fold). c.index_mut.result.now ≡ get_or l c.args.object c.index_mut.result.now)
     c.self.view_is c.index_mut.ensures.value in
-    let new : Fold = folds.Map (with_shard c.in-Map.shards c.args.first.colour c.value.new.self) in
+    let new : Fold = folds.Map (with_item c.in-Map.shards c.args.first.colour c.value.new.self) in
     subst (λ (l : List Fold). ShardsWithin (set l c.args.object new) c.args.object cs bound) (sym c.self.view_is)
     (within_with c.args.self.now c.args.object c.in-Map.shards c.args.first.colour c.value.new.self cs bound
     (stands w m.0 c.args.self.now c.args.object c.args.first.region m.1 c.index_mut.result.now c.in-Map.shards

@@ -2,6 +2,7 @@ use Rattle.std.proofs.Common.{◌∙◌, refl, ap, arith}
 use Rattle.col_core.specs.History.{line}
 use Rattle.column.specs.Columns.{ColumnState}
 use Rattle.world_code.specs.WorldView.{world_of}
+use Rattle.script_in_order.specs.Folds.{nodes_at}
 use Rattle.script_in_order.proofs.FoldsKept.{shard_step}
 use Rattle.script_in_order.proofs.folds.ShardFold.fold_to.Goals as goal
 
@@ -11,7 +12,8 @@ returns-in_err-feed-clause-folded c = λ colours old.
       colours_are = c.feed.ensures.shard.colours ∙ before.colours_are;
       shard_is = c.feed.ensures.shard.shard ∙ before.shard_is;
       within = before.within;
-      folded = c.in_err-feed.ensures.err _ before.folded;
+      folded = c.in_err-feed.ensures.err
+          (nodes_at (world_of c.args.world.now) (record c.args.first { count = c.loop-place.self.count })) before.folded;
     }
 
 pub loop-place-preserved : goal.loop-place-preserved

@@ -1,0 +1,23 @@
+use Rattle.std.proofs.Common.{◌≡◌, ◌<◌, ◌≤◌, ℕ, refl, ap, sym, subst, arith}
+use Rattle.log_node.specs.declared.node.Shape.{Shape}
+use Rattle.script_text.specs.declared.script.Kind.{Kind}
+use Rattle.script_text.specs.Fitting.{IsKindWithin}
+use Rattle.script_in_order.proofs.folds.open_fold.Goals as goal
+
+pub returns-in_ok-open_shards-in-Map : goal.returns-in_ok-open_shards-in-Map
+returns-in_ok-open_shards-in-Map c = λ w same. (
+  c.in-Map._home,
+  c.in-Map.colours,
+  c.in-Map.is,
+  c.in_ok-open_shards-in-Map.ensures w c.in-Map._home (ap (λ (s : Shape). s.colours) same),
+)
+
+pub returns-in_ok-open_causal-in-Causal : goal.returns-in_ok-open_causal-in-Causal
+returns-in_ok-open_causal-in-Causal c = λ w same. (
+  c.in-Causal._colour,
+  c.in-Causal.is,
+  c.in_ok-open_causal-in-Causal.ensures w c.in-Causal._colour (ap (λ (s : Shape). s.regions) same)
+      (let within : c.in-Causal._colour < c.args.shape.now.colours =
+      subst (IsKindWithin c.args.shape.now.regions c.args.shape.now.colours) c.in-Causal.is c.requires.within in
+      let few = c.requires.few in omega (arith, within, few)),
+)
