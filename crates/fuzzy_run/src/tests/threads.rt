@@ -78,14 +78,7 @@ fn run_at<R: Threads + Wait + Sync, G: Gate>(
     let words = vec![in alloc; String::from_str(alloc, "run")?]?;
     let mut source = MemorySource::open(alloc, script, 1_000, &[])?;
     let mut sink = MemorySink::open(alloc, 1_000, &[])?;
-    let status = run(
-        alloc,
-        rt,
-        words.as_slice(),
-        &mut source,
-        &mut sink,
-        gate,
-    );
+    let status = run(alloc, rt, words.as_slice(), &mut source, &mut sink, gate);
     Ok((status, sink))
 }
 
@@ -102,7 +95,8 @@ fn what_one_client_does_alone_is_the_same_on_threads(rt: HostRuntime) -> Result<
 
 #[test]
 fn the_row_of_a_client_with_one_row_is_used_once(rt: HostRuntime) -> Result<(), Fail> {
-    let script = b"fuzzylog 1\nregions r\ncolours x y\nrows 1\nclient a r\nclient b r\nclient c r\nbegin
+    let script =
+        b"fuzzylog 1\nregions r\ncolours x y\nrows 1\nclient a r\nclient b r\nclient c r\nbegin
 a append x,y p\na append x,y q\na append x s\n";
     let (status, sink) = run_at(rt.alloc(), &rt, script, &OpenGate)?;
     assert_eq!(rt; status, Status::Done);

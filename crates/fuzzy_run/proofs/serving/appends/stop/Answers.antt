@@ -7,8 +7,8 @@ returns-in-Err-Full g c =
     let e = c.in-Err-Full.ensures in
     gives_full_stop c.args.store.now c.args.client.now c.append.new.self e.client e.same e.goes c.args.colours c.args.text
     c.args.steps c.in-Err-Full.used
-    (λ none. absurd (let at_once = (e.at_once (ap Some none)).0 in let is = c.in-Err-Full.is in
-    let fault = c.in-Err-Full.field-0-is in let no : ⊥ = cc (at_once, is, fault) in no))
+    (λ none. absurd (let at_once = (e.at_once (ap Some none)).0 in
+    let fault = c.in-Err-Full.field-0-is in let no : ⊥ = cc (at_once, fault) in no))
     (not_stopped c.args.client.now c.append.new.self _ (λ steps f. absurd (let fault = c.in-Err-Full.field-0-is in
     let no : ⊥ = cc (f, fault) in no)) e.finished)
     (rw c.in-Err-Full.field-0-is at e.err)

@@ -1,4 +1,4 @@
-use Rattle.std.proofs.Common.{◌≡◌, ◌∙◌, ap, sym, subst, arith, List, ◌∷◌, ◌++◌, [], length, Some}
+use Rattle.std.proofs.Common.{◌≡◌, ◌∙◌, ap, sym, subst, arith, List, ◌∷◌, ◌++◌, [], length, map, Some}
 use Rattle.std.specs.Prelude.{slice_get}
 use Rattle.std.specs.List.{flat_map, enumerate_from}
 use Rattle.std.proofs.lemmas.List.{length_push}
@@ -37,12 +37,13 @@ loop-end-preserved c =
     record {
       place = omega (arith, place, long);
       rows_are = c.in_ok-push_rows.ensures
-          ∙ (ap (λ (l : List RowReport). l ++ _) was.rows_are
+          ∙ (ap (λ (l : List RowReport). l ++ map (row_shown nodes c.loop-end.region) end.rows) was.rows_are
           ∙ (ap (λ (l : List RowReport). flat_map (rows_shown nodes) (enumerate_from 0 yielded) ++ l)
           (rows_at nodes c.loop-end.region (length yielded) end place)
           ∙ sym (numbered_more (rows_shown nodes) yielded end)));
       columns_are = c.in_ok-push_columns.ensures
-          ∙ (ap (λ (l : List ColumnReport). l ++ _) was.columns_are
+          ∙ (ap (λ (l : List ColumnReport).
+          l ++ columns_of c.args.regions.now c.args.colours.now c.into_vec.result.items) was.columns_are
           ∙ (ap (λ (l : List ColumnReport). flat_map names yielded ++ l)
           (ap (columns_of c.args.regions.now c.args.colours.now) c.into_vec.ensures)
           ∙ sym (flat_more names yielded end)));
