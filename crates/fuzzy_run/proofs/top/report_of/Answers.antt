@@ -16,7 +16,7 @@ returns-in-Step g c =
     (run_in_file c.args.script c.run_in_order-report.result e.ok e.lawful e.exact)
 
 pub run_beside-requires-clause-built : goal.run_beside-requires-clause-built
-run_beside-requires-clause-built g c = rw c.in-Run.is at c.requires.built
+run_beside-requires-clause-built g c κs within = rw c.in-Run.is at c.requires.built
 
 pub returns-in-Run : goal.returns-in-Run
 returns-in-Run g c =
