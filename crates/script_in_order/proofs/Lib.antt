@@ -24,5 +24,3 @@ mod DequeueSteps
 mod FoldsKept
 mod ObjectHomes
 mod GetSteps
-mod Committing
-mod ReadVerdicts

@@ -24,12 +24,7 @@ const REFUSED: [(&str, u32, &str); 11] = [
 ];
 
 /// Commands on objects from line 12 on that are not done today.
-const OBJECTS: [&str; 4] = [
-    "a get m k",
-    "a getall m k j",
-    "a read t k",
-    "a read t k\na commit t k=v",
-];
+const OBJECTS: [&str; 2] = ["a read t k", "a read t k\na commit t k=v"];
 
 /// The script is refused at that line for that reason.
 fn refuses<R: Threads + Wait + Abort>(
