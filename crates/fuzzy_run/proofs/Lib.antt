@@ -1,1 +1,14 @@
 mod TopLemmas
+mod ByPlace
+mod ServedClients
+mod CommandAnswers
+mod ClosingRuns
+mod Giving
+mod GivingCommands
+mod Yielding
+mod Dealing
+mod EndsShown
+mod ClientsShown
+mod SomeRows
+mod RunningBeside
+mod RunsOf

@@ -1,5 +1,10 @@
 pub mod Statuses
 pub mod Words
+pub mod Built
 pub mod Refusals
 pub mod TopCall
 pub mod Reading
+pub mod Serving
+pub mod Served
+pub mod Dealing
+pub mod EndReports

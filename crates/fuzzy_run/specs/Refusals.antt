@@ -8,7 +8,8 @@ use Rattle.script_text.specs.declared.script.Script.{Script}
 use Rattle.script_text.specs.Words.{reason_text}
 use Rattle.script_text.specs.Grammar.{IsScript}
 use Rattle.script_text.specs.Faults.{IsRefused}
-use Rattle.script_meaning.specs.States.{is_built}
+use Rattle.fuzzy_run.specs.declared.asked.Asked.{Asked}
+use Rattle.fuzzy_run.specs.Built.{is_done}
 use Rattle.fuzzy_run.specs.declared.refusal.Cause.{Cause}
 use Rattle.fuzzy_run.specs.declared.refusal.Cause.TheVariants.{Faulty, NotBuilt}
 
@@ -16,10 +17,10 @@ abbrev pub cause_text : Cause → List ℕ
 cause_text (Faulty why) = reason_text why
 cause_text NotBuilt = codes "not built"
 
--- the line of the first command over these objects that is not done yet
-abbrev pub first_unbuilt : List Object → List Command → Option ℕ
-first_unbuilt objects commands =
-    option_map (λ (c : Command). c.line) (find (λ (c : Command). not (is_built objects c.what)) commands)
+-- the line of the first command over these objects that is not done yet where the words ask so
+abbrev pub first_unbuilt : Asked → List Object → List Command → Option ℕ
+first_unbuilt asked objects commands =
+    option_map (λ (c : Command). c.line) (find (λ (c : Command). not (is_done asked objects c.what)) commands)
 
 -- the bytes are this script, and no other
 pub record IsTheScript (bytes : List ℕ) (script : Script) : Type 0 where
@@ -32,13 +33,13 @@ IsNoScript bytes = (script : Script) → IsScript bytes script → ⊥
 
 -- The bytes are no script, and this is the first faulty line with its reason; or they are a script, and this is the line
 -- of the first command that is not done yet.
-abbrev pub IsRefusedFor : List ℕ → ℕ → Cause → Type 0
-IsRefusedFor bytes line (Faulty why) = IsRefused bytes line why × IsNoScript bytes
-IsRefusedFor bytes line NotBuilt =
-    (script : Script) × IsTheScript bytes script × (first_unbuilt script.objects script.commands ≡ Some line)
+abbrev pub IsRefusedFor : Asked → List ℕ → ℕ → Cause → Type 0
+IsRefusedFor asked bytes line (Faulty why) = IsRefused bytes line why × IsNoScript bytes
+IsRefusedFor asked bytes line NotBuilt =
+    (script : Script) × IsTheScript bytes script × (first_unbuilt asked script.objects script.commands ≡ Some line)
 
 -- what is left to read is told, and it is a script of commands that are done
-abbrev pub IsDoable : Option (List ℕ) → Type 0
-IsDoable left =
+abbrev pub IsDoable : Asked → Option (List ℕ) → Type 0
+IsDoable asked left =
     (bytes : List ℕ) × (script : Script) × (left ≡ Some bytes) × IsScript bytes script
-    × (first_unbuilt script.objects script.commands ≡ None)
+    × (first_unbuilt asked script.objects script.commands ≡ None)

@@ -7,30 +7,37 @@ use Rattle.report_text.specs.declared.report.Report.{Report}
 use Rattle.report_text.specs.ReportText.{report_bytes, refusal_bytes}
 use Rattle.lawful_run.specs.Lawful.{LawfulRun}
 use Rattle.script_meaning.specs.Meaning.{IsStepReport, FindsMemory, step_report}
+use Rattle.fuzzy_run.specs.declared.asked.Asked.{Asked}
+use Rattle.fuzzy_run.specs.declared.asked.Asked.TheVariants.{Step}
 use Rattle.fuzzy_run.specs.declared.refusal.Cause.{Cause}
 use Rattle.fuzzy_run.specs.declared.refusal.Cause.TheVariants.{NotBuilt}
 use Rattle.fuzzy_run.specs.Refusals.{IsTheScript, IsRefusedFor, cause_text, first_unbuilt}
 
--- The report is that of a lawful run of the script, done in the order of the file; where no reply and no mark tells
--- of want of memory, it is the one report that this means.
-pub record IsRunOf (script : Script) (report : Report) : Type 0 where
-  pub lawful : LawfulRun script report
+-- The report is that of a script done in the order of the file; where no reply and no mark tells of want of memory, it is
+-- the one report that this means.
+pub record IsDoneInOrder (script : Script) (report : Report) : Type 0 where
   pub in_order : IsStepReport script report
   pub exact : FindsMemory report → report ≡ step_report script
 
+-- The report is that of a lawful run of the script, whatever the words ask; where they ask for the order of the file, of
+-- the run in that order.
+pub record IsRunOf (asked : Asked) (script : Script) (report : Report) : Type 0 where
+  pub lawful : LawfulRun script report
+  pub in_order : asked ≡ Step → IsDoneInOrder script report
+
 -- The bytes are one script alone, and the text is that of a report of its run.
-pub record IsRunText (bytes text : List ℕ) : Type 0 where
+pub record IsRunText (asked : Asked) (bytes text : List ℕ) : Type 0 where
   pub script : Script
   pub report : Report
   pub read : IsTheScript bytes script
-  pub run : IsRunOf script report
+  pub run : IsRunOf asked script report
   pub shown : text ≡ report_bytes report
 
 -- The bytes are not done, and the text is the line that says why.
-pub record IsRefusalText (bytes text : List ℕ) : Type 0 where
+pub record IsRefusalText (asked : Asked) (bytes text : List ℕ) : Type 0 where
   pub line : ℕ
   pub cause : Cause
-  pub refused : IsRefusedFor bytes line cause
+  pub refused : IsRefusedFor asked bytes line cause
   pub shown : text ≡ refusal_bytes line (cause_text cause)
 
 -- Such a text of some bytes was written whole; where the source tells what was left, these are the bytes.
@@ -39,18 +46,18 @@ Writes IsText left old new =
     (bytes text : List ℕ) × IfSome left (λ all. all ≡ bytes) × IsText bytes text × Appends old new text
 
 -- the beginning of such a text was written
-abbrev pub WritesFront : Option (List ℕ) → Option (List ℕ) → Option (List ℕ) → Type 0
-WritesFront left old new =
+abbrev pub WritesFront : Asked → Option (List ℕ) → Option (List ℕ) → Option (List ℕ) → Type 0
+WritesFront asked left old new =
     (bytes front rest : List ℕ) × IfSome left (λ all. all ≡ bytes)
-    × (IsRunText bytes (front ++ rest) ⊎ IsRefusalText bytes (front ++ rest)) × Appends old new front
+    × (IsRunText asked bytes (front ++ rest) ⊎ IsRefusalText asked bytes (front ++ rest)) × Appends old new front
 
 -- the text of a report of the script's run was written whole
-abbrev pub Shows : Script → Option (List ℕ) → Option (List ℕ) → Type 0
-Shows script old new = (report : Report) × IsRunOf script report × Appends old new (report_bytes report)
+abbrev pub Shows : Asked → Script → Option (List ℕ) → Option (List ℕ) → Type 0
+Shows asked script old new = (report : Report) × IsRunOf asked script report × Appends old new (report_bytes report)
 
 -- the beginning of such a text was written, or of the line of the first command that is not done yet
-abbrev pub ShowsFront : Script → Option (List ℕ) → Option (List ℕ) → Type 0
-ShowsFront script old new =
-    ((report : Report) × IsRunOf script report × AppendsFront old new (report_bytes report))
-    ⊎ ((line : ℕ) × (first_unbuilt script.commands ≡ Some line)
+abbrev pub ShowsFront : Asked → Script → Option (List ℕ) → Option (List ℕ) → Type 0
+ShowsFront asked script old new =
+    ((report : Report) × IsRunOf asked script report × AppendsFront old new (report_bytes report))
+    ⊎ ((line : ℕ) × (first_unbuilt asked script.objects script.commands ≡ Some line)
     × AppendsFront old new (refusal_bytes line (cause_text NotBuilt)))

@@ -8,6 +8,8 @@ ghost use Rattle.fuzzy_run.specs.Words.{asked_by};
 pub enum Asked {
     /// The script's commands, done in the order of the file.
     Step,
+    /// The commands of each client, done on a thread of its own.
+    Run,
 }
 
 /// What the words ask for, without the program's name.
@@ -16,6 +18,7 @@ pub fn read_words(words: &[String]) -> Option<Asked>
 {
     match words {
         [word] if word.as_str() == "step" => Some(Asked::Step),
+        [word] if word.as_str() == "run" => Some(Asked::Run),
         _ => None,
     }
 }

@@ -2,7 +2,8 @@
 ghost use Rattle.std.specs.Prelude.{◌≡◌};
 ghost use Rattle.fuzzy_run.specs.Refusals.{cause_text, first_unbuilt};
 
-use script_in_order::is_built;
+use crate::asked::Asked;
+use crate::built::is_done;
 use script_text::{Command, Object, Reason};
 
 /// Why bytes were not done.
@@ -26,12 +27,12 @@ impl Cause {
     }
 }
 
-/// The line of the first command over these objects that is not done yet, where there is one.
-pub fn first_unbuilt(objects: &[Object], commands: &[Command]) -> Option<u32>
-    ensures { result ≡ first_unbuilt objects.now commands.now }
+/// The line of the first command over these objects that is not done yet where the words ask so, if there is one.
+pub fn first_unbuilt(asked: Asked, objects: &[Object], commands: &[Command]) -> Option<u32>
+    ensures { result ≡ first_unbuilt asked objects.now commands.now }
 {
     commands
         .iter()
-        .find(|c| !is_built(objects, &c.what))
+        .find(|c| !is_done(asked, objects, &c.what))
         .map(|c| c.line)
 }

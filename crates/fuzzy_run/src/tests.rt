@@ -19,9 +19,10 @@ mod scans;
 mod several;
 mod singles;
 mod stops;
+mod threads;
 
 /// Does a script over a source and a sink of which the reads and writes with these numbers fail.
-fn run_over<R: Threads + Wait>(
+fn run_over<R: Threads + Wait + Sync>(
     alloc: Global,
     rt: &R,
     word: &str,
@@ -44,7 +45,7 @@ fn run_over<R: Threads + Wait>(
 }
 
 /// Does a script over a source and a sink that do not fail.
-fn step_on<R: Threads + Wait>(
+fn step_on<R: Threads + Wait + Sync>(
     alloc: Global,
     rt: &R,
     script: &[u8],
@@ -53,7 +54,7 @@ fn step_on<R: Threads + Wait>(
 }
 
 /// A script, done, ends so and writes these bytes.
-fn leaves<R: Threads + Wait + Abort>(
+fn leaves<R: Threads + Wait + Sync + Abort>(
     alloc: Global,
     rt: &R,
     script: &[u8],

@@ -1,13 +1,18 @@
 // The top call: from the words of a command line and the bytes of a script to the bytes of a report.
-ghost use Rattle.std.specs.Prelude.{◌≡◌, ◌≢◌, ◌≤◌, ◌↔◌, ◌⊎◌, ℕ, map, None, Some, string_bytes};
+ghost use Rattle.std.specs.Prelude.{◌≡◌, ◌≢◌, ◌<◌, ◌≤◌, ◌↔◌, ◌⊎◌, ℕ, map, None, Some, string_bytes};
 ghost use Rattle.std.specs.Io.KnownBytes.{Appends, IsAtEnd};
 ghost use Rattle.fuzzy_io.specs.Causes.{Rose, ConsumesUpTo, AppendsFront};
+ghost use Rattle.std.specs.Prelude.{IsTrue, IfOk};
+ghost use Rattle.std.specs.List.{All};
+ghost use Rattle.script_text.specs.declared.script.Command.{Command};
 ghost use Rattle.script_text.specs.declared.script.Script.{Script};
 ghost use Rattle.script_text.specs.Fitting.{IsFitting};
 ghost use Rattle.report_text.specs.declared.report.Report.{Report};
 ghost use Rattle.report_text.specs.ReportText.{report_bytes, refusal_bytes};
 ghost use Rattle.script_meaning.specs.States.{StopsAreLast};
+ghost use Rattle.fuzzy_run.specs.declared.asked.Asked.{Asked};
 ghost use Rattle.fuzzy_run.specs.Words.{asked_by};
+ghost use Rattle.fuzzy_run.specs.Built.{is_done};
 ghost use Rattle.fuzzy_run.specs.Refusals.{first_unbuilt, cause_text, IsDoable};
 ghost use Rattle.fuzzy_run.specs.Reading.{LawsForReaders};
 ghost use Rattle.fuzzy_run.specs.TopCall.{IsRunOf, IsRunText, IsRefusalText, Writes, WritesFront, Shows, ShowsFront};
@@ -15,14 +20,15 @@ ghost use Rattle.fuzzy_run.specs.TopCall.{IsRunOf, IsRunText, IsRefusalText, Wri
 use crate::asked::{Asked, read_words};
 use crate::reading::laws_for_readers;
 use crate::refusal::{Cause, first_unbuilt};
+use crate::serving::run_beside;
 use crate::status::Status;
 use fuzzy_io::{Failed, Gate, ReadStop, Sink, Source, read_all};
 use log_node::MAX_ROWS;
-use report_text::{print, print_refusal};
+use report_text::{Report, print, print_refusal};
 use script_in_order::run_in_order;
 use script_meaning::scripts_stop_last;
 use script_text::{Reason, Script, ScriptFault, parse, rows_are_within_limits};
-use std::alloc::Global;
+use std::alloc::{AllocError, Global};
 use std::mem;
 use std::sync::Wait;
 use std::thread::Threads;
@@ -45,28 +51,66 @@ fn refuse<K: Sink>(sink: &mut K, line: u32, cause: Cause) -> Status
     }
 }
 
+// The report of a script's run, as the words ask for it.
+fn report_of<R: Threads + Wait + Sync, G: Gate>(
+    rt: &R,
+    alloc: Global,
+    asked: Asked,
+    gate: &G,
+    script: Script,
+) -> Result<Report, AllocError>
+    requires fits { IsFitting script }
+    requires rows { script.shape.rows ≤ MAX_ROWS }
+    requires some_rows { 0 < script.shape.rows }
+    requires built { All (λ (c : Command). IsTrue (is_done asked script.objects c.what)) script.commands }
+    requires stops { StopsAreLast script }
+    ensures { IfOk result (IsRunOf asked script) }
+{
+    match asked {
+        Asked::Step => {
+            let report = run_in_order(alloc, &script);
+            // Not freed here: the process ends soon, and its end frees all at once.
+            mem::forget(script);
+            report
+        }
+        Asked::Run => run_beside(rt, alloc, gate, script),
+    }
+}
+
 // Does the commands of a script, and writes the report; or the line of the first command that is not done yet.
-fn do_script<K: Sink>(alloc: Global, script: &Script, sink: &mut K) -> Status
-    requires fits { IsFitting script.now }
-    requires rows { script.now.shape.rows ≤ MAX_ROWS }
-    requires stops { StopsAreLast script.now }
-    ensures done { result ≡ Status.Done → Shows script.now (K.holds sink.old) (K.holds sink.new) }
-    ensures refused { result ≡ Status.Refused → (line : ℕ) × (first_unbuilt script.now.objects script.now.commands ≡ Some line)
+fn do_script<K: Sink, G: Gate, R: Threads + Wait + Sync>(
+    rt: &R,
+    alloc: Global,
+    asked: Asked,
+    gate: &G,
+    script: Script,
+    sink: &mut K,
+) -> Status
+    requires fits { IsFitting script }
+    requires rows { script.shape.rows ≤ MAX_ROWS }
+    requires some_rows { 0 < script.shape.rows }
+    requires stops { StopsAreLast script }
+    ensures done { result ≡ Status.Done → Shows asked script (K.holds sink.old) (K.holds sink.new) }
+    ensures refused { result ≡ Status.Refused → (line : ℕ) × (first_unbuilt asked script.objects script.commands ≡ Some line)
         × Appends (K.holds sink.old) (K.holds sink.new) (refusal_bytes line (cause_text Cause.NotBuilt)) }
     ensures write_fault { result ≡ Status.WriteFault → Rose (K.faults sink.old) (K.faults sink.new) }
-    ensures front { result ≡ Status.WriteFault → ShowsFront script.now (K.holds sink.old) (K.holds sink.new) }
+    ensures front { result ≡ Status.WriteFault → ShowsFront asked script (K.holds sink.old) (K.holds sink.new) }
     ensures no_memory { result ≡ Status.NoMemory → sink.new ≡ sink.old }
     ensures no_other { (result ≢ Status.BadWords) × (result ≢ Status.ReadFault) }
 {
-    if let Some(line) = first_unbuilt(script.objects.as_slice(), script.commands.as_slice()) {
+    if let Some(line) = first_unbuilt(
+        asked,
+        script.objects.as_slice(),
+        script.commands.as_slice(),
+    ) {
         return refuse(sink, line, Cause::NotBuilt);
     }
-    let report = match run_in_order(alloc, script) {
+    let report = match report_of(rt, alloc, asked, gate, script) {
         Ok(report) => report,
         Err(_) => return Status::NoMemory,
     };
     let printed = print(&report, sink);
-    // Not freed here: the process ends next, and its end frees all at once.
+    // Not freed here either.
     mem::forget(report);
     match printed {
         Ok(()) => Status::Done,
@@ -75,44 +119,58 @@ fn do_script<K: Sink>(alloc: Global, script: &Script, sink: &mut K) -> Status
 }
 
 // Does the script that the bytes are, or writes the line that says why they are none that can be done.
-fn do_bytes<K: Sink>(alloc: Global, bytes: &[u8], sink: &mut K) -> Status
-    ensures done { result ≡ Status.Done → Writes IsRunText (Some bytes.now) (K.holds sink.old) (K.holds sink.new) }
+fn do_bytes<K: Sink, G: Gate, R: Threads + Wait + Sync>(
+    rt: &R,
+    alloc: Global,
+    asked: Asked,
+    gate: &G,
+    bytes: &[u8],
+    sink: &mut K,
+) -> Status
+    ensures done { result ≡ Status.Done
+        → Writes (IsRunText asked) (Some bytes.now) (K.holds sink.old) (K.holds sink.new) }
     ensures refused { result ≡ Status.Refused
-        → Writes IsRefusalText (Some bytes.now) (K.holds sink.old) (K.holds sink.new) }
+        → Writes (IsRefusalText asked) (Some bytes.now) (K.holds sink.old) (K.holds sink.new) }
     ensures write_fault { result ≡ Status.WriteFault → Rose (K.faults sink.old) (K.faults sink.new) }
-    ensures front { result ≡ Status.WriteFault → WritesFront (Some bytes.now) (K.holds sink.old) (K.holds sink.new) }
+    ensures front { result ≡ Status.WriteFault
+        → WritesFront asked (Some bytes.now) (K.holds sink.old) (K.holds sink.new) }
     ensures no_memory { result ≡ Status.NoMemory → sink.new ≡ sink.old }
     ensures no_other { (result ≢ Status.BadWords) × (result ≢ Status.ReadFault) }
 {
     rows_are_within_limits();
     scripts_stop_last();
     match parse(alloc, bytes) {
-        Ok(script) => {
-            let status = do_script(alloc, &script, sink);
-            mem::forget(script);
-            status
-        }
+        Ok(script) => do_script(rt, alloc, asked, gate, script, sink),
         Err(ScriptFault::Refused { line, why }) => refuse(sink, line, Cause::Faulty(why)),
         Err(ScriptFault::NoMemory) => Status::NoMemory,
     }
 }
 
 // Reads the source to its end, and does what its bytes are.
-fn perform<S: Source, K: Sink>(alloc: Global, source: &mut S, sink: &mut K) -> Status
-    ensures done { result ≡ Status.Done → Writes IsRunText (S.left source.old) (K.holds sink.old) (K.holds sink.new) }
+fn perform<S: Source, K: Sink, G: Gate, R: Threads + Wait + Sync>(
+    rt: &R,
+    alloc: Global,
+    asked: Asked,
+    gate: &G,
+    source: &mut S,
+    sink: &mut K,
+) -> Status
+    ensures done { result ≡ Status.Done
+        → Writes (IsRunText asked) (S.left source.old) (K.holds sink.old) (K.holds sink.new) }
     ensures to_the_end { result ≡ Status.Done → IsAtEnd (S.left source.new) }
     ensures refused { result ≡ Status.Refused
-        → Writes IsRefusalText (S.left source.old) (K.holds sink.old) (K.holds sink.new) }
+        → Writes (IsRefusalText asked) (S.left source.old) (K.holds sink.old) (K.holds sink.new) }
     ensures read_fault { result ≡ Status.ReadFault → Rose (S.faults source.old) (S.faults source.new) }
     ensures write_fault { result ≡ Status.WriteFault → Rose (K.faults sink.old) (K.faults sink.new) }
-    ensures front { result ≡ Status.WriteFault → WritesFront (S.left source.old) (K.holds sink.old) (K.holds sink.new) }
+    ensures front { result ≡ Status.WriteFault
+        → WritesFront asked (S.left source.old) (K.holds sink.old) (K.holds sink.new) }
     ensures read_fault_unwritten { result ≡ Status.ReadFault → sink.new ≡ sink.old }
     ensures no_memory { result ≡ Status.NoMemory → sink.new ≡ sink.old }
     ensures taken { ConsumesUpTo MAX_BYTES (S.left source.old) (S.left source.new) }
     ensures no_other { result ≢ Status.BadWords }
 {
     match read_all(alloc, source, MAX_BYTES) {
-        Ok(bytes) => do_bytes(alloc, bytes.as_slice(), sink),
+        Ok(bytes) => do_bytes(rt, alloc, asked, gate, bytes.as_slice(), sink),
         Err(ReadStop::TooLong) => refuse(sink, 0, Cause::Faulty(Reason::ScriptTooLong)),
         Err(ReadStop::Failed) => Status::ReadFault,
         Err(ReadStop::NoMemory) => Status::NoMemory,
@@ -120,20 +178,22 @@ fn perform<S: Source, K: Sink>(alloc: Global, source: &mut S, sink: &mut K) -> S
 }
 
 /// Reads a script from the source, does its commands as the words ask, and writes the report to the sink. The words are
-/// those of the command line without the program's name; the gate stands between the steps of appends.
-pub fn run<S: Source, K: Sink, G: Gate, R: Threads + Wait>(
+/// those of the command line without the program's name; the gate stands between the steps of appends on threads. It may
+/// wait: on threads a client waits for the turns of columns.
+pub fn run<S: Source, K: Sink, G: Gate, R: Threads + Wait + Sync>(
     alloc: Global,
-    _rt: &R,
+    rt: &R,
     words: &[String],
     source: &mut S,
     sink: &mut K,
-    _gate: &G,
+    gate: &G,
 ) -> Status
     // What was done: the whole text of a lawful run, or the line that says why the bytes are not done.
-    ensures done { result ≡ Status.Done → Writes IsRunText (S.left source.old) (K.holds sink.old) (K.holds sink.new) }
+    ensures done { (asked : Asked) → asked_by (map string_bytes words.now) ≡ Some asked → result ≡ Status.Done
+        → Writes (IsRunText asked) (S.left source.old) (K.holds sink.old) (K.holds sink.new) }
     ensures to_the_end { result ≡ Status.Done → IsAtEnd (S.left source.new) }
-    ensures refused { result ≡ Status.Refused
-        → Writes IsRefusalText (S.left source.old) (K.holds sink.old) (K.holds sink.new) }
+    ensures refused { (asked : Asked) → asked_by (map string_bytes words.now) ≡ Some asked → result ≡ Status.Refused
+        → Writes (IsRefusalText asked) (S.left source.old) (K.holds sink.old) (K.holds sink.new) }
     // What holds of each such report, for a reader.
     ensures reads { LawsForReaders }
     // When each other answer comes. Memory alone may be refused at any time.
@@ -144,16 +204,17 @@ pub fn run<S: Source, K: Sink, G: Gate, R: Threads + Wait>(
     ensures unread { result ≡ Status.BadWords → source.new ≡ source.old }
     ensures unwritten { result ≢ Status.Done → result ≢ Status.Refused → result ≢ Status.WriteFault
         → sink.new ≡ sink.old }
-    ensures front { result ≡ Status.WriteFault → WritesFront (S.left source.old) (K.holds sink.old) (K.holds sink.new) }
+    ensures front { (asked : Asked) → asked_by (map string_bytes words.now) ≡ Some asked → result ≡ Status.WriteFault
+        → WritesFront asked (S.left source.old) (K.holds sink.old) (K.holds sink.new) }
     ensures taken { ConsumesUpTo MAX_BYTES (S.left source.old) (S.left source.new) }
     // What is a script of commands that are done is done: nothing but want of memory stands in the way.
-    ensures complete { asked_by (map string_bytes words.now) ≡ Some Asked.Step
+    ensures complete { (asked : Asked) → asked_by (map string_bytes words.now) ≡ Some asked
         → (Rose (S.faults source.old) (S.faults source.new) → ⊥) → (Rose (K.faults sink.old) (K.faults sink.new) → ⊥)
-        → IsDoable (S.left source.old) → (result ≡ Status.Done) ⊎ (result ≡ Status.NoMemory) }
+        → IsDoable asked (S.left source.old) → (result ≡ Status.Done) ⊎ (result ≡ Status.NoMemory) }
 {
     laws_for_readers();
     match read_words(words) {
         None => Status::BadWords,
-        Some(Asked::Step) => perform(alloc, source, sink),
+        Some(asked) => perform(rt, alloc, asked, gate, source, sink),
     }
 }

@@ -1,8 +1,9 @@
 -- A sync as the client's call leaves it.
-use Rattle.std.proofs.Common.{◌≡◌, ℕ, zero, suc, ◌<◌, List, [], ◌∷◌, length, Some, refl, ap, sym, subst, ◌∙◌, arith}
+use Rattle.std.proofs.Common.{◌≡◌, ℕ, zero, suc, ◌<◌, List, [], ◌∷◌, ◌++◌, length, Some, refl, ap, sym, subst, ◌∙◌, arith}
 use Rattle.std.specs.Prelude.{slice_get, slice_set, slice_index_or, max}
 use Rattle.std.specs.Vec.{with_item}
 use Rattle.std.proofs.lemmas.Option.{slice_get_read}
+use Rattle.log_node.specs.Seen.{PlacedNode}
 use Rattle.chain_store.specs.declared.hold.Hold.{Hold}
 use Rattle.chain_store.specs.declared.region.Region.{Region}
 use Rattle.chain_store.specs.Holds.{IsHold, SameBut, SeesMoreIn, seen_in}
@@ -14,11 +15,11 @@ use Rattle.log_client.specs.declared.faults.SyncFault.{SyncFault}
 use Rattle.log_client.specs.Fits.{HaveGoneOn}
 use Rattle.log_client.specs.Clients.{holds_of, tracks_of, IsClient, IsTrack, Finished, Helps}
 use Rattle.log_client.specs.Inside.{PlaysOn, IsRefusedOn}
-use Rattle.log_client.specs.Calls.{IsExplained, SyncsAs, SyncRefused, AnswersSync}
+use Rattle.log_client.specs.Calls.{IsExplained, SyncsAs, SyncRefused, AnswersSync, nodes_played}
 use Rattle.log_client.proofs.AtHome.{ChangesHome, gone_looked, have_gone_on, are_regions}
 use Rattle.log_client.proofs.Looked.{finished_stays, made_looked}
 use Rattle.log_client.proofs.Helping.{helped_at_home, idle_looked}
-use Rattle.log_client.proofs.SyncReplies.{synced_client, synced_explained, synced_answer, refused_client, refused_explained}
+use Rattle.log_client.proofs.SyncReplies.{synced_client, synced_explained, synced_answer, synced_nodes, refused_client, refused_explained}
 
 set_same : {A : Type 0} (xs : List A) (n : ℕ) (x : A) → slice_get xs n ≡ Some x → slice_set xs n x ≡ xs
 set_same [] n x e = absurd (let f : ⊥ = cc (e) in f)
@@ -100,6 +101,11 @@ module _ (s : Store) (c : Client) (r : Region) (g : Hold) (k : ℕ) (old : Track
       pub sync_answer : AnswersSync c after k y
       sync_answer = subst (λ (m : ℕ). AnswersSync c after m y) colour_there
           (synced_answer s c after r g h old is changed at_colour but same.0 same.1 sees refl refl new y stamp tracks raised p)
+
+      pub sync_nodes : (nodes : List PlacedNode) → new.nodes ≡ old.nodes ++ nodes → nodes ≡ nodes_played after k y
+      sync_nodes nodes is_end = subst (λ (m : ℕ). nodes ≡ nodes_played after m y) colour_there
+          (synced_nodes s c after r g h old is changed at_colour but same.0 same.1 sees refl refl new y stamp tracks raised p
+          nodes is_end)
 
       pub sync_explained : IsExplained s c after (SyncsAs after k y)
       sync_explained = subst (λ (m : ℕ). IsExplained s c after (SyncsAs after m y)) colour_there

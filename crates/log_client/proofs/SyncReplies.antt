@@ -218,6 +218,13 @@ module _ (s : Store) (c d : Client) (r : Region) (g h : Hold) (old : Track) (is 
     nodes_are = ap (λ (n : ℕ). drop n (played_of d k)) p.first
         ∙ (ap (drop (length old.nodes)) now_played ∙ dropped old.nodes p.nodes)
 
+    -- the nodes put at the end of the track are those that the answer names
+    pub synced_nodes : (nodes : List PlacedNode) → new.nodes ≡ old.nodes ++ nodes → nodes ≡ nodes_played d k y
+    synced_nodes nodes is =
+        sym (dropped old.nodes nodes)
+        ∙ (ap (drop (length old.nodes)) (sym is ∙ sym (ap nodes_in new_there))
+        ∙ ap (λ (n : ℕ). drop n (played_of d k)) (sym p.first))
+
     looked : y.events ≡ length (seen_of d d.region k)
     looked = p.looked ∙ sym (seen_long (holds_of d) d.region h at_home k)
 

@@ -12,6 +12,7 @@ mod notes;
 mod opening;
 mod played;
 mod pulls;
+mod showing;
 mod store;
 mod syncs;
 mod track;

@@ -18,7 +18,7 @@ fn after_appends(alloc: Global, count: u32, lines: &str) -> Result<String, Alloc
 }
 
 /// The script is done, its report tells no want of memory, and it has this line.
-fn is_done_whole<R: Threads + Wait + Abort>(
+fn is_done_whole<R: Threads + Wait + Sync + Abort>(
     alloc: Global,
     rt: &R,
     script: &[u8],

@@ -27,7 +27,7 @@ const REFUSED: [(&str, u32, &str); 11] = [
 const OBJECTS: [&str; 2] = ["a read t k", "a read t k\na commit t k=v"];
 
 /// The script is refused at that line for that reason.
-fn refuses<R: Threads + Wait + Abort>(
+fn refuses<R: Threads + Wait + Sync + Abort>(
     alloc: Global,
     rt: &R,
     script: &[u8],

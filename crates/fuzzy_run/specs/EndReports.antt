@@ -1,0 +1,79 @@
+-- What a report shows of a store in the end, and of the replies to its clients.
+use Rattle.std.specs.Prelude.{◌≡◌, ℕ, ◌≤◌, List, [], length, map, Option, Some, None, slice_get, slice_index_or}
+use Rattle.std.specs.List.{flat_map, enumerate_from}
+use Rattle.std.specs.declared.sync.Arc.{Arc}
+use Rattle.log_node.specs.declared.limits.TheConstants.{MAX_REGIONS, MAX_COLOURS}
+use Rattle.log_node.specs.declared.ids.Id.{Id}
+use Rattle.log_node.specs.declared.ids.Row.{Row}
+use Rattle.log_node.specs.declared.node.Node.{Node}
+use Rattle.stamp_board.specs.declared.rows.ClosedRow.{ClosedRow}
+use Rattle.chain_store.specs.declared.closed.ClosedRegion.{ClosedRegion}
+use Rattle.script_text.specs.declared.script.Script.{Script}
+use Rattle.report_text.specs.declared.report.ReplyLine.{ReplyLine}
+use Rattle.report_text.specs.declared.report.ClientReport.{ClientReport}
+use Rattle.report_text.specs.declared.report.RowReport.{RowReport}
+use Rattle.report_text.specs.declared.report.Report.{Report}
+use Rattle.report_text.specs.declared.report.ColumnReport.{ColumnReport}
+use Rattle.closing_report.specs.Columns.{column_shown, AreOfRegion}
+use Rattle.log_client.specs.declared.closed.Closed.{Closed}
+
+-- the nodes of each client's rows
+abbrev pub nodes_in : {Z : Type 0} → List (List (Arc Node Z)) → List (List Node)
+nodes_in {Z} lists = map (map (λ (shared : Arc Node Z). shared.value)) lists
+
+abbrev pub nodes_of : Closed → List (List Node)
+nodes_of closed = nodes_in closed.nodes
+
+-- the node of a row, among those of all clients
+abbrev pub node_at : List (List Node) → Row → Option Node
+node_at nodes row = slice_get (slice_index_or nodes row.client []) row.number
+
+abbrev pub id_of : Option Node → Id
+id_of None = record { client = 0; count = 0 }
+id_of (Some x) = x.id
+
+-- each of the rows has its node
+abbrev pub HaveNodes : List (List Node) → List ClosedRow → Type 0
+HaveNodes nodes rows =
+    (n : ℕ) (r : ClosedRow) → slice_get rows n ≡ Some r → (x : Node) × (node_at nodes r.row ≡ Some x)
+
+-- a row of a region
+abbrev pub row_shown : List (List Node) → ℕ → ClosedRow → RowReport
+row_shown nodes region r = record {
+  region = region;
+  row = r.row;
+  id = id_of (node_at nodes r.row);
+  marks = r.marks;
+  last = r.last;
+}
+
+-- the rows of a region, which stands at its number
+abbrev pub rows_shown : List (List Node) → ℕ × ClosedRegion → List RowReport
+rows_shown nodes e = map (row_shown nodes e.0) e.1.rows
+
+-- the columns of a region, where regions and colours have these names
+abbrev pub columns_shown : List (List ℕ) → List (List ℕ) → ClosedRegion → List ColumnReport
+columns_shown regions colours e = map (column_shown regions colours) e.columns
+
+-- Under these names of regions and colours the store in the end can be shown: its regions, their columns and rows are all
+-- in their places, and each row has its node.
+pub record CanShow (regions colours : List (List ℕ)) (closed : Closed) : Type 0 where
+  pub many : length closed.regions ≡ length regions
+  pub few : length regions ≤ MAX_REGIONS
+  pub wide : length colours ≤ MAX_COLOURS
+  pub columns : (n : ℕ) (e : ClosedRegion) → slice_get closed.regions n ≡ Some e
+      → (length e.columns ≡ length colours) × AreOfRegion n e.columns
+  pub rows : (n : ℕ) (e : ClosedRegion) → slice_get closed.regions n ≡ Some e → HaveNodes (nodes_of closed) e.rows
+
+-- the replies to a client, which stands at its number, under its name
+abbrev pub client_shown : List (List ReplyLine) → ℕ × List ℕ → ClientReport
+client_shown replies c = record { name = c.1; replies = slice_index_or replies c.0 [] }
+
+-- The report of a store that ended so: the replies to each client, the rows of each region, and all columns by region and
+-- colour.
+abbrev pub end_report : Script → Closed → List (List ReplyLine) → Report
+end_report script closed replies = record {
+  clients = map (client_shown replies) (enumerate_from 0 script.clients);
+  rows = flat_map (rows_shown (nodes_of closed)) (enumerate_from 0 closed.regions);
+  columns = flat_map (columns_shown script.regions script.colours) closed.regions;
+}
