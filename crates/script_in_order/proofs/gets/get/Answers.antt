@@ -15,7 +15,7 @@ use Rattle.script_in_order.proofs.gets.get.Goals as goal
 
 pub returns-in-Map-clause-ok : goal.returns-in-Map-clause-ok
 returns-in-Map-clause-ok c =
-    let uses = c.requires.uses in
+    let uses = c.requires.uses.0 in
     let is : kind_in c.args.objects.now c.args.object ≡ Some (kinds.Map c.in-Map.home c.in-Map.colours) =
     kind_at c.args.objects.now c.args.object c.index-objects-object.result _
     (get_within c.args.objects.now c.args.object uses.found uses.there) c.in-Map.is in
@@ -28,7 +28,7 @@ returns-in-Map-clause-ok c =
 
 pub returns-in-Causal-clause-ok : goal.returns-in-Causal-clause-ok
 returns-in-Causal-clause-ok c =
-    let uses = c.requires.uses in
+    let uses = c.requires.uses.0 in
     let kind : kind_in c.args.objects.now c.args.object ≡ Some (kinds.Causal c.in-Causal.colour) =
     kind_at c.args.objects.now c.args.object c.index-objects-object.result _
     (get_within c.args.objects.now c.args.object uses.found uses.there) c.in-Causal.is in
