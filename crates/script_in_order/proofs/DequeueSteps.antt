@@ -253,7 +253,7 @@ module _ (command : Command) (text : List ℕ) (colour : ℕ) (w new : World) (s
   pub colour_same : (get_or list 0 d).colour ≡ colour
   colour_same = ap (λ (p : PointPiece). p.colour) same_point
 
-  pub position_on : IsReached w
+  position_on : IsReached w
       → length (line (home_history w command.client colour)) ≤ (get_or list 0 d).position
   position_on reached =
       let to = subst (RunsTo w) s.single (single_to s.grants w command text colour) in
@@ -263,6 +263,10 @@ module _ (command : Command) (text : List ℕ) (colour : ℕ) (w new : World) (s
       ≤ position_of (next_id w command.client) (line (new.histories r colour)))
       (ap (λ (x : Shape). slice_index x.homes command.client) (sym shape))
       (new_behind w new reached to command.client (home_of w command.client) colour))
+
+  pub behind_point : IsReached w → (count : ℕ) → count ≤ length (line (home_history w command.client colour))
+      → count ≤ (get_or list 0 d).position
+  behind_point reached count low = let on = position_on reached in omega (arith, low, on)
 
 -- where the append was no answer of that kind, no stamp was left
 pub behind_ended : (command : Command) (colour : ℕ) (w new : World) (answer : Answer)

@@ -15,23 +15,23 @@ use Rattle.script_in_order.proofs.gets.get.Goals as goal
 
 pub returns-in-Map-clause-ok : goal.returns-in-Map-clause-ok
 returns-in-Map-clause-ok c =
-    let uses = c.requires.uses in
+    let uses = c.requires.uses.0 in
     let is : kind_in c.args.objects.now c.args.object ≡ Some (kinds.Map c.in-Map.home c.in-Map.colours) =
-        kind_at c.args.objects.now c.args.object c.index-objects-object.result _
-        (get_within c.args.objects.now c.args.object uses.found uses.there) c.in-Map.is in
+    kind_at c.args.objects.now c.args.object c.index-objects-object.result _
+    (get_within c.args.objects.now c.args.object uses.found uses.there) c.in-Map.is in
     let own : ℕ = home_of (world_of c.args.world.now) c.args.command.now.client in
     let kind : kind_in c.args.objects.now c.args.object ≡ Some (kinds.Map own c.in-Map.colours) =
-        map_home own c.args.objects.now c.args.object c.requires.near c.in-Map.home c.in-Map.colours is in
+    map_home own c.args.objects.now c.args.object c.requires.near c.in-Map.home c.in-Map.colours is in
     subst (λ (k : Option Kind). IfOk c.get_value.result (λ (answer : Answer). DoneBy
     (λ grants state. got grants state c.args.command.now k c.args.key.now) c.args.command.now (world_of c.args.world.now)
     (world_of c.get_value.new.world) answer [])) (sym kind) (c.get_value.ensures.ok c.in-Map.colours kind)
 
 pub returns-in-Causal-clause-ok : goal.returns-in-Causal-clause-ok
 returns-in-Causal-clause-ok c =
-    let uses = c.requires.uses in
+    let uses = c.requires.uses.0 in
     let kind : kind_in c.args.objects.now c.args.object ≡ Some (kinds.Causal c.in-Causal.colour) =
-        kind_at c.args.objects.now c.args.object c.index-objects-object.result _
-        (get_within c.args.objects.now c.args.object uses.found uses.there) c.in-Causal.is in
+    kind_at c.args.objects.now c.args.object c.index-objects-object.result _
+    (get_within c.args.objects.now c.args.object uses.found uses.there) c.in-Causal.is in
     subst (λ (k : Option Kind). IfOk c.get_values.result (λ (answer : Answer). DoneBy
     (λ grants state. got grants state c.args.command.now k c.args.key.now) c.args.command.now (world_of c.args.world.now)
     (world_of c.get_values.new.world) answer [])) (sym kind) c.get_values.ensures.ok

@@ -1,7 +1,9 @@
-use Rattle.std.proofs.Common.{◌≡◌, ◌∙◌, ℕ, List, [], ◌∷◌, Some, refl, ap, sym, subst, get_or}
+use Rattle.std.proofs.Common.{◌≡◌, ◌∙◌, ℕ, List, [], ◌∷◌, Some, refl, ap, sym, subst, get_or, length}
 use Rattle.log_node.specs.declared.ids.Colours.{Colours}
 use Rattle.log_node.specs.Sets.{members}
-use Rattle.world_laws.specs.Worlds.{home_of}
+use Rattle.col_core.specs.History.{line}
+use Rattle.playback.specs.Merging.{up_to}
+use Rattle.world_laws.specs.Worlds.{home_of, home_history}
 use Rattle.script_text.specs.declared.script.Kind.TheVariants as kinds
 use Rattle.script_text.specs.Fitting.{AreBelow, is_map}
 use Rattle.report_text.specs.declared.report.Answer.TheVariants as answers
@@ -9,10 +11,12 @@ use Rattle.report_text.specs.declared.report.KeyAnswer.{KeyAnswer}
 use Rattle.lawful_run.specs.Asks.{object_colours, shards}
 use Rattle.world_code.specs.WorldView.{world_of}
 use Rattle.script_meaning.specs.States.{kind_in}
+use Rattle.script_meaning.specs.Gets.{key_answers, value_up_to}
 use Rattle.script_meaning.specs.Stamped.{Whole, Refused, Unraised, keys_read}
 use Rattle.script_in_order.specs.declared.stamped.Stamped.{Stamped}
 use Rattle.script_in_order.specs.declared.stamped.Stamped.TheVariants as stamped
 use Rattle.script_in_order.specs.Stamped.{Reads, end_in}
+use Rattle.script_in_order.specs.Folds.{ShardsWithin}
 use Rattle.script_in_order.proofs.FoldsKept.{folds_stay}
 use Rattle.script_in_order.proofs.ObjectHomes.{map_at}
 use Rattle.script_in_order.proofs.ObjectSteps.{kind_is, are_low}
@@ -72,9 +76,12 @@ values_up_to-requires-clause-behind c =
     c.as_slice.result.now c.args.keys.now c.requires.uses.0 c.key_shards-colours.ensures c.as_slice.ensures)
     (subst (λ (x : Stamped). Reads w v client cs (end_in v client cs x)) c.in-Whole.is
     c.in_ok-stamped_read.ensures.ok) in
-    shards_behind w v c.is_whole.ensures.reached c.args.objects.now c.args.folds.now c.requires.folded client
+    subst (λ (l : List (List ℕ)). ShardsWithin c.args.folds.now c.args.object
+    (shards (object_colours (kind_in c.args.objects.now c.args.object)) l)
+    (λ colour. length (up_to c.in-Whole.stamp (line (home_history v client colour))))) (sym c.as_slice-in-Whole.ensures)
+    (shards_behind w v c.is_whole.ensures.reached c.args.objects.now c.args.folds.now c.requires.folded client
     c.args.object at.0 wanted c.in-Whole.stamp c.in-Whole.raises c.in-Whole.syncs
-    (keys_read v client c.in-Whole.stamp wanted) at.1 reads
+    (keys_read v client c.in-Whole.stamp wanted) at.1 reads)
 
 pub returns-in-Unraised-clause-ok : goal.returns-in-Unraised-clause-ok
 returns-in-Unraised-clause-ok c =
@@ -147,7 +154,9 @@ returns-in-Ok-clause-ok c =
     c.in_ok-stamped_read.ensures.ok))
     (answers.GotKeys c.in-Whole.stamp c.in-Ok.keys c.in-Whole.raises c.in-Whole.syncs) []
     (ap (λ (l : List KeyAnswer). answers.GotKeys c.in-Whole.stamp l c.in-Whole.raises c.in-Whole.syncs)
-    ?) refl
+    (c.in-Ok.ensures.values
+    ∙ ap (key_answers (value_up_to v command.client (object_colours (kind_in c.args.objects.now c.args.object))
+    c.in-Whole.stamp)) c.as_slice-in-Whole.ensures)) refl
 
 pub returns-in-Err-clause-ok : goal.returns-in-Err-clause-ok
 returns-in-Err-clause-ok c =

@@ -1,4 +1,4 @@
-use Rattle.std.proofs.Common.{◌≡◌, ◌≤◌, ◌∙◌, ℕ, List, [], ◌∷◌, ◌++◌, Option, Some, length, take, ap, sym, subst, arith}
+use Rattle.std.proofs.Common.{◌≡◌, ◌≤◌, ◌∙◌, ℕ, Option, Some, length, take, ap, sym, subst, arith}
 use Rattle.col_core.specs.History.{line}
 use Rattle.col_core.proofs.CallerLemmas.{contains_in}
 use Rattle.playback.specs.Merging.{up_to}
@@ -6,7 +6,6 @@ use Rattle.object_fold.specs.Maps.{Value, shard_value}
 use Rattle.world_laws.specs.Worlds.{home_of, home_history}
 use Rattle.script_text.specs.declared.script.Kind.{Kind}
 use Rattle.script_text.specs.declared.script.Kind.TheVariants as kinds
-use Rattle.report_text.specs.declared.report.KeyAnswer.{KeyAnswer}
 use Rattle.lawful_run.specs.Asks.{object_colours, shards}
 use Rattle.world_code.specs.WorldView.{world_of}
 use Rattle.script_meaning.specs.States.{kind_in}
@@ -69,15 +68,13 @@ loop-key-preserved c =
     (value_there w client at.0 c.args.stamp c.key-item.result shard first c.in_ok-value.value is first_is.nodes found) in
     let low : first.count ≤ length (up_to c.args.stamp (line (home_history w client first.colour))) =
     subst (λ (x : ℕ). first.count ≤ length (up_to c.args.stamp (line (home_history w client x)))) (sym first_is.colour)
-    (let e = first_is.count in omega (arith, e)) in
-    let more : KeyAnswer = record { key = c.in_ok-key.key; value = c.in_ok-value.value } in record {
+    (let e = first_is.count in omega (arith, e)) in record {
       values = c.in_ok-push.ensures.ok
-          ∙ (ap (λ (l : List KeyAnswer). l ++ more ∷ []) c.answers-in-loop-key.view_is
           ∙ answers_more
           (value_up_to w client (object_colours (kind_in c.args.objects.now c.args.object)) c.args.stamp)
           c.args.keys.now c.loop-key.key-index c.key-item.result c.in_ok-key.key c.in_ok-value.value
           c.loop-key.answers c.loop-key-test.true c.key-item.is
-          (c.in_ok-key.ensures ∙ c.as_bytes-in-loop-key-2.ensures) value_is c.loop-key.invariant.values);
+          (c.in_ok-key.ensures ∙ c.as_bytes-in-loop-key-2.ensures) value_is c.loop-key.invariant.values;
       folded = c.in_ok-value.ensures.folded c.args.objects.now at.0 kind c.loop-key.invariant.folded;
       behind = c.in_ok-value.ensures.within
           (shards (object_colours (kind_in c.args.objects.now c.args.object)) c.args.keys.now)

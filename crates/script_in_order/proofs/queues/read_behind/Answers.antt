@@ -1,10 +1,10 @@
-use Rattle.std.proofs.Common.{ℕ, List, sym, subst, arith}
+use Rattle.std.proofs.Common.{ℕ, List, sym, subst}
 use Rattle.log_node.specs.declared.forms.Form.TheVariants as forms
 use Rattle.object_form.specs.Forms.{form_text}
 use Rattle.report_text.specs.declared.report.PointPiece.{PointPiece}
 use Rattle.world_code.specs.WorldView.{world_of}
 use Rattle.script_in_order.specs.Folds.{IsQueueAt}
-use Rattle.script_in_order.proofs.DequeueSteps.{StoodSo, entered_of, stood_so, one_there, colour_low, position_there, colour_same, position_on, behind_ended, behind_read}
+use Rattle.script_in_order.proofs.DequeueSteps.{StoodSo, entered_of, stood_so, one_there, colour_low, position_there, colour_same, behind_point, behind_ended, behind_read}
 use Rattle.script_in_order.proofs.queues.read_behind.Goals as goal
 
 pub bounds-as_slice-0 : goal.bounds-as_slice-0
@@ -66,14 +66,12 @@ read_own-requires-clause-behind c = λ fold there.
     let command = c.args.command.now in
     let before = c.requires.appended.0 in
     let v = world_of c.args.world.now in
-    let low = c.requires.appended.2 fold there in
-    let on = position_on command stood_text c.args.colour before v c.in-Stood.stamp c.in-Stood.points
+    behind_point command stood_text c.args.colour before v c.in-Stood.stamp c.in-Stood.points
     c.as_slice.result.now c.as_slice.ensures
     (stood_so command stood_text c.args.colour before v c.args.appended c.in-Stood.stamp c.in-Stood._row
     c.in-Stood.points c.in-Stood.is
     (entered_of command stood_text c.args.colour before v c.args.appended c.requires.appended.1)) _
-    c.requires.appended.3 in
-    omega (arith, low, on)
+    c.requires.appended.3 fold.count (c.requires.appended.2 fold there)
 
 pub returns-in-Stood-clause-folded : goal.returns-in-Stood-clause-folded
 returns-in-Stood-clause-folded c = λ objects at f.

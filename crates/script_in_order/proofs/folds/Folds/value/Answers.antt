@@ -113,9 +113,12 @@ returns-clause-folded c = λ objects colours is folded.
     c.index_mut-in-Map.ensures.value)) in
     let new : Fold = folds.Map (with_item c.in-Map.shards c.args.first.colour c.value.new.self) in
     subst (λ (l : List Fold). AreFolded w objects (set l c.args.object new)) (sym c.self.view_is)
-    (fold_put w objects c.args.self.now c.args.object (kinds.Map c.args.first.region colours) folded is new
-    (c.args.first.region, colours, refl,
-    shards_with w c.args.first.region colours c.in-Map.shards.items c.args.first.colour c.value.new.self f right))
+    (fold_put w objects c.args.self.now c.args.object (kinds.Map c.args.first.region colours) folded is new (
+      c.args.first.region,
+      colours,
+      refl,
+      shards_with w c.args.first.region colours c.in-Map.shards.items c.args.first.colour c.value.new.self f right,
+    ))
 
 pub returns-clause-within : goal.returns-clause-within
 returns-clause-within c = λ cs bound old low.
