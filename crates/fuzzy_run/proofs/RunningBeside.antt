@@ -123,7 +123,7 @@ pub were_served : (script : Script) → IsFitting script
     → replies ≡ map (λ (x : Served). x.replies.items) (take n (after ++ drop (length after) before))
     → AreServed script s clients replies
 were_served script fits built stops s size regions opened new commands moved before lent after same dealt long served n
-  many clients replies are given =
+    many clients replies are given =
     let dealt' : AreDealt opened script.commands before = subst (λ (l : List Command). AreDealt opened l before) moved dealt in
     let all = are_served script fits built stops s size regions opened new before dealt' after (long ∙ ap length same)
     (λ n x y at later. served n x y (subst (λ (l : List Served). slice_get l n ≡ Some x) (sym same) at) later) in

@@ -9,19 +9,19 @@ use Rattle.fuzzy_run.proofs.top.run.Goals as goal
 pub returns-in-Some-clause-done : goal.returns-in-Some-clause-done
 returns-in-Some-clause-done g c = λ asked asks e.
     subst (λ (a : Asked). Writes (IsRunText a) (g.S.Source.left c.args.source.now) (g.K.Sink.holds c.args.sink.now)
-      (g.K.Sink.holds c.perform.new.sink))
+    (g.K.Sink.holds c.perform.new.sink))
     (same_asked c.in-Some.asked asked _ _ c.in-Some.is c.read_words.ensures asks) (c.perform.ensures.done e)
 
 pub returns-in-Some-clause-refused : goal.returns-in-Some-clause-refused
 returns-in-Some-clause-refused g c = λ asked asks e.
     subst (λ (a : Asked). Writes (IsRefusalText a) (g.S.Source.left c.args.source.now) (g.K.Sink.holds c.args.sink.now)
-      (g.K.Sink.holds c.perform.new.sink))
+    (g.K.Sink.holds c.perform.new.sink))
     (same_asked c.in-Some.asked asked _ _ c.in-Some.is c.read_words.ensures asks) (c.perform.ensures.refused e)
 
 pub returns-in-Some-clause-front : goal.returns-in-Some-clause-front
 returns-in-Some-clause-front g c = λ asked asks e.
     subst (λ (a : Asked). WritesFront a (g.S.Source.left c.args.source.now) (g.K.Sink.holds c.args.sink.now)
-      (g.K.Sink.holds c.perform.new.sink))
+    (g.K.Sink.holds c.perform.new.sink))
     (same_asked c.in-Some.asked asked _ _ c.in-Some.is c.read_words.ensures asks) (c.perform.ensures.front e)
 
 pub returns-in-Some-clause-complete : goal.returns-in-Some-clause-complete
@@ -32,6 +32,6 @@ returns-in-Some-clause-complete g c = λ asked asks no_read no_write doable.
     (Rose (g.K.Sink.faults c.args.sink.now) (g.K.Sink.faults c.perform.new.sink))
     c.perform.ensures.no_other
     (λ e. subst (λ (a : Asked). Writes (IsRefusalText a) (g.S.Source.left c.args.source.now)
-      (g.K.Sink.holds c.args.sink.now) (g.K.Sink.holds c.perform.new.sink))
+    (g.K.Sink.holds c.args.sink.now) (g.K.Sink.holds c.perform.new.sink))
     (same_asked c.in-Some.asked asked _ _ c.in-Some.is c.read_words.ensures asks) (c.perform.ensures.refused e))
     c.perform.ensures.read_fault c.perform.ensures.write_fault no_read no_write doable
