@@ -5,16 +5,16 @@ use Rattle.fuzzy_run.proofs.TopLemmas.{refusal_written, refusal_begun, run_writt
 use Rattle.fuzzy_run.proofs.top.do_bytes.Goals as goal
 
 pub do_script-requires-clause-fits : goal.do_script-requires-clause-fits
-do_script-requires-clause-fits g c = script_fits _ _ c.in-Ok.ensures.accepted
+do_script-requires-clause-fits g c κs within = script_fits _ _ c.in-Ok.ensures.accepted
 
 pub do_script-requires-clause-rows : goal.do_script-requires-clause-rows
-do_script-requires-clause-rows g c = c.rows_are_within_limits.ensures _ _ c.in-Ok.ensures.accepted
+do_script-requires-clause-rows g c κs within = c.rows_are_within_limits.ensures _ _ c.in-Ok.ensures.accepted
 
 pub do_script-requires-clause-some_rows : goal.do_script-requires-clause-some_rows
-do_script-requires-clause-some_rows g c = some_rows _ _ c.in-Ok.ensures.accepted
+do_script-requires-clause-some_rows g c κs within = some_rows _ _ c.in-Ok.ensures.accepted
 
 pub do_script-requires-clause-stops : goal.do_script-requires-clause-stops
-do_script-requires-clause-stops g c = c.scripts_stop_last.ensures _ _ c.in-Ok.ensures.accepted
+do_script-requires-clause-stops g c κs within = c.scripts_stop_last.ensures _ _ c.in-Ok.ensures.accepted
 
 pub returns-in-Ok-clause-done : goal.returns-in-Ok-clause-done
 returns-in-Ok-clause-done g c = λ e. run_written c.args.asked c.args.bytes.now _ _ c.in-Ok.script

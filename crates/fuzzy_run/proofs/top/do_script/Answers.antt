@@ -5,7 +5,7 @@ use Rattle.fuzzy_run.proofs.TopLemmas.{all_built}
 use Rattle.fuzzy_run.proofs.top.do_script.Goals as goal
 
 pub report_of-requires-clause-built : goal.report_of-requires-clause-built
-report_of-requires-clause-built g c = all_built c.args.asked _ _
+report_of-requires-clause-built g c κs within = all_built c.args.asked _ _
     (ap (λ (os : List Object). first_unbuilt c.args.asked os c.args.script.commands) (sym c.as_slice.ensures)
     ∙ (ap (first_unbuilt c.args.asked c.as_slice.result.now) (sym c.as_slice-2.ensures) ∙ (sym c.first_unbuilt.ensures
     ∙ c.in_default.is)))
