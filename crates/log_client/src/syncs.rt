@@ -31,7 +31,11 @@ fn greatest_stamp(nodes: &[Item]) -> u64
 }
 
 // Puts on the track what was played. Answers the sync, and the greatest stamp that was played.
-pub(crate) fn extend(track: &mut Track, events: u64, played: Played) -> Result<(Synced, u64), AllocError>
+pub(crate) fn extend(
+    track: &mut Track,
+    events: u64,
+    played: Played,
+) -> Result<(Synced, u64), AllocError>
     ensures ok { IfOk result (λ r. Extends track.old track.new events played r.0 r.1) }
     ensures err { OnErr result (track.new ≡ track.old) }
 {
