@@ -110,7 +110,7 @@ fn a_command_that_is_not_served_yet_is_refused(rt: HostRuntime) -> Result<(), Fa
     let script = in_one_region(rt.alloc(), "a append x p\nb scan x\n")?;
     let (status, sink) = run_at(rt.alloc(), &rt, script.as_bytes(), &OpenGate)?;
     assert_eq!(rt; status, Status::Refused);
-    assert_eq!(rt; sink.bytes(), b"refused: line 9: not built\n");
+    assert_eq!(rt; sink.bytes(), b"refused: line 9: not built\n".as_slice());
     Ok(())
 }
 
@@ -131,6 +131,7 @@ fn four_clients_fill_one_line(rt: HostRuntime) -> Result<(), Fail> {
 
 /// Holds the second client after its first step until the first client has passed its second, and the first client there
 /// until the second has begun its second append to several colours.
+#[derive(Drop)]
 struct Beside {
     marked: AtomicBool,
     begun: AtomicU64,
