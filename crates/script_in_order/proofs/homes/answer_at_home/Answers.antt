@@ -7,6 +7,7 @@ use Rattle.world_code.specs.WorldView.{world_of}
 use Rattle.script_meaning.specs.Meaning.{done}
 use Rattle.script_in_order.specs.Doing.{Does, DoesAtHome}
 use Rattle.script_in_order.proofs.CommandKinds.{does_at_home, does_not_at_home, with_nodes}
+use Rattle.script_in_order.proofs.GetSteps.{folded_on}
 use Rattle.script_in_order.proofs.homes.answer_at_home.Goals as goal
 
 pub returns-in-Some-clause-ok : goal.returns-in-Some-clause-ok
@@ -16,3 +17,9 @@ returns-in-Some-clause-ok c =
     (answers.NotHome c.in-Some.home) c.new.result c.new.ensures
     (does_not_at_home c.args.objects.now c.args.command.now w c.in-Some.home
     (sym c.refusing_home.ensures ∙ c.in-Some.is))
+
+pub returns-else-folds_nodes-clause-folded : goal.returns-else-folds_nodes-clause-folded
+returns-else-folds_nodes-clause-folded c =
+    folded_on c.args.objects.now c.args.command.now (world_of c.args.world.now) (world_of c.answer.new.world)
+    c.args.folds.now c.answer.result c.agrees.ensures (sym c.refusing_home.ensures ∙ c.in-None.is) c.answer.ensures.ok
+    c.answer.ensures.err c.requires.folded

@@ -16,7 +16,7 @@ pub loop-place-init : goal.loop-place-init
 loop-place-init c = (
   opens c.args.script.now c.in_ok-world.world c.in_ok-replies.replies.items c.in_ok-world.ensures
       c.in_ok-replies.ensures,
-  c.in_ok-folds.ensures (world_of c.in_ok-world.world) (ap (λ (x : World). x.shape.colours) c.in_ok-world.ensures),
+  c.in_ok-folds.ensures (world_of c.in_ok-world.world) (ap (λ (x : World). x.shape) c.in_ok-world.ensures),
 )
 
 pub report-requires-clause-shape : goal.report-requires-clause-shape
