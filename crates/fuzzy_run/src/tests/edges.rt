@@ -24,7 +24,7 @@ fn a_failing_write_leaves_the_beginning_of_the_report(rt: HostRuntime) -> Result
 
 #[test]
 fn other_words_read_and_write_nothing(rt: HostRuntime) -> Result<(), Fail> {
-    for word in ["fly", "run", "load", "help", "--help", "steps"].iter() {
+    for word in ["fly", "runs", "load", "help", "--help", "steps"].iter() {
         let (status, sink) = run_over(rt.alloc(), &rt, word, b"fuzzylog 1\n", &[], &[])?;
         assert_eq!(rt; status, Status::BadWords, "{word}");
         assert!(rt; sink.bytes().is_empty());
