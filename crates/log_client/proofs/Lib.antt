@@ -49,3 +49,19 @@ mod AppendReplies
 mod RowReplies
 mod RowCalls
 pub mod CallerLemmas
+mod Lines
+mod Explaining
+mod HiddenReads
+mod Results
+mod Colours
+mod Raising
+mod ClearedHolds
+mod ReadStamps
+mod SyncingAll
+mod PlayedStamps
+mod ClearedReads
+mod ReadReplies
+mod MergedItems
+mod LineParts
+mod ItemsRead
+mod ReadCalls

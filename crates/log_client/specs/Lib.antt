@@ -7,6 +7,9 @@ pub mod Between
 pub mod Calls
 pub mod Appends
 pub mod Inside
+pub mod StampedReads
+pub mod Reading
+pub mod Items
 pub mod Notes
 pub mod Opening
 pub mod Leaving
