@@ -9,7 +9,7 @@ use Rattle.col_core.proofs.CallerLemmas.{In, contains_in, in_right, slice_in}
 use Rattle.playback.specs.Merging.{AreRising}
 use Rattle.log_client.specs.declared.track.Track.{Track}
 use Rattle.log_client.specs.Clients.{line_in}
-use Rattle.log_client.specs.Items.{are_parts, part_of, AreItems}
+use Rattle.log_client.specs.Items.{are_parts, part_of, AreItems, AreMerged}
 use Rattle.log_client.specs.Reading.{keys_of}
 use Rattle.log_client.proofs.MergedItems.{items_next, none_items}
 use Rattle.log_client.proofs.merging.items_read.Goals as goal
@@ -28,3 +28,39 @@ index-requires c =
     (contains_in (members c.args.colours) c.in-Some.colour
     (subst (In c.in-Some.colour) (ap (λ (l : List ℕ). i.0 ++ l) (sym c.in-Some.ensures.steps) ∙ i.1)
     (in_right c.in-Some.colour i.0 (c.in-Some.colour ∷ c.next.new.self) (inl refl))))
+
+pub part_of-requires : goal.part_of-requires
+part_of-requires c =
+    let track = c.index.result.now in
+    let at = slice_get_read c.args.tracks.now (length c.args.tracks.now) c.in-Some.colour track refl c.index.requires
+    c.index.ensures in
+    subst (λ (l : List PlacedNode). AreRising (keys_of l)) (sym c.as_slice-line.ensures.value)
+    (All-contains (λ (t : Track). AreRising (keys_of t.line)) c.args.tracks.now track c.requires.rising
+    (contains_in c.args.tracks.now track (slice_in c.args.tracks.now c.in-Some.colour track at)))
+
+pub loop-colour-preserved : goal.loop-colour-preserved
+loop-colour-preserved c =
+    let l = c.loop-colour in
+    let i = l.invariant in
+    let track = c.index.result.now in
+    let at = slice_get_read c.args.tracks.now (length c.args.tracks.now) c.in-Some.colour track refl c.index.requires
+    c.index.ensures in
+    let part = part_of c.args.last c.args.stamp (line_in (slice_get c.args.tracks.now c.in-Some.colour)) in (
+      i.0 ++ c.in-Some.colour ∷ [],
+      append_assoc i.0 (c.in-Some.colour ∷ []) c.next.new.self
+          ∙ (ap (λ (m : List ℕ). i.0 ++ m) (sym c.in-Some.ensures.steps) ∙ i.1),
+      subst (λ (ps : List (List PlacedNode)). AreItems ps c.in_ok-items.items.items)
+          (sym (map-append (λ k. part_of c.args.last c.args.stamp (line_in (slice_get c.args.tracks.now k))) i.0
+          (c.in-Some.colour ∷ [])))
+          (items_next (are_parts c.args.tracks.now c.args.last c.args.stamp i.0) part l.items.items c.in_ok-items.items.items i.2
+          (subst (λ (m : List PlacedNode). AreMerged l.items.items m c.in_ok-items.items.items)
+          (c.part_of.ensures ∙ ap (part_of c.args.last c.args.stamp) (c.as_slice-line.ensures.value ∙ ap line_in (sym at)))
+          c.in_ok-items.ensures)),
+    )
+
+pub returns : goal.returns
+returns c =
+    let l = c.loop-colour in
+    subst (λ (m : List ℕ). AreItems (are_parts c.args.tracks.now c.args.last c.args.stamp m) l.items.items)
+    (sym (append-nil l.invariant.0)
+    ∙ (ap (λ (m : List ℕ). l.invariant.0 ++ m) (sym c.in-None.ensures.steps.0) ∙ l.invariant.1)) l.invariant.2
