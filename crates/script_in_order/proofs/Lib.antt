@@ -24,3 +24,5 @@ mod DequeueSteps
 mod FoldsKept
 mod ObjectHomes
 mod GetSteps
+mod Committing
+mod ReadVerdicts

@@ -15,7 +15,6 @@ use Rattle.report_text.specs.declared.report.Answer.{Answer}
 use Rattle.report_text.specs.declared.report.Answer.TheVariants as answers
 use Rattle.report_text.specs.declared.report.RaisePiece.{RaisePiece}
 use Rattle.report_text.specs.declared.report.SyncPiece.{SyncPiece}
-use Rattle.report_text.specs.declared.report.ReplyLine.{ReplyLine}
 use Rattle.script_meaning.specs.States.{State, Grants, answered}
 use Rattle.script_meaning.specs.Helping.{Helping, node_with, cleared, all_cleared}
 use Rattle.script_meaning.specs.Stamped.{Progress, ReadEnd, Whole, Refused, Unraised, StampedRead, raised, played, read_stamp, raise_in, sync_in, key_above, keys_read, read_after_plays, read_after_raises, stamped_read, shown_key, scan_answer, ended_by, scanned}
@@ -182,7 +181,7 @@ module _ (old new : World) (command : Command) (colours : List ℕ) (answer : An
     read_is = reads.is grants refl (finds_same (found_with (λ _. true) reads.finds) grants refl 0 reads.finds
         (finds_all (λ _. true) reads.finds))
 
-    reading_is : (replies : ℕ → List ReplyLine)
+    reading_is : (told : State)
         → reading answer shown command colours grants (with_replies old replies)
         ≡ ended_by grants (with_replies old replies) command (answer new) (shown new) new ends
     reading_is replies =

@@ -57,8 +57,8 @@ pub fn is_built(objects: &[Object], what: &What) -> bool
         What::Del { .. } => true,
         What::PutAll { .. } => true,
         What::GetAll { .. } => true,
-        What::Read { .. } => false,
-        What::Commit { .. } => false,
+        What::Read { .. } => true,
+        What::Commit { .. } => true,
         What::Enq { .. } => true,
         What::Deq { .. } => true,
     }

@@ -54,8 +54,8 @@ is_built objects (whats.Get object key) = is_get_built (kind_in objects object)
 is_built objects (whats.Del object key) = true
 is_built objects (whats.PutAll object pairs) = true
 is_built objects (whats.GetAll object keys) = true
-is_built objects (whats.Read object keys) = false
-is_built objects (whats.Commit object pairs) = false
+is_built objects (whats.Read object keys) = true
+is_built objects (whats.Commit object pairs) = true
 is_built objects (whats.Enq object value) = true
 is_built objects (whats.Deq object) = true
 
