@@ -37,7 +37,7 @@ abbrev first_answer : List ReplyLine → Answer
 first_answer [] = answers.NoMemory
 first_answer (r ∷ rs) = r.answer
 
-abbrev unanswered : World → State
+abbrev pub unanswered : World → State
 unanswered w = record { world = w; replies = λ _. []; reads = λ _. no_reads }
 
 shown_answer : (w new : World) (command : Command) (answer : Answer)
@@ -45,7 +45,7 @@ shown_answer : (w new : World) (command : Command) (answer : Answer)
 shown_answer w new command answer =
     ap first_answer (updated-here (λ _. []) command.client (reply_of command answer [] ∷ []))
 
-same_answer : (w a b : World) (command : Command) (p q : Answer)
+pub same_answer : (w a b : World) (command : Command) (p q : Answer)
     → answered (unanswered w) command a p [] ≡ answered (unanswered w) command b q [] → (a ≡ b) × (p ≡ q)
 same_answer w a b command p q e = (
   ap (λ (s : State). s.world) e,

@@ -111,3 +111,8 @@ module _ (w : World) (own : Key) where
       ∙ (ap (λ (k : Key). form_verdict (get_or keys i key) (writes_after (nodes_before k (map (object_at w) keys)))
       (form_of (object_at w (get_or keys i key)).text)) (sym (same_key-is (get_or keys i key) own there))
       ∙ ap (verdict_among (map (object_at w) keys)) (sym (first_found keys i key low all there)))))))
+
+-- a key of a list stands in a line
+pub stands_at : (w : World) (keys : List Key) (i : ℕ) (key : Key) → i < length keys → key ≡ get_or keys i key
+    → AreOfLines w keys → (region : ℕ) × (colour : ℕ) × Contains (line (w.histories region colour)) key
+stands_at w keys i key low is all = all key (i, low, sym is)

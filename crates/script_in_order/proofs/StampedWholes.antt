@@ -142,7 +142,7 @@ reads_on old mid new client stamp colours None raises ends is none was raises_ar
 
 -- A COMMAND THAT MAKES A STAMPED READ
 
-finds_same : (grants more : Grants) → more.helps ≡ grants.helps → (n : ℕ) (finds : List (ℕ → Bool))
+pub finds_same : (grants more : Grants) → more.helps ≡ grants.helps → (n : ℕ) (finds : List (ℕ → Bool))
     → FindsNext grants n finds → FindsNext more n finds
 finds_same grants more same n [] f = f
 finds_same grants more same n (x ∷ finds) f =
@@ -182,10 +182,10 @@ module _ (old new : World) (command : Command) (colours : List ℕ) (answer : An
         (finds_all (λ _. true) reads.finds))
 
     reading_is : (told : State)
-        → reading answer shown command colours grants (with_replies old replies)
-        ≡ ended_by grants (with_replies old replies) command (answer new) (shown new) new ends
-    reading_is replies =
-        ap (λ (r : StampedRead). ended_by grants (with_replies old replies) command (answer r.world) (shown r.world)
+        → reading answer shown command colours grants (with_replies old told)
+        ≡ ended_by grants (with_replies old told) command (answer new) (shown new) new ends
+    reading_is told =
+        ap (λ (r : StampedRead). ended_by grants (with_replies old told) command (answer r.world) (shown r.world)
         r.world r.ends) read_is
 
   module _ (stamp : ℕ) (raises : List RaisePiece) (syncs : List SyncPiece) (keys : List Key)

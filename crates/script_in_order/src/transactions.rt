@@ -1,5 +1,5 @@
 // Transactions: reads of transactional maps, and commits that rest on them.
-ghost use Rattle.std.specs.Prelude.{◌≡◌, ◌≢◌, ◌<◌, ℕ, List, [], IsTrue, IfOk, IfSome, OnErr, Some, None, length, map};
+ghost use Rattle.std.specs.Prelude.{◌≡◌, ◌≢◌, ◌<◌, ◌++◌, ℕ, List, [], Option, IsTrue, IfOk, IfSome, OnErr, Some, None, length, map};
 ghost use Rattle.std.specs.List.{All};
 ghost use Rattle.col_core.specs.History.{line, entry_key};
 ghost use Rattle.log_node.specs.Sets.{members};
@@ -187,7 +187,7 @@ fn read(
     requires caller { command.now.client < length world.old.shape.homes }
     requires kinds { All (λ (o : Object). IsKindWithin world.old.shape.regions world.old.shape.colours o.kind) objects.now }
     requires uses { UsesObject objects.now (What.Read object keys.now) }
-    ensures ok { IfOk result (λ g. (taken : Option Versions)
+    ensures ok { IfOk result (λ g. (taken : Option (List Version))
         → Leaves (λ grants state. read_in objects.now grants state command.now object keys.now) command.now object taken
         (world_of world.old) (world_of world.new) g.0 g.1) }
     ensures err { OnErr result (world_of world.new ≡ world_of world.old) }
