@@ -13,6 +13,7 @@ mod edges;
 mod large;
 mod maps;
 mod objects;
+mod ordinary;
 mod refusals;
 mod regions;
 mod scans;

@@ -1,6 +1,6 @@
 -- Reads of transactional maps, and the reads behind commits, by what their calls did.
-use Rattle.std.proofs.Common.{◌≡◌, ◌≢◌, ℕ, zero, suc, Bool, true, false, List, [], ◌∷◌, map, set, get_or, ◌<◌, ◌≤◌, Option, Some, None, refl, ap, sym, subst, ◌∙◌}
-use Rattle.std.specs.Prelude.{if◌then◌else◌}
+use Rattle.std.proofs.Common.{◌≡◌, ◌≢◌, ℕ, zero, suc, Bool, true, false, List, [], ◌∷◌, ◌++◌, length, map, set, get_or, ◌<◌, ◌≤◌, Option, Some, None, Ok, tt, length-set, refl, ap, sym, subst, ◌∙◌}
+use Rattle.std.specs.Prelude.{IfSome, if◌then◌else◌}
 use Rattle.std.specs.List.{All}
 use Rattle.log_node.specs.declared.ids.Counts.{Counts}
 use Rattle.log_node.specs.declared.ids.Colours.{Colours}
@@ -8,17 +8,26 @@ use Rattle.log_node.specs.Sets.{members}
 use Rattle.col_core.proofs.CallerLemmas.{In}
 use Rattle.script_text.specs.declared.script.Kind.{Kind}
 use Rattle.script_text.specs.Items.{set_of}
-use Rattle.script_text.specs.Fitting.{AreBelow, AreObjectColours, IsKindWithin, HasObject, is_tx}
-use Rattle.lawful_run.specs.Asks.{object_colours}
-use Rattle.script_meaning.proofs.CallerLemmas.{at_or, object_has, rising_members, rising_below, rising_some}
+use Rattle.script_text.specs.Fitting.{AreBelow, AreObjectColours, IsKindWithin, UsesObject, HasObject, is_tx}
+use Rattle.script_text.specs.Grammar.{are_pairs}
+use Rattle.lawful_run.specs.Asks.{object_colours, keys_of}
+use Rattle.lawful_run.proofs.CallerLemmas.{get_within}
+use Rattle.script_meaning.proofs.CallerLemmas.{RunsTo, append_to, done_to, at_or, object_has, key_some, some_of, rising_members, rising_below, rising_some}
+use Rattle.log_node.specs.declared.ids.Id.{Id}
 use Rattle.log_node.specs.declared.ids.Key.{Key}
+use Rattle.log_node.specs.declared.node.Shape.{Shape}
 use Rattle.log_node.specs.declared.forms.Pair.{Pair}
 use Rattle.log_node.specs.declared.forms.Version.{Version}
+use Rattle.log_node.specs.declared.forms.Form.{Form}
+use Rattle.log_node.specs.declared.forms.Form.TheVariants as forms
+use Rattle.object_form.specs.Forms.{AreVersions, form_text}
 use Rattle.object_fold.specs.declared.verdict.Verdict.{Verdict}
 use Rattle.object_fold.specs.Nodes.{ObjectNode}
 use Rattle.object_fold.specs.Transactions.{value_of, writes_after, versions_after}
 use Rattle.col_core.specs.Keeping.{updated}
-use Rattle.world_laws.specs.Worlds.{World}
+use Rattle.col_core.specs.History.{entry_key}
+use Rattle.world_laws.specs.Worlds.{World, next_id}
+use Rattle.world_laws.proofs.CallerLemmas.{in_right, run_grows}
 use Rattle.script_text.specs.declared.script.Object.{Object}
 use Rattle.script_text.specs.declared.script.Command.{Command}
 use Rattle.script_text.specs.declared.script.What.{What}
@@ -29,22 +38,25 @@ use Rattle.report_text.specs.declared.report.KeyAnswer.{KeyAnswer}
 use Rattle.report_text.specs.declared.report.PointPiece.{PointPiece}
 use Rattle.report_text.specs.declared.report.RaisePiece.{RaisePiece}
 use Rattle.report_text.specs.declared.report.SyncPiece.{SyncPiece}
-use Rattle.script_meaning.specs.States.{State, Grants, Reads as Keeps, all_granted, answered, reads_left, kind_in}
-use Rattle.script_meaning.specs.Objects.{caller_in, refusing_home}
+use Rattle.script_meaning.specs.States.{State, Grants, Reads as Keeps, all_granted, answered, reads_left, kind_in, has_colours}
+use Rattle.script_meaning.specs.Appends.{appended}
+use Rattle.script_meaning.specs.Objects.{caller_in, refusing_home, shard_set}
 use Rattle.script_meaning.specs.Dequeues.{object_at}
 use Rattle.script_meaning.specs.Gets.{key_answers}
 use Rattle.script_meaning.specs.Stamped.{ReadEnd, Whole, Refused, Unraised, StampedRead, stamped_read, read_stamp, raised, read_after_raises, ended_so, Progress}
-use Rattle.script_meaning.specs.Transactions.{found_by, read_in, ruled, ruled_by, verdict_in, committed_by}
+use Rattle.script_meaning.specs.Transactions.{found_by, read_in, ruled, ruled_by, verdict_in, version_keys, committed_by}
 use Rattle.script_meaning.specs.Meaning.{done, done_one, done_from}
 use Rattle.script_in_order.specs.Doing.{DoneBy, transaction_of, with_replies}
-use Rattle.script_in_order.specs.Stamped.{Reads}
+use Rattle.script_in_order.specs.declared.stamped.Stamped.{Stamped}
+use Rattle.script_in_order.specs.Stamped.{Reads, end_in}
 use Rattle.report_text.specs.declared.report.ReplyLine.{ReplyLine}
 use Rattle.script_in_order.specs.Runs.{RepliesView, with_reply, with_read, read_at, reply_of}
-use Rattle.script_in_order.specs.Transacting.{Leaves, Rules, Transacts, answered_keeping}
+use Rattle.script_in_order.specs.Transacting.{AreFit, Leaves, Rules, Transacts, answered_keeping}
 use Rattle.script_in_order.proofs.HelpsAndClears.{found_with, finds_all}
 use Rattle.script_in_order.proofs.StampedWholes.{finds_same}
-use Rattle.script_in_order.proofs.Committing.{its_colours}
-use Rattle.script_in_order.proofs.ObjectSteps.{each_below, kind_is}
+use Rattle.script_in_order.proofs.Committing.{its_set, its_colours, commit_refused, commit_ruled}
+use Rattle.script_in_order.proofs.DequeueSteps.{unanswered}
+use Rattle.script_in_order.proofs.ObjectSteps.{each_below, kind_is, has_some, are_low, form_done}
 
 -- THE COLOURS OF A TRANSACTIONAL MAP
 
@@ -74,6 +86,13 @@ pub tx_is : (objects : List Object) (object : ℕ) (other : Object) → HasObjec
     → is_tx (get_or objects object other).kind ≡ true
 tx_is objects object other has =
     ap (λ (o : Object). is_tx o.kind) (at_or objects object has.found other has.there) ∙ has.kind
+
+-- a read, as its end is told
+pub read_as : (old new : World) (client : ℕ) (colours : List ℕ) (s t : Stamped) → s ≡ t
+    → Reads old new client colours (end_in new client colours s)
+    → Reads old new client colours (end_in new client colours t)
+read_as old new client colours s t same =
+    subst (λ (x : Stamped). Reads old new client colours (end_in new client colours x)) same
 
 -- A READ OF KEYS
 
@@ -339,3 +358,159 @@ module _ (objects : List Object) (command : Command) (object : ℕ) (before afte
         ∙ ap (λ (w : World). answered_keeping told command object w answers.NoMemory None) (sym none);
     replies = then ∙ ap (λ (r : ReplyLine). with_reply (with_read before object None) r) is;
   }
+
+-- THE APPEND OF A COMMIT
+
+module _ (objects : List Object) (command : Command) (object : ℕ) (pairs : List Pair) (reads : List Version) where
+  -- the set of its shards, as it was made
+  pub set_made : (other : Object) → HasObject objects object is_tx → (set : Colours) (vs : List Version)
+      (ps : List Pair)
+      → set ≡ shard_set (object_colours (Some (get_or objects object other).kind)) (version_keys vs ++ keys_of ps)
+      → vs ≡ reads → ps ≡ pairs → set ≡ its_set objects object reads pairs
+  set_made other has set vs ps made v p =
+      let kind = (get_or objects object other).kind in
+      made
+      ∙ (ap (λ (l : List Version). shard_set (object_colours (Some kind)) (version_keys l ++ keys_of ps)) v
+      ∙ (ap (λ (l : List Pair). shard_set (object_colours (Some kind)) (version_keys reads ++ keys_of l)) p
+      ∙ ap (λ (k : Option Kind). shard_set (object_colours k) (version_keys reads ++ keys_of pairs))
+      (kind_is objects object other has)))
+
+  module _ (regions count : ℕ) (few : count ≤ 16)
+      (all : All (λ (o : Object). IsKindWithin regions count o.kind) objects) (other : Object)
+      (has : HasObject objects object is_tx) (set : Colours) (is : set ≡ its_set objects object reads pairs) where
+    its_kind : Kind
+    its_kind = (get_or objects object other).kind
+
+    as_kind : set ≡ shard_set (object_colours (Some its_kind)) (version_keys reads ++ keys_of pairs)
+    as_kind = is ∙ ap (λ (k : Option Kind). shard_set (object_colours k) (version_keys reads ++ keys_of pairs))
+        (sym (kind_is objects object other has))
+
+    -- it has a colour, and all its colours are among the world's
+    pub its_some : are_pairs 2 pairs ≡ true → has_colours 1 set ≡ true
+    its_some some =
+        let key = some_of (keys_of pairs) (key_some 2 pairs some) in
+        subst (λ (s : Colours). has_colours 1 s ≡ true) (sym as_kind)
+        (has_some regions count few objects all object is_tx has its_kind (kind_is objects object other has)
+        (version_keys reads ++ keys_of pairs) key.0 (in_right key.0 (version_keys reads) (keys_of pairs) key.1))
+
+    pub its_low : AreBelow count set
+    its_low = subst (AreBelow count) (sym as_kind)
+        (are_low regions count few objects all object is_tx has its_kind (kind_is objects object other has)
+        (version_keys reads ++ keys_of pairs))
+
+  -- the append, by what it was made of
+  module _ (w v : World) (given : Answer) (set : Colours) (form : Form) (is : set ≡ its_set objects object reads pairs)
+      (same : form ≡ forms.Transaction reads pairs)
+      (d : DoneBy (λ grants state. appended grants state command set (form_text form) (members set)) command w v given [])
+      where
+    shape_after : v.shape ≡ w.shape
+    shape_after =
+        let to = subst (RunsTo w) (ap (λ (s : State). s.world) (d.is (unanswered w)))
+        (append_to d.grants (with_replies w (unanswered w)) command set (form_text form) (members set)) in
+        ap (λ (x : World). x.shape) (sym to.run) ∙ (run_grows w to.steps).shape
+
+    its_append : DoneBy (λ grants state. appended grants state command (its_set objects object reads pairs)
+        (form_text (forms.Transaction reads pairs)) (members (its_set objects object reads pairs))) command w v given []
+    its_append = form_done command w v (Ok given) set (its_set objects object reads pairs) form
+        (forms.Transaction reads pairs) is same d
+
+    pub client_after : command.client < length w.shape.homes → command.client < length v.shape.homes
+    client_after = subst (λ (s : Shape). command.client < length s.homes) (sym shape_after)
+
+    pub below_after : (cs : Colours) → AreBelow w.shape.colours cs → AreBelow v.shape.colours cs
+    below_after cs = subst (λ (s : Shape). AreBelow s.colours cs) (sym shape_after)
+
+    -- where its node stands, the read follows
+    pub stood_ruled : (new : World) (answer : Answer) (stamp : ℕ) (row : Option ℕ) (points : List PointPiece)
+        (colours : List ℕ) (id : Id) → given ≡ answers.Stood stamp row points → colours ≡ its_colours objects object
+        → id ≡ next_id w command.client → Rules command.client colours (entry_key stamp id) row points v new answer
+        → DoneBy (λ grants state. committed_by objects grants state command object pairs (Some reads)) command w new
+        answer []
+    stood_ruled new answer stamp row points colours id there cs own r =
+        commit_ruled objects command object pairs reads w v new stamp row points answer
+        (subst (λ (a : Answer). DoneBy (λ grants state. appended grants state command (its_set objects object reads pairs)
+        (form_text (forms.Transaction reads pairs)) (members (its_set objects object reads pairs))) command w v a [])
+        there its_append)
+        (subst (λ (l : List ℕ). Rules command.client l (entry_key stamp (next_id w command.client)) row points v new answer)
+        cs
+        (subst (λ (i : Id). Rules command.client colours (entry_key stamp i) row points v new answer) own r))
+
+    -- any other answer is the commit's
+    pub not_stood : ((s : ℕ) (r : Option ℕ) (p : List PointPiece) → given ≡ answers.Stood s r p → ⊥)
+        → DoneBy (λ grants state. committed_by objects grants state command object pairs (Some reads)) command w v
+        given []
+    not_stood other = commit_refused objects command object pairs reads w v given other its_append
+
+-- a commit by what was taken
+pub commit_taken : (objects : List Object) (command : Command) (object : ℕ) (pairs : List Pair)
+    (taken found : Option (List Version)) (w new : World) (answer : Answer) → taken ≡ found
+    → DoneBy (λ grants state. committed_by objects grants state command object pairs found) command w new answer []
+    → DoneBy (λ grants state. committed_by objects grants state command object pairs taken) command w new answer []
+commit_taken objects command object pairs taken found w new answer is d =
+    subst (λ (t : Option (List Version)). DoneBy (λ grants state. committed_by objects grants state command object pairs t)
+    command w new answer []) (sym is) d
+
+pub no_read_taken : (objects : List Object) (command : Command) (object : ℕ) (pairs : List Pair) (w : World)
+    → DoneBy (λ grants state. committed_by objects grants state command object pairs None) command w w answers.NoTx []
+no_read_taken objects command object pairs w = record { grants = all_granted; begun = refl; is = λ told. refl }
+
+-- WHICH OBJECT
+
+-- a read or a commit is of the object that it names
+pub read_asks : (what : What) (object other : ℕ) (keys : List (List ℕ)) → transaction_of what ≡ Some object
+    → what ≡ whats.Read other keys → what ≡ whats.Read object keys
+read_asks what object other keys asks is =
+    let e : Some other ≡ Some object = ap transaction_of (sym is) ∙ asks in
+    let same : other ≡ object = cc in is ∙ ap (λ (n : ℕ). whats.Read n keys) same
+
+pub commit_asks : (what : What) (object other : ℕ) (pairs : List Pair) → transaction_of what ≡ Some object
+    → what ≡ whats.Commit other pairs → what ≡ whats.Commit object pairs
+commit_asks what object other pairs asks is =
+    let e : Some other ≡ Some object = ap transaction_of (sym is) ∙ asks in
+    let same : other ≡ object = cc in is ∙ ap (λ (n : ℕ). whats.Commit n pairs) same
+
+-- it is one of the objects
+pub object_there : (objects : List Object) (what : What) (object : ℕ) → transaction_of what ≡ Some object
+    → UsesObject objects what → object < length objects
+object_there objects (whats.Append colours text) object e u = let f : ⊥ = cc in absurd f
+object_there objects (whats.Stop steps colours text) object e u = let f : ⊥ = cc in absurd f
+object_there objects (whats.Sync colour) object e u = let f : ⊥ = cc in absurd f
+object_there objects (whats.Scan colours) object e u = let f : ⊥ = cc in absurd f
+object_there objects (whats.Pull region colour) object e u = let f : ⊥ = cc in absurd f
+object_there objects (whats.Trim colour) object e u = let f : ⊥ = cc in absurd f
+object_there objects (whats.Put o key value) object e u = let f : ⊥ = cc in absurd f
+object_there objects (whats.Get o key) object e u = let f : ⊥ = cc in absurd f
+object_there objects (whats.Del o key) object e u = let f : ⊥ = cc in absurd f
+object_there objects (whats.PutAll o pairs) object e u = let f : ⊥ = cc in absurd f
+object_there objects (whats.GetAll o keys) object e u = let f : ⊥ = cc in absurd f
+object_there objects (whats.Read o keys) object e u =
+    let is : o ≡ object = cc in
+    subst (λ (n : ℕ). n < length objects) is (get_within objects o u.0.found u.0.there)
+object_there objects (whats.Commit o pairs) object e u =
+    let is : o ≡ object = cc in
+    subst (λ (n : ℕ). n < length objects) is (get_within objects o u.0.found u.0.there)
+object_there objects (whats.Enq o value) object e u = let f : ⊥ = cc in absurd f
+object_there objects (whats.Deq o) object e u = let f : ⊥ = cc in absurd f
+
+-- what was taken is fit
+pub taken_fits : (reads : List (Option (List Version))) (object : ℕ) (taken : Option (List Version))
+    → taken ≡ read_at reads object → AreFit (read_at reads) → IfSome taken AreVersions
+taken_fits reads object None is fit = tt
+taken_fits reads object (Some versions) is fit = fit object versions (sym is)
+
+-- it has a place still, where what it found was taken
+pub still_there : (before after : RepliesView) (object : ℕ) → after ≡ with_read before object None
+    → object < length before.reads → object < length after.reads
+still_there before after object is low =
+    subst (λ (n : ℕ). object < n)
+    (sym (ap (λ (r : RepliesView). length r.reads) is ∙ length-set before.reads object None)) low
+
+-- A READ OR A COMMIT, AND WHAT IS FOLDED
+
+-- steps lead to where it comes
+pub transacted_to : (objects : List Object) (command : Command) (object : ℕ) (old new : World)
+    (before after : RepliesView) → Transacts objects command object old new before after → RunsTo old new
+transacted_to objects command object old new before after t =
+    let told : State = record { world = old; replies = λ _. []; reads = λ _. read_at before.reads } in
+    subst (RunsTo old) (ap (λ (s : State). s.world) (t.is told refl))
+    (done_to objects t.grants (with_replies old told) command)

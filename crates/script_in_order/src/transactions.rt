@@ -9,7 +9,7 @@ ghost use Rattle.object_fold.specs.States.{IsTxState};
 ghost use Rattle.object_fold.specs.Transactions.{value_of, writes_after, versions_after};
 ghost use Rattle.script_text.specs.Items.{set_of};
 ghost use Rattle.script_text.specs.Fitting.{AreBelow, AreObjectColours, IsKindWithin, UsesObject, is_tx};
-ghost use Rattle.world_laws.specs.Worlds.{next_id};
+ghost use Rattle.world_laws.specs.Worlds.{World as Meant, next_id};
 ghost use Rattle.lawful_run.specs.Asks.{object_colours, keys_of};
 ghost use Rattle.world_code.specs.WorldView.{world_of};
 ghost use Rattle.script_meaning.specs.Objects.{shard_set};
@@ -19,6 +19,7 @@ ghost use Rattle.script_meaning.specs.Stamped.{keys_read};
 ghost use Rattle.script_meaning.specs.Transactions.{version_keys, ruled, verdict_in, read_in, committed_by};
 ghost use Rattle.script_meaning.specs.Meaning.{done};
 ghost use Rattle.script_in_order.specs.Doing.{IsFit, DoneBy, transaction_of};
+ghost use Rattle.script_in_order.specs.Stamped.{Reads, end_in};
 ghost use Rattle.script_in_order.specs.Transacting.{AreOfLines, Leaves, Rules};
 
 use crate::appends::next_id;
@@ -272,6 +273,42 @@ fn verdict_at(
     Ok((verdict, ListOf::from(points)))
 }
 
+// The verdict behind a commit whose node stands under this key, in the row and at the points, by what its stamped read of
+// these colours came to.
+fn rule_by(
+    alloc: Global,
+    client: u8,
+    colours: Colours,
+    own: Key,
+    row: Option<u32>,
+    points: Points,
+    read: Stamped,
+    world: &World,
+) -> Answer
+    requires caller { client < length world.now.shape.homes }
+    requires within { AreBelow world.now.shape.colours colours }
+    ensures { (old : Meant) → Reads old (world_of world.now) client (members colours)
+        (end_in (world_of world.now) client (members colours) read)
+        → Rules client (members colours) own row points old (world_of world.now) result }
+{
+    match read {
+        Stamped::Unraised => Answer::UnreadNoMemory { stamp: own.stamp },
+        Stamped::Refused { colour, base } => Answer::UnreadTrimmed {
+            stamp: own.stamp,
+            colour,
+            base,
+        },
+        Stamped::Whole {
+            stamp,
+            raises,
+            syncs,
+        } => match verdict_at(alloc, world, client, stamp, colours, own, points) {
+            Ok((verdict, points)) => ruled(verdict, row, points, stamp, raises, syncs),
+            Err(_) => Answer::UnreadNoMemory { stamp: own.stamp },
+        },
+    }
+}
+
 // The stamped read behind a commit whose node stands under this key, in the row and at the points, and the verdict on it.
 fn rule(
     alloc: Global,
@@ -287,28 +324,49 @@ fn rule(
     requires some { members colours ≢ [] }
     ensures { Rules client (members colours) own row points (world_of world.old) (world_of world.new) result }
 {
-    let unread = Answer::UnreadNoMemory { stamp: own.stamp };
     match stamped_read(alloc, world, client, colours) {
-        Err(_) => unread,
-        Ok(Stamped::Unraised) => unread,
-        Ok(Stamped::Refused { colour, base }) => Answer::UnreadTrimmed {
-            stamp: own.stamp,
-            colour,
-            base,
-        },
-        Ok(Stamped::Whole {
-            stamp,
-            raises,
-            syncs,
-        }) => match verdict_at(alloc, world, client, stamp, colours, own, points) {
-            Ok((verdict, points)) => ruled(verdict, row, points, stamp, raises, syncs),
-            Err(_) => unread,
-        },
+        Err(_) => Answer::UnreadNoMemory { stamp: own.stamp },
+        Ok(read) => rule_by(alloc, client, colours, own, row, points, read, world),
     }
 }
 
-// A commit that rests on what the client's last read of the map found: an append of its transaction to the shards of the
-// keys read and written, a stamped read of all colours, and the verdict. Without such a read it is refused.
+// A commit that rests on these versions: an append of its transaction to the shards of the keys read and written, a stamped
+// read of all colours of the map, and the verdict.
+fn commit_on(
+    alloc: Global,
+    objects: &[Object],
+    command: &Command,
+    object: u8,
+    pairs: &Pairs,
+    reads: Versions,
+    world: &mut World,
+) -> Result<Answer, AllocError>
+    requires caller { command.now.client < length world.old.shape.homes }
+    requires kinds { All (λ (o : Object). IsKindWithin world.old.shape.regions world.old.shape.colours o.kind) objects.now }
+    requires uses { UsesObject objects.now (What.Commit object pairs.now) }
+    requires rests { AreVersions reads }
+    ensures ok { IfOk result (λ answer. DoneBy
+        (λ grants state. committed_by objects.now grants state command.now object pairs.now (Some reads)) command.now
+        (world_of world.old) (world_of world.new) answer []) }
+    ensures err { OnErr result (world_of world.new ≡ world_of world.old) }
+{
+    world.is_whole();
+    let kind = &objects[object as usize].kind;
+    let colours = all_colours(kind);
+    let set = shards_of(kind, reads.as_slice(), pairs.as_slice());
+    let writes = copied_pairs(alloc, pairs.as_slice())?;
+    let id = next_id(world, command.client);
+    let form = Form::Transaction { reads, writes };
+    match append_form(alloc, command, set, form, world)? {
+        Answer::Stood { stamp, row, points } => {
+            let own = Key { stamp, id };
+            Ok(rule(alloc, command.client, colours, own, row, points, world))
+        }
+        other => Ok(other),
+    }
+}
+
+// A commit that rests on what the client's last read of the map found; without such a read it is refused.
 fn commit(
     alloc: Global,
     objects: &[Object],
@@ -327,24 +385,9 @@ fn commit(
         (world_of world.old) (world_of world.new) answer []) }
     ensures err { OnErr result (world_of world.new ≡ world_of world.old) }
 {
-    world.is_whole();
     match taken {
         None => Ok(Answer::NoTx),
-        Some(reads) => {
-            let kind = &objects[object as usize].kind;
-            let colours = all_colours(kind);
-            let set = shards_of(kind, reads.as_slice(), pairs.as_slice());
-            let writes = copied_pairs(alloc, pairs.as_slice())?;
-            let id = next_id(world, command.client);
-            let form = Form::Transaction { reads, writes };
-            match append_form(alloc, command, set, form, world)? {
-                Answer::Stood { stamp, row, points } => {
-                    let own = Key { stamp, id };
-                    Ok(rule(alloc, command.client, colours, own, row, points, world))
-                }
-                other => Ok(other),
-            }
-        }
+        Some(reads) => commit_on(alloc, objects, command, object, pairs, reads, world),
     }
 }
 
@@ -368,9 +411,15 @@ pub fn transact(
     match refusing_home(objects, command, world) {
         Some(home) => Ok((Answer::NotHome { home }, None)),
         None => match &command.what {
-            What::Read { object, keys } => read(alloc, objects, command, *object, keys, world),
-            What::Commit { object, pairs } => {
-                let answer = commit(alloc, objects, command, *object, pairs, taken, world)?;
+            What::Read {
+                object: _object,
+                keys,
+            } => read(alloc, objects, command, object, keys, world),
+            What::Commit {
+                object: _object,
+                pairs,
+            } => {
+                let answer = commit(alloc, objects, command, object, pairs, taken, world)?;
                 Ok((answer, None))
             }
             _ => unreachable!(),
