@@ -1,7 +1,7 @@
 -- Nodes that are folded for a transaction.
 use Rattle.std.proofs.Common.{◌≡◌, ℕ, zero, suc, ◌+◌, ◌<◌, ◌≤◌, Bool, true, false, List, [], ◌∷◌, ◌++◌, length, map, take, get_or, Option, Some, None, refl, ap, sym, subst, ◌∙◌, inl, inr, arith}
 use Rattle.std.specs.Prelude.{unwrap_or, not, if◌then◌else◌}
-use Rattle.std.specs.List.{All, Contains, find, take_while}
+use Rattle.std.specs.List.{All, Contains, find, prefix_len}
 use Rattle.std.proofs.lemmas.List.{map-append, take_more}
 use Rattle.log_node.specs.declared.ids.Key.{Key}
 use Rattle.log_node.specs.Order.{same_key}
@@ -21,6 +21,7 @@ use Rattle.script_meaning.specs.Stamped.{keys_read}
 use Rattle.script_meaning.specs.Transactions.{verdict_in}
 use Rattle.script_meaning.proofs.CallerLemmas.{keys_stand}
 use Rattle.script_in_order.specs.Transacting.{AreOfLines}
+use Rattle.script_in_order.proofs.RunReplies.{any_default}
 
 -- the keys that a read has stand in lines
 pub read_stand : (w : World) → IsReached w → (client stamp : ℕ) (colours : List ℕ)
@@ -28,6 +29,13 @@ pub read_stand : (w : World) → IsReached w → (client stamp : ℕ) (colours :
 read_stand w reached client stamp colours key i =
     let s = keys_stand w reached client stamp colours key (in_contains (keys_read w client stamp colours) key i) in
     (home_of w client, s.0, contains_in (line (home_history w client s.0)) key s.2)
+
+-- the key at a place
+abbrev pub key_at : List Key → ℕ → Key
+key_at keys i = get_or keys i (record { stamp = 0; id = record { client = 0; count = 0 } })
+
+pub is_there : (keys : List Key) (i : ℕ) → i < length keys → key_at keys i ≡ get_or keys i (key_at keys i)
+is_there keys i low = any_default keys i (record { stamp = 0; id = record { client = 0; count = 0 } }) (key_at keys i) low
 
 -- one node more
 pub one_more : (w : World) (keys : List Key) (i : ℕ) (key : Key) → i < length keys → key ≡ get_or keys i key
@@ -83,15 +91,22 @@ module _ (w : World) (own : Key) where
       if_false (same_key x own) (Some (object_at w x)) (find is_own (map (object_at w) xs)) (all zero x (omega arith))
       ∙ first_found xs i key (omega (arith, low)) (rest_others own x (take i xs) all) same
 
+  -- how many first nodes have other keys
+  abbrev others_first : List ObjectNode → ℕ
+  others_first nodes = prefix_len (λ node. not (same_key node.key own)) nodes
+
   before_first : (keys : List Key) (i : ℕ) (key : Key) → i < length keys → AreOthers own (take i keys)
       → same_key (get_or keys i key) own ≡ true
       → nodes_before own (map (object_at w) keys) ≡ map (object_at w) (take i keys)
   before_first [] i key low all same = absurd (let f : ⊥ = omega (arith, low) in f)
   before_first (x ∷ xs) zero key low all same =
-      if_false (not (same_key x own)) (object_at w x ∷ nodes_before own (map (object_at w) xs)) [] (ap not same)
+      ap (λ (n : ℕ). take n (map (object_at w) (x ∷ xs)))
+      (if_false (not (same_key x own)) (1 + others_first (map (object_at w) xs)) 0 (ap not same))
   before_first (x ∷ xs) (suc i) key low all same =
-      if_true (not (same_key x own)) (object_at w x ∷ nodes_before own (map (object_at w) xs)) []
-      (ap not (all zero x (omega arith)))
+      let n = others_first (map (object_at w) xs) in
+      let one : 1 + n ≡ suc n = omega arith in
+      ap (λ (m : ℕ). take m (map (object_at w) (x ∷ xs)))
+      (if_true (not (same_key x own)) (1 + n) 0 (ap not (all zero x (omega arith))) ∙ one)
       ∙ ap (λ (l : List ObjectNode). object_at w x ∷ l)
       (before_first xs i key (omega (arith, low)) (rest_others own x (take i xs) all) same)
 

@@ -1,5 +1,5 @@
 -- Reads of transactional maps, and the reads behind commits, by what their calls did.
-use Rattle.std.proofs.Common.{◌≡◌, ◌≢◌, ℕ, zero, suc, Bool, true, false, List, [], ◌∷◌, ◌++◌, length, map, set, get_or, ◌<◌, ◌≤◌, Option, Some, None, Ok, tt, length-set, refl, ap, sym, subst, ◌∙◌}
+use Rattle.std.proofs.Common.{◌≡◌, ◌≢◌, ℕ, zero, suc, Bool, true, false, List, [], ◌∷◌, ◌++◌, length, map, set, get_or, ◌<◌, ◌≤◌, Option, Some, None, Ok, length-set, refl, ap, sym, subst, ◌∙◌}
 use Rattle.std.specs.Prelude.{IfSome, if◌then◌else◌}
 use Rattle.std.specs.List.{All}
 use Rattle.log_node.specs.declared.ids.Counts.{Counts}
@@ -221,8 +221,8 @@ module _ (client : ℕ) (colours : List ℕ) (own : Key) (row : Option ℕ) (poi
 -- a read that found no memory before its first raise ends as one whose first raise finds none
 pub rules_not_begun : (client : ℕ) (colours : List ℕ) (own : Key) (row : Option ℕ) (points : List PointPiece) (w : World)
     → colours ≢ [] → Rules client colours own row points w w (answers.UnreadNoMemory own.stamp)
-rules_not_begun client [] own row points w some = absurd (some refl)
-rules_not_begun client (c ∷ colours) own row points w some = record {
+rules_not_begun client [] key row points w some = absurd (some refl)
+rules_not_begun client (c ∷ colours) key row points w some = record {
   raises = λ _. false;
   helps = λ _ _. false;
   items = false;
@@ -231,7 +231,7 @@ rules_not_begun client (c ∷ colours) own row points w some = record {
 
 -- such a command lets the object's read go
 lets_go : (what : What) (object : ℕ) → transaction_of what ≡ Some object
-    → reads_left what ≡ (λ (reads : Keeps). updated reads object None)
+    → ◌≡◌ {A = Keeps → Keeps} (reads_left what) (λ reads. updated reads object None)
 lets_go (whats.Append colours text) object e = let f : ⊥ = cc in absurd f
 lets_go (whats.Stop steps colours text) object e = let f : ⊥ = cc in absurd f
 lets_go (whats.Sync colour) object e = let f : ⊥ = cc in absurd f
@@ -244,10 +244,12 @@ lets_go (whats.Del o key) object e = let f : ⊥ = cc in absurd f
 lets_go (whats.PutAll o pairs) object e = let f : ⊥ = cc in absurd f
 lets_go (whats.GetAll o keys) object e = let f : ⊥ = cc in absurd f
 lets_go (whats.Read o keys) object e = same o object cc where
-  same : (a b : ℕ) → a ≡ b → (λ (reads : Keeps). updated reads a None) ≡ (λ (reads : Keeps). updated reads b None)
+  same : (a b : ℕ) → a ≡ b
+      → ◌≡◌ {A = Keeps → Keeps} (λ reads. updated reads a None) (λ reads. updated reads b None)
   same a b e = ap (λ (x : ℕ). λ (reads : Keeps). updated reads x None) e
 lets_go (whats.Commit o pairs) object e = same o object cc where
-  same : (a b : ℕ) → a ≡ b → (λ (reads : Keeps). updated reads a None) ≡ (λ (reads : Keeps). updated reads b None)
+  same : (a b : ℕ) → a ≡ b
+      → ◌≡◌ {A = Keeps → Keeps} (λ reads. updated reads a None) (λ reads. updated reads b None)
   same a b e = ap (λ (x : ℕ). λ (reads : Keeps). updated reads x None) e
 lets_go (whats.Enq o value) object e = let f : ⊥ = cc in absurd f
 lets_go (whats.Deq o) object e = let f : ⊥ = cc in absurd f
@@ -337,26 +339,26 @@ module _ (objects : List Object) (command : Command) (object : ℕ) (before afte
       → reply ≡ reply_of command answer []
       → after ≡ with_reply (with_read (with_read before object None) object kept) reply
       → Transacts objects command object old new before after
-  transacts old new answer kept taken reply its l is then = record {
+  transacts old new answer kept taken reply its l is so = record {
     grants = l.grants;
     answer = answer;
     kept = kept;
     is = λ told same. l.is told (same ∙ sym its);
-    replies = then ∙ (ap (λ (r : ReplyLine). with_reply (with_read (with_read before object None) object kept) r) is
+    replies = so ∙ (ap (λ (r : ReplyLine). with_reply (with_read (with_read before object None) object kept) r) is
         ∙ ap (λ (v : RepliesView). with_reply v (reply_of command answer [])) (twice kept));
   }
 
   pub transacts_none : (old new : World) (reply : ReplyLine) → transaction_of command.what ≡ Some object → new ≡ old
       → reply ≡ reply_of command answers.NoMemory [] → after ≡ with_reply (with_read before object None) reply
       → Transacts objects command object old new before after
-  transacts_none old new reply asks none is then = record {
+  transacts_none old new reply asks none is so = record {
     grants = record all_granted { start = false };
     answer = answers.NoMemory;
     kept = None;
     is = λ told same.
         let_go command object asks told old answers.NoMemory
         ∙ ap (λ (w : World). answered_keeping told command object w answers.NoMemory None) (sym none);
-    replies = then ∙ ap (λ (r : ReplyLine). with_reply (with_read before object None) r) is;
+    replies = so ∙ ap (λ (r : ReplyLine). with_reply (with_read before object None) r) is;
   }
 
 -- THE APPEND OF A COMMIT
@@ -378,7 +380,7 @@ module _ (objects : List Object) (command : Command) (object : ℕ) (pairs : Lis
   module _ (regions count : ℕ) (few : count ≤ 16)
       (all : All (λ (o : Object). IsKindWithin regions count o.kind) objects) (other : Object)
       (has : HasObject objects object is_tx) (set : Colours) (is : set ≡ its_set objects object reads pairs) where
-    its_kind : Kind
+    abbrev its_kind : Kind
     its_kind = (get_or objects object other).kind
 
     as_kind : set ≡ shard_set (object_colours (Some its_kind)) (version_keys reads ++ keys_of pairs)

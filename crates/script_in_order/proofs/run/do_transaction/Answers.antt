@@ -27,8 +27,8 @@ add-requires c =
     ∙ ap (λ (r : RepliesView). with_read r c.args.object c.in-Ok.kept) c.take_read-taken.ensures.reads))
     c.requires.room
 
-pub add-2-requires : goal.add-2-requires
-add-2-requires c =
+pub add-requires-in-Err : goal.add-requires-in-Err
+add-requires-in-Err c =
     subst (λ (r : RepliesView). 0 < r.room) (sym c.take_read-taken.ensures.reads) c.requires.room
 
 pub returns-in-Ok : goal.returns-in-Ok
@@ -43,8 +43,8 @@ returns-in-Ok c =
 
 pub returns-in-Err : goal.returns-in-Err
 returns-in-Err c =
-    transacts_none c.args.objects.now c.args.command.now c.args.object c.args.mine.now c.add-2.new.self
-    (world_of c.args.world.now) (world_of c.transact.new.world) c.reply_of-2.result c.requires.kind
-    c.in-Err.ensures.err c.reply_of-2.ensures
-    (c.add-2.ensures
-    ∙ ap (λ (r : RepliesView). with_reply r c.reply_of-2.result) c.take_read-taken.ensures.reads)
+    transacts_none c.args.objects.now c.args.command.now c.args.object c.args.mine.now c.add-in-Err.new.self
+    (world_of c.args.world.now) (world_of c.transact.new.world) c.reply_of-in-Err.result c.requires.kind
+    c.in-Err.ensures.err c.reply_of-in-Err.ensures
+    (c.add-in-Err.ensures
+    ∙ ap (λ (r : RepliesView). with_reply r c.reply_of-in-Err.result) c.take_read-taken.ensures.reads)

@@ -1,4 +1,4 @@
-use Rattle.std.proofs.Common.{◌∙◌, ℕ, List, Some, ap, sym, subst}
+use Rattle.std.proofs.Common.{◌∙◌, ◌<◌, ℕ, List, Some, ap, sym, subst}
 use Rattle.std.specs.List.{All}
 use Rattle.script_text.specs.declared.script.Kind.{Kind}
 use Rattle.script_text.specs.Items.{set_of}
@@ -11,6 +11,6 @@ set_of-requires c =
     subst (λ (l : List ℕ). All (λ colour. colour < 16) l) (sym c.as_slice.ensures)
     (subst (λ (k : Kind). AreObjectColours 16 (object_colours (Some k))) c.in-Tx.is c.requires.colours).below
 
-pub returns-in-Tx : goal.returns-in-Tx
-returns-in-Tx c =
+pub returns : goal.returns
+returns c =
     c.set_of.ensures ∙ (ap set_of c.as_slice.ensures ∙ ap (λ (k : Kind). set_of (object_colours (Some k))) (sym c.in-Tx.is))

@@ -58,13 +58,13 @@ rule-requires c =
     c.shards_of-set.ensures c.as_slice.ensures c.as_slice-2.ensures in
     let form_is = ap (forms.Transaction c.args.reads) (c.in_ok-writes.ensures ∙ c.as_slice-3.ensures) in record {
       caller = client_after c.args.objects.now c.args.command.now c.args.object c.args.pairs.now c.args.reads
-          (world_of c.args.world.now) (world_of c.append_form.new.world) c.in_ok-append_form.field-0
+          (world_of c.args.world.now) (world_of c.append_form.new.world) c.in_ok-other.other
           c.shards_of-set.result (forms.Transaction c.args.reads c.in_ok-writes.writes) set_is form_is
-          c.in_ok-append_form.ensures.ok c.requires.caller;
+          c.in_ok-other.ensures.ok c.requires.caller;
       within = below_after c.args.objects.now c.args.command.now c.args.object c.args.pairs.now c.args.reads
-          (world_of c.args.world.now) (world_of c.append_form.new.world) c.in_ok-append_form.field-0
+          (world_of c.args.world.now) (world_of c.append_form.new.world) c.in_ok-other.other
           c.shards_of-set.result (forms.Transaction c.args.reads c.in_ok-writes.writes) set_is form_is
-          c.in_ok-append_form.ensures.ok c.all_colours-colours.result
+          c.in_ok-other.ensures.ok c.all_colours-colours.result
           (tx_low c.args.world.now.shape.regions c.args.world.now.shape.colours c.is_whole.ensures.few_colours
           c.args.objects.now c.requires.kinds c.args.object c.requires.uses.0 c.index-objects-object.result
           c.all_colours-colours.result c.all_colours-colours.ensures);
@@ -76,13 +76,13 @@ rule-requires c =
 pub returns-in-Stood-clause-ok : goal.returns-in-Stood-clause-ok
 returns-in-Stood-clause-ok c =
     stood_ruled c.args.objects.now c.args.command.now c.args.object c.args.pairs.now c.args.reads
-    (world_of c.args.world.now) (world_of c.append_form.new.world) c.in_ok-append_form.field-0
+    (world_of c.args.world.now) (world_of c.append_form.new.world) c.in_ok-other.other
     c.shards_of-set.result (forms.Transaction c.args.reads c.in_ok-writes.writes)
     (set_made c.args.objects.now c.args.command.now c.args.object c.args.pairs.now c.args.reads
     c.index-objects-object.result c.requires.uses.0 c.shards_of-set.result c.as_slice.result.now c.as_slice-2.result.now
     c.shards_of-set.ensures c.as_slice.ensures c.as_slice-2.ensures)
     (ap (forms.Transaction c.args.reads) (c.in_ok-writes.ensures ∙ c.as_slice-3.ensures))
-    c.in_ok-append_form.ensures.ok (world_of c.rule.new.world) c.rule.result c.in-Stood.stamp c.in-Stood.row
+    c.in_ok-other.ensures.ok (world_of c.rule.new.world) c.rule.result c.in-Stood.stamp c.in-Stood.row
     c.in-Stood.points (members c.all_colours-colours.result) c.next_id-id.result c.in-Stood.is
     (tx_members c.args.world.now.shape.regions c.args.world.now.shape.colours c.is_whole.ensures.few_colours
     c.args.objects.now c.requires.kinds c.args.object c.requires.uses.0 c.index-objects-object.result
@@ -92,10 +92,10 @@ returns-in-Stood-clause-ok c =
 pub returns-in_default-clause-ok : goal.returns-in_default-clause-ok
 returns-in_default-clause-ok c =
     not_stood c.args.objects.now c.args.command.now c.args.object c.args.pairs.now c.args.reads
-    (world_of c.args.world.now) (world_of c.append_form.new.world) c.in_ok-append_form.field-0
+    (world_of c.args.world.now) (world_of c.append_form.new.world) c.in_ok-other.other
     c.shards_of-set.result (forms.Transaction c.args.reads c.in_ok-writes.writes)
     (set_made c.args.objects.now c.args.command.now c.args.object c.args.pairs.now c.args.reads
     c.index-objects-object.result c.requires.uses.0 c.shards_of-set.result c.as_slice.result.now c.as_slice-2.result.now
     c.shards_of-set.ensures c.as_slice.ensures c.as_slice-2.ensures)
     (ap (forms.Transaction c.args.reads) (c.in_ok-writes.ensures ∙ c.as_slice-3.ensures))
-    c.in_ok-append_form.ensures.ok c.in_default.not-Stood
+    c.in_ok-other.ensures.ok c.in_default.not-Stood

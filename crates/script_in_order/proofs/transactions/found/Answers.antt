@@ -20,9 +20,10 @@ folded-requires c = record {
 pub returns : goal.returns
 returns c =
     let w = world_of c.args.world.now in
+    let nodes = map (object_at w) (keys_read w c.args.client c.args.stamp (members c.args.colours)) in
     let holds = subst (λ (ks : List Key). IsTxState c.in_ok-state.state (map (object_at w) ks))
     (c.as_slice.ensures.value ∙ c.in_ok-read.ensures) c.in_ok-state.ensures in (
-      c.in_ok-answers.ensures _ holds ∙ ap (key_answers (value_of (writes_after (map (object_at w)
+      c.in_ok-answers.ensures nodes holds ∙ ap (key_answers (value_of (writes_after (map (object_at w)
       (keys_read w c.args.client c.args.stamp (members c.args.colours)))))) c.as_slice-2.ensures,
-      c.in_ok-versions.ensures _ holds,
+      c.in_ok-versions.ensures nodes holds,
     )

@@ -7,9 +7,11 @@ use Rattle.script_in_order.proofs.transactions.key_answers.Goals as goal
 
 pub loop-key-preserved : goal.loop-key-preserved
 loop-key-preserved c = λ nodes is.
-    c.in_ok-push.ensures.items ∙ answers_more (value_of (writes_after nodes)) c.args.keys.now c.loop-key.key-index
-    c.key-item.result c.in_ok-copied.key c.in_ok-value.value c.loop-key.answers c.loop-key-test.true c.key-item.is
-    c.in_ok-copied.ensures c.in_ok-value.ensures (c.loop-key.invariant nodes is)
+    c.in_ok-push.ensures.ok ∙ answers_more (value_of (writes_after nodes)) c.args.keys.now c.loop-key.key-index
+    c.key-item.result c.in_ok-key.key c.in_ok-value.value c.loop-key.answers c.loop-key-test.true c.key-item.is
+    (c.in_ok-key.ensures ∙ c.as_bytes-in-loop-key.ensures)
+    (c.in_ok-value.ensures nodes is ∙ ap (value_of (writes_after nodes)) c.as_bytes.ensures)
+    (c.loop-key.invariant nodes is)
 
 pub returns : goal.returns
 returns c = λ nodes is.

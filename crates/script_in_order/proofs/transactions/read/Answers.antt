@@ -1,9 +1,10 @@
-use Rattle.std.proofs.Common.{◌≡◌, List, ℕ, subst, get_or, ap, map}
+use Rattle.std.proofs.Common.{◌≡◌, List, ℕ, sym, subst, get_or, ap, map}
 use Rattle.log_node.specs.Sets.{members}
 use Rattle.object_fold.specs.Transactions.{value_of, writes_after, versions_after}
 use Rattle.script_meaning.specs.Dequeues.{object_at}
 use Rattle.script_meaning.specs.Gets.{key_answers}
-use Rattle.script_text.specs.Fitting.{is_tx}
+use Rattle.log_node.specs.declared.node.Shape.{Shape}
+use Rattle.script_text.specs.Fitting.{AreBelow, is_tx}
 use Rattle.world_laws.specs.Worlds.{World}
 use Rattle.world_code.specs.WorldView.{world_of}
 use Rattle.script_meaning.specs.Stamped.{ReadEnd, keys_read}
@@ -30,6 +31,13 @@ stamped_read-requires-clause-within c =
     tx_low c.args.world.now.shape.regions c.args.world.now.shape.colours c.is_whole.ensures.few_colours
     c.args.objects.now c.requires.kinds c.args.object c.requires.uses.0 c.index-objects-object.result
     c.all_colours-colours.result c.all_colours-colours.ensures
+
+pub found-requires-clause-within : goal.found-requires-clause-within
+found-requires-clause-within c =
+    subst (λ (s : Shape). AreBelow s.colours c.all_colours-colours.result) (sym c.in_ok-stamped_read.ensures.shape)
+    (tx_low c.args.world.now.shape.regions c.args.world.now.shape.colours c.is_whole.ensures.few_colours
+    c.args.objects.now c.requires.kinds c.args.object c.requires.uses.0 c.index-objects-object.result
+    c.all_colours-colours.result c.all_colours-colours.ensures)
 
 -- a stamped read of the map's colours, however their set is written
 its_read : (old new : World) (client : ℕ) (colours cs : List ℕ) (s t : Stamped) → colours ≡ cs → s ≡ t

@@ -26,8 +26,8 @@ pub loop-pair-preserved : goal.loop-pair-preserved
 loop-pair-preserved c =
     let colours = object_colours (Some c.args.kind.now) in
     pair_more colours c.requires (version_keys c.args.versions.now) c.args.pairs.now c.loop-pair.pair-index
-    c.pair-item.result c.loop-pair.set c.shard-2.result c.loop-pair-test.true
-    (c.shard-2.ensures ∙ ap (shard_of colours) (c.as_bytes-2.ensures ∙ ap (λ p. p.key) c.pair-item.is))
+    c.pair-item.result c.loop-pair.set c.shard-in-loop-pair.result c.loop-pair-test.true
+    (c.shard-in-loop-pair.ensures ∙ ap (shard_of colours) (c.as_bytes-in-loop-pair.ensures ∙ ap (λ p. p.key) c.pair-item.is))
     c.loop-pair.invariant
 
 pub returns : goal.returns

@@ -50,10 +50,10 @@ returns-in-Read-clause-ok c =
     (read_asks c.args.command.now.what c.args.object c.in-Read._object c.in-Read.keys c.requires.kind c.in-Read.is)
     (sym c.refusing_home.ensures ∙ c.in-None.is) (l c.args.taken)) c.read.ensures.ok
 
-pub returns-in-Commit-clause-ok : goal.returns-in-Commit-clause-ok
-returns-in-Commit-clause-ok c =
+pub returns-in_ok-answer-in-Commit-clause-ok : goal.returns-in_ok-answer-in-Commit-clause-ok
+returns-in_ok-answer-in-Commit-clause-ok c =
     commit_left c.args.objects.now c.args.command.now c.args.object c.args.taken (world_of c.args.world.now)
-    (world_of c.commit-answer.new.world) c.in_ok-answer.answer c.in-Commit.pairs
+    (world_of c.commit.new.world) c.in_ok-answer-in-Commit.answer c.in-Commit.pairs
     (commit_asks c.args.command.now.what c.args.object c.in-Commit._object c.in-Commit.pairs c.requires.kind
     c.in-Commit.is)
-    (sym c.refusing_home.ensures ∙ c.in-None.is) c.in_ok-answer.ensures.ok
+    (sym c.refusing_home.ensures ∙ c.in-None.is) c.in_ok-answer-in-Commit.ensures.ok

@@ -18,5 +18,5 @@ returns c = (
   c.in_ok-verdict.ensures
       ∙ ap (λ (ks : List Key). verdict_in (world_of c.args.world.now) ks c.args.own)
       (c.as_slice.ensures.value ∙ c.in_ok-read.ensures),
-  c.from.ensures ∙ (c.in_ok-points.ensures ∙ c.as_slice-2.ensures),
+  c.from.ensures ∙ (c.in_ok-points.ensures.items ∙ c.as_slice-2.ensures),
 )
