@@ -13,12 +13,14 @@ mod edges;
 mod large;
 mod maps;
 mod objects;
+mod ordinary;
 mod refusals;
 mod regions;
 mod scans;
 mod several;
 mod singles;
 mod stops;
+mod transactions;
 
 /// Does a script over a source and a sink of which the reads and writes with these numbers fail.
 fn run_over<R: Threads + Wait + Sync>(

@@ -23,7 +23,7 @@ use Rattle.report_text.specs.declared.report.Answer.TheVariants as answers
 use Rattle.report_text.specs.declared.report.PointPiece.{PointPiece}
 use Rattle.report_text.specs.declared.report.SyncPiece.{SyncPiece}
 use Rattle.report_text.specs.declared.report.ReplyLine.{ReplyLine}
-use Rattle.script_meaning.specs.States.{State, Grants, all_granted, answered, position_of}
+use Rattle.script_meaning.specs.States.{State, Grants, all_granted, no_reads, answered, position_of}
 use Rattle.script_meaning.specs.Appends.{appended_one, with_single, point_in}
 use Rattle.script_meaning.specs.Dequeues.{first_nodes, sync_now, base_now, dequeued_at, dequeued_on, dequeued_by}
 use Rattle.script_meaning.proofs.CallerLemmas.{RunsTo, stays_there, new_behind, single_same, single_shape, single_to}
@@ -37,15 +37,15 @@ abbrev first_answer : List ReplyLine → Answer
 first_answer [] = answers.NoMemory
 first_answer (r ∷ rs) = r.answer
 
-abbrev unanswered : World → State
-unanswered w = with_replies w (λ _. [])
+abbrev pub unanswered : World → State
+unanswered w = record { world = w; replies = λ _. []; reads = λ _. no_reads }
 
 shown_answer : (w new : World) (command : Command) (answer : Answer)
     → first_answer ((answered (unanswered w) command new answer []).replies command.client) ≡ answer
 shown_answer w new command answer =
     ap first_answer (updated-here (λ _. []) command.client (reply_of command answer [] ∷ []))
 
-same_answer : (w a b : World) (command : Command) (p q : Answer)
+pub same_answer : (w a b : World) (command : Command) (p q : Answer)
     → answered (unanswered w) command a p [] ≡ answered (unanswered w) command b q [] → (a ≡ b) × (p ≡ q)
 same_answer w a b command p q e = (
   ap (λ (s : State). s.world) e,
@@ -75,10 +75,10 @@ entered_of command text colour w new answer d =
     let no : State = answered (unanswered w) command w (answers.StampEnd colour) [] in
     by_test _ (may_single w client colour)
     (λ t. let e = same_answer w v new command (stood v) answer
-    (sym (if_true (may_single w client colour) yes no t) ∙ d.is (λ _. [])) in
+    (sym (if_true (may_single w client colour) yes no t) ∙ d.is (unanswered w)) in
     entered g d.begun t e.0 (ap stood (sym e.0) ∙ e.1))
     (λ f. let e = same_answer w w new command (answers.StampEnd colour) answer
-    (sym (if_false (may_single w client colour) yes no f) ∙ d.is (λ _. [])) in
+    (sym (if_false (may_single w client colour) yes no f) ∙ d.is (unanswered w)) in
     ended f e.0 e.1)
 
 -- What is read then

@@ -47,6 +47,7 @@ use Rattle.script_in_order.specs.Stamped.{Reads, end_in}
 use Rattle.script_in_order.specs.Folds.{AreFolded, ShardsWithin, IsMapAt, line_of, nodes_at}
 use Rattle.script_in_order.proofs.CommandKinds.{does_at_home}
 use Rattle.script_in_order.proofs.ObjectSteps.{kind_is}
+use Rattle.script_in_order.proofs.DequeueSteps.{unanswered}
 use Rattle.script_in_order.proofs.FoldsKept.{folds_stay, shards_within}
 use Rattle.script_in_order.proofs.StampedWholes.{Showing, read_given}
 
@@ -55,8 +56,8 @@ use Rattle.script_in_order.proofs.StampedWholes.{Showing, read_given}
 does_to : (objects : List Object) (command : Command) (w new : World) (answer : Answer) (nodes : List PlacedNode)
     → Does objects command w new answer nodes → RunsTo w new
 does_to objects command w new answer nodes d =
-    subst (RunsTo w) (ap (λ (s : State). s.world) (d.is (λ _. [])))
-    (done_to objects d.grants (with_replies w (λ _. [])) command)
+    subst (RunsTo w) (ap (λ (s : State). s.world) (d.is (unanswered w)))
+    (done_to objects d.grants (with_replies w (unanswered w)) command)
 
 -- what is folded stays right
 pub folded_on : (objects : List Object) (command : Command) (w new : World) (all : List Fold)

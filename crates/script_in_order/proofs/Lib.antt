@@ -24,3 +24,7 @@ mod DequeueSteps
 mod FoldsKept
 mod ObjectHomes
 mod GetSteps
+mod TransactionSets
+mod Committing
+mod TransactionSteps
+mod ReadVerdicts

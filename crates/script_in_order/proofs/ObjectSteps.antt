@@ -109,7 +109,7 @@ pub none_yet : (colours : List ℕ) (pairs : List Pair)
 none_yet colours pairs = refl
 
 -- a set with one colour more
-one_more : (before : List ℕ) (set : Colours) (c : ℕ) → c < 16 → set ≡ set_of before
+pub one_more : (before : List ℕ) (set : Colours) (c : ℕ) → c < 16 → set ≡ set_of before
     → (let s : Colours = record { 0 = bit_or set.0 (1 * 2 ^ c % 65536) } in s) ≡ set_of (before ++ c ∷ [])
 one_more before set c low e =
     ap (λ (n : ℕ). let s : Colours = record { 0 = n } in s)

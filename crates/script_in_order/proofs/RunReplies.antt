@@ -1,11 +1,12 @@
 -- The replies of a run, and the commands one after another.
 use Rattle.std.proofs.Common.{◌≡◌, ℕ, zero, suc, ◌<◌, false, List, [], ◌∷◌, ◌++◌, length, get_or, set, Result, Ok}
-use Rattle.std.proofs.Common.{Err, refl, ap, sym, ◌∙◌, arith, get_or-set_same, get_or-set_other, None, eq-eqb}
+use Rattle.std.proofs.Common.{Err, refl, ap, sym, ◌∙◌, arith, get_or-set_same, get_or-set_other, length-set, Option, None, eq-eqb}
 use Rattle.std.specs.Prelude.{MatchResult, IfOk, OnErr}
 use Rattle.std.specs.declared.alloc.AllocError.{AllocError}
 use mathlib.Core.Path.{fun_ext}
 use Rattle.std.proofs.lemmas.Bool.{true≢false}
 use Rattle.log_node.specs.Seen.{PlacedNode}
+use Rattle.log_node.specs.declared.forms.Version.{Version}
 use Rattle.col_core.specs.Keeping.{updated}
 use Rattle.world_laws.proofs.CallerLemmas.{at_updated}
 use Rattle.world_laws.specs.Worlds.{World}
@@ -17,55 +18,64 @@ use Rattle.script_text.specs.declared.script.What.TheVariants as whats
 use Rattle.report_text.specs.declared.report.Answer.{Answer}
 use Rattle.report_text.specs.declared.report.Answer.TheVariants.{NoMemory}
 use Rattle.report_text.specs.declared.report.ReplyLine.{ReplyLine}
-use Rattle.script_meaning.specs.States.{Grants, Reads, no_reads, all_granted, answered, reads_left}
-use Rattle.script_in_order.specs.Doing.{Does, with_replies}
-use Rattle.script_in_order.specs.Runs.{RepliesView, RunView, no_replies, with_reply, replies_at, state_of, reply_of, IsDone}
+use Rattle.script_meaning.specs.States.{State, Grants, Reads, all_granted, answered, reads_left}
+use Rattle.script_in_order.specs.Doing.{Does, transaction_of}
+use Rattle.script_in_order.specs.Runs.{RepliesView, RunView, no_replies, with_reply, with_read, replies_at, read_at, state_of, reply_of, IsDone}
+use Rattle.script_in_order.specs.Transacting.{Transacts}
 
--- one client's replies are changed
-replied : (replies : List RepliesView) (client : ℕ) (reply : ReplyLine) → client < length replies
-    → ◌≡◌ {A = ℕ → List ReplyLine}
-    (λ n. (replies_at (set replies client (with_reply (replies_at replies client) reply)) n).lines)
-    (updated (λ n. (replies_at replies n).lines) client ((replies_at replies client).lines ++ reply ∷ []))
-replied replies client reply low =
-    fun_ext (λ n. at_updated
-    (λ (l : List ReplyLine). (replies_at (set replies client (with_reply (replies_at replies client) reply)) n).lines
-    ≡ l)
-    (λ k. (replies_at replies k).lines) client ((replies_at replies client).lines ++ reply ∷ []) n
-    (λ e. ap (λ (k : ℕ). (replies_at (set replies client (with_reply (replies_at replies client) reply)) k).lines) e
-    ∙ ap (λ (r : RepliesView). r.lines)
-    (get_or-set_same replies client (with_reply (replies_at replies client) reply) (no_replies 0) low))
-    (λ other. ap (λ (r : RepliesView). r.lines)
-    (get_or-set_other replies client n (with_reply (replies_at replies client) reply) (no_replies 0)
-    (λ e. true≢false (sym (eq-eqb n client e) ∙ other)))))
+-- what is told of each client, where one client's replies are others
+module _ (replies : List RepliesView) (client : ℕ) (mine : RepliesView) (low : client < length replies) where
+  told : {A : Type 0} (f : RepliesView → A)
+      → ◌≡◌ {A = ℕ → A} (λ n. f (replies_at (set replies client mine) n))
+      (updated (λ n. f (replies_at replies n)) client (f mine))
+  told {A} f =
+      fun_ext (λ n. at_updated (λ (a : A). f (replies_at (set replies client mine) n) ≡ a)
+      (λ k. f (replies_at replies k)) client (f mine) n
+      (λ e. ap (λ (k : ℕ). f (replies_at (set replies client mine) k)) e
+      ∙ ap f (get_or-set_same replies client mine (no_replies 0 0) low))
+      (λ other. ap f (get_or-set_other replies client n mine (no_replies 0 0)
+      (λ e. true≢false (sym (eq-eqb n client e) ∙ other)))))
 
-none_with : {A : Type 0} (all : ℕ → A) (at : ℕ) (x : A) → ((n : ℕ) → x ≡ all n) → updated all at x ≡ all
-none_with {A} all at x is = fun_ext (λ n. at_updated (λ (y : A). y ≡ all n) all at x n (λ e. is n) (λ other. refl))
+  pub state_with : (world : WorldView) → state_of (record { world = world; replies = set replies client mine })
+      ≡ (record {
+        world = world_of world;
+        replies = updated (λ n. (replies_at replies n).lines) client mine.lines;
+        reads = updated (λ n. read_at (replies_at replies n).reads) client (read_at mine.reads);
+      })
+  state_with world =
+      ap (λ (f : ℕ → List ReplyLine). let s : State = record {
+        world = world_of world;
+        replies = f;
+        reads = λ n. read_at (replies_at (set replies client mine) n).reads;
+      } in s) (told (λ r. r.lines))
+      ∙ ap (λ (f : ℕ → Reads). let s : State = record {
+        world = world_of world;
+        replies = updated (λ n. (replies_at replies n).lines) client mine.lines;
+        reads = f;
+      } in s) (told (λ r. read_at r.reads))
 
--- where no read is kept, none is kept after a command
-pub none_left : (what : What) → reads_left what no_reads ≡ no_reads
-none_left (whats.Append colours text) = refl
-none_left (whats.Stop steps colours text) = refl
-none_left (whats.Sync colour) = refl
-none_left (whats.Scan colours) = refl
-none_left (whats.Pull region colour) = refl
-none_left (whats.Trim colour) = refl
-none_left (whats.Put object key value) = refl
-none_left (whats.Get object key) = refl
-none_left (whats.Del object key) = refl
-none_left (whats.PutAll object pairs) = refl
-none_left (whats.GetAll object keys) = refl
-none_left (whats.Read object keys) = none_with no_reads object None (λ n. refl)
-none_left (whats.Commit object pairs) = none_with no_reads object None (λ n. refl)
-none_left (whats.Enq object value) = refl
-none_left (whats.Deq object) = refl
+-- a command that is no read and no commit leaves the reads
+pub left_alone : (what : What) (reads : Reads) → transaction_of what ≡ None → reads_left what reads ≡ reads
+left_alone (whats.Append colours text) reads e = refl
+left_alone (whats.Stop steps colours text) reads e = refl
+left_alone (whats.Sync colour) reads e = refl
+left_alone (whats.Scan colours) reads e = refl
+left_alone (whats.Pull region colour) reads e = refl
+left_alone (whats.Trim colour) reads e = refl
+left_alone (whats.Put object key value) reads e = refl
+left_alone (whats.Get object key) reads e = refl
+left_alone (whats.Del object key) reads e = refl
+left_alone (whats.PutAll object pairs) reads e = refl
+left_alone (whats.GetAll object keys) reads e = refl
+left_alone (whats.Read object keys) reads e = let f : ⊥ = cc in absurd f
+left_alone (whats.Commit object pairs) reads e = let f : ⊥ = cc in absurd f
+left_alone (whats.Enq object value) reads e = refl
+left_alone (whats.Deq object) reads e = refl
 
-none_after : (client : ℕ) (what : What) → updated (λ _. no_reads) client (reads_left what no_reads) ≡ (λ _. no_reads)
-none_after client what = none_with (λ _. no_reads) client (reads_left what no_reads) (λ n. none_left what)
-
--- a command, with its reply
-pub command_done : (objects : List Object) (command : Command) (old : RunView) (world : WorldView) (given : Result (Answer × List PlacedNode)
-    AllocError)
-    (reply : ReplyLine) → command.client < length old.replies
+-- a command that is no read and no commit, with its reply
+pub command_done : (objects : List Object) (command : Command) (old : RunView) (world : WorldView)
+    (given : Result (Answer × List PlacedNode) AllocError) (reply : ReplyLine) → transaction_of command.what ≡ None
+    → command.client < length old.replies
     → IfOk given (λ g. Does objects command (world_of old.world) (world_of world) g.0 g.1)
     → OnErr given (world_of world ≡ world_of old.world)
     → MatchResult given (λ g. reply ≡ reply_of command g.0 g.1) (λ _. reply ≡ reply_of command NoMemory [])
@@ -75,22 +85,29 @@ pub command_done : (objects : List Object) (command : Command) (old : RunView) (
       replies = set old.replies command.client
           (with_reply (replies_at old.replies command.client) reply);
     })
-command_done objects command old world given reply low ok err is = turn given ok err is where
-  next : List RepliesView
-  next = set old.replies command.client (with_reply (replies_at old.replies command.client) reply)
+command_done objects command old world given reply plain low ok err is = turn given ok err is where
+  mine : RepliesView
+  mine = with_reply (replies_at old.replies command.client) reply
 
-  lines : ℕ → List ReplyLine
-  lines = λ n. (replies_at old.replies n).lines
+  next : List RepliesView
+  next = set old.replies command.client mine
 
   shown : (answer : Answer) (nodes : List PlacedNode) → reply ≡ reply_of command answer nodes
       → state_of (record { world = world; replies = next })
-      ≡ answered (with_replies (world_of old.world) lines) command (world_of world) answer nodes
+      ≡ answered (state_of old) command (world_of world) answer nodes
   shown answer nodes e =
-      ap (λ (r : ℕ → List ReplyLine). with_replies (world_of world) r)
-      (replied old.replies command.client reply low
-      ∙ ap (λ (x : ReplyLine). updated lines command.client (lines command.client ++ x ∷ [])) e)
-      ∙ ap (λ (r : ℕ → Reads). record (answered (with_replies (world_of old.world) lines) command (world_of world) answer
-      nodes) { reads = r }) (sym (none_after command.client command.what))
+      state_with old.replies command.client mine low world
+      ∙ (ap (λ (x : ReplyLine). let s : State = record {
+        world = world_of world;
+        replies = updated (state_of old).replies command.client ((state_of old).replies command.client ++ x ∷ []);
+        reads = updated (state_of old).reads command.client ((state_of old).reads command.client);
+      } in s) e
+      ∙ ap (λ (r : Reads). let s : State = record {
+        world = world_of world;
+        replies = updated (state_of old).replies command.client
+            ((state_of old).replies command.client ++ reply_of command answer nodes ∷ []);
+        reads = updated (state_of old).reads command.client r;
+      } in s) (sym (left_alone command.what ((state_of old).reads command.client) plain)))
 
   turn : (given : Result (Answer × List PlacedNode) AllocError)
       → IfOk given (λ g. Does objects command (world_of old.world) (world_of world) g.0 g.1)
@@ -99,19 +116,60 @@ command_done objects command old world given reply low ok err is = turn given ok
       → IsDone objects command old (record { world = world; replies = next })
   turn (Ok g) ok err e = record {
     grants = ok.grants;
-    reply = reply;
-    state = shown g.0 g.1 e ∙ sym (ok.is lines);
+    replied = mine;
+    state = shown g.0 g.1 e ∙ sym (ok.is (state_of old));
+    room = refl;
+    reads = refl;
     replies = refl;
   }
   turn (Err x) ok err e = record {
     grants = none;
-    reply = reply;
+    replied = mine;
     state = shown NoMemory [] e
-        ∙ ap (λ (w : World). answered (with_replies (world_of old.world) lines) command w NoMemory []) err;
+        ∙ ap (λ (w : World). answered (state_of old) command w NoMemory []) err;
+    room = refl;
+    reads = refl;
     replies = refl;
   } where
     none : Grants
     none = record all_granted { start = false }
+
+-- one read is another
+pub reads_with : (reads : List (Option (List Version))) (object : ℕ) (kept : Option (List Version))
+    → object < length reads → read_at (set reads object kept) ≡ updated (read_at reads) object kept
+reads_with reads object kept low =
+    fun_ext (λ n. at_updated (λ (r : Option (List Version)). read_at (set reads object kept) n ≡ r) (read_at reads)
+    object kept n
+    (λ e. ap (λ (k : ℕ). read_at (set reads object kept) k) e ∙ get_or-set_same reads object kept None low)
+    (λ other. get_or-set_other reads object n kept None (λ e. true≢false (sym (eq-eqb n object e) ∙ other))))
+
+-- a read or a commit
+pub transaction_done : (objects : List Object) (command : Command) (object : ℕ) (old : RunView) (world : WorldView)
+    (mine : RepliesView) → command.client < length old.replies
+    → object < length (replies_at old.replies command.client).reads
+    → Transacts objects command object (world_of old.world) (world_of world) (replies_at old.replies command.client) mine
+    → IsDone objects command old
+    (record { world = world; replies = set old.replies command.client mine })
+transaction_done objects command object old world mine low there t = record {
+  grants = t.grants;
+  replied = mine;
+  state = ap (λ (m : RepliesView). state_of (record { world = world; replies = set old.replies command.client m }))
+      t.replies
+      ∙ (state_with old.replies command.client next low world
+      ∙ (ap (λ (r : Reads). let s : State = record {
+        world = world_of world;
+        replies = updated (state_of old).replies command.client next.lines;
+        reads = updated (state_of old).reads command.client r;
+      } in s) (reads_with (replies_at old.replies command.client).reads object t.kept there)
+      ∙ sym (t.is (state_of old) refl)));
+  room = ap (λ (r : RepliesView). r.room) t.replies;
+  reads = ap (λ (r : RepliesView). length r.reads) t.replies
+      ∙ length-set (replies_at old.replies command.client).reads object t.kept;
+  replies = refl;
+} where
+  next : RepliesView
+  next = with_reply (with_read (replies_at old.replies command.client) object t.kept)
+      (reply_of command t.answer [])
 
 pub any_default : {A : Type 0} (xs : List A) (i : ℕ) (d e : A) → i < length xs → get_or xs i d ≡ get_or xs i e
 any_default [] i d e lt = absurd (let f : ⊥ = omega (arith, lt) in f)

@@ -15,7 +15,6 @@ use Rattle.report_text.specs.declared.report.Answer.{Answer}
 use Rattle.report_text.specs.declared.report.Answer.TheVariants as answers
 use Rattle.report_text.specs.declared.report.RaisePiece.{RaisePiece}
 use Rattle.report_text.specs.declared.report.SyncPiece.{SyncPiece}
-use Rattle.report_text.specs.declared.report.ReplyLine.{ReplyLine}
 use Rattle.script_meaning.specs.States.{State, Grants, answered}
 use Rattle.script_meaning.specs.Helping.{Helping, node_with, cleared, all_cleared}
 use Rattle.script_meaning.specs.Stamped.{Progress, ReadEnd, Whole, Refused, Unraised, StampedRead, raised, played, read_stamp, raise_in, sync_in, key_above, keys_read, read_after_plays, read_after_raises, stamped_read, shown_key, scan_answer, ended_by, scanned}
@@ -143,7 +142,7 @@ reads_on old mid new client stamp colours None raises ends is none was raises_ar
 
 -- A COMMAND THAT MAKES A STAMPED READ
 
-finds_same : (grants more : Grants) → more.helps ≡ grants.helps → (n : ℕ) (finds : List (ℕ → Bool))
+pub finds_same : (grants more : Grants) → more.helps ≡ grants.helps → (n : ℕ) (finds : List (ℕ → Bool))
     → FindsNext grants n finds → FindsNext more n finds
 finds_same grants more same n [] f = f
 finds_same grants more same n (x ∷ finds) f =
@@ -182,11 +181,11 @@ module _ (old new : World) (command : Command) (colours : List ℕ) (answer : An
     read_is = reads.is grants refl (finds_same (found_with (λ _. true) reads.finds) grants refl 0 reads.finds
         (finds_all (λ _. true) reads.finds))
 
-    reading_is : (replies : ℕ → List ReplyLine)
-        → reading answer shown command colours grants (with_replies old replies)
-        ≡ ended_by grants (with_replies old replies) command (answer new) (shown new) new ends
-    reading_is replies =
-        ap (λ (r : StampedRead). ended_by grants (with_replies old replies) command (answer r.world) (shown r.world)
+    reading_is : (told : State)
+        → reading answer shown command colours grants (with_replies old told)
+        ≡ ended_by grants (with_replies old told) command (answer new) (shown new) new ends
+    reading_is told =
+        ap (λ (r : StampedRead). ended_by grants (with_replies old told) command (answer r.world) (shown r.world)
         r.world r.ends) read_is
 
   module _ (stamp : ℕ) (raises : List RaisePiece) (syncs : List SyncPiece) (keys : List Key)

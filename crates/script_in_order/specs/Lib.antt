@@ -5,5 +5,6 @@ pub mod Points
 pub mod Stamped
 pub mod Reports
 pub mod Reading
+pub mod Transacting
 pub mod CausalFolds
 pub mod Folds

@@ -13,8 +13,7 @@ use Rattle.world_laws.specs.Laws.{IsFinal}
 use Rattle.script_text.specs.declared.script.Command.{Command}
 use Rattle.report_text.specs.declared.report.Answer.{Answer}
 use Rattle.report_text.specs.declared.report.PointPiece.{PointPiece}
-use Rattle.report_text.specs.declared.report.ReplyLine.{ReplyLine}
-use Rattle.script_meaning.specs.States.{Grants, answered, position_of}
+use Rattle.script_meaning.specs.States.{State, Grants, answered, position_of}
 use Rattle.script_meaning.specs.Appends.{appended_by}
 use Rattle.script_in_order.specs.Doing.{with_replies}
 use Rattle.script_in_order.specs.Helps.{FindsNext}
@@ -50,6 +49,6 @@ pub record EndsAs (w : World) (row : Row) (id : Id) (colours : List ℕ) (outcom
   pub finds : List (ℕ → Bool)
   pub is : (grants : Grants) → FindsNext grants 0 finds → (before : World) → next_id before row.client ≡ id
       → places ≡ places_in before row.client colours
-      → (command : Command) → command.client ≡ row.client → (replies : ℕ → List ReplyLine)
-      → appended_by grants (with_replies before replies) command w row colours outcome
-      ≡ answered (with_replies before replies) command new answer []
+      → (command : Command) → command.client ≡ row.client → (told : State)
+      → appended_by grants (with_replies before told) command w row colours outcome
+      ≡ answered (with_replies before told) command new answer []

@@ -86,8 +86,8 @@ pub fn append_one(
     }
 }
 
-// The id that a client uses next.
-fn next_id(world: &World, client: u8) -> Id
+/// The id that a client uses next.
+pub fn next_id(world: &World, client: u8) -> Id
     requires { client < length world.now.shape.homes }
     ensures { result ≡ next_id (world_of world.now) client }
 {

@@ -40,8 +40,8 @@ fn is_get_built(objects: &[Object], object: u8) -> bool
 }
 
 /// Whether a command over these objects is one of those that are done: an append to any number of colours, a stop of an append to several,
-/// a sync, a scan, a pull, a trim, and what appends for an object: a put, a deletion, several puts at once, an enqueue
-/// and a dequeue.
+/// a sync, a scan, a pull, a trim, and those of objects: what puts, deletes, enqueues and dequeues, gets of a map or a
+/// causal map, gets of several keys, and reads with commits.
 pub fn is_built(objects: &[Object], what: &What) -> bool
     ensures { result ≡ is_built objects.now what.now }
 {
@@ -57,8 +57,8 @@ pub fn is_built(objects: &[Object], what: &What) -> bool
         What::Del { .. } => true,
         What::PutAll { .. } => true,
         What::GetAll { .. } => true,
-        What::Read { .. } => false,
-        What::Commit { .. } => false,
+        What::Read { .. } => true,
+        What::Commit { .. } => true,
         What::Enq { .. } => true,
         What::Deq { .. } => true,
     }

@@ -73,8 +73,8 @@ pub struct FirstNodes {
     pub count: usize,
 }
 
-// The text of the node with a key of a line.
-fn text_of(world: &World, key: Key) -> &Text
+/// The text of the node with a key of a line.
+pub fn text_of(world: &World, key: Key) -> &Text
     requires { (region : ℕ) × (colour : ℕ) × Contains (line ((world_of world.now).histories region colour)) key }
     ensures { result.now ≡ (object_at (world_of world.now) key).text }
 {

@@ -1,12 +1,12 @@
 // The homes of objects: a client of another region is refused there.
-ghost use Rattle.std.specs.Prelude.{◌≡◌, ◌<◌, IsTrue, IfOk, OnErr, length, slice_get};
+ghost use Rattle.std.specs.Prelude.{◌≡◌, ◌<◌, IsTrue, IfOk, OnErr, None, length, slice_get};
 ghost use Rattle.std.specs.Option.{option_map};
 ghost use Rattle.lawful_run.specs.Asks.{object_home, home_asked};
 ghost use Rattle.lawful_run.specs.Callers.{Caller};
 ghost use Rattle.world_code.specs.WorldView.{world_of};
 ghost use Rattle.script_meaning.specs.States.{is_built};
 ghost use Rattle.script_meaning.specs.Objects.{caller_in, refusing_home};
-ghost use Rattle.script_in_order.specs.Doing.{IsFit, Does};
+ghost use Rattle.script_in_order.specs.Doing.{IsFit, Does, transaction_of};
 ghost use Rattle.script_in_order.specs.Folds.{AreFolded};
 
 use crate::answers::answer;
@@ -57,8 +57,8 @@ fn home_asked(objects: &[Object], what: &What) -> Option<u8>
     }
 }
 
-// The home of the command's object, where its client is away from it.
-fn refusing_home(objects: &[Object], command: &Command, world: &World) -> Option<u8>
+/// The home of the command's object, where its client is away from it.
+pub fn refusing_home(objects: &[Object], command: &Command, world: &World) -> Option<u8>
     requires { command.now.client < length world.now.shape.homes }
     ensures { result ≡ refusing_home (caller_in (world_of world.now) objects.now command.now.client) command.now.what }
 {
@@ -73,7 +73,7 @@ fn refusing_home(objects: &[Object], command: &Command, world: &World) -> Option
 }
 
 /// What a command is answered, and the nodes that it shows; `Err` means that it found no memory before it did anything.
-/// A client that is away from its object's home is refused.
+/// A client that is away from its object's home is refused. The command is no read and no commit.
 pub fn answer_at_home(
     alloc: Global,
     objects: &[Object],
@@ -82,6 +82,7 @@ pub fn answer_at_home(
     folds: &mut Folds,
 ) -> Result<(Answer, Items), AllocError>
     requires built { IsTrue (is_built objects.now command.now.what) }
+    requires kind { transaction_of command.now.what ≡ None }
     requires fits { IsFit (world_of world.old) objects.now command.now.client command.now.what }
     requires folded { AreFolded (world_of world.old) objects.now folds.old }
     ensures ok { IfOk result (λ g. Does objects.now command.now (world_of world.old) (world_of world.new) g.0 g.1) }

@@ -23,6 +23,7 @@ mod scans;
 mod stamped;
 mod stops;
 mod syncs;
+mod transactions;
 
 pub use built::is_built;
 pub use in_order::run_in_order;

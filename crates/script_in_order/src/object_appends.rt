@@ -98,8 +98,8 @@ fn put_form(alloc: Global, kind: &Kind, key: &Text, value: &Text) -> Result<Form
     }
 }
 
-// The same pairs once more.
-fn copied_pairs(alloc: Global, pairs: &[Pair]) -> Result<Pairs, AllocError>
+/// The same pairs once more.
+pub fn copied_pairs(alloc: Global, pairs: &[Pair]) -> Result<Pairs, AllocError>
     ensures { IfOk result (λ copy. copy ≡ pairs.now) }
 {
     let mut copy = ListOf::new(alloc);
@@ -111,8 +111,8 @@ fn copied_pairs(alloc: Global, pairs: &[Pair]) -> Result<Pairs, AllocError>
     Ok(copy)
 }
 
-// An append of a form's text to the members of a set.
-fn append_form(
+/// An append of a form's text to the members of a set.
+pub fn append_form(
     alloc: Global,
     command: &Command,
     colours: Colours,

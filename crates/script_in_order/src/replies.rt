@@ -1,17 +1,19 @@
-// The replies to one client.
-ghost use Rattle.std.specs.Prelude.{◌≡◌, ◌<◌, IfOk};
-ghost use Rattle.script_in_order.specs.Runs.{no_replies, with_reply};
+// The replies to one client, and what its reads of objects found.
+ghost use Rattle.std.specs.Prelude.{◌≡◌, ◌<◌, IfOk, None, length};
+ghost use Rattle.script_in_order.specs.Runs.{no_replies, with_reply, read_at, with_read};
 
-use log_node::ListOf;
+use log_node::{ListOf, Versions};
 use report_text::ReplyLine;
 use std::alloc::{AllocError, Global};
 use std::marker::Model;
 use std::mem;
 
-/// The replies to a client so far. Room for all of them is taken when the list is made.
+/// The replies to a client so far, and by object what its last read found, until a commit uses that up. Room for all
+/// replies is taken when the list is made.
 #[derive(Drop)]
 pub struct Replies {
     items: Vec<ReplyLine>,
+    reads: Vec<Option<Versions>>,
 }
 
 impl Model for Replies {
@@ -20,16 +22,25 @@ impl Model for Replies {
 
     ghost Value = { RepliesView };
 
-    ghost view = { λ a. record { lines = a.items.items; room = vec_capacity a.items - vec_len a.items } };
+    ghost view = { λ a. record {
+        lines = a.items.items;
+        room = vec_capacity a.items - vec_len a.items;
+        reads = a.reads.items;
+    } };
 }
 
 impl Replies {
-    /// No replies yet, with memory for so many.
-    pub fn new(alloc: Global, room: usize) -> Result<Replies, AllocError>
-        ensures { IfOk result (λ replies. replies ≡ no_replies room) }
+    /// No replies yet, with memory for so many; and no read of so many objects.
+    pub fn new(alloc: Global, room: usize, objects: usize) -> Result<Replies, AllocError>
+        ensures { IfOk result (λ replies. replies ≡ no_replies room objects) }
     {
+        let mut reads = Vec::new(alloc);
+        for _ in 0..objects {
+            reads.push(None)?;
+        }
         Ok(Replies {
             items: Vec::with_capacity(alloc, room)?,
+            reads,
         })
     }
 
@@ -39,6 +50,23 @@ impl Replies {
         ensures { self.new ≡ with_reply self.old reply }
     {
         self.items.push_reserved(reply);
+    }
+
+    /// Takes what the last read of an object found.
+    pub fn take_read(&mut self, object: u8) -> Option<Versions>
+        requires { object < length self.old.reads }
+        ensures value { result ≡ read_at self.old.reads object }
+        ensures reads { self.new ≡ with_read self.old object None }
+    {
+        mem::replace(&mut self.reads[object as usize], None)
+    }
+
+    /// Keeps what a read of an object found.
+    pub fn keep_read(&mut self, object: u8, found: Option<Versions>)
+        requires { object < length self.old.reads }
+        ensures { self.new ≡ with_read self.old object found }
+    {
+        self.reads[object as usize] = found;
     }
 
     /// Takes the replies out as a list; takes no memory.

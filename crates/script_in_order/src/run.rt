@@ -1,20 +1,23 @@
 // A run in the order of the file.
-ghost use Rattle.std.specs.Prelude.{◌≡◌, ◌+◌, ◌<◌, ◌≤◌, IsTrue, IfOk, length, map};
+ghost use Rattle.std.specs.Prelude.{◌≡◌, ◌+◌, ◌<◌, ◌≤◌, IsTrue, IfOk, Some, length, map};
 ghost use Rattle.std.specs.List.{All, range_with_len};
 ghost use Rattle.script_text.specs.declared.script.Command.{Command};
 ghost use Rattle.script_text.specs.Fitting.{IsFitting};
 ghost use Rattle.world_code.specs.WorldView.{world_of};
 ghost use Rattle.world_laws.specs.Worlds.{opened};
-ghost use Rattle.script_meaning.specs.States.{is_built};
-ghost use Rattle.script_in_order.specs.Doing.{IsFit};
+ghost use Rattle.script_meaning.specs.States.{is_built, StopsAreLast};
+ghost use Rattle.script_in_order.specs.Doing.{IsFit, transaction_of};
 ghost use Rattle.script_in_order.specs.Folds.{AreFolded};
-ghost use Rattle.script_in_order.specs.Runs.{no_replies, replies_at, asks, IsDone, IsRunAt};
+ghost use Rattle.script_in_order.specs.Runs.{no_replies, replies_at, read_at, asks, IsDone, IsRunAt};
+ghost use Rattle.script_in_order.specs.Transacting.{AreFit, Transacts};
 
 use crate::answers::reply_of;
 use crate::folds::Folds;
 use crate::homes::answer_at_home;
 use crate::replies::Replies;
+use crate::transactions::{transact, transaction_of};
 use log_node::{ListOf, MAX_ROWS, Shape};
+use object_form::reads_back;
 use script_text::{Command, Object, Script};
 use std::alloc::{AllocError, Global};
 use world_code::World;
@@ -32,13 +35,13 @@ fn asks(commands: &[Command], client: usize) -> usize
 /// For each client room for the replies to all its commands.
 pub fn room_for_replies(alloc: Global, script: &Script) -> Result<Vec<Replies>, AllocError>
     ensures { IfOk result (λ replies. replies.items ≡
-        map (λ client. no_replies (asks client script.now.commands))
+        map (λ client. no_replies (asks client script.now.commands) (length script.now.objects))
         (range_with_len 0 (length script.now.shape.homes))) }
 {
     let mut replies = Vec::new(alloc);
     for client in 0..script.shape.homes.len() {
         let room = asks(script.commands.as_slice(), client);
-        replies.push(Replies::new(alloc, room)?)?;
+        replies.push(Replies::new(alloc, room, script.objects.len())?)?;
     }
     Ok(replies)
 }
@@ -66,6 +69,32 @@ pub fn open_world(alloc: Global, script: &Script) -> Result<World, AllocError>
     World::open(alloc, shape)
 }
 
+// Does a read or a commit of an object, with its reply; where it finds no memory before it has begun, it is answered so.
+fn do_transaction(
+    alloc: Global,
+    objects: &[Object],
+    command: &Command,
+    object: u8,
+    world: &mut World,
+    mine: &mut Replies,
+)
+    requires kind { transaction_of command.now.what ≡ Some object }
+    requires fits { IsFit (world_of world.old) objects.now command.now.client command.now.what }
+    requires reads { length mine.old.reads ≡ length objects.now }
+    requires rests { AreFit (read_at mine.old.reads) }
+    requires room { 0 < mine.old.room }
+    ensures { Transacts objects.now command.now object (world_of world.old) (world_of world.new) mine.old mine.new }
+{
+    let taken = mine.take_read(object);
+    match transact(alloc, objects, command, object, taken, world) {
+        Ok((answer, kept)) => {
+            mine.keep_read(object, kept);
+            mine.add(reply_of(alloc, command, Ok((answer, ListOf::new(alloc)))));
+        }
+        Err(fault) => mine.add(reply_of(alloc, command, Err(fault))),
+    }
+}
+
 // Does one command; where it finds no memory before it has begun, it is answered so.
 fn do_command(
     alloc: Global,
@@ -80,13 +109,23 @@ fn do_command(
     requires folded { AreFolded (world_of world.old) objects.now folds.old }
     requires client { command.now.client < length replies.old.items }
     requires room { 0 < (replies_at replies.old.items command.now.client).room }
+    requires reads { length (replies_at replies.old.items command.now.client).reads ≡ length objects.now }
+    requires rests { AreFit (read_at (replies_at replies.old.items command.now.client).reads) }
     ensures done { IsDone objects.now command.now (record { world = world.old; replies = replies.old.items })
         (record { world = world.new; replies = replies.new.items }) }
     ensures folded { AreFolded (world_of world.new) objects.now folds.new }
 {
-    let given = answer_at_home(alloc, objects, command, world, folds);
-    let reply = reply_of(alloc, command, given);
-    replies[command.client as usize].add(reply);
+    world.agrees();
+    match transaction_of(&command.what) {
+        None => {
+            let given = answer_at_home(alloc, objects, command, world, folds);
+            replies[command.client as usize].add(reply_of(alloc, command, given));
+        }
+        Some(object) => {
+            let mine = &mut replies[command.client as usize];
+            do_transaction(alloc, objects, command, object, world, mine);
+        }
+    }
 }
 
 /// Does the command at a place of a script, after those before it.
@@ -100,12 +139,14 @@ pub fn do_next(
 )
     requires fits { IsFitting script.now }
     requires built { All (λ (c : Command). IsTrue (is_built script.now.objects c.what)) script.now.commands }
+    requires stops { StopsAreLast script.now }
     requires place { place < length script.now.commands }
     requires run { IsRunAt script.now place (record { world = world.old; replies = replies.old.items }) }
     requires folded { AreFolded (world_of world.old) script.now.objects folds.old }
     ensures run { IsRunAt script.now (place + 1) (record { world = world.new; replies = replies.new.items }) }
     ensures folded { AreFolded (world_of world.new) script.now.objects folds.new }
 {
+    reads_back();
     let command = &script.commands.as_slice()[place];
     do_command(
         alloc,

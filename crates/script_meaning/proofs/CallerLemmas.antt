@@ -4,6 +4,7 @@ use Rattle.std.proofs.Common.{◌≡◌, ℕ, List, [], ◌++◌, Some, refl, su
 use Rattle.std.specs.Prelude.{IsTrue}
 use Rattle.std.specs.List.{All}
 use Rattle.log_node.specs.declared.forms.Version.{Version}
+use Rattle.log_node.specs.declared.ids.Colours.{Colours}
 use Rattle.object_form.specs.Forms.{AreVersions}
 use Rattle.object_form.specs.Laws.{ReadsBack}
 use Rattle.world_laws.specs.Worlds.{World}
@@ -15,8 +16,8 @@ use Rattle.script_text.specs.declared.script.Object.{Object}
 use Rattle.script_text.specs.Fitting.{IsFitting}
 use Rattle.script_meaning.specs.States.{State, Grants, no_reads, is_built, StopsAreLast}
 use Rattle.script_meaning.specs.Meaning.{LeadTo, nothing, next, done}
-use Rattle.script_meaning.specs.Appends.{with_single}
-use Rattle.script_meaning.proofs.GrantedCommands.{done_extends, single_runs}
+use Rattle.script_meaning.specs.Appends.{with_single, appended}
+use Rattle.script_meaning.proofs.GrantedCommands.{done_extends, append_extends, single_runs}
 use Rattle.script_meaning.proofs.InvariantHolds.{runs_lead}
 pub use Rattle.script_meaning.proofs.Lines.{final_stays}
 pub use Rattle.script_meaning.proofs.Rows.{standing_as}
@@ -68,6 +69,11 @@ pub single_shape : (grants : Grants) (w : World) (command : Command) (text : Lis
 single_shape grants w command text c =
     let more = single_to grants w command text c in
     ap (λ (x : World). x.shape) (sym more.run) ∙ (run_grows w more.steps).shape
+
+-- what an append leads to
+pub append_to : (grants : Grants) (state : State) (command : Command) (colours : Colours) (text ms : List ℕ)
+    → RunsTo state.world (appended grants state command colours text ms).world
+append_to grants state command colours text ms = (append_extends [] grants state command colours text ms).world
 
 -- what a command leads to
 pub done_to : (objects : List Object) (grants : Grants) (state : State) (command : Command)

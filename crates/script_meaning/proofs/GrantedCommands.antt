@@ -141,7 +141,7 @@ module _ (objects : List Object) (grants : Grants) (state : State) (command : Co
     append_so_extends colours text (c ∷ []) = one_extends text c
     append_so_extends colours text (c ∷ d ∷ ms) = several_extends colours text
 
-  append_extends : (colours : Colours) (text ms : List ℕ)
+  pub append_extends : (colours : Colours) (text ms : List ℕ)
       → Extends state (appended grants state command colours text ms)
   append_extends = append_so_extends (answered_stood state command)
       (λ v stamp row points. answer_extends state command v (answers.Stood stamp row points) [])

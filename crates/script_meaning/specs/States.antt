@@ -40,8 +40,9 @@ is_get_built (Some (kinds.Tx home colours)) = false
 is_get_built (Some (kinds.Causal colour)) = true
 is_get_built (Some (kinds.Queue home colour)) = false
 
--- The commands that are done so far: an append to any number of colours, a stop of an append to several, a sync, a scan,
--- a pull, a trim, and what appends for an object: a put, a deletion, several puts at once, an enqueue and a dequeue.
+-- The commands that are done: an append to any number of colours, a stop of an append to several, a sync, a scan, a pull, a
+-- trim, and those of objects: what puts, deletes, enqueues and dequeues, gets of a map or a causal map, gets of several keys,
+-- and reads with commits.
 abbrev pub is_built : List Object → What → Bool
 is_built objects (whats.Append colours text) = has_colours 1 colours
 is_built objects (whats.Stop steps colours text) = has_colours 2 colours
@@ -54,8 +55,8 @@ is_built objects (whats.Get object key) = is_get_built (kind_in objects object)
 is_built objects (whats.Del object key) = true
 is_built objects (whats.PutAll object pairs) = true
 is_built objects (whats.GetAll object keys) = true
-is_built objects (whats.Read object keys) = false
-is_built objects (whats.Commit object pairs) = false
+is_built objects (whats.Read object keys) = true
+is_built objects (whats.Commit object pairs) = true
 is_built objects (whats.Enq object value) = true
 is_built objects (whats.Deq object) = true
 

@@ -23,8 +23,8 @@ const REFUSED: [(&str, u32, &str); 11] = [
     ),
 ];
 
-/// Commands on objects from line 12 on that are not done today.
-const OBJECTS: [&str; 2] = ["a read t k", "a read t k\na commit t k=v"];
+/// Commands on objects from line 12 on that clients on threads are not served today.
+const OBJECTS: [&str; 3] = ["a read t k", "a read t k\na commit t k=v", "a enq q v"];
 
 /// The script is refused at that line for that reason.
 fn refuses<R: Threads + Wait + Sync + Abort>(
@@ -48,7 +48,7 @@ fn a_line_that_is_not_done_is_refused_with_its_reason(rt: HostRuntime) -> Result
 }
 
 #[test]
-fn some_commands_on_objects_are_not_built(rt: HostRuntime) -> Result<(), Fail> {
+fn commands_on_objects_are_not_built_on_threads(rt: HostRuntime) -> Result<(), Fail> {
     for lines in OBJECTS.iter() {
         let script = format!(in rt.alloc();
             "fuzzylog 1
@@ -65,7 +65,10 @@ begin
 {lines}
 "
         )?;
-        refuses(rt.alloc(), &rt, script.as_bytes(), 12, "not built")?;
+        let (status, sink) = run_over(rt.alloc(), &rt, "run", script.as_bytes(), &[], &[])?;
+        let refusal: &[u8] = b"refused: line 12: not built\n";
+        assert_eq!(rt; status, Status::Refused);
+        assert_eq!(rt; sink.bytes(), refusal);
     }
     Ok(())
 }

@@ -46,7 +46,7 @@ dequeue-requires c = record {
 
 pub unreachable-requires : goal.unreachable-requires
 unreachable-requires c =
-    fold_kinds c.args.objects.now c.args.command.now.what c.requires.built c.requires.one c.in_default.not-Get
+    fold_kinds c.args.objects.now c.args.command.now.what c.requires.built c.requires.kind c.requires.one c.in_default.not-Get
     c.in_default.not-GetAll c.in_default.not-Deq
 
 pub returns-in-Get-clause-ok : goal.returns-in-Get-clause-ok

@@ -40,7 +40,7 @@ loop-number-preserved c =
     let lt = below number (length c.args.names.now) (length replies) (length c.args.replies.items) low c.requires
     was.count in
     let mine = c.index_mut-mine.ensures.value
-    ∙ (any_default replies number c.index_mut-mine.result.now (no_replies 0) lt
+    ∙ (any_default replies number c.index_mut-mine.result.now (no_replies 0 0) lt
     ∙ was.others number (omega arith)) in
     let lines = c.take.ensures ∙ ap (λ (x : RepliesView). x.lines) mine in
     record {
@@ -54,6 +54,6 @@ loop-number-preserved c =
           ∙ sym (numbered_more (client_shown c.args.replies.items) c.args.names.now number c.name-item.result low
           name_is)));
       count = length-set replies number c.take.new.self ∙ was.count;
-      others = λ m later. get_or-set_other replies number m c.take.new.self (no_replies 0)
+      others = λ m later. get_or-set_other replies number m c.take.new.self (no_replies 0 0)
           (λ e. omega (arith, e, later)) ∙ was.others m (omega (arith, later));
     }

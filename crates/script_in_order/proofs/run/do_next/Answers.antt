@@ -1,4 +1,4 @@
-use Rattle.std.proofs.Common.{◌∙◌, sym, subst, ap, get_or, List}
+use Rattle.std.proofs.Common.{◌≡◌, ◌∙◌, sym, subst, ap, get_or, length, List}
 use Rattle.std.specs.Prelude.{IsTrue}
 use Rattle.script_text.specs.declared.script.Command.{Command}
 use Rattle.script_meaning.specs.States.{is_built}
@@ -6,8 +6,8 @@ use Rattle.script_text.specs.declared.script.Object.{Object}
 use Rattle.world_code.specs.WorldView.{world_of}
 use Rattle.script_in_order.specs.Doing.{IsFit}
 use Rattle.script_in_order.specs.Folds.{AreFolded}
-use Rattle.script_in_order.specs.Runs.{RunView, IsDone}
-use Rattle.script_in_order.proofs.RunSteps.{next_fits, next_client, next_room, next_run}
+use Rattle.script_in_order.specs.Runs.{RunView, IsDone, replies_at}
+use Rattle.script_in_order.proofs.RunSteps.{next_fits, next_client, next_room, next_reads, next_rests, next_run}
 use Rattle.script_in_order.proofs.run.do_next.Goals as goal
 
 pub do_command-requires : goal.do_command-requires
@@ -26,6 +26,11 @@ do_command-requires c =
           (sym c.as_slice-2.ensures) c.requires.folded;
       client = next_client script c.requires.fits c.args.place code c.requires.place c.requires.run command is;
       room = next_room script c.requires.fits c.args.place code c.requires.place c.requires.run command is;
+      reads = subst (λ (os : List Object). length (replies_at c.args.replies.now.items command.client).reads ≡ length os)
+          (sym c.as_slice-2.ensures)
+          (next_reads script c.requires.fits c.args.place code c.requires.place c.requires.run command is);
+      rests = next_rests script c.requires.fits c.args.place code c.requires.place c.requires.run command is
+          c.reads_back.ensures c.requires.built c.requires.stops;
     }
 
 pub returns : goal.returns

@@ -8,9 +8,9 @@ use Rattle.script_in_order.proofs.run.room_for_replies.Goals as goal
 pub loop-client-preserved : goal.loop-client-preserved
 loop-client-preserved c =
     let n = c.loop-client.client in
-    let made = λ (number : ℕ). no_replies (asks number c.args.script.now.commands) in
-    let one = c.in_ok-new.ensures ∙ ap no_replies (c.asks-room.ensures ∙ ap (λ (l : List Command). asks n l)
-    c.as_slice.ensures) in
+    let made = λ (number : ℕ). no_replies (asks number c.args.script.now.commands) (length c.args.script.now.objects) in
+    let one = c.in_ok-new.ensures ∙ (ap (λ (r : ℕ). no_replies r c.len.result) (c.asks-room.ensures ∙ ap (λ (l : List Command). asks n l)
+    c.as_slice.ensures) ∙ ap (no_replies (asks n c.args.script.now.commands)) c.len.ensures) in
     c.in_ok-push.ensures.items
     ∙ (ap (λ (l : List RepliesView). l ++ c.in_ok-new.field-0 ∷ []) c.loop-client.invariant
     ∙ (ap (λ (x : RepliesView). map made (range_with_len 0 n) ++ x ∷ []) one
@@ -20,5 +20,5 @@ pub returns : goal.returns
 returns c =
     let all : c.loop-client.client ≡ length c.args.script.now.shape.homes =
     omega (arith, c.len-client-end.ensures, c.loop-client-test.false, c.loop-client.auto.client-end) in
-    c.loop-client.invariant ∙ ap (λ (n : ℕ). map (λ client. no_replies (asks client c.args.script.now.commands))
+    c.loop-client.invariant ∙ ap (λ (n : ℕ). map (λ client. no_replies (asks client c.args.script.now.commands) (length c.args.script.now.objects))
     (range_with_len 0 n)) all

@@ -1,0 +1,27 @@
+use Rattle.std.proofs.Common.{◌∙◌, List, refl, ap, sym, subst, map, take}
+use Rattle.std.proofs.lemmas.List.{take_all}
+use Rattle.log_node.specs.declared.ids.Key.{Key}
+use Rattle.object_fold.specs.Nodes.{ObjectNode}
+use Rattle.object_fold.specs.States.{IsTxState}
+use Rattle.world_code.specs.WorldView.{world_of}
+use Rattle.script_meaning.specs.Dequeues.{object_at}
+use Rattle.script_in_order.proofs.ReadVerdicts.{key_at, is_there, one_more, stands_at}
+use Rattle.script_in_order.proofs.transactions.folded.Goals as goal
+
+pub text_of-requires : goal.text_of-requires
+text_of-requires c =
+    stands_at (world_of c.args.world.now) c.args.keys.now c.loop-key.key-index (key_at c.args.keys.now c.loop-key.key-index) c.loop-key-test.true
+    (is_there c.args.keys.now c.loop-key.key-index c.loop-key-test.true) c.requires.stand
+
+pub loop-key-preserved : goal.loop-key-preserved
+loop-key-preserved c =
+    let w = world_of c.args.world.now in
+    subst (λ (ns : List ObjectNode). IsTxState c.feed.new.self ns)
+    (one_more w c.args.keys.now c.loop-key.key-index (key_at c.args.keys.now c.loop-key.key-index) c.loop-key-test.true (is_there c.args.keys.now c.loop-key.key-index c.loop-key-test.true))
+    (c.in_ok-_verdict.ensures.ok (map (object_at w) (take c.loop-key.key-index c.args.keys.now))
+          (object_at w (key_at c.args.keys.now c.loop-key.key-index)) refl (sym c.text_of.ensures) c.loop-key.invariant)
+
+pub returns : goal.returns
+returns c =
+    subst (λ (ks : List Key). IsTxState c.loop-key.state (map (object_at (world_of c.args.world.now)) ks))
+    (take_all c.loop-key.key-index c.args.keys.now c.loop-key-test.false) c.loop-key.invariant

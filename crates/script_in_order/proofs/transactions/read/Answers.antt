@@ -1,0 +1,102 @@
+use Rattle.std.proofs.Common.{◌≡◌, List, ℕ, sym, subst, get_or, ap, map}
+use Rattle.log_node.specs.Sets.{members}
+use Rattle.object_fold.specs.Transactions.{value_of, writes_after, versions_after}
+use Rattle.script_meaning.specs.Dequeues.{object_at}
+use Rattle.script_meaning.specs.Gets.{key_answers}
+use Rattle.log_node.specs.declared.node.Shape.{Shape}
+use Rattle.script_text.specs.Fitting.{AreBelow, is_tx}
+use Rattle.world_laws.specs.Worlds.{World}
+use Rattle.world_code.specs.WorldView.{world_of}
+use Rattle.script_meaning.specs.Stamped.{ReadEnd, keys_read}
+use Rattle.script_in_order.specs.declared.stamped.Stamped.{Stamped}
+use Rattle.script_in_order.specs.Stamped.{Reads, end_in}
+use Rattle.script_in_order.proofs.Committing.{its_colours}
+use Rattle.script_in_order.proofs.ObjectSteps.{kind_is, small}
+use Rattle.script_in_order.proofs.TransactionSteps.{tx_is, tx_members, tx_low, left_unraised, left_refused, left_without, left_found}
+use Rattle.script_in_order.proofs.transactions.read.Goals as goal
+
+pub all_colours-colours-requires-clause-tx : goal.all_colours-colours-requires-clause-tx
+all_colours-colours-requires-clause-tx c =
+    tx_is c.args.objects.now c.args.object c.index-objects-object.result c.requires.uses.0
+
+pub all_colours-colours-requires-clause-colours : goal.all_colours-colours-requires-clause-colours
+all_colours-colours-requires-clause-colours c =
+    small c.args.world.now.shape.regions c.args.world.now.shape.colours c.is_whole.ensures.few_colours c.args.objects.now
+    c.requires.kinds c.args.object is_tx c.requires.uses.0
+    (get_or c.args.objects.now c.args.object c.index-objects-object.result).kind
+    (kind_is c.args.objects.now c.args.object c.index-objects-object.result c.requires.uses.0)
+
+pub stamped_read-requires-clause-within : goal.stamped_read-requires-clause-within
+stamped_read-requires-clause-within c =
+    tx_low c.args.world.now.shape.regions c.args.world.now.shape.colours c.is_whole.ensures.few_colours
+    c.args.objects.now c.requires.kinds c.args.object c.requires.uses.0 c.index-objects-object.result
+    c.all_colours-colours.result c.all_colours-colours.ensures
+
+pub found-requires-clause-within : goal.found-requires-clause-within
+found-requires-clause-within c =
+    subst (λ (s : Shape). AreBelow s.colours c.all_colours-colours.result) (sym c.in_ok-stamped_read.ensures.shape)
+    (tx_low c.args.world.now.shape.regions c.args.world.now.shape.colours c.is_whole.ensures.few_colours
+    c.args.objects.now c.requires.kinds c.args.object c.requires.uses.0 c.index-objects-object.result
+    c.all_colours-colours.result c.all_colours-colours.ensures)
+
+-- a stamped read of the map's colours, however their set is written
+its_read : (old new : World) (client : ℕ) (colours cs : List ℕ) (s t : Stamped) → colours ≡ cs → s ≡ t
+    → Reads old new client colours (end_in new client colours s) → Reads old new client cs (end_in new client cs t)
+its_read old new client colours cs s t is same r =
+    subst (λ (x : Stamped). Reads old new client cs (end_in new client cs x)) same
+    (subst (λ (l : List ℕ). Reads old new client l (end_in new client l s)) is r)
+
+pub returns-in-Unraised-clause-ok : goal.returns-in-Unraised-clause-ok
+returns-in-Unraised-clause-ok c = λ taken.
+    let old = world_of c.args.world.now in
+    let new = world_of c.stamped_read.new.world in
+    let members_are = tx_members c.args.world.now.shape.regions c.args.world.now.shape.colours
+    c.is_whole.ensures.few_colours c.args.objects.now c.requires.kinds c.args.object c.requires.uses.0
+    c.index-objects-object.result c.all_colours-colours.result c.all_colours-colours.ensures in
+    left_unraised c.args.objects.now old new c.args.command.now c.args.object c.args.keys.now c.requires.asks taken
+    (its_read old new c.args.command.now.client (members c.all_colours-colours.result)
+    (its_colours c.args.objects.now c.args.object) _ _ members_are c.in-Unraised.is c.in_ok-stamped_read.ensures.ok)
+
+pub returns-in-Refused-clause-ok : goal.returns-in-Refused-clause-ok
+returns-in-Refused-clause-ok c = λ taken.
+    let old = world_of c.args.world.now in
+    let new = world_of c.stamped_read.new.world in
+    let members_are = tx_members c.args.world.now.shape.regions c.args.world.now.shape.colours
+    c.is_whole.ensures.few_colours c.args.objects.now c.requires.kinds c.args.object c.requires.uses.0
+    c.index-objects-object.result c.all_colours-colours.result c.all_colours-colours.ensures in
+    left_refused c.args.objects.now old new c.args.command.now c.args.object c.args.keys.now c.requires.asks taken
+    c.in-Refused.colour c.in-Refused.base
+    (its_read old new c.args.command.now.client (members c.all_colours-colours.result)
+    (its_colours c.args.objects.now c.args.object) _ _ members_are c.in-Refused.is c.in_ok-stamped_read.ensures.ok)
+
+pub returns-in-Err-clause-ok : goal.returns-in-Err-clause-ok
+returns-in-Err-clause-ok c = λ taken.
+    let old = world_of c.args.world.now in
+    let new = world_of c.stamped_read.new.world in
+    let cs = its_colours c.args.objects.now c.args.object in
+    let members_are = tx_members c.args.world.now.shape.regions c.args.world.now.shape.colours
+    c.is_whole.ensures.few_colours c.args.objects.now c.requires.kinds c.args.object c.requires.uses.0
+    c.index-objects-object.result c.all_colours-colours.result c.all_colours-colours.ensures in
+    left_without c.args.objects.now old new c.args.command.now c.args.object c.args.keys.now c.requires.asks taken
+    c.in-Whole.stamp c.in-Whole.raises c.in-Whole.syncs (keys_read new c.args.command.now.client c.in-Whole.stamp cs)
+    (its_read old new c.args.command.now.client (members c.all_colours-colours.result) cs _ _ members_are c.in-Whole.is
+    c.in_ok-stamped_read.ensures.ok)
+
+pub returns-in-Ok-clause-ok : goal.returns-in-Ok-clause-ok
+returns-in-Ok-clause-ok c = λ taken.
+    let old = world_of c.args.world.now in
+    let new = world_of c.stamped_read.new.world in
+    let cs = its_colours c.args.objects.now c.args.object in
+    let members_are = tx_members c.args.world.now.shape.regions c.args.world.now.shape.colours
+    c.is_whole.ensures.few_colours c.args.objects.now c.requires.kinds c.args.object c.requires.uses.0
+    c.index-objects-object.result c.all_colours-colours.result c.all_colours-colours.ensures in
+    let found = subst (λ (l : List ℕ).
+    (c.in-Ok.keys ≡ key_answers (value_of (writes_after (map (object_at new)
+    (keys_read new c.args.command.now.client c.in-Whole.stamp l)))) c.args.keys.now)
+    × (c.in-Ok.versions ≡ versions_after (map (object_at new)
+    (keys_read new c.args.command.now.client c.in-Whole.stamp l)) c.args.keys.now)) members_are c.in-Ok.ensures in
+    left_found c.args.objects.now old new c.args.command.now c.args.object c.args.keys.now c.requires.asks taken
+    c.in-Whole.stamp c.in-Whole.raises c.in-Whole.syncs (keys_read new c.args.command.now.client c.in-Whole.stamp cs)
+    (its_read old new c.args.command.now.client (members c.all_colours-colours.result) cs _ _ members_are c.in-Whole.is
+    c.in_ok-stamped_read.ensures.ok)
+    c.in-Ok.keys c.in-Ok.versions found.0 found.1
