@@ -17,6 +17,7 @@ use Rattle.log_client.specs.Calls.{DidNothing}
 use Rattle.log_client.specs.Appends.{AppendRefused, HasNoRow}
 use Rattle.log_client.specs.Inside.{CallsAppend}
 use Rattle.log_client.proofs.AtHome.{gone_same}
+use Rattle.log_client.proofs.Growing.{grown_same}
 
 -- the holds are as they were
 pub goes_same_holds : (hs : List Hold) → HaveGoneOn hs hs
@@ -47,6 +48,7 @@ module _ (s : Store) (c : Client) (colours : Colours) (text : List ℕ) (stop : 
     client = is;
     same = (refl, refl);
     goes = goes_same_holds (holds_of c);
+    grows = grown_same c c refl;
     finished = λ finished. inl finished;
     answer = why;
     points = tt;

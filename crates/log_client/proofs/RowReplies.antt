@@ -78,6 +78,7 @@ use Rattle.log_client.proofs.Foreign.{Accounted, goes_accounted, foreign_but}
 use Rattle.log_client.proofs.Several.{begun_so, ends_at_colour, settled_everywhere, settled_outcome, settled_begun, stops_begun, stops_there, stand_in_all, stand_so}
 use Rattle.log_client.proofs.AtHome.{ChangesHome, gone_same, have_gone_on, home_after, others_after, sees_after, client_after}
 use Rattle.log_client.proofs.Helping.{helps_at_home, idle_at_home, idle_same}
+use Rattle.log_client.proofs.Growing.{grown_same}
 use Rattle.log_client.proofs.Looked.{IsPlain, client_looked, did_nothing, finished_stays, lawful_after, pulls_stay, tracks_stay}
 use Rattle.log_client.proofs.AppendReplies.{replicated, step_moves}
 use Rattle.log_client.proofs.AppendsNothing.{finds_nothing, no_memory_stays}
@@ -268,6 +269,7 @@ module _ (s : Store) (c e : Client) (r : Region) (g h : Hold) (colours : Colours
       client = row_client;
       same = (refl, refl);
       goes = have_gone_on s c after r g h is changed;
+      grows = grown_same c after refl;
       finished = finished;
       answer = answer;
       points = points;
@@ -619,6 +621,7 @@ module _ (s : Store) (c : Client) (r : Region) (g : Hold) (colours : Colours) (t
           (tracks_stay s c d r g g is ch tracks) (idle_at_home s c d r g g is ch (idle_same c.number g));
       same = (ch.number, ch.region);
       goes = have_gone_on s c d r g g is ch;
+      grows = grown_same c d tracks;
       finished = λ finished. inl (finished_stays s c d r g g is ch rows finished);
       answer = finds_nothing s c d colours text stop (did_nothing s c d r g g is ch (λ k. refl) floor count rows
           (λ k. ap (λ (l : List Track). counts_in (slice_get l k)) tracks));
