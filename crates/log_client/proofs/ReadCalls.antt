@@ -123,6 +123,10 @@ module _ (s : Store) (p : Client) (is : IsClient s p) where
   line_is_own rest fits k = subst (λ (l : List Key). AllZip (ShowsItem (log_of (seen_of p) rest)) l (line_of p k))
       (by_track (slice_get (tracks_of p) k) refl)
       (shown (log_of (seen_of p) rest) (line_of p k) (as_appended rest fits k)) where
+    take_front : (xs ys : List Key) → take (length xs) (xs ++ ys) ≡ xs
+    take_front [] ys = refl
+    take_front (x ∷ xs) ys = ap (λ (l : List Key). x ∷ l) (take_front xs ys)
+
     by_track : (o : Option Track) → slice_get (tracks_of p) k ≡ o
         → keys_of (line_in o) ≡ take (at (counts_in o) p.region) (line (home_seen p k))
     by_track None e =
@@ -136,10 +140,6 @@ module _ (s : Store) (p : Client) (is : IsClient s p) where
         (pre.1 ∙ ap line (sym (seen_there (holds_of p) p.region home.0 home.1 k)))
         ∙ ap (λ (n : ℕ). take n (line (home_seen p k)))
         (length-map track.line (λ (item : PlacedNode). item.head.key) ∙ t.line_long))
-
-    take_front : (xs ys : List Key) → take (length xs) (xs ++ ys) ≡ xs
-    take_front [] ys = refl
-    take_front (x ∷ xs) ys = ap (λ (l : List Key). x ∷ l) (take_front xs ys)
 
 -- RAISED
 

@@ -24,23 +24,24 @@ pub(crate) fn share_all(all: &mut Vec<Item>, items: &[Item]) -> Result<(), Alloc
     Ok(())
 }
 
-// How many items at the front come before a key.
-fn count_below(key: Key, items: &[Item]) -> usize
-    ensures value { result ≡ prefix_len (λ (item : PlacedNode). key_below item.head.key key) items.now }
+// How many items at the front come before this one.
+fn count_below(items: &[Item], item: &Item) -> usize
+    ensures value { result ≡ prefix_len (λ (other : PlacedNode). key_below other.head.key item.now.head.key) items.now }
     ensures bound { result ≤ length items.now }
 {
     items
         .iter()
-        .take_while(|item| item.head.key.is_below(key))
+        .take_while(|other| other.head.key.is_below(item.head.key))
         .count()
 }
 
-// Whether the node of the key stands at a position.
-fn stands_at(items: &[Item], at: usize, key: Key) -> bool
-    ensures { result ≡ option_map_or (λ (item : PlacedNode). same_key item.head.key key) (slice_get items.now at) false }
+// Whether the item stands at a position.
+fn stands_at(items: &[Item], at: usize, item: &Item) -> bool
+    ensures { result
+        ≡ option_map_or (λ (other : PlacedNode). same_key other.head.key item.now.head.key) (slice_get items.now at) false }
 {
     match items.get(at) {
-        Some(item) => item.head.key.is_same(key),
+        Some(other) => other.head.key.is_same(item.head.key),
         None => false,
     }
 }
@@ -56,11 +57,11 @@ fn take_to(
     ensures bound { IfOk result (λ next. next ≤ length others.now) }
     ensures ok { IfOk result (λ next. AreTaken all.old.items all.new.items others.now from next item) }
 {
-    let key = item.head.key;
-    let next = from + count_below(key, &others[from..]);
+    let next = from + count_below(&others[from..], &item);
+    let is_there = stands_at(others, next, &item);
     share_all(all, &others[from..next])?;
     all.push(item)?;
-    if stands_at(others, next, key) {
+    if is_there {
         Ok(next + 1)
     } else {
         Ok(next)

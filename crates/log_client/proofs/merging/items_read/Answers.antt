@@ -41,7 +41,7 @@ part_of-requires c =
     let at = slice_get_read c.args.tracks.now (length c.args.tracks.now) c.in-Some.colour track refl
     (one_of i.0 c.in-Some.colour c.next.new.self (members c.args.colours) (length c.args.tracks.now)
     (ap (λ (l : List ℕ). i.0 ++ l) (sym c.in-Some.ensures.steps) ∙ i.1) c.requires.within) c.index-tracks-colour.is in
-    subst (λ (l : List PlacedNode). AreRising (keys_of l)) (sym c.as_slice-line.ensures.value)
+    subst (λ (l : List PlacedNode). AreRising (keys_of l)) (sym (c.as_slice-line.ensures ∙ ap (λ (t : Track). t.line) (sym c.index-tracks-colour.is)))
     (All-contains (λ (t : Track). AreRising (keys_of t.line)) c.args.tracks.now track c.requires.rising
     (contains_in c.args.tracks.now track (slice_in c.args.tracks.now c.in-Some.colour track at)))
 
@@ -62,7 +62,7 @@ loop-colour-preserved c =
           (c.in-Some.colour ∷ [])))
           (items_next (are_parts c.args.tracks.now c.args.last c.args.stamp i.0) part l.items.items c.in_ok-items.items.items i.2
           (subst (λ (m : List PlacedNode). AreMerged l.items.items m c.in_ok-items.items.items)
-          (c.part_of.ensures ∙ ap (part_of c.args.last c.args.stamp) (c.as_slice-line.ensures.value ∙ ap line_in (sym at)))
+          (c.part_of.ensures ∙ ap (part_of c.args.last c.args.stamp) (c.as_slice-line.ensures ∙ (ap (λ (t : Track). t.line) (sym c.index-tracks-colour.is) ∙ ap line_in (sym at))))
           c.in_ok-items.ensures)),
     )
 

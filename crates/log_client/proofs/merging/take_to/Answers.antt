@@ -21,8 +21,8 @@ made item old mid new xs part start count n is first part_is last =
     last ∙ ap (λ (l : List PlacedNode). l ++ item ∷ []) (first ∙ ap (λ (l : List PlacedNode). old ++ l)
     (part_is ∙ ap (λ (m : ℕ). take m xs) (e ∙ is)))
 
-pub returns-then-stands_at-clause-ok : goal.returns-then-stands_at-clause-ok
-returns-then-stands_at-clause-ok c =
+pub returns-then-is_there-clause-ok : goal.returns-then-is_there-clause-ok
+returns-then-is_there-clause-ok c =
     let item = c.args.item in
     let others = c.args.others.now in
     let start = c.args.from in
@@ -32,10 +32,10 @@ returns-then-stands_at-clause-ok c =
     (start + c.count_below.result + 1) (ap (λ (m : ℕ). start + m) value)
     (made item c.args.all.now.items c.share_all.new.all.items c.push.new.self.items (drop start others) _ start
     c.count_below.result n value c.in_ok-share_all.ensures refl c.in_ok-push.ensures.items)
-    (sym c.if-stands_at.ensures) refl
+    (sym c.stands_at-is_there.ensures ∙ c.if-is_there.true) refl
 
-pub returns-else-stands_at-clause-ok : goal.returns-else-stands_at-clause-ok
-returns-else-stands_at-clause-ok c =
+pub returns-else-is_there-clause-ok : goal.returns-else-is_there-clause-ok
+returns-else-is_there-clause-ok c =
     let item = c.args.item in
     let others = c.args.others.now in
     let start = c.args.from in
@@ -45,4 +45,4 @@ returns-else-stands_at-clause-ok c =
     (ap (λ (m : ℕ). start + m) value)
     (made item c.args.all.now.items c.share_all.new.all.items c.push.new.self.items (drop start others) _ start
     c.count_below.result n value c.in_ok-share_all.ensures refl c.in_ok-push.ensures.items)
-    (sym c.if-stands_at.ensures)
+    (sym c.stands_at-is_there.ensures ∙ c.if-is_there.false)

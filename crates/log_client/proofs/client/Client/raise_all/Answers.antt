@@ -58,7 +58,7 @@ returns-in_err-push-clause-err g c =
     let x = c.args.self.now in
     let l = c.loop-colour in
     let one : Raised = record { colour = c.in-Some.colour; at = c.in_ok-at.at } in
-    on_err c.from_residual.result (RaisesFirst s x c.raise.new.self c.args.stamp (members c.args.colours)) (
+    on_err c.from_residual-in_err-push.result (RaisesFirst s x c.raise.new.self c.args.stamp (members c.args.colours)) (
       l.raises.items ++ one ∷ [],
       c.next.new.self,
       ap (λ (m : List ℕ). m ++ c.next.new.self) (map-append (λ (r : Raised). r.colour) l.raises.items (one ∷ []))

@@ -45,13 +45,13 @@ returns-in-Err-clause-err g c =
     (subst (λ (m : List ℕ). SyncedFirst s x l.self m (members c.args.colours) l.syncs.items) c.in-Some.ensures.steps
     l.invariant.first) c.in-Err.fault c.in-Err.ensures.err
 
-pub returns-in-Ok-in-Err-clause-rests : goal.returns-in-Ok-in-Err-clause-rests
-returns-in-Ok-in-Err-clause-rests g c =
+pub returns-in-Err-push-clause-rests : goal.returns-in-Err-push-clause-rests
+returns-in-Err-push-clause-rests g c =
     rests_then c.args.store.now c.args.self.now c.loop-colour.self c.play_colour.new.self c.loop-colour.invariant.rests
     c.play_colour.ensures.rests
 
-pub returns-in-Ok-in-Err-clause-err : goal.returns-in-Ok-in-Err-clause-err
-returns-in-Ok-in-Err-clause-err g c =
+pub returns-in-Err-push-clause-err : goal.returns-in-Err-push-clause-err
+returns-in-Err-push-clause-err g c =
     let s = c.args.store.now in
     let x = c.args.self.now in
     let l = c.loop-colour in
