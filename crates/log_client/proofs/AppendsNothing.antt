@@ -1,18 +1,16 @@
 -- An append by which nothing was done: what its answer says.
-use Rattle.std.proofs.Common.{◌≡◌, ◌≢◌, inl, ℕ, ◌<◌, ◌≤◌, List, [], ◌∷◌, length, Some, Option, Err, refl, ap, sym, subst, ◌∙◌, arith}
-use Rattle.std.specs.Prelude.{slice_get}
+use Rattle.std.proofs.Common.{◌≡◌, inl, ℕ, List, [], ◌∷◌, length, Some, Option, Err, refl, ap, sym, subst, ◌∙◌, arith}
 use Rattle.std.proofs.lemmas.Option.{same_Some}
 use Rattle.log_node.specs.declared.ids.Colours.{Colours}
 use Rattle.log_node.specs.Sets.{members}
 use Rattle.append_core.specs.declared.several.MultiFault.{MultiFault}
 use Rattle.append_core.specs.declared.several.MultiFault.TheVariants as faults
 use Rattle.chain_store.specs.declared.hold.Hold.{Hold}
-use Rattle.lawful_run.specs.Appends.{IsFull}
 use Rattle.lawful_run.specs.Stops.{stopped_at_once}
 use Rattle.log_client.specs.declared.store.Store.{Store}
 use Rattle.log_client.specs.declared.client.Client.{Client}
 use Rattle.log_client.specs.Fits.{HasGoneOn, HaveGoneOn}
-use Rattle.log_client.specs.Clients.{holds_of, rows_of, IsClient}
+use Rattle.log_client.specs.Clients.{holds_of, IsClient}
 use Rattle.log_client.specs.Calls.{DidNothing}
 use Rattle.log_client.specs.Appends.{AppendRefused, HasNoRow}
 use Rattle.log_client.specs.Inside.{CallsAppend}

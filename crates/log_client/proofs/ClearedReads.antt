@@ -1,5 +1,5 @@
 -- Columns that a client clears up to a stamp: it makes nothing of its own.
-use Rattle.std.proofs.Common.{◌≡◌, ◌≢◌, ℕ, ◌≤◌, List, [], length, Some, true, refl, ap, sym, subst, ◌∙◌, inl, inr, arith, eqb-true}
+use Rattle.std.proofs.Common.{◌≡◌, ℕ, ◌≤◌, List, [], length, Some, refl, sym, subst, ◌∙◌, inl, inr, arith, eqb-true}
 use Rattle.std.specs.Prelude.{IsTrue, slice_get, slice_index_or, ◌==◌}
 use Rattle.std.specs.List.{All}
 use Rattle.std.specs.Vec.{with_item}
@@ -8,7 +8,6 @@ use Rattle.std.proofs.lemmas.List.Elements.{All-weaker}
 use Rattle.std.proofs.lemmas.Option.{slice_get_read}
 use Rattle.log_node.specs.declared.ids.Id.{Id}
 use Rattle.log_node.specs.declared.ids.Row.{Row}
-use Rattle.log_node.specs.Sets.{members}
 use Rattle.col_core.specs.declared.Event as event_types
 use Rattle.col_core.specs.declared.Event.TheVariants as events
 use Rattle.col_core.specs.declared.Entry.{Entry}

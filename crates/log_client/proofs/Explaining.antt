@@ -1,8 +1,7 @@
 -- Calls one after another, and what explains them.
-use Rattle.std.proofs.Common.{◌≡◌, ℕ, List, [], length, Some, refl, ap, sym, subst, ◌∙◌, arith}
+use Rattle.std.proofs.Common.{◌≡◌, ℕ, List, [], length, Some, refl, sym, subst, ◌∙◌, arith}
 use Rattle.std.specs.Prelude.{slice_get}
 use Rattle.std.proofs.lemmas.Option.{slice_get_within}
-use mathlib.Core.List.{IsPrefix}
 use Rattle.stamp_board.proofs.CallerLemmas.{Learns-trans}
 use Rattle.chain_store.specs.declared.hold.Hold.{Hold}
 use Rattle.chain_store.specs.Holds.{seen_in, view_of}
@@ -14,8 +13,8 @@ use Rattle.client_law.specs.Knowing.{Rest, log_of, SeesOn}
 use Rattle.client_law.proofs.CallerLemmas.{seen_later}
 use Rattle.log_client.specs.declared.store.Store.{Store}
 use Rattle.log_client.specs.declared.client.Client.{Client}
-use Rattle.log_client.specs.Fits.{Fits, HasGoneOn, HaveGoneOn}
-use Rattle.log_client.specs.Clients.{holds_of, seen_of, caller_of, IsClient, Keeps, Finished}
+use Rattle.log_client.specs.Fits.{HasGoneOn, HaveGoneOn}
+use Rattle.log_client.specs.Clients.{holds_of, seen_of, caller_of, IsClient}
 use Rattle.log_client.specs.Calls.{IsExplained, IsSame}
 use Rattle.log_client.specs.Reading.{RestsOn, KeepsWith, KeepsAll}
 use Rattle.log_client.proofs.Lists.{got}

@@ -1,5 +1,5 @@
 -- A stamped read of which no answer tells, or only a part.
-use Rattle.std.proofs.Common.{◌≡◌, ◌≢◌, ◌⊎◌, inl, inr, ℕ, zero, suc, ◌+◌, ◌<◌, ◌≤◌, max, Bool, cond, true, false, List, [], ◌∷◌, ◌++◌, length, map, take, refl, ap, sym, subst, ◌∙◌, arith, eq-eqb, append-nil, append_assoc}
+use Rattle.std.proofs.Common.{◌≡◌, ◌≢◌, ◌⊎◌, inl, inr, ℕ, ◌+◌, ◌≤◌, max, Bool, cond, true, false, List, [], ◌∷◌, ◌++◌, length, map, take, refl, ap, sym, subst, ◌∙◌, arith, eq-eqb, append-nil, append_assoc}
 use Rattle.std.specs.Prelude.{IsFalse, ◌==◌}
 use Rattle.std.specs.List.{All, Contains}
 use Rattle.std.proofs.lemmas.Bool.{cases_eq, ne_eqb, eqb-true}
@@ -14,12 +14,11 @@ use Rattle.col_core.specs.Computed.{dated}
 use Rattle.col_core.specs.PlayOrder.{greatest_between}
 use Rattle.col_core.specs.RegionOrder.{IsClearUpTo}
 use Rattle.col_core.specs.Log.{Log, IsLater, first}
-use Rattle.col_core.specs.Keeping.{Kept, updated, updated_at, seen_past, seen_after, kept_after_sync, with_made}
-use Rattle.col_core.proofs.CallerLemmas.{In, by_test, contains_in, if_true, if_false, in_contains}
+use Rattle.col_core.specs.Keeping.{Kept, updated, seen_past, kept_after_sync}
+use Rattle.col_core.proofs.CallerLemmas.{In, by_test, if_true, if_false}
 use Rattle.report_text.specs.declared.report.RaisePiece.{RaisePiece}
-use Rattle.report_text.specs.declared.report.SyncPiece.{SyncPiece}
 use Rattle.lawful_run.specs.Callers.{Caller}
-use Rattle.lawful_run.specs.Reads.{Syncs, RaisesAt, Raises, ClearSyncs, kept_after_place, kept_after_piece, played_stamp, IsTrimmed, HidesSync, HidesSyncs, played as plays, not_played}
+use Rattle.lawful_run.specs.Reads.{Syncs, RaisesAt, Raises, ClearSyncs, kept_after_place, played_stamp, IsTrimmed, HidesSync, HidesSyncs, played as plays}
 use Rattle.lawful_run.proofs.CallerLemmas.{prefix_take, syncs_later}
 use Rattle.client_law.proofs.CallerLemmas.{at_new_at}
 use Rattle.log_client.specs.Reading.{Playing, AreSyncs, kept_raised, kept_synced, syncs_of, synced_colours}

@@ -1,11 +1,9 @@
 -- The items of a stamped read, as the nodes of its keys.
-use Rattle.std.proofs.Common.{◌≡◌, ℕ, zero, suc, ◌<◌, ◌≤◌, List, [], ◌∷◌, ◌++◌, length, map, take, cond, Bool, true, false, Option, Some, None, get_or, refl, ap, sym, subst, ◌∙◌, inl, inr, ◌⊎◌, arith}
-use Rattle.std.specs.Prelude.{IsTrue, nat_le, slice_get, slice_index_or}
-use Rattle.std.specs.List.{All, AllPairs, AllZip, Contains, filter, fold}
-use Rattle.std.proofs.lemmas.Bool.{le-leb, leb-true}
-use Rattle.std.proofs.lemmas.List.Elements.{All-contains}
+use Rattle.std.proofs.Common.{◌≡◌, ℕ, zero, suc, ◌<◌, List, [], ◌∷◌, length, map, cond, Bool, true, false, Option, Some, None, refl, ap, sym, subst, ◌∙◌, inl, inr, ◌⊎◌, arith}
+use Rattle.std.specs.Prelude.{nat_le, slice_get, slice_index_or}
+use Rattle.std.specs.List.{AllZip, filter, fold}
 use Rattle.log_node.specs.declared.ids.Key.{Key}
-use Rattle.log_node.specs.Order.{key_below, same_id}
+use Rattle.log_node.specs.Order.{key_below}
 use Rattle.log_node.specs.Seen.{PlacedNode}
 use Rattle.log_node.proofs.CallerLemmas.{key-irrefl, key-trans}
 use Rattle.col_core.specs.declared.Entry.{Entry}
@@ -15,7 +13,7 @@ use Rattle.col_core.specs.History.{line}
 use Rattle.col_core.specs.Legal.{IsColumnHistory}
 use Rattle.col_core.specs.Log.{Log, HasText}
 use Rattle.col_core.specs.RegionOrder.{IsRegionOrder}
-use Rattle.col_core.proofs.CallerLemmas.{In, by_test, choice, contains_in, entries_dated, if_false, if_true, in_append, in_contains, in_filter, in_filter-back, line_rises}
+use Rattle.col_core.proofs.CallerLemmas.{In, choice, contains_in, entries_dated, in_contains, in_filter, in_filter-back, line_rises}
 use Rattle.playback.specs.Merging.{AreRising, merged, region_order, up_to}
 use Rattle.playback.proofs.CallerLemmas.{order_is_merged}
 use Rattle.object_fold.specs.Nodes.{object_node}

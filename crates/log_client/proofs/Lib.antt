@@ -54,6 +54,7 @@ mod Explaining
 mod HiddenReads
 mod Results
 mod Colours
+mod FewColours
 mod Raising
 mod ClearedHolds
 mod ReadStamps

@@ -1,5 +1,5 @@
 -- The greatest stamp of the nodes that a sync shows is that of what it plays.
-use Rattle.std.proofs.Common.{◌≡◌, ℕ, zero, suc, ◌+◌, ◌<◌, ◌≤◌, List, [], ◌∷◌, length, map, take, drop, Some, Bool, true, false, cond, refl, subst, ap, sym, ◌∙◌, inl, inr, arith, flat_map}
+use Rattle.std.proofs.Common.{◌≡◌, ℕ, zero, suc, ◌+◌, ◌<◌, ◌≤◌, List, [], ◌∷◌, map, take, drop, Some, Bool, true, false, cond, refl, subst, ap, sym, ◌∙◌, inl, inr, arith, flat_map}
 use Rattle.std.specs.Prelude.{nat_lt, nat_le, slice_get}
 use Rattle.std.specs.List.{AllZip, count_by}
 use Rattle.std.proofs.lemmas.Bool.{and_parts, ltb-true, leb-true, lt-ltb, le-leb, and_from}
@@ -13,7 +13,7 @@ use Rattle.log_node.specs.Reach.{Chains}
 use Rattle.col_core.specs.Cuts.{chain}
 use Rattle.col_core.specs.Log.{Log, first}
 use Rattle.col_core.specs.Keeping.{Kept}
-use Rattle.col_core.specs.PlayOrder.{Place, same_place, is_between, Stands, IsPlayOrder, nodes_between, greatest_between}
+use Rattle.col_core.specs.PlayOrder.{Place, same_place, is_between, nodes_between}
 use Rattle.col_core.proofs.CallerLemmas.{by_test, In, in_append, in_left, in_right, same_place-is, same_place-itself}
 use Rattle.lawful_run.specs.Callers.{Caller}
 use Rattle.lawful_run.specs.Reads.{ShowsNode, ShowsPlayed, greatest_stamp, played_stamp}

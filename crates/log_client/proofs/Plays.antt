@@ -1,5 +1,5 @@
 -- A play on a track, from what a look showed.
-use Rattle.std.proofs.Common.{◌≡◌, ℕ, ◌<◌, ◌≤◌, List, ◌++◌, map, Some, ap, sym, subst, ◌∙◌}
+use Rattle.std.proofs.Common.{◌≡◌, ℕ, ◌<◌, ◌≤◌, List, ◌++◌, map, ap, sym, subst, ◌∙◌}
 use Rattle.std.specs.Prelude.{slice_get}
 use mathlib.Core.List.{IsPrefix}
 use Rattle.log_node.specs.declared.ids.Counts.{Counts}

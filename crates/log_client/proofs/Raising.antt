@@ -1,5 +1,5 @@
 -- A look at a clock, and a raise, as a client's calls leave them.
-use Rattle.std.proofs.Common.{◌≡◌, inl, inr, ℕ, true, ◌≤◌, ◌+◌, List, [], length, take, Some, refl, ap, sym, subst, ◌∙◌, arith, eq-eqb}
+use Rattle.std.proofs.Common.{◌≡◌, inl, inr, ℕ, true, ◌≤◌, List, length, Some, refl, ap, sym, subst, ◌∙◌, arith, eq-eqb}
 use Rattle.std.specs.Prelude.{slice_get, slice_index_or, ◌==◌, ◌&&◌}
 use Rattle.std.proofs.lemmas.List.{take_all}
 use Rattle.log_node.specs.declared.node.At.{At}

@@ -1,9 +1,8 @@
 -- A stamped read as the client's call leaves it.
-use Rattle.std.proofs.Common.{◌≡◌, ◌⊎◌, ℕ, zero, suc, ◌<◌, ◌≤◌, max, List, [], ◌∷◌, ◌++◌, length, map, take, drop, Option, Some, None, refl, ap, sym, subst, ◌∙◌, inl, inr, arith, true, append-nil, length-append, take-append-drop}
+use Rattle.std.proofs.Common.{◌≡◌, ℕ, zero, suc, ◌<◌, ◌≤◌, max, List, [], ◌∷◌, ◌++◌, length, map, take, drop, Option, Some, None, refl, ap, sym, subst, ◌∙◌, inl, inr, arith, true, append-nil, length-append, take-append-drop}
 use Rattle.std.specs.Prelude.{slice_get, slice_index_or}
-use Rattle.std.specs.List.{All, AllZip, Contains, filter}
+use Rattle.std.specs.List.{All, AllZip}
 use Rattle.std.proofs.lemmas.List.Elements.{All-contains}
-use Rattle.std.proofs.lemmas.Option.{slice_get_within}
 use Rattle.std.proofs.lemmas.List.{length-map}
 use mathlib.Core.List.{IsPrefix}
 use Rattle.log_node.specs.declared.limits.TheConstants.{MAX_STAMP}
@@ -13,15 +12,13 @@ use Rattle.log_node.specs.Order.{key_below}
 use Rattle.log_node.specs.Sets.{members}
 use Rattle.log_node.specs.Vectors.{at}
 use Rattle.log_node.proofs.CallerLemmas.{at-zeros}
-use Rattle.log_node.specs.declared.ids.Counts.{Counts}
-use Rattle.log_node.specs.declared.node.Head.{Head}
 use Rattle.log_node.specs.Seen.{PlacedNode}
 use Rattle.col_core.specs.declared.Entry.{Entry}
 use Rattle.col_core.specs.Computed.{dated}
 use Rattle.col_core.specs.History.{clock, line}
 use Rattle.col_core.specs.Legal.{IsColumnHistory}
-use Rattle.col_core.specs.Keeping.{Kept, with_floor, with_made}
-use Rattle.col_core.specs.Log.{Log, HasText}
+use Rattle.col_core.specs.Keeping.{Kept, with_floor}
+use Rattle.col_core.specs.Log.{Log}
 use Rattle.col_core.specs.RegionOrder.{IsRegionOrder, IsClearUpTo}
 use Rattle.col_core.proofs.CallerLemmas.{In, contains_in, in_contains, in_right, in_slice}
 use Rattle.playback.specs.Merging.{AreRising}
@@ -29,7 +26,7 @@ use Rattle.chain_store.specs.declared.hold.Hold.{Hold}
 use Rattle.chain_store.specs.Holds.{entries_seen}
 use Rattle.script_text.specs.declared.script.Object.{Object}
 use Rattle.lawful_run.specs.Callers.{Caller}
-use Rattle.lawful_run.specs.Reads.{Syncs, lines_read, AreRead, HidesRead, ReadsAt}
+use Rattle.lawful_run.specs.Reads.{lines_read, AreRead, ReadsAt}
 use Rattle.lawful_run.specs.Laws.{ReadItemsLast}
 use Rattle.client_law.specs.Knowing.{Rest, log_of}
 use Rattle.client_law.proofs.CallerLemmas.{kept_with_floor}
@@ -42,19 +39,18 @@ use Rattle.log_client.specs.declared.answers.StampedRead.{StampedRead}
 use Rattle.log_client.specs.declared.faults.SyncFault.{SyncFault}
 use Rattle.log_client.specs.declared.faults.SyncFault.TheVariants as sync_faults
 use Rattle.log_client.specs.Fits.{Fits}
-use Rattle.log_client.specs.Clients.{holds_of, seen_of, tracks_of, starts_of, counts_in, line_in, line_of, caller_of, IsClient, IsTrack, Keeps, Finished}
+use Rattle.log_client.specs.Clients.{holds_of, seen_of, tracks_of, starts_of, counts_in, line_in, line_of, caller_of, IsClient, Keeps}
 use Rattle.log_client.specs.Calls.{IsExplained}
 use Rattle.log_client.specs.Items.{are_parts, AreItems}
-use Rattle.log_client.specs.StampedReads.{is_behind, IsAppended, ShowsItem, raise_piece, sync_piece, HasRead, ReadsAs, ReadsOn, ReadsAll, ReadRefused}
-use Rattle.log_client.specs.Reading.{RestsOn, KeepsAll, IsChosen, RaisesAll, RaisesFirst, raised_colours, IsCleared, AreCleared, HoldsLine, Playing, SyncsAll, SyncsEach, SyncsFirst, SyncsKeep, syncs_of, synced_colours, home_seen, keys_of, kept_raised, kept_synced}
+use Rattle.log_client.specs.StampedReads.{IsAppended, ShowsItem, raise_piece, sync_piece, HasRead, ReadsAs, ReadsOn, ReadsAll, ReadRefused}
+use Rattle.log_client.specs.Reading.{RestsOn, KeepsAll, IsChosen, RaisesAll, RaisesFirst, raised_colours, IsCleared, AreCleared, HoldsLine, SyncsAll, SyncsEach, SyncsFirst, SyncsKeep, syncs_of, synced_colours, home_seen, keys_of, kept_raised, kept_synced}
 use Rattle.log_client.proofs.Lists.{got}
 use Rattle.log_client.proofs.Lines.{keys_prefix}
 use Rattle.log_client.proofs.Seeing.{seen_there}
 use Rattle.log_client.proofs.Fitting.{listed}
-use Rattle.log_client.proofs.AtHome.{gone_same}
 use Rattle.log_client.proofs.Growing.{grown_same}
 use Rattle.log_client.proofs.Explaining.{keeps_same, rests_same, rests_then}
-use Rattle.log_client.proofs.HiddenReads.{all_from, events_at}
+use Rattle.log_client.proofs.HiddenReads.{all_from}
 use Rattle.log_client.proofs.ClearedHolds.{cleared_longer}
 use Rattle.log_client.proofs.SyncingAll.{not_both, clear_up_to}
 use Rattle.log_client.proofs.ReadStamps.{home_lawful}
@@ -123,23 +119,23 @@ module _ (s : Store) (p : Client) (is : IsClient s p) where
   line_is_own rest fits k = subst (λ (l : List Key). AllZip (ShowsItem (log_of (seen_of p) rest)) l (line_of p k))
       (by_track (slice_get (tracks_of p) k) refl)
       (shown (log_of (seen_of p) rest) (line_of p k) (as_appended rest fits k)) where
-    take_front : (xs ys : List Key) → take (length xs) (xs ++ ys) ≡ xs
-    take_front [] ys = refl
-    take_front (x ∷ xs) ys = ap (λ (l : List Key). x ∷ l) (take_front xs ys)
+        take_front : (xs ys : List Key) → take (length xs) (xs ++ ys) ≡ xs
+        take_front [] ys = refl
+        take_front (x ∷ xs) ys = ap (λ (l : List Key). x ∷ l) (take_front xs ys)
 
-    by_track : (o : Option Track) → slice_get (tracks_of p) k ≡ o
-        → keys_of (line_in o) ≡ take (at (counts_in o) p.region) (line (home_seen p k))
-    by_track None e =
-        ap (λ (n : ℕ). take n (line (home_seen p k)))
-        (sym (at-zeros p.region (let low = is.region in let few = s.fit.few in omega (arith, low, few))))
-    by_track (Some track) e =
-        let t = (is.home home.0 home.1).tracks k track e in
-        let pre = keys_prefix p.region (entries_seen home.0 k) track.line t.line in
-        sym (take_front (keys_of track.line) pre.0)
-        ∙ (ap (λ (l : List Key). take (length (keys_of track.line)) l)
-        (pre.1 ∙ ap line (sym (seen_there (holds_of p) p.region home.0 home.1 k)))
-        ∙ ap (λ (n : ℕ). take n (line (home_seen p k)))
-        (length-map track.line (λ (item : PlacedNode). item.head.key) ∙ t.line_long))
+        by_track : (o : Option Track) → slice_get (tracks_of p) k ≡ o
+            → keys_of (line_in o) ≡ take (at (counts_in o) p.region) (line (home_seen p k))
+        by_track None e =
+            ap (λ (n : ℕ). take n (line (home_seen p k)))
+            (sym (at-zeros p.region (let low = is.region in let few = s.fit.few in omega (arith, low, few))))
+        by_track (Some track) e =
+            let t = (is.home home.0 home.1).tracks k track e in
+            let pre = keys_prefix p.region (entries_seen home.0 k) track.line t.line in
+            sym (take_front (keys_of track.line) pre.0)
+            ∙ (ap (λ (l : List Key). take (length (keys_of track.line)) l)
+            (pre.1 ∙ ap line (sym (seen_there (holds_of p) p.region home.0 home.1 k)))
+            ∙ ap (λ (n : ℕ). take n (line (home_seen p k)))
+            (length-map track.line (λ (item : PlacedNode). item.head.key) ∙ t.line_long))
 
 -- RAISED
 

@@ -1,28 +1,26 @@
 -- What a stamped read of a client leaves, and what explains its answer.
-use Rattle.std.proofs.Common.{◌≡◌, ◌≢◌, ◌⊎◌, ℕ, zero, suc, ◌+◌, ◌<◌, ◌≤◌, max, true, List, [], ◌∷◌, ◌++◌, length, map, take, drop, Some, slice_get, refl, ap, sym, subst, ◌∙◌, inl, inr, arith, eq-eqb, append-nil, take-append-drop}
+use Rattle.std.proofs.Common.{◌≡◌, ◌⊎◌, ℕ, zero, suc, ◌+◌, ◌<◌, ◌≤◌, List, [], ◌∷◌, ◌++◌, length, map, take, drop, Some, slice_get, refl, ap, sym, subst, ◌∙◌, inl, inr, arith, eq-eqb, append-nil, take-append-drop}
 use Rattle.std.specs.Prelude.{◌==◌}
-use Rattle.std.specs.List.{All, AllZip, Contains, filter}
+use Rattle.std.specs.List.{All, Contains}
 use Rattle.std.proofs.lemmas.Bool.{cases_eq, ne_eqb}
 use Rattle.std.proofs.lemmas.List.{map-append}
 use Rattle.std.proofs.lemmas.List.Elements.{All-contains}
 use mathlib.Core.List.{IsPrefix}
-use Rattle.log_node.specs.declared.limits.TheConstants.{MAX_STAMP}
-use Rattle.log_node.specs.declared.ids.Key.{Key}
 use Rattle.log_node.specs.declared.ids.Counts.{Counts}
 use Rattle.log_node.specs.declared.node.At.{At}
 use Rattle.col_core.specs.declared.Entry.{Entry}
 use Rattle.col_core.specs.History.{clock, line}
 use Rattle.col_core.specs.Computed.{dated}
 use Rattle.col_core.specs.Legal.{IsColumnHistory}
-use Rattle.col_core.specs.Log.{Log, IsLater, places_of}
-use Rattle.col_core.specs.Keeping.{Kept, updated, seen_past, seen_after, with_floor, with_made}
+use Rattle.col_core.specs.Log.{Log}
+use Rattle.col_core.specs.Keeping.{Kept, seen_past, seen_after, with_floor, with_made}
 use Rattle.col_core.proofs.CallerLemmas.{In, contains_in, in_append, in_contains, in_left, if_true, if_false, lawful_beginning}
 use Rattle.script_text.specs.declared.script.Object.{Object}
 use Rattle.report_text.specs.declared.report.RaisePiece.{RaisePiece}
 use Rattle.lawful_run.specs.Callers.{Caller}
 use Rattle.report_text.specs.declared.report.SyncPiece.{SyncPiece}
 use Rattle.lawful_run.specs.Reads.{IsTrimmed, RaisesAt, Raises, kept_after_place, HidesSyncs, HidesRead, ReadsAt, IsAboveClocks, IsReadStamp, events_until}
-use Rattle.lawful_run.proofs.CallerLemmas.{hides_more, hides_none, prefix_get, prefix_length, prefix_take, raises_later}
+use Rattle.lawful_run.proofs.CallerLemmas.{hides_more, hides_none, prefix_length, prefix_take, raises_later}
 use Rattle.client_law.specs.Knowing.{Rest, log_of, SeesOn}
 use Rattle.client_law.specs.Kept.{IsKeptBy}
 use Rattle.log_client.specs.declared.store.Store.{Store}
@@ -30,12 +28,11 @@ use Rattle.log_client.specs.declared.client.Client.{Client}
 use Rattle.log_client.specs.declared.answers.Raised.{Raised}
 use Rattle.log_client.specs.declared.answers.Synced.{Synced}
 use Rattle.log_client.specs.Fits.{Fits}
-use Rattle.log_client.specs.Clients.{holds_of, seen_of, caller_of, IsClient, Keeps, Finished}
-use Rattle.log_client.specs.Calls.{IsExplained}
+use Rattle.log_client.specs.Clients.{holds_of, seen_of, caller_of, Keeps, Finished}
 use Rattle.log_client.specs.StampedReads.{raise_piece, sync_piece}
-use Rattle.log_client.specs.Reading.{RestsOn, KeepsWith, KeepsAll, IsChosen, RaisesOne, RaisesAll, RaisesFirst, kept_raised, raised_colours, Playing, AreSyncs, SyncsKeep, kept_synced, syncs_of, synced_colours, home_seen}
+use Rattle.log_client.specs.Reading.{RestsOn, KeepsWith, KeepsAll, IsChosen, RaisesOne, RaisesAll, kept_raised, raised_colours, Playing, AreSyncs, SyncsKeep, kept_synced, syncs_of, synced_colours, home_seen}
 use Rattle.log_client.proofs.Explaining.{caller_same, keeps_less, log_then, rests_then, sees_then, keeps_then}
-use Rattle.log_client.proofs.HiddenReads.{all_from, are_syncs_later, clear_syncs, events_at, hidden_raises, hides_syncs, past_within, place_in, raised_away, raised_here, raised_less, raised_more, raised_same, raises_more, synced_same, synced_starts, syncs_seen, trimmed_before, SeesLess}
+use Rattle.log_client.proofs.HiddenReads.{all_from, clear_syncs, events_at, hidden_raises, hides_syncs, past_within, place_in, raised_away, raised_here, raised_less, raised_more, raised_same, raises_more, synced_same, synced_starts, syncs_seen, trimmed_before}
 use Rattle.log_client.proofs.ClearedHolds.{clock_grows}
 use Rattle.log_client.proofs.ReadStamps.{home_clock, home_lawful, home_more}
 

@@ -1,6 +1,6 @@
 -- The stamp of a read: the clocks of its colours are looked at, one after another.
-use Rattle.std.proofs.Common.{◌≡◌, ◌⊎◌, ℕ, ◌<◌, ◌≤◌, max, List, [], ◌∷◌, ◌++◌, length, take, reverse, refl, ap, sym, subst, ◌∙◌, inl, inr, arith, append_assoc, append-nil}
-use Rattle.std.specs.List.{All, Contains}
+use Rattle.std.proofs.Common.{◌≡◌, ℕ, ◌≤◌, max, List, [], ◌∷◌, ◌++◌, length, reverse, refl, ap, sym, subst, ◌∙◌, inl, inr, arith, append_assoc, append-nil}
+use Rattle.std.specs.List.{All}
 use Rattle.std.proofs.lemmas.Bool.{cases_lt}
 use Rattle.std.proofs.lemmas.List.{take_all}
 use mathlib.Core.List.{IsPrefix}

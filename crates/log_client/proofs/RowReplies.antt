@@ -1,5 +1,5 @@
 -- What an append of a client to several colours leaves that has begun its row, and what explains its answer.
-use Rattle.std.proofs.Common.{◌≡◌, ◌≢◌, ◌⊎◌, inl, inr, ℕ, zero, suc, true, ◌+◌, ◌-◌, ◌<◌, ◌≤◌, List, [], ◌∷◌, ◌++◌, length, map, Some, None, Option, Ok, Err, Result, refl, ap, sym, subst, ◌∙◌, arith, eq-eqb, length-append}
+use Rattle.std.proofs.Common.{◌≡◌, ◌≢◌, ◌⊎◌, inl, inr, ℕ, suc, true, ◌+◌, ◌-◌, ◌<◌, ◌≤◌, List, [], ◌∷◌, ◌++◌, length, map, Some, None, Option, Ok, Err, Result, refl, ap, sym, subst, ◌∙◌, arith, eq-eqb, length-append}
 use Rattle.std.specs.Prelude.{IsTrue, IfOk, MatchResult, replicate, slice_get, max, ◌==◌}
 use Rattle.std.specs.Vec.{with_item}
 use Rattle.std.proofs.lemmas.List.{length-map}
@@ -13,7 +13,6 @@ use Rattle.log_node.specs.declared.limits.TheConstants.{MAX_STAMP}
 use Rattle.log_node.specs.declared.node.Head.{Head}
 use Rattle.log_node.specs.declared.node.Node.{Node}
 use Rattle.log_node.specs.Seen.{BegunAppend}
-use Rattle.log_node.specs.declared.marks.Mark.{Mark}
 use Rattle.log_node.specs.declared.marks.Mark.TheVariants.{Fenced}
 use Rattle.log_node.specs.declared.marks.Outcome.{Outcome}
 use Rattle.log_node.specs.declared.marks.Outcome.TheVariants.{Open, Gone, Final}
@@ -67,8 +66,8 @@ use Rattle.log_client.specs.declared.track.Track.{Track}
 use Rattle.log_client.specs.declared.answers.Appended.{Appended}
 use Rattle.log_client.specs.Fits.{Fits}
 use Rattle.log_client.specs.Ending.{IsNoMove}
-use Rattle.log_client.specs.Clients.{holds_of, seen_of, rows_of, tracks_of, starts_of, caller_of, counts_in, IsClient, IsClosed, IsClosedIn, AllClosed, AreRows, Keeps, Finished}
-use Rattle.log_client.specs.Appends.{next_node, piece_of, AppendsAs, AppendRefused, FindsNoMemory, HasNoRow, HasStopped}
+use Rattle.log_client.specs.Clients.{holds_of, seen_of, rows_of, tracks_of, caller_of, counts_in, IsClient, IsClosed, IsClosedIn, AllClosed, AreRows, Keeps, Finished}
+use Rattle.log_client.specs.Appends.{next_node, piece_of, AppendsAs, AppendRefused, HasNoRow, HasStopped}
 use Rattle.log_client.specs.Calls.{IsExplained}
 use Rattle.log_client.specs.Inside.{CallsAppend}
 use Rattle.log_client.proofs.Lists.{got, got_end, mapped, unmapped}

@@ -19,7 +19,7 @@ use Rattle.log_client.specs.Fits.{HaveGoneOn}
 use Rattle.log_client.specs.Clients.{holds_of, tracks_of, IsClient, IsTrack, Finished, Helps}
 use Rattle.log_client.specs.Inside.{PlaysOn, IsRefusedOn}
 use Rattle.log_client.specs.Calls.{IsExplained, SyncsAs, SyncRefused, AnswersSync, nodes_played}
-use Rattle.log_client.specs.Reading.{RestsOn, PlaysColour, RefusesColour, kept_after_playing}
+use Rattle.log_client.specs.Reading.{PlaysColour, RefusesColour, kept_after_playing}
 use Rattle.log_client.specs.Growing.{HasGrown}
 use Rattle.log_client.proofs.Growing.{grown_at, grown_same}
 use Rattle.log_client.proofs.AtHome.{ChangesHome, gone_looked, have_gone_on, are_regions}

@@ -1,26 +1,22 @@
 -- Syncs of several colours, one after another.
-use Rattle.std.proofs.Common.{◌≡◌, ◌≢◌, ◌⊎◌, ℕ, ◌+◌, ◌<◌, ◌≤◌, Bool, true, false, List, [], ◌∷◌, ◌++◌, length, map, take, Option, Some, refl, ap, sym, subst, ◌∙◌, inl, inr, arith, append_assoc, append-nil, length-append}
-use Rattle.std.specs.Prelude.{nat_lt, not, slice_get, ◌&&◌, ◌||◌, ◌==◌}
-use Rattle.std.specs.List.{All, Contains, filter}
-use Rattle.std.proofs.lemmas.Bool.{and_from, lt-ltb, or_left, cases_lt}
+use Rattle.std.proofs.Common.{◌≡◌, ◌≢◌, ℕ, ◌+◌, ◌<◌, ◌≤◌, false, List, [], ◌∷◌, ◌++◌, length, take, Option, Some, refl, ap, sym, subst, ◌∙◌, inl, inr, arith, append_assoc, append-nil}
+use Rattle.std.specs.Prelude.{not, slice_get}
+use Rattle.std.proofs.lemmas.Bool.{and_from, cases_lt}
 use Rattle.std.proofs.lemmas.List.{take_all, map-append}
 use Rattle.std.proofs.lemmas.List.Elements.{All-contains}
 use Rattle.std.proofs.lemmas.Option.{slice_get_within}
-use mathlib.Core.List.{IsPrefix}
 use Rattle.log_node.specs.declared.ids.Colours.{Colours}
 use Rattle.log_node.specs.Order.{key_below}
-use Rattle.log_node.specs.Seen.{PlacedNode}
 use Rattle.log_node.specs.Sets.{members}
 use Rattle.log_node.specs.Standings.{Standing}
 use Rattle.log_node.proofs.CallerLemmas.{stamp-key}
 use Rattle.col_core.specs.declared.Entry.{Entry}
 use Rattle.col_core.specs.History.{entries, line}
-use Rattle.col_core.specs.Ids.{is_open_below, open_below}
+use Rattle.col_core.specs.Ids.{is_open_below}
 use Rattle.col_core.specs.Keeping.{Kept, kept_after_sync}
-use Rattle.col_core.specs.Log.{Log, IsLater}
+use Rattle.col_core.specs.Log.{Log}
 use Rattle.col_core.specs.RegionOrder.{IsClearUpTo}
-use Rattle.col_core.proofs.CallerLemmas.{In, contains_in, in_append, in_filter-back, in_left, in_right, in_slice}
-use Rattle.script_text.specs.declared.script.Object.{Object}
+use Rattle.col_core.proofs.CallerLemmas.{In, contains_in, in_append, in_filter-back, in_right, in_slice}
 use Rattle.lawful_run.specs.Callers.{Caller}
 use Rattle.lawful_run.specs.Reads.{Syncs, ShowsPlayed, greatest_stamp, played_stamp, IsTrimmed}
 use Rattle.lawful_run.proofs.CallerLemmas.{prefix_get, prefix_length, prefix_take}
@@ -33,7 +29,7 @@ use Rattle.log_client.specs.declared.faults.SyncFault.TheVariants as sync_faults
 use Rattle.client_law.specs.Knowing.{log_of}
 use Rattle.log_client.specs.Clients.{seen_of, line_in, line_of, caller_of, Keeps}
 use Rattle.log_client.specs.Calls.{nodes_played}
-use Rattle.log_client.specs.Reading.{RestsOn, KeepsWith, IsCleared, key_above, home_seen, keys_of, kept_after_playing, PlaysColour, RefusesColour, Playing, AreSyncs, AreCleared, HoldsLine, RefusesLeft, SyncsKeep, SyncsAll, SyncsEach, SyncsFirst, kept_synced, syncs_of, synced_colours}
+use Rattle.log_client.specs.Reading.{RestsOn, KeepsWith, IsCleared, key_above, home_seen, keys_of, kept_after_playing, PlaysColour, RefusesColour, Playing, AreSyncs, AreCleared, HoldsLine, SyncsKeep, SyncsAll, SyncsEach, SyncsFirst, kept_synced, syncs_of, synced_colours}
 use Rattle.log_client.proofs.Explaining.{rests_then, keeps_less, keeps_then}
 use Rattle.log_client.proofs.HiddenReads.{all_from, are_syncs_later, synced_more, syncs_more}
 use Rattle.log_client.proofs.ClearedHolds.{cleared_longer}

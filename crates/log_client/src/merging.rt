@@ -61,11 +61,7 @@ fn take_to(
     let is_there = stands_at(others, next, &item);
     share_all(all, &others[from..next])?;
     all.push(item)?;
-    if is_there {
-        Ok(next + 1)
-    } else {
-        Ok(next)
-    }
+    if is_there { Ok(next + 1) } else { Ok(next) }
 }
 
 // Two lists in rising key as one, each key once.

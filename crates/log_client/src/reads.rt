@@ -15,7 +15,7 @@ ghost use Rattle.log_client.specs.Clients.{IsClient, Finished, holds_of};
 ghost use Rattle.log_client.specs.Growing.{HasGrown};
 ghost use Rattle.log_client.specs.Calls.{IsSame};
 ghost use Rattle.log_client.specs.Appends.{AreColoursOf};
-ghost use Rattle.log_client.specs.Reading.{RestsOn, KeepsAll, IsChosen, RaisesOne, RaisesAll, RaisesFirst, IsCleared, AreCleared, SyncsEach, SyncsFirst, home_seen, key_above, raised_colours};
+ghost use Rattle.log_client.specs.Reading.{RestsOn, KeepsAll, IsChosen, RaisesOne, RaisesAll, RaisesFirst, IsCleared, AreCleared, SyncsEach, SyncsFirst, home_seen, key_above, raised_colours, synced_colours};
 ghost use Rattle.log_client.specs.StampedReads.{ReadsOn, ReadsAll, ReadRefused};
 
 use crate::answers::{Raised, StampedRead, Synced};
@@ -210,6 +210,8 @@ impl Client {
         ensures goes { HaveGoneOn (holds_of self.old) (holds_of self.new) }
         ensures grows { HasGrown self.old self.new }
         ensures finished { Finished self.old → Finished self.new }
+        ensures raises { IfOk result (λ read. raised_colours read.raises ≡ members colours) }
+        ensures syncs { IfOk result (λ read. synced_colours read.syncs ≡ members colours) }
         ensures ok { IfOk result (ReadsOn store.now self.old self.new (members colours) last) }
         ensures err { IfErr result (ReadRefused store.now self.old self.new (members colours)) }
     {
@@ -248,6 +250,8 @@ impl Client {
         ensures goes { HaveGoneOn (holds_of self.old) (holds_of self.new) }
         ensures grows { HasGrown self.old self.new }
         ensures finished { Finished self.old → Finished self.new }
+        ensures raises { IfOk result (λ read. raised_colours read.raises ≡ members colours) }
+        ensures syncs { IfOk result (λ read. synced_colours read.syncs ≡ members colours) }
         ensures ok { IfOk result (ReadsAll store.now self.old self.new (members colours)) }
         ensures err { IfErr result (ReadRefused store.now self.old self.new (members colours)) }
     {

@@ -1,4 +1,4 @@
-use Rattle.std.proofs.Common.{◌≡◌, ◌∙◌, ◌++◌, ◌∷◌, [], List, ap, drop, refl, subst, sym}
+use Rattle.std.proofs.Common.{◌∙◌, ◌++◌, [], List, ap, subst, sym}
 use Rattle.std.proofs.lemmas.List.{map-id, take_rest}
 use Rattle.std.proofs.lemmas.Iterator.Adapters.{YieldsList-from_vec}
 use Rattle.std.proofs.lemmas.Iterator.Consumers.{YieldsList-end}

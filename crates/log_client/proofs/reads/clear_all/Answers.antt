@@ -7,17 +7,10 @@ use Rattle.col_core.proofs.CallerLemmas.{contains_in}
 use Rattle.std.specs.Prelude.{slice_get}
 use Rattle.chain_store.specs.declared.hold.ColumnPasses.{ColumnPasses}
 use Rattle.chain_store.specs.Holds.{entries_seen, history_seen}
-use Rattle.chain_store.proofs.CallerLemmas.{goes_same, goes_then, later_same, later_then}
+use Rattle.chain_store.proofs.CallerLemmas.{goes_same, later_same, later_then}
 use Rattle.append_core.specs.Helping.{HelpsOpen, IsUnderClock}
 use Rattle.append_core.proofs.CallerLemmas.{helps_then, under_least}
-use Rattle.log_client.specs.Reading.{key_above}
 use Rattle.log_client.proofs.ClearedHolds.{ClearedFirst, all_cleared, cleared_next, next_of, none_cleared}
-use Rattle.log_client.proofs.ReadReplies.{keeps_hidden}
-use Rattle.log_client.proofs.SyncingAll.{first_answered}
-use Rattle.log_client.proofs.ClearedReads.{clear_clears}
-use Rattle.log_client.proofs.Raising.{raise_one}
-use Rattle.log_client.proofs.Colours.{all_within}
-use Rattle.log_client.proofs.ReadStamps.{stamp_within}
 use Rattle.log_client.proofs.reads.clear_all.Goals as goal
 
 pub loop-colour-init : goal.loop-colour-init

@@ -52,5 +52,5 @@ returns-clause-nothing c =
     c.hear_all.ensures.heard)
 
 pub returns-clause-grows : goal.returns-clause-grows
-returns-clause-grows c = 
+returns-clause-grows c =
     grown_same c.args.self.now (record c.args.self.now { holds = c.hear_all.new.holds }) refl

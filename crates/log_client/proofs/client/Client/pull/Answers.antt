@@ -56,5 +56,5 @@ returns-clause-err g c =
     c.pull_between.ensures.err
 
 pub returns-clause-grows : goal.returns-clause-grows
-returns-clause-grows g c = 
+returns-clause-grows g c =
     grown_same c.args.self.now (record c.args.self.now { holds = c.pull_between.new.holds }) refl

@@ -1,11 +1,11 @@
-use Rattle.std.proofs.Common.{◌≡◌, ◌∙◌, ◌<◌, List, Option, length, ap, refl, sym, subst}
+use Rattle.std.proofs.Common.{◌∙◌, ◌<◌, List, length, ap, refl, sym, subst}
 use Rattle.std.specs.List.{All}
 use Rattle.std.proofs.lemmas.Result.{err_from_is_err_and}
 use Rattle.log_node.specs.Sets.{members}
 use Rattle.playback.specs.Merging.{AreRising}
 use Rattle.log_client.specs.declared.track.Track.{Track}
 use Rattle.log_client.specs.Items.{are_parts, AreItems}
-use Rattle.log_client.specs.Reading.{keys_of}
+use Rattle.log_client.specs.Reading.{keys_of, raised_colours, synced_colours}
 use Rattle.log_client.proofs.Colours.{all_within}
 use Rattle.log_client.proofs.Explaining.{rests_then}
 use Rattle.log_client.proofs.ReadCalls.{reached_all, read_answered, read_rests, tracks_rising, unanswered, unraised, unsynced}
@@ -30,6 +30,8 @@ returns-in_default g c =
       goes = on.goes;
       grows = on.grows;
       finished = on.finished;
+      raises = tt;
+      syncs = tt;
       ok = tt;
       err = unraised s x b c.args.colours (members c.args.colours) refl stamp e.rests e.keeps e.chosen e.floor e.above
           c.raise_all.new.self c.raise_all.ensures.rests c.in_default.ensures.err;
@@ -56,6 +58,8 @@ returns-in_err-syncs g c =
       goes = on.goes;
       grows = on.grows;
       finished = on.finished;
+      raises = tt;
+      syncs = tt;
       ok = tt;
       err = unsynced s x b c.args.colours (members c.args.colours) refl stamp e.rests e.keeps e.chosen e.floor e.above
           r q c.in-Ok.raises.items c.raise_all.ensures.rests up.ok up.colours k.rests k.keeps k.clear
@@ -94,6 +98,8 @@ returns-in_default-items_read g c =
       goes = on.goes;
       grows = on.grows;
       finished = on.finished;
+      raises = tt;
+      syncs = tt;
       ok = tt;
       err = unanswered s x b c.args.colours (members c.args.colours) refl stamp e.rests e.keeps e.chosen e.floor e.above
           r q c.in-Ok.raises.items c.raise_all.ensures.rests up.ok up.colours k.rests k.keeps k.clear
@@ -122,6 +128,8 @@ returns g c =
       goes = on.goes;
       grows = on.grows;
       finished = on.finished;
+      raises = ap raised_colours c.into.ensures ∙ up.colours;
+      syncs = ap synced_colours c.into-2.ensures ∙ c.in_ok-syncs.ensures.ok.2;
       ok = read_answered s x b c.args.colours (members c.args.colours) refl stamp e.rests e.keeps e.chosen e.floor e.above
           r q c.in-Ok.raises.items c.raise_all.ensures.rests up.ok up.colours k.rests k.keeps k.clear
           c.sync_all.new.self c.sync_all.ensures.rests c.in_ok-syncs.syncs.items c.in_ok-syncs.ensures.ok c.max-self.result

@@ -1,4 +1,4 @@
-use Rattle.std.proofs.Common.{◌≡◌, ◌∙◌, ◌<◌, ◌≤◌, ℕ, List, refl, sym, subst, arith}
+use Rattle.std.proofs.Common.{◌∙◌, ℕ, List, sym, subst, arith}
 use Rattle.log_node.specs.Sets.{members}
 use Rattle.log_client.proofs.Colours.{next_within}
 use Rattle.log_client.proofs.Explaining.{keeps_all_then, keeps_same, rests_same, rests_then}

@@ -1,6 +1,5 @@
-use Rattle.std.proofs.Common.{◌≡◌, ◌∙◌, ◌++◌, ◌∷◌, [], ℕ, List, refl, ap, sym, subst}
+use Rattle.std.proofs.Common.{◌∙◌, ◌++◌, ◌∷◌, [], ℕ, List, ap, sym, subst}
 use Rattle.log_node.specs.Sets.{members}
-use Rattle.log_client.specs.declared.answers.Synced.{Synced}
 use Rattle.log_client.proofs.Colours.{next_within}
 use Rattle.log_client.specs.Reading.{synced_colours}
 use Rattle.log_client.proofs.Explaining.{rests_same, rests_then}

@@ -79,9 +79,9 @@ returns-clause-nothing c =
     (told_all old.holds.items c.tell_all.new.holds.items e.1)
 
 pub returns-in_err-holds-clause-grows : goal.returns-in_err-holds-clause-grows
-returns-in_err-holds-clause-grows c = 
+returns-in_err-holds-clause-grows c =
     grown_same c.args.self.now (record c.args.self.now { holds = c.tell_all.new.holds }) refl
 
 pub returns-clause-grows : goal.returns-clause-grows
-returns-clause-grows c = 
+returns-clause-grows c =
     grown_same c.args.self.now (record c.args.self.now { holds = c.tell_all.new.holds }) refl
