@@ -3,6 +3,7 @@ ghost use Rattle.std.specs.Prelude.{◌≡◌, ◌<◌, ◌++◌, IfOk, IfErr, O
 ghost use Rattle.chain_store.specs.Holds.{IsHold, SameBut, SeesMoreIn, seen_in};
 ghost use Rattle.log_client.specs.Fits.{HaveGoneOn};
 ghost use Rattle.log_client.specs.Clients.{IsClient, IsTrack, Finished, Helps, holds_of};
+ghost use Rattle.log_client.specs.Growing.{HasGrown};
 ghost use Rattle.log_client.specs.Inside.{PlaysOn, IsRefusedOn, Extends};
 ghost use Rattle.log_client.specs.Calls.{IsExplained, SyncsAs, AnswersSync, SyncRefused, IsSame, nodes_played};
 
@@ -10,7 +11,7 @@ use crate::answers::Synced;
 use crate::client::Client;
 use crate::faults::SyncFault;
 use crate::store::Store;
-use crate::syncs::extend;
+use crate::syncs::{extend, own_line};
 use crate::track::Track;
 use chain_store::{Hold, Region};
 use log_node::{Item, Items, ListOf};
@@ -38,13 +39,14 @@ fn extend_shown(
     track: &mut Track,
     events: u64,
     played: Played,
+    line: Items,
 ) -> Result<(Synced, u64, Items), AllocError>
-    ensures ok { IfOk result (λ r. Extends track.old track.new events played r.0 r.1) }
+    ensures ok { IfOk result (λ r. Extends track.old track.new events played line r.0 r.1) }
     ensures nodes { IfOk result (λ r. r.2 ≡ played.items) }
     ensures err { OnErr result (track.new ≡ track.old) }
 {
     let nodes = copied(alloc, played.items.as_slice())?;
-    let (synced, stamp) = extend(track, events, played)?;
+    let (synced, stamp) = extend(track, events, played, line)?;
     Ok((synced, stamp, nodes))
 }
 
@@ -58,6 +60,7 @@ fn play_shown<R: Wait>(
     track: &mut Track,
 ) -> Result<(Synced, u64, Items), SyncFault>
     requires hold { IsHold region.now hold.old }
+    requires few { region.now.number < 4 }
     requires colour { track.old.snapshot.colour < region.now.board.size.colours }
     requires track { IsTrack region.now.number track.old.snapshot.colour
         (seen_in hold.old track.old.snapshot.colour) track.old }
@@ -75,6 +78,9 @@ fn play_shown<R: Wait>(
     let Ok(view) = region.look(rt, alloc, hold, colour, from) else {
         return Err(SyncFault::NoMemory);
     };
+    let Ok(line) = own_line(alloc, &view) else {
+        return Err(SyncFault::NoMemory);
+    };
     let events = view.events;
     let mut player = Player {
         region: view.region,
@@ -82,7 +88,7 @@ fn play_shown<R: Wait>(
         played: from,
     };
     match play(alloc, view, &mut player) {
-        Ok(played) => match extend_shown(alloc, track, events, played) {
+        Ok(played) => match extend_shown(alloc, track, events, played, line) {
             Ok(answer) => Ok(answer),
             Err(_) => Err(SyncFault::NoMemory),
         },
@@ -105,6 +111,7 @@ impl Client {
         ensures client { IsClient store.now self.new }
         ensures same { IsSame self.old self.new }
         ensures goes { HaveGoneOn (holds_of self.old) (holds_of self.new) }
+        ensures grows { HasGrown self.old self.new }
         ensures finished { Finished self.old → Finished self.new }
         ensures idle { Helps self.new → Helps self.old }
         ensures answer { IfOk result (λ r. AnswersSync self.old self.new colour r.0) }

@@ -1,20 +1,25 @@
 // Syncs.
-ghost use Rattle.std.specs.Prelude.{◌≡◌, ◌≢◌, ◌<◌, ◌≤◌, IfOk, IfErr, OnOk, OnErr};
+ghost use Rattle.std.specs.Prelude.{◌≡◌, ◌≢◌, ◌<◌, ◌≤◌, ◌++◌, length, IfOk, IfErr, OnOk, OnErr};
 ghost use Rattle.log_node.specs.declared.limits.TheConstants.{MAX_STAMP};
 ghost use Rattle.lawful_run.specs.Reads.{greatest_stamp};
 ghost use Rattle.chain_store.specs.Holds.{IsHold, SameBut, SeesMoreIn, seen_in};
 ghost use Rattle.log_client.specs.Fits.{HaveGoneOn};
 ghost use Rattle.log_client.specs.Clients.{IsClient, IsTrack, Finished, Helps, holds_of};
+ghost use Rattle.log_client.specs.Growing.{HasGrown};
+ghost use Rattle.playback.specs.Playing.{items_of};
 ghost use Rattle.log_client.specs.Inside.{PlaysOn, IsRefusedOn, Extends};
+ghost use Rattle.log_client.specs.Reading.{RestsOn, PlaysColour, RefusesColour};
 ghost use Rattle.log_client.specs.Calls.{IsExplained, SyncsAs, AnswersSync, SyncRefused, IsSame};
 
 use crate::answers::Synced;
 use crate::client::Client;
 use crate::faults::SyncFault;
+use crate::merging::share_all;
 use crate::store::Store;
 use crate::track::Track;
 use chain_store::{Hold, Region};
-use log_node::Item;
+use col_core::View;
+use log_node::{Item, Items};
 use playback::{PlayFault, Played, Player, play};
 use std::alloc::{AllocError, Global};
 use std::sync::Wait;
@@ -30,20 +35,52 @@ fn greatest_stamp(nodes: &[Item]) -> u64
     most
 }
 
-// Puts on the track what was played. Answers the sync, and the greatest stamp that was played.
+// The nodes of the own line that a view shows, once more.
+pub(crate) fn own_line(alloc: Global, view: &View) -> Result<Items, AllocError>
+    requires region { view.now.region < length view.now.items }
+    ensures { IfOk result (λ items. items ≡ items_of view.now view.now.region) }
+{
+    let shown = view.items.as_slice()[view.region as usize].as_slice();
+    let mut items = Vec::with_capacity(alloc, shown.len())?;
+    share_all(&mut items, shown)?;
+    Ok(items.into())
+}
+
+// Puts at the end of a track what was played, and the own line of it; where memory is refused, the track stays.
+fn append(track: &mut Track, items: Items, line: Items) -> Result<(), AllocError>
+    ensures ok { OnOk result (track.new ≡ record {
+      snapshot = track.old.snapshot;
+      nodes = track.old.nodes ++ items;
+      line = track.old.line ++ line;
+    }) }
+    ensures err { OnErr result (track.new ≡ track.old) }
+{
+    let count = track.line.len();
+    track.line.append(line)?;
+    match track.nodes.append(items) {
+        Ok(()) => Ok(()),
+        Err(fault) => {
+            track.line.truncate(count);
+            Err(fault)
+        }
+    }
+}
+
+// Puts on the track what was played, and the own line of it. Answers the sync, and the greatest stamp that was played.
 pub(crate) fn extend(
     track: &mut Track,
     events: u64,
     played: Played,
+    line: Items,
 ) -> Result<(Synced, u64), AllocError>
-    ensures ok { IfOk result (λ r. Extends track.old track.new events played r.0 r.1) }
+    ensures ok { IfOk result (λ r. Extends track.old track.new events played line r.0 r.1) }
     ensures err { OnErr result (track.new ≡ track.old) }
 {
     let Played { snapshot, items } = played;
     let first = track.nodes.len() as u64;
     let count = items.len() as u64;
     let stamp = greatest_stamp(items.as_slice());
-    track.nodes.append(items)?;
+    append(track, items, line)?;
     track.snapshot = snapshot;
     Ok((
         Synced {
@@ -66,6 +103,7 @@ pub(crate) fn play_on<R: Wait>(
     track: &mut Track,
 ) -> Result<(Synced, u64), SyncFault>
     requires hold { IsHold region.now hold.old }
+    requires few { region.now.number < 4 }
     requires colour { track.old.snapshot.colour < region.now.board.size.colours }
     requires track { IsTrack region.now.number track.old.snapshot.colour
         (seen_in hold.old track.old.snapshot.colour) track.old }
@@ -82,6 +120,9 @@ pub(crate) fn play_on<R: Wait>(
     let Ok(view) = region.look(rt, alloc, hold, colour, from) else {
         return Err(SyncFault::NoMemory);
     };
+    let Ok(line) = own_line(alloc, &view) else {
+        return Err(SyncFault::NoMemory);
+    };
     let events = view.events;
     let mut player = Player {
         region: view.region,
@@ -89,7 +130,7 @@ pub(crate) fn play_on<R: Wait>(
         played: from,
     };
     match play(alloc, view, &mut player) {
-        Ok(played) => match extend(track, events, played) {
+        Ok(played) => match extend(track, events, played, line) {
             Ok(answer) => Ok(answer),
             Err(_) => Err(SyncFault::NoMemory),
         },
@@ -99,6 +140,34 @@ pub(crate) fn play_on<R: Wait>(
 }
 
 impl Client {
+    // Plays what the client has not played of the colour.
+    pub(crate) fn play_colour<R: Wait>(
+        &mut self,
+        rt: &R,
+        alloc: Global,
+        store: &Store,
+        colour: u8,
+    ) -> Result<Synced, SyncFault>
+        requires client { IsClient store.now self.old }
+        requires colour { colour < store.now.size.colours }
+        ensures rests { RestsOn store.now self.old self.new }
+        ensures idle { Helps self.new → Helps self.old }
+        ensures answer { IfOk result (AnswersSync self.old self.new colour) }
+        ensures ok { IfOk result (PlaysColour store.now self.old self.new colour) }
+        ensures err { IfErr result (RefusesColour store.now self.old self.new colour) }
+    {
+        let region = store.region(self.region);
+        let hold = &mut self.holds[self.region as usize];
+        let track = &mut self.tracks[colour as usize];
+        match play_on(rt, alloc, region, hold, track) {
+            Ok((synced, stamp)) => {
+                self.floor = stamp.max(self.floor);
+                Ok(synced)
+            }
+            Err(fault) => Err(fault),
+        }
+    }
+
     /// Plays what the client has not played of the colour, up to the cut of its region's column, in the order of play. The
     /// played nodes are the stretch of `played` that is answered. Waits for the column's turn.
     pub fn sync<R: Wait>(
@@ -113,21 +182,13 @@ impl Client {
         ensures client { IsClient store.now self.new }
         ensures same { IsSame self.old self.new }
         ensures goes { HaveGoneOn (holds_of self.old) (holds_of self.new) }
+        ensures grows { HasGrown self.old self.new }
         ensures finished { Finished self.old → Finished self.new }
         ensures idle { Helps self.new → Helps self.old }
         ensures answer { IfOk result (AnswersSync self.old self.new colour) }
         ensures ok { IfOk result (λ y. IsExplained store.now self.old self.new (SyncsAs self.new colour y)) }
         ensures err { IfErr result (SyncRefused store.now self.old self.new colour) }
     {
-        let region = store.region(self.region);
-        let hold = &mut self.holds[self.region as usize];
-        let track = &mut self.tracks[colour as usize];
-        match play_on(rt, alloc, region, hold, track) {
-            Ok((synced, stamp)) => {
-                self.floor = stamp.max(self.floor);
-                Ok(synced)
-            }
-            Err(fault) => Err(fault),
-        }
+        self.play_colour(rt, alloc, store, colour)
     }
 }

@@ -14,5 +14,5 @@ returns-in-Ok-extend_shown-clause-ok g c =
     let e = c.in-Ok.ensures in
     let p = c.in-Ok-play.ensures in
     plays_on c.args.region.now c.look.new.hold c.args.track.now c.extend_shown.new.track c.in-Ok-extend_shown.answer.0
-    c.in-Ok-extend_shown.answer.1 c.in-Ok.view.events c.in-Ok.view c.in-Ok-play.played e.hold c.requires.colour e.view p.items
-    p.snapshot p.trimmed refl c.in-Ok-extend_shown.ensures.ok
+    c.in-Ok-extend_shown.answer.1 c.in-Ok.view.events c.in-Ok.view c.in-Ok-play.played c.in-Ok-own_line.line c.requires.few
+    e.hold c.requires.colour e.view p.items p.snapshot p.trimmed refl c.in-Ok-own_line.ensures c.in-Ok-extend_shown.ensures.ok

@@ -1,7 +1,14 @@
 use Rattle.std.proofs.Common.{refl, arith, ap}
 use Rattle.stamp_board.specs.declared.view.Size.{Size}
-use Rattle.log_client.proofs.SyncCalls.{colour_there, plays_from, sync_goes, sync_finished, sync_idle, sync_client, sync_answer, sync_nodes, sync_explained, sync_refused_client, sync_refused}
+use Rattle.log_client.proofs.SyncCalls.{colour_there, few_there, plays_from, sync_goes, sync_grows, sync_finished, sync_idle, sync_client, sync_answer, sync_nodes, sync_explained, sync_refused_client, sync_refused_grows, sync_refused_so}
 use Rattle.log_client.proofs.client.Client.sync_shown.Goals as goal
+
+pub play_shown-requires-clause-few : goal.play_shown-requires-clause-few
+play_shown-requires-clause-few g c =
+    few_there
+    c.args.store.now c.args.self.now c.region-region.result.now c.index_mut-hold.result.now c.args.colour
+    c.index_mut-track.result.now c.requires.client c.requires.colour c.region-region.ensures.there
+    c.index_mut-hold.ensures.value c.index_mut-track.ensures.value
 
 pub play_shown-requires-clause-colour : goal.play_shown-requires-clause-colour
 play_shown-requires-clause-colour g c =
@@ -126,9 +133,28 @@ returns-in-Err-clause-idle g c =
 pub returns-in-Err-clause-err : goal.returns-in-Err-clause-err
 returns-in-Err-clause-err g c =
     let e = c.in-Err.ensures in
-    sync_refused
+    sync_refused_so
     c.args.store.now c.args.self.now c.region-region.result.now c.index_mut-hold.result.now c.args.colour
     c.index_mut-track.result.now c.requires.client c.requires.colour c.region-region.ensures.there
     c.index_mut-hold.ensures.value c.index_mut-track.ensures.value
     c.play_shown.new.hold c.play_shown.new.track c.args.self.now.floor e.hold e.others e.same e.sees refl e.same_track
     c.in-Err.fault e.err
+
+pub returns-in-Ok-clause-grows : goal.returns-in-Ok-clause-grows
+returns-in-Ok-clause-grows g c =
+    let e = c.in-Ok.ensures in
+    sync_grows
+    c.args.store.now c.args.self.now c.region-region.result.now c.index_mut-hold.result.now c.args.colour
+    c.index_mut-track.result.now c.requires.client c.requires.colour c.region-region.ensures.there
+    c.index_mut-hold.ensures.value c.index_mut-track.ensures.value
+    c.play_shown.new.hold c.play_shown.new.track c.max-self.result e.hold e.others e.same e.sees
+    c.in-Ok.synced c.in-Ok.stamp c.max-self.ensures e.ok
+
+pub returns-in-Err-clause-grows : goal.returns-in-Err-clause-grows
+returns-in-Err-clause-grows g c =
+    let e = c.in-Err.ensures in
+    sync_refused_grows
+    c.args.store.now c.args.self.now c.region-region.result.now c.index_mut-hold.result.now c.args.colour
+    c.index_mut-track.result.now c.requires.client c.requires.colour c.region-region.ensures.there
+    c.index_mut-hold.ensures.value c.index_mut-track.ensures.value
+    c.play_shown.new.hold c.play_shown.new.track c.args.self.now.floor e.hold e.others e.same e.sees refl e.same_track
