@@ -9,13 +9,12 @@ use Rattle.script_text.specs.declared.script.Kind.{Kind}
 use Rattle.script_text.specs.declared.script.Kind.TheVariants as kinds
 use Rattle.script_text.specs.declared.script.Object.{Object}
 use Rattle.script_meaning.specs.States.{kind_in}
-use Rattle.script_in_order.specs.declared.causal.CausalFold.{CausalFold}
 use Rattle.script_in_order.specs.declared.folds.Fold.{Fold}
 use Rattle.script_in_order.specs.declared.folds.Fold.TheVariants as folds
-use Rattle.script_in_order.specs.CausalFolds.{IsCausalFold, AreCausalFolds}
+use Rattle.script_in_order.specs.CausalFolds.{AreCausalFolds}
 use Rattle.script_in_order.specs.declared.folds.ShardFold.{ShardFold}
 use Rattle.script_in_order.specs.Folds.{IsShardFold, IsFoldOf, AreFolded}
-use Rattle.script_in_order.proofs.FoldsKept.{causal_with, folds_with}
+use Rattle.script_in_order.proofs.FoldsKept.{folds_with}
 
 -- the fold is of a causal map on the colour, and right
 abbrev pub IsCausalOf : World → ℕ → Fold → Type 0

@@ -1,9 +1,7 @@
 -- What a causal map's fold was fed, it was fed in every later world.
-use Rattle.std.proofs.Common.{◌≡◌, ℕ, ◌<◌, ◌≤◌, List, [], ◌∷◌, ◌++◌, map, Some, refl, ap, sym, subst, ◌∙◌, inl, inr, arith}
-use Rattle.std.specs.Prelude.{slice_get}
+use Rattle.std.proofs.Common.{◌≡◌, ℕ, ◌<◌, List, [], ◌∷◌, ◌++◌, map, refl, ap, sym, subst, ◌∙◌, inl, inr, arith}
 use Rattle.std.specs.List.Sorted.{IsPermutation}
 use mathlib.Core.List.{IsPrefix}
-use Rattle.log_node.specs.declared.ids.Counts.{Counts}
 use Rattle.log_node.specs.declared.node.Shape.{Shape}
 use Rattle.log_node.specs.Vectors.{at, IsWithin}
 use Rattle.log_node.proofs.CallerLemmas.{within-at, within-trans}
@@ -15,16 +13,15 @@ use Rattle.col_core.specs.Legal.{IsColumnHistory}
 use Rattle.col_core.specs.Log.{IsLater}
 use Rattle.col_core.specs.PlayOrder.{Place}
 use Rattle.col_core.proofs.CallerLemmas.{cut_grows, dates_longer, later, In}
-use Rattle.object_fold.specs.Causal.{ChainNode}
 use Rattle.world_laws.specs.declared.steps.Step.{Step}
 use Rattle.world_laws.specs.Worlds.{World, run_steps}
 use Rattle.world_laws.specs.Laws.{IsReached, log_of}
 use Rattle.world_laws.proofs.CallerLemmas.{Held, Told, held, told, log_grows, run_grows, run_reached}
 use Rattle.lawful_run.specs.Objects.{places_within}
 use Rattle.lawful_run.proofs.CallerLemmas.{prefix_get}
-use Rattle.script_meaning.proofs.CallerLemmas.{AtPlace, causal_node_is, place_within}
+use Rattle.script_meaning.proofs.CallerLemmas.{causal_node_is, place_within}
 use Rattle.script_in_order.specs.declared.causal.CausalFold.{CausalFold}
-use Rattle.script_in_order.specs.CausalFolds.{held_node, held_nodes, cut_of, IsCausalFold}
+use Rattle.script_in_order.specs.CausalFolds.{held_node, cut_of, IsCausalFold}
 use Rattle.script_in_order.proofs.CausalSteps.{held_at, is_held, node_there}
 
 same_maps : {A B : Type 0} (f g : A → B) (xs : List A) → ((x : A) → In x xs → f x ≡ g x) → map f xs ≡ map g xs

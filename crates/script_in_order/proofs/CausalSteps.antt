@@ -1,11 +1,11 @@
 -- Nodes fed to a causal map's fold: which comes next, what the fold then has, and what it answers in the end.
-use Rattle.std.proofs.Common.{◌≡◌, ◌⊎◌, inl, inr, ℕ, zero, suc, ◌+◌, ◌-◌, ◌<◌, ◌≤◌, min, Bool, true, false, List, [], ◌∷◌, ◌++◌, length, map, drop, Option, Some, None, cond, refl, ap, sym, subst, ◌∙◌, arith, append_assoc, eq-eqb, ne_eqb}
-use Rattle.std.specs.Prelude.{◌≢◌, nat_lt, ◌==◌, ◌&&◌, slice_get, slice_index_or, unwrap_or}
-use Rattle.std.specs.List.{count_by, filter, flat_map, range_with_len, sum_by}
+use Rattle.std.proofs.Common.{◌≡◌, inl, inr, ℕ, zero, suc, ◌+◌, ◌-◌, ◌<◌, ◌≤◌, min, Bool, true, false, List, [], ◌∷◌, ◌++◌, length, map, drop, Option, Some, None, cond, refl, ap, sym, subst, ◌∙◌, arith, append_assoc, eq-eqb, ne_eqb}
+use Rattle.std.specs.Prelude.{◌≢◌, nat_lt, ◌==◌, ◌&&◌, slice_get, unwrap_or}
+use Rattle.std.specs.List.{count_by, range_with_len}
 use Rattle.std.specs.List.Sorted.{IsPermutation}
 use Rattle.std.proofs.lemmas.Bool.{and_parts, and_from, cases_lt, lt-ltb, ltb-true, eqb-true}
 use Rattle.std.proofs.lemmas.List.{map-append}
-use Rattle.std.proofs.lemmas.List.Sorted.{IsPermutation-refl, IsPermutation-sym, IsPermutation-trans, IsPermutation-cons, IsPermutation-to_front, IsPermutation-middle, IsPermutation-append_right, IsPermutation-map}
+use Rattle.std.proofs.lemmas.List.Sorted.{IsPermutation-sym, IsPermutation-trans, IsPermutation-cons, IsPermutation-to_front, IsPermutation-middle, IsPermutation-append_right, IsPermutation-map}
 use Rattle.std.proofs.lemmas.List.FromFn.{length-range_with_len}
 use Rattle.std.proofs.lemmas.List.Sums.{sum_by_push, length-filter, count_by-le-length}
 use Rattle.log_node.specs.declared.ids.Colours.{Colours}
@@ -14,15 +14,14 @@ use Rattle.log_node.specs.declared.ids.Key.{Key}
 use Rattle.log_node.specs.declared.node.Head.{Head}
 use Rattle.log_node.specs.declared.node.Node.{Node}
 use Rattle.log_node.specs.Sets.{has, members}
-use Rattle.log_node.specs.Vectors.{at, vector, zeros, least, is_within, IsWithin, one_more, all_regions}
+use Rattle.log_node.specs.Vectors.{at, vector, zeros, least, is_within, IsWithin, one_more}
 use Rattle.log_node.specs.Reach.{Chains, Reachable, nothing, next}
-use Rattle.log_node.proofs.CallerLemmas.{each_region, same_vectors, at-vector, at-one_more, at-zeros, if_own, if_other, within, within-at, within-refl, within-trans, within-one_more, within-zeros}
+use Rattle.log_node.proofs.CallerLemmas.{each_region, same_vectors, at-vector, at-one_more, within, within-at, within-refl, within-trans, within-one_more, within-zeros}
 use Rattle.col_core.specs.Computed.{dated}
 use Rattle.col_core.specs.History.{line}
 use Rattle.col_core.specs.PlayOrder.{Place}
 use Rattle.col_core.specs.Rows.{wants_of, node_wants}
 use Rattle.col_core.proofs.CallerLemmas.{if_true, if_false, by_test, cut-is_greatest, reached_within, apart}
-use Rattle.object_fold.specs.declared.causal_map.CausalMap.{CausalMap}
 use Rattle.object_fold.specs.Causal.{ChainNode, IsCausalAnswer}
 use Rattle.object_fold.specs.CausalStates.{IsCausalMap}
 use Rattle.object_fold.specs.Pasts.{IsNext}

@@ -1,5 +1,5 @@
 -- The columns of all regions, shown one after another.
-use Rattle.std.proofs.Common.{◌≡◌, ◌∙◌, refl, ap, sym, subst, ℕ, suc, zero, ◌+◌, ◌<◌, List, [], ◌∷◌, ◌++◌, Some, length}
+use Rattle.std.proofs.Common.{◌≡◌, ◌∙◌, refl, ap, sym, subst, ℕ, suc, ◌+◌, ◌<◌, List, [], ◌∷◌, ◌++◌, Some, length}
 use Rattle.std.proofs.Common.{map, get_or, arith, zero-add}
 use Rattle.std.specs.Prelude.{slice_get, slice_index_or}
 use Rattle.std.specs.List.{All, flat_map, range_with_len, enumerate_from}
@@ -13,7 +13,7 @@ use Rattle.column.specs.Columns.{ColumnState}
 use Rattle.log_node.specs.declared.node.Shape.{Shape}
 use Rattle.world_laws.specs.Worlds.{World}
 use Rattle.world_code.specs.WorldView.{WorldView, no_column, IsPlaced, IsWhole, column_at, world_of}
-use Rattle.closing_report.specs.Columns.{column_shown, AreOfRegion}
+use Rattle.closing_report.specs.Columns.{column_shown}
 use Rattle.script_meaning.specs.Meaning.{column_report, report_of}
 use Rattle.script_in_order.specs.Runs.{RunView, state_of}
 use Rattle.script_in_order.specs.Reports.{client_shown, columns_shown, region_rows_shown}

@@ -1,9 +1,6 @@
 -- A commit, by what its append and its read did.
-use Rattle.std.proofs.Common.{◌≡◌, ℕ, Bool, true, false, List, [], ◌∷◌, ◌++◌, map, Option, Some, None, refl, ap, sym, subst, ◌∙◌}
-use Rattle.std.specs.Prelude.{if◌then◌else◌}
+use Rattle.std.proofs.Common.{◌≡◌, ℕ, Bool, List, [], ◌∷◌, ◌++◌, map, Option, Some, None, refl, ap, sym, ◌∙◌}
 use Rattle.log_node.specs.declared.ids.Colours.{Colours}
-use Rattle.log_node.specs.declared.ids.Key.{Key}
-use Rattle.log_node.specs.declared.ids.Id.{Id}
 use Rattle.log_node.specs.declared.ids.Row.{Row}
 use Rattle.log_node.specs.declared.forms.Pair.{Pair}
 use Rattle.log_node.specs.declared.forms.Version.{Version}
@@ -27,7 +24,7 @@ use Rattle.script_meaning.specs.States.{State, Grants, answered, kind_in}
 use Rattle.script_meaning.specs.Helping.{all_cleared}
 use Rattle.script_meaning.specs.Appends.{Follows, appended, appended_so, appended_one_so, appended_by_so, appended_several_so, answered_stood, is_full, append_steps, with_single, point_in, ended_colour}
 use Rattle.script_meaning.specs.Objects.{shard_set}
-use Rattle.script_meaning.specs.Transactions.{version_keys, read_behind, committed_on, committed_by}
+use Rattle.script_meaning.specs.Transactions.{version_keys, read_behind, committed_by}
 use Rattle.script_meaning.proofs.CallerLemmas.{single_same, all_cleared_same}
 use Rattle.script_in_order.specs.Doing.{DoneBy, with_replies}
 use Rattle.script_in_order.specs.Transacting.{Rules}

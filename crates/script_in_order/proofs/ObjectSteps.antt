@@ -1,7 +1,7 @@
 -- What commands of objects append, by the calls that do it.
 use Rattle.std.proofs.Common.{◌≡◌, inl, inr, ℕ, zero, suc, ◌<◌, ◌≤◌, ◌^◌, Bool, true, List, [], ◌∷◌, length, map, take, ◌++◌, ◌+◌, ◌*◌, Option, Some, Result, get_or, refl, ap, sym, subst, ◌∙◌, arith, bit_or}
 use Rattle.std.specs.Int.Bits.{or_zero_l}
-use Rattle.std.specs.Prelude.{IfOk, ◌%◌, slice_get}
+use Rattle.std.specs.Prelude.{IfOk, ◌%◌}
 use Rattle.std.specs.List.{All}
 use Rattle.std.specs.Option.{option_map}
 use Rattle.std.specs.declared.alloc.AllocError.{AllocError}

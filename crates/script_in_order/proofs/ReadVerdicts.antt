@@ -1,6 +1,6 @@
 -- Nodes that are folded for a transaction.
-use Rattle.std.proofs.Common.{◌≡◌, ℕ, zero, suc, ◌+◌, ◌<◌, ◌≤◌, Bool, true, false, List, [], ◌∷◌, ◌++◌, length, map, take, get_or, Option, Some, None, refl, ap, sym, subst, ◌∙◌, inl, inr, arith}
-use Rattle.std.specs.Prelude.{unwrap_or, not, if◌then◌else◌}
+use Rattle.std.proofs.Common.{◌≡◌, ℕ, zero, suc, ◌+◌, ◌<◌, Bool, true, false, List, [], ◌∷◌, ◌++◌, length, map, take, get_or, Option, Some, None, refl, ap, sym, subst, ◌∙◌, arith}
+use Rattle.std.specs.Prelude.{unwrap_or, not}
 use Rattle.std.specs.List.{All, Contains, find, prefix_len}
 use Rattle.std.proofs.lemmas.List.{map-append, take_more}
 use Rattle.log_node.specs.declared.ids.Key.{Key}
@@ -10,9 +10,9 @@ use Rattle.object_form.specs.Readings.{form_of}
 use Rattle.object_fold.specs.declared.verdict.Verdict.{Verdict}
 use Rattle.object_fold.specs.declared.verdict.Verdict.TheVariants.{Committed}
 use Rattle.object_fold.specs.Nodes.{ObjectNode, nodes_before}
-use Rattle.object_fold.specs.Transactions.{writes_after, form_verdict, verdict_among, verdict_of}
+use Rattle.object_fold.specs.Transactions.{writes_after, form_verdict, verdict_among}
 use Rattle.col_core.specs.History.{line}
-use Rattle.col_core.proofs.CallerLemmas.{In, choice, if_true, if_false}
+use Rattle.col_core.proofs.CallerLemmas.{if_true, if_false}
 use Rattle.world_laws.specs.Worlds.{World, home_of, home_history}
 use Rattle.world_laws.specs.Laws.{IsReached}
 use Rattle.world_laws.proofs.CallerLemmas.{in_contains, contains_in}

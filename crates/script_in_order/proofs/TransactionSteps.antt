@@ -22,7 +22,6 @@ use Rattle.log_node.specs.declared.forms.Form.{Form}
 use Rattle.log_node.specs.declared.forms.Form.TheVariants as forms
 use Rattle.object_form.specs.Forms.{AreVersions, form_text}
 use Rattle.object_fold.specs.declared.verdict.Verdict.{Verdict}
-use Rattle.object_fold.specs.Nodes.{ObjectNode}
 use Rattle.object_fold.specs.Transactions.{value_of, writes_after, versions_after}
 use Rattle.col_core.specs.Keeping.{updated}
 use Rattle.col_core.specs.History.{entry_key}
@@ -43,7 +42,7 @@ use Rattle.script_meaning.specs.Appends.{appended}
 use Rattle.script_meaning.specs.Objects.{caller_in, refusing_home, shard_set}
 use Rattle.script_meaning.specs.Dequeues.{object_at}
 use Rattle.script_meaning.specs.Gets.{key_answers}
-use Rattle.script_meaning.specs.Stamped.{ReadEnd, Whole, Refused, Unraised, StampedRead, stamped_read, read_stamp, raised, read_after_raises, ended_so, Progress}
+use Rattle.script_meaning.specs.Stamped.{ReadEnd, Whole, Refused, Unraised, StampedRead, stamped_read, ended_so}
 use Rattle.script_meaning.specs.Transactions.{found_by, read_in, ruled, ruled_by, verdict_in, version_keys, committed_by}
 use Rattle.script_meaning.specs.Meaning.{done, done_one, done_from}
 use Rattle.script_in_order.specs.Doing.{DoneBy, transaction_of, with_replies}
@@ -404,44 +403,44 @@ module _ (objects : List Object) (command : Command) (object : ℕ) (pairs : Lis
   module _ (w v : World) (given : Answer) (set : Colours) (form : Form) (is : set ≡ its_set objects object reads pairs)
       (same : form ≡ forms.Transaction reads pairs)
       (d : DoneBy (λ grants state. appended grants state command set (form_text form) (members set)) command w v given [])
-      where
-    shape_after : v.shape ≡ w.shape
-    shape_after =
-        let to = subst (RunsTo w) (ap (λ (s : State). s.world) (d.is (unanswered w)))
-        (append_to d.grants (with_replies w (unanswered w)) command set (form_text form) (members set)) in
-        ap (λ (x : World). x.shape) (sym to.run) ∙ (run_grows w to.steps).shape
+    where
+      shape_after : v.shape ≡ w.shape
+      shape_after =
+          let to = subst (RunsTo w) (ap (λ (s : State). s.world) (d.is (unanswered w)))
+          (append_to d.grants (with_replies w (unanswered w)) command set (form_text form) (members set)) in
+          ap (λ (x : World). x.shape) (sym to.run) ∙ (run_grows w to.steps).shape
 
-    its_append : DoneBy (λ grants state. appended grants state command (its_set objects object reads pairs)
-        (form_text (forms.Transaction reads pairs)) (members (its_set objects object reads pairs))) command w v given []
-    its_append = form_done command w v (Ok given) set (its_set objects object reads pairs) form
-        (forms.Transaction reads pairs) is same d
+      its_append : DoneBy (λ grants state. appended grants state command (its_set objects object reads pairs)
+          (form_text (forms.Transaction reads pairs)) (members (its_set objects object reads pairs))) command w v given []
+      its_append = form_done command w v (Ok given) set (its_set objects object reads pairs) form
+          (forms.Transaction reads pairs) is same d
 
-    pub client_after : command.client < length w.shape.homes → command.client < length v.shape.homes
-    client_after = subst (λ (s : Shape). command.client < length s.homes) (sym shape_after)
+      pub client_after : command.client < length w.shape.homes → command.client < length v.shape.homes
+      client_after = subst (λ (s : Shape). command.client < length s.homes) (sym shape_after)
 
-    pub below_after : (cs : Colours) → AreBelow w.shape.colours cs → AreBelow v.shape.colours cs
-    below_after cs = subst (λ (s : Shape). AreBelow s.colours cs) (sym shape_after)
+      pub below_after : (cs : Colours) → AreBelow w.shape.colours cs → AreBelow v.shape.colours cs
+      below_after cs = subst (λ (s : Shape). AreBelow s.colours cs) (sym shape_after)
 
-    -- where its node stands, the read follows
-    pub stood_ruled : (new : World) (answer : Answer) (stamp : ℕ) (row : Option ℕ) (points : List PointPiece)
-        (colours : List ℕ) (id : Id) → given ≡ answers.Stood stamp row points → colours ≡ its_colours objects object
-        → id ≡ next_id w command.client → Rules command.client colours (entry_key stamp id) row points v new answer
-        → DoneBy (λ grants state. committed_by objects grants state command object pairs (Some reads)) command w new
-        answer []
-    stood_ruled new answer stamp row points colours id there cs own r =
-        commit_ruled objects command object pairs reads w v new stamp row points answer
-        (subst (λ (a : Answer). DoneBy (λ grants state. appended grants state command (its_set objects object reads pairs)
-        (form_text (forms.Transaction reads pairs)) (members (its_set objects object reads pairs))) command w v a [])
-        there its_append)
-        (subst (λ (l : List ℕ). Rules command.client l (entry_key stamp (next_id w command.client)) row points v new answer)
-        cs
-        (subst (λ (i : Id). Rules command.client colours (entry_key stamp i) row points v new answer) own r))
+      -- where its node stands, the read follows
+      pub stood_ruled : (new : World) (answer : Answer) (stamp : ℕ) (row : Option ℕ) (points : List PointPiece)
+          (colours : List ℕ) (id : Id) → given ≡ answers.Stood stamp row points → colours ≡ its_colours objects object
+          → id ≡ next_id w command.client → Rules command.client colours (entry_key stamp id) row points v new answer
+          → DoneBy (λ grants state. committed_by objects grants state command object pairs (Some reads)) command w new
+          answer []
+      stood_ruled new answer stamp row points colours id there cs own r =
+          commit_ruled objects command object pairs reads w v new stamp row points answer
+          (subst (λ (a : Answer). DoneBy (λ grants state. appended grants state command (its_set objects object reads pairs)
+          (form_text (forms.Transaction reads pairs)) (members (its_set objects object reads pairs))) command w v a [])
+          there its_append)
+          (subst (λ (l : List ℕ). Rules command.client l (entry_key stamp (next_id w command.client)) row points v new answer)
+          cs
+          (subst (λ (i : Id). Rules command.client colours (entry_key stamp i) row points v new answer) own r))
 
-    -- any other answer is the commit's
-    pub not_stood : ((s : ℕ) (r : Option ℕ) (p : List PointPiece) → given ≡ answers.Stood s r p → ⊥)
-        → DoneBy (λ grants state. committed_by objects grants state command object pairs (Some reads)) command w v
-        given []
-    not_stood other = commit_refused objects command object pairs reads w v given other its_append
+      -- any other answer is the commit's
+      pub not_stood : ((s : ℕ) (r : Option ℕ) (p : List PointPiece) → given ≡ answers.Stood s r p → ⊥)
+          → DoneBy (λ grants state. committed_by objects grants state command object pairs (Some reads)) command w v
+          given []
+      not_stood other = commit_refused objects command object pairs reads w v given other its_append
 
 -- a commit by what was taken
 pub commit_taken : (objects : List Object) (command : Command) (object : ℕ) (pairs : List Pair)

@@ -23,9 +23,9 @@ impl Model for Replies {
     ghost Value = { RepliesView };
 
     ghost view = { λ a. record {
-        lines = a.items.items;
-        room = vec_capacity a.items - vec_len a.items;
-        reads = a.reads.items;
+      lines = a.items.items;
+      room = vec_capacity a.items - vec_len a.items;
+      reads = a.reads.items;
     } };
 }
 

@@ -27,7 +27,9 @@ use crate::folds::text_of;
 use crate::homes::refusing_home;
 use crate::object_appends::{append_form, copied_pairs, shard};
 use crate::stamped::{Stamped, keys_read, stamped_read};
-use log_node::{Colours, Form, Key, Keys, ListOf, MAX_COLOURS, Pair, Pairs, Text, Version, Versions};
+use log_node::{
+    Colours, Form, Key, Keys, ListOf, MAX_COLOURS, Pair, Pairs, Text, Version, Versions,
+};
 use object_fold::{TxState, Verdict};
 use report_text::{Answer, KeyAnswer, PointPiece, Points, RaisePiece, SyncPiece};
 use script_text::{Command, Kind, Object, What};
@@ -138,7 +140,11 @@ fn value(alloc: Global, state: &TxState, key: &[u8]) -> Result<Option<Text>, All
 }
 
 // Keys with their values in a transactional map.
-fn key_answers(alloc: Global, state: &TxState, keys: &[Text]) -> Result<ListOf<KeyAnswer>, AllocError>
+fn key_answers(
+    alloc: Global,
+    state: &TxState,
+    keys: &[Text],
+) -> Result<ListOf<KeyAnswer>, AllocError>
     ensures { (nodes : List ObjectNode) → IsTxState state.now nodes
         → IfOk result (λ answers. answers ≡ key_answers (value_of (writes_after nodes)) keys.now) }
 {

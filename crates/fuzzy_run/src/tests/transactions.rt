@@ -202,7 +202,7 @@ client b
 12 append ok 3 x!2@2
 13 append ok 4 x!3@3
 14 commit committed 5 row 0 x!4@4 y!2@1 at 5 x?6 y?4 x?6/5 y?4/2
-row r b.2 b.2 x=5 y=5 final 5
+row r b.0 b.2 x=5 y=5 final 5
 column r x
 0 a single a.0 floor 0 wants 0 stamp 1
 1 a single a.1 floor 1 wants 0 stamp 2

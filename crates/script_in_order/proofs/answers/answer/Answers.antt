@@ -10,7 +10,6 @@ use Rattle.world_code.specs.WorldView.{world_of}
 use Rattle.script_meaning.specs.States.{is_built}
 use Rattle.script_meaning.specs.Appends.{appended, stopped}
 use Rattle.script_meaning.specs.Moves.{synced, pulled, trimmed}
-use Rattle.script_meaning.specs.Dequeues.{dequeued}
 use Rattle.script_meaning.specs.Stamped.{scanned}
 use Rattle.script_meaning.specs.Objects.{put_into, deleted_from, put_all_into, enqueued_in}
 use Rattle.script_in_order.specs.Doing.{DoneBy, DoesAtHome}

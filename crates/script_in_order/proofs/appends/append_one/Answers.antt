@@ -1,4 +1,4 @@
-use Rattle.std.proofs.Common.{◌≡◌, ◌∙◌, ◌<◌, [], ◌∷◌, ◌++◌, List, None, ap, sym, subst, ℕ, length}
+use Rattle.std.proofs.Common.{◌≡◌, ◌∙◌, ◌<◌, [], ◌∷◌, List, None, ap, sym, subst, ℕ, length}
 use Rattle.log_node.specs.declared.ids.Id.{Id}
 use Rattle.log_node.specs.declared.node.Shape.{Shape}
 use Rattle.report_text.specs.declared.report.Answer.TheVariants as answers
@@ -6,8 +6,6 @@ use Rattle.world_laws.specs.declared.steps.Step.TheVariants.{Single}
 use Rattle.world_laws.specs.Laws.{Always, LogGrows, IsFinal}
 use Rattle.world_laws.specs.Worlds.{World, home_history, next_id, after, reply}
 use Rattle.world_laws.specs.declared.steps.Reply.TheVariants.{Event}
-use Rattle.log_node.specs.declared.node.At.TheVariants as ats
-use Rattle.report_text.specs.declared.report.PointPiece.{PointPiece}
 use Rattle.col_core.specs.History.{entry_key}
 use Rattle.script_in_order.specs.Helps.{Helps}
 use Rattle.world_laws.proofs.CallerLemmas.{of_reached, after_reached}

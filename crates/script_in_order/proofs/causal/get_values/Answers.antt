@@ -1,4 +1,4 @@
-use Rattle.std.proofs.Common.{◌≡◌, ℕ, [], ◌∷◌, ◌∙◌, ap, sym}
+use Rattle.std.proofs.Common.{ℕ, [], ◌∷◌, ◌∙◌, ap, sym}
 use Rattle.world_laws.specs.declared.steps.Step.TheVariants.{Play}
 use Rattle.world_code.specs.WorldView.{world_of}
 use Rattle.script_meaning.specs.CausalGets.{causal_values}

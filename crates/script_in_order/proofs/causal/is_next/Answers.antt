@@ -1,9 +1,8 @@
-use Rattle.std.proofs.Common.{◌≡◌, ◌<◌, ◌≤◌, ℕ, ◌∙◌, ap, subst, arith}
+use Rattle.std.proofs.Common.{◌≡◌, ◌<◌, ℕ, ◌∙◌, ap, subst, arith}
 use Rattle.log_node.specs.declared.ids.Counts.{Counts}
 use Rattle.log_node.specs.declared.node.Node.{Node}
 use Rattle.log_node.specs.Vectors.{at, vector, is_within}
 use Rattle.col_core.specs.Rows.{node_wants}
-use Rattle.object_fold.specs.Causal.{ChainNode}
 use Rattle.world_code.specs.WorldView.{world_of}
 use Rattle.script_in_order.specs.CausalFolds.{place_at, held_node, cut_of}
 use Rattle.script_in_order.proofs.CausalSteps.{is_held, is_next_by}

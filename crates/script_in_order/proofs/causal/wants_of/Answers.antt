@@ -1,9 +1,9 @@
-use Rattle.std.proofs.Common.{◌≡◌, ◌≤◌, ℕ, ◌+◌, List, ◌∷◌, Option, length, drop, ap, sym, subst, ◌∙◌, arith}
+use Rattle.std.proofs.Common.{◌≡◌, ◌≤◌, ℕ, ◌+◌, List, Option, length, drop, ap, sym, subst, ◌∙◌, arith}
 use Rattle.std.specs.Prelude.{unwrap_or}
 use Rattle.log_node.specs.declared.ids.Counts.{Counts}
 use Rattle.log_node.specs.Sets.{members}
 use Rattle.log_node.specs.Vectors.{zeros}
-use Rattle.col_core.specs.Rows.{node_wants, wants_of}
+use Rattle.col_core.specs.Rows.{wants_of}
 use Rattle.script_in_order.proofs.CausalSteps.{few_members, wants_here, wants_skip}
 use Rattle.script_in_order.proofs.causal.wants_of.Goals as goal
 

@@ -1,6 +1,5 @@
-use Rattle.std.proofs.Common.{◌≡◌, ◌<◌, ◌≤◌, ℕ, refl, ap, sym, subst, arith}
+use Rattle.std.proofs.Common.{◌<◌, ap, subst, arith}
 use Rattle.log_node.specs.declared.node.Shape.{Shape}
-use Rattle.script_text.specs.declared.script.Kind.{Kind}
 use Rattle.script_text.specs.Fitting.{IsKindWithin}
 use Rattle.script_in_order.proofs.folds.open_fold.Goals as goal
 

@@ -1,4 +1,4 @@
-use Rattle.std.proofs.Common.{◌≡◌, ℕ, List, [], Option, Some, sym, subst}
+use Rattle.std.proofs.Common.{◌≡◌, ℕ, [], Option, Some, sym, subst}
 use Rattle.std.specs.Prelude.{IfOk}
 use Rattle.report_text.specs.declared.report.Answer.{Answer}
 use Rattle.script_text.specs.declared.script.Kind.{Kind}

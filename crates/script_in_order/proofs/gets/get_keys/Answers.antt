@@ -1,5 +1,4 @@
-use Rattle.std.proofs.Common.{◌≡◌, ◌∙◌, ℕ, List, [], ◌∷◌, Some, refl, ap, sym, subst, get_or, length}
-use Rattle.log_node.specs.declared.ids.Colours.{Colours}
+use Rattle.std.proofs.Common.{◌∙◌, ℕ, List, [], Some, refl, ap, sym, subst, get_or, length}
 use Rattle.log_node.specs.Sets.{members}
 use Rattle.col_core.specs.History.{line}
 use Rattle.playback.specs.Merging.{up_to}

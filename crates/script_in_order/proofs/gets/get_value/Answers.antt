@@ -1,6 +1,5 @@
-use Rattle.std.proofs.Common.{◌≡◌, ◌≤◌, ◌∙◌, ℕ, List, [], ◌∷◌, Some, length, refl, ap, sym, subst, arith}
+use Rattle.std.proofs.Common.{◌≤◌, ◌∙◌, ℕ, List, [], ◌∷◌, Some, refl, ap, sym, subst, arith}
 use Rattle.log_node.specs.Vectors.{at}
-use Rattle.col_core.specs.History.{line}
 use Rattle.object_fold.specs.Nodes.{ObjectNode}
 use Rattle.object_fold.specs.Maps.{shard_value}
 use Rattle.world_laws.specs.declared.steps.Step.TheVariants.{Play}
@@ -10,7 +9,6 @@ use Rattle.world_laws.proofs.CallerLemmas.{of_reached}
 use Rattle.script_text.specs.declared.script.Kind.TheVariants as kinds
 use Rattle.report_text.specs.declared.report.SyncPiece.{SyncPiece}
 use Rattle.world_code.specs.WorldView.{world_of}
-use Rattle.script_meaning.specs.States.{kind_in}
 use Rattle.script_meaning.specs.Dequeues.{first_nodes}
 use Rattle.script_in_order.proofs.FoldsKept.{folds_stay}
 use Rattle.script_in_order.proofs.GetSteps.{get_trimmed, get_done, shard_is, shard_low, played_here, played_nodes, one_within}

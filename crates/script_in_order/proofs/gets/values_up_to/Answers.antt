@@ -1,8 +1,7 @@
-use Rattle.std.proofs.Common.{◌≡◌, ◌≤◌, ◌∙◌, ℕ, Option, Some, length, take, ap, sym, subst, arith}
+use Rattle.std.proofs.Common.{◌≡◌, ◌≤◌, ◌∙◌, ℕ, Option, Some, length, ap, sym, subst, arith}
 use Rattle.col_core.specs.History.{line}
-use Rattle.col_core.proofs.CallerLemmas.{contains_in}
 use Rattle.playback.specs.Merging.{up_to}
-use Rattle.object_fold.specs.Maps.{Value, shard_value}
+use Rattle.object_fold.specs.Maps.{shard_value}
 use Rattle.world_laws.specs.Worlds.{home_of, home_history}
 use Rattle.script_text.specs.declared.script.Kind.{Kind}
 use Rattle.script_text.specs.declared.script.Kind.TheVariants as kinds

@@ -1,4 +1,4 @@
-use Rattle.std.proofs.Common.{◌≡◌, ℕ, length, take}
+use Rattle.std.proofs.Common.{◌≡◌, length, take}
 use Rattle.col_core.specs.History.{line}
 use Rattle.playback.specs.Merging.{up_to}
 use Rattle.world_laws.specs.Worlds.{home_history}

@@ -1,12 +1,8 @@
-use Rattle.std.proofs.Common.{◌∙◌, sym, List}
-use Rattle.std.proofs.lemmas.Result.{IfOk-weaker}
-use Rattle.log_node.specs.Seen.{PlacedNode}
-use Rattle.report_text.specs.declared.report.Answer.{Answer}
+use Rattle.std.proofs.Common.{◌∙◌, sym}
 use Rattle.report_text.specs.declared.report.Answer.TheVariants as answers
 use Rattle.world_code.specs.WorldView.{world_of}
 use Rattle.script_meaning.specs.Meaning.{done}
-use Rattle.script_in_order.specs.Doing.{Does, DoesAtHome}
-use Rattle.script_in_order.proofs.CommandKinds.{does_at_home, does_not_at_home, with_nodes}
+use Rattle.script_in_order.proofs.CommandKinds.{does_not_at_home, with_nodes}
 use Rattle.script_in_order.proofs.GetSteps.{folded_on}
 use Rattle.script_in_order.proofs.homes.answer_at_home.Goals as goal
 

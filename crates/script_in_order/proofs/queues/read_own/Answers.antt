@@ -1,9 +1,8 @@
-use Rattle.std.proofs.Common.{◌≡◌, ◌≤◌, ◌∙◌, ℕ, [], ◌∷◌, Some, length, ap, sym, subst}
+use Rattle.std.proofs.Common.{◌≤◌, ◌∙◌, ℕ, [], ◌∷◌, Some, length, ap, sym, subst}
 use Rattle.col_core.specs.History.{line}
 use Rattle.world_laws.specs.declared.steps.Step.TheVariants.{Play}
 use Rattle.world_code.specs.WorldView.{world_of}
 use Rattle.script_text.specs.declared.script.Kind.TheVariants as kinds
-use Rattle.script_meaning.specs.States.{kind_in}
 use Rattle.script_in_order.proofs.FoldsKept.{folds_stay}
 use Rattle.script_in_order.proofs.queues.read_own.Goals as goal
 

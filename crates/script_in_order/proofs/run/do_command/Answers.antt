@@ -1,4 +1,4 @@
-use Rattle.std.proofs.Common.{◌≡◌, ◌∙◌, ◌<◌, sym, subst, ap, set, length}
+use Rattle.std.proofs.Common.{◌∙◌, ◌<◌, sym, subst, ap, set, length}
 use Rattle.world_code.specs.WorldView.{world_of}
 use Rattle.script_in_order.specs.Runs.{RepliesView, IsDone, with_reply, no_replies, read_at}
 use Rattle.script_in_order.specs.Transacting.{AreFit, Transacts}

@@ -1,4 +1,4 @@
-use Rattle.std.proofs.Common.{◌≡◌, ◌∙◌, ℕ, List, ap, sym, subst, arith, Vec, Global}
+use Rattle.std.proofs.Common.{◌∙◌, List, ap, sym, subst, arith, Vec, Global}
 use Rattle.log_node.specs.declared.ids.Key.{Key}
 use Rattle.playback.specs.Merging.{merged, up_to, AreRising}
 use Rattle.world_code.specs.WorldView.{world_of}

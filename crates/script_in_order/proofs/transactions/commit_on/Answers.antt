@@ -1,11 +1,10 @@
-use Rattle.std.proofs.Common.{◌≡◌, ◌∙◌, get_or, ap, sym, subst}
+use Rattle.std.proofs.Common.{◌∙◌, get_or, ap, sym, subst}
 use Rattle.log_node.specs.declared.forms.Form.TheVariants as forms
 use Rattle.log_node.specs.Sets.{members}
 use Rattle.object_form.specs.Forms.{IsForm}
-use Rattle.script_text.specs.Fitting.{AreBelow, is_tx}
+use Rattle.script_text.specs.Fitting.{is_tx}
 use Rattle.world_code.specs.WorldView.{world_of}
 use Rattle.script_meaning.proofs.CallerLemmas.{pairs_are}
-use Rattle.script_in_order.proofs.Committing.{its_set}
 use Rattle.script_in_order.proofs.ObjectSteps.{kind_is, small}
 use Rattle.script_in_order.proofs.TransactionSteps.{tx_is, tx_members, tx_low, tx_some, set_made, its_some, its_low, client_after, below_after, stood_ruled, not_stood}
 use Rattle.script_in_order.proofs.transactions.commit_on.Goals as goal

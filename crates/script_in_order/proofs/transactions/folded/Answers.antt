@@ -1,4 +1,4 @@
-use Rattle.std.proofs.Common.{◌∙◌, List, refl, ap, sym, subst, map, take}
+use Rattle.std.proofs.Common.{List, refl, sym, subst, map, take}
 use Rattle.std.proofs.lemmas.List.{take_all}
 use Rattle.log_node.specs.declared.ids.Key.{Key}
 use Rattle.object_fold.specs.Nodes.{ObjectNode}
@@ -19,7 +19,7 @@ loop-key-preserved c =
     subst (λ (ns : List ObjectNode). IsTxState c.feed.new.self ns)
     (one_more w c.args.keys.now c.loop-key.key-index (key_at c.args.keys.now c.loop-key.key-index) c.loop-key-test.true (is_there c.args.keys.now c.loop-key.key-index c.loop-key-test.true))
     (c.in_ok-_verdict.ensures.ok (map (object_at w) (take c.loop-key.key-index c.args.keys.now))
-          (object_at w (key_at c.args.keys.now c.loop-key.key-index)) refl (sym c.text_of.ensures) c.loop-key.invariant)
+    (object_at w (key_at c.args.keys.now c.loop-key.key-index)) refl (sym c.text_of.ensures) c.loop-key.invariant)
 
 pub returns : goal.returns
 returns c =

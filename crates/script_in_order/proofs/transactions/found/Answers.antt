@@ -1,4 +1,4 @@
-use Rattle.std.proofs.Common.{◌≡◌, ◌∙◌, List, ap, sym, subst, map}
+use Rattle.std.proofs.Common.{◌∙◌, List, ap, sym, subst, map}
 use Rattle.log_node.specs.declared.ids.Key.{Key}
 use Rattle.log_node.specs.Sets.{members}
 use Rattle.object_fold.specs.States.{IsTxState}
@@ -24,6 +24,6 @@ returns c =
     let holds = subst (λ (ks : List Key). IsTxState c.in_ok-state.state (map (object_at w) ks))
     (c.as_slice.ensures.value ∙ c.in_ok-read.ensures) c.in_ok-state.ensures in (
       c.in_ok-answers.ensures nodes holds ∙ ap (key_answers (value_of (writes_after (map (object_at w)
-      (keys_read w c.args.client c.args.stamp (members c.args.colours)))))) c.as_slice-2.ensures,
+          (keys_read w c.args.client c.args.stamp (members c.args.colours)))))) c.as_slice-2.ensures,
       c.in_ok-versions.ensures nodes holds,
     )

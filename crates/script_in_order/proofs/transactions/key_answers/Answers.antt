@@ -1,4 +1,4 @@
-use Rattle.std.proofs.Common.{◌∙◌, refl, ap}
+use Rattle.std.proofs.Common.{◌∙◌, ap}
 use Rattle.std.proofs.lemmas.List.{take_all}
 use Rattle.object_fold.specs.Transactions.{value_of, writes_after}
 use Rattle.script_meaning.specs.Gets.{key_answers}

@@ -1,4 +1,4 @@
-use Rattle.std.proofs.Common.{◌≡◌, List, ℕ, sym, subst, get_or, ap, map}
+use Rattle.std.proofs.Common.{◌≡◌, List, ℕ, sym, subst, get_or, map}
 use Rattle.log_node.specs.Sets.{members}
 use Rattle.object_fold.specs.Transactions.{value_of, writes_after, versions_after}
 use Rattle.script_meaning.specs.Dequeues.{object_at}
@@ -7,7 +7,7 @@ use Rattle.log_node.specs.declared.node.Shape.{Shape}
 use Rattle.script_text.specs.Fitting.{AreBelow, is_tx}
 use Rattle.world_laws.specs.Worlds.{World}
 use Rattle.world_code.specs.WorldView.{world_of}
-use Rattle.script_meaning.specs.Stamped.{ReadEnd, keys_read}
+use Rattle.script_meaning.specs.Stamped.{keys_read}
 use Rattle.script_in_order.specs.declared.stamped.Stamped.{Stamped}
 use Rattle.script_in_order.specs.Stamped.{Reads, end_in}
 use Rattle.script_in_order.proofs.Committing.{its_colours}

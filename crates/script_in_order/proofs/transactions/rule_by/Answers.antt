@@ -1,4 +1,3 @@
-use Rattle.std.proofs.Common.{sym, subst}
 use Rattle.log_node.specs.Sets.{members}
 use Rattle.world_code.specs.WorldView.{world_of}
 use Rattle.script_meaning.specs.Stamped.{keys_read}

@@ -1,10 +1,10 @@
-use Rattle.std.proofs.Common.{◌≡◌, ◌<◌, ◌≤◌, ℕ, true, ap, sym, subst, ◌∙◌, refl, arith}
+use Rattle.std.proofs.Common.{◌≡◌, ◌<◌, ℕ, ap, sym, subst, ◌∙◌, arith}
 use Rattle.log_node.specs.declared.ids.Counts.{Counts}
 use Rattle.log_node.specs.Vectors.{at}
 use Rattle.column.specs.Columns.{ColumnState, cut_of as column_cut}
 use Rattle.world_laws.specs.Worlds.{cut_after}
 use Rattle.world_code.specs.WorldView.{world_of, column_at}
-use Rattle.script_in_order.specs.CausalFolds.{cut_of, is_next}
+use Rattle.script_in_order.specs.CausalFolds.{cut_of}
 use Rattle.script_in_order.proofs.CausalSteps.{below, fewer_left, left_of, none_is_next}
 use Rattle.script_in_order.proofs.causal.CausalFold.feed_all.Goals as goal
 

@@ -1,7 +1,7 @@
-use Rattle.std.proofs.Common.{◌≡◌, ◌+◌, ◌-◌}
+use Rattle.std.proofs.Common.{◌+◌, ◌-◌}
 use Rattle.log_node.specs.Vectors.{at}
 use Rattle.world_code.specs.WorldView.{world_of}
-use Rattle.script_in_order.specs.CausalFolds.{cut_of, IsCausalFold}
+use Rattle.script_in_order.specs.CausalFolds.{IsCausalFold}
 use Rattle.script_in_order.proofs.causal.CausalFold.feed_all.Given as goal
 
 -- the fold is right after each node

@@ -1,5 +1,4 @@
 use Rattle.std.proofs.Common.{◌≡◌, ℕ, List, Some, get_or, set, refl, ap, sym, subst, ◌∙◌}
-use Rattle.std.specs.Prelude.{slice_get}
 use Rattle.world_laws.specs.Worlds.{World}
 use Rattle.world_code.specs.WorldView.{world_of}
 use Rattle.script_text.specs.declared.script.Object.{Object}

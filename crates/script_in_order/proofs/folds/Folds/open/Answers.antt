@@ -1,4 +1,4 @@
-use Rattle.std.proofs.Common.{◌≡◌, ◌<◌, ◌≤◌, ℕ, List, ◌∷◌, [], ◌++◌, take, length, get_or, ap, sym, subst, ◌∙◌, arith}
+use Rattle.std.proofs.Common.{List, ◌∷◌, [], ◌++◌, take, ap, sym, subst, ◌∙◌}
 use Rattle.std.proofs.lemmas.List.{take_all, take_more}
 use Rattle.script_text.specs.declared.script.Object.{Object}
 use Rattle.script_in_order.specs.declared.folds.Fold.{Fold}

@@ -9,7 +9,7 @@ use Rattle.script_meaning.specs.States.{kind_in}
 use Rattle.script_in_order.specs.declared.folds.ShardFold.{ShardFold}
 use Rattle.script_in_order.specs.declared.folds.Fold.{Fold}
 use Rattle.script_in_order.specs.declared.folds.Fold.TheVariants as folds
-use Rattle.script_in_order.specs.Folds.{IsShardFold, AreShardFolds, IsFoldOf, AreFolded, ShardsWithin}
+use Rattle.script_in_order.specs.Folds.{AreShardFolds, IsFoldOf, AreFolded, ShardsWithin}
 use Rattle.script_in_order.proofs.FoldsKept.{object_low, fold_there, fold_put, there_at, map_shards, only_map, shards_with, within_with}
 use Rattle.script_in_order.proofs.folds.Folds.value.Goals as goal
 

@@ -1,9 +1,8 @@
-use Rattle.std.proofs.Common.{◌≡◌, ◌<◌, ℕ, List, get_or, set, length, ap, sym, subst, ◌∙◌, arith}
+use Rattle.std.proofs.Common.{◌≡◌, List, get_or, set, sym, subst, arith}
 use Rattle.world_code.specs.WorldView.{world_of}
 use Rattle.std.specs.Vec.{with_item}
 use Rattle.script_in_order.specs.declared.folds.Fold.{Fold}
 use Rattle.script_in_order.specs.declared.folds.Fold.TheVariants as folds
-use Rattle.script_in_order.specs.CausalFolds.{AreCausalFolds}
 use Rattle.script_in_order.specs.Folds.{AreFolded}
 use Rattle.script_in_order.proofs.CausalKept.{IsCausalOf, causal_of, causal_put, no_other, there_in}
 use Rattle.script_in_order.proofs.FoldsKept.{causal_with}
