@@ -19,6 +19,7 @@ mod scans;
 mod several;
 mod singles;
 mod stops;
+mod threads;
 
 /// Does a script over a source and a sink of which the reads and writes with these numbers fail.
 fn run_over<R: Threads + Wait + Sync>(
