@@ -1,21 +1,18 @@
 -- What clients who were served leave in the end is reported as a lawful run.
-use Rattle.std.proofs.Common.{◌≡◌, ◌≢◌, ◌⊎◌, ℕ, zero, suc, ◌+◌, ◌<◌, ◌≤◌, List, [], ◌∷◌, ◌++◌, length, map, Option, Some, None, Bool, true, false, cond, slice_get, refl, ap, sym, subst, ◌∙◌, inl, inr, arith, eqb-true, eq-eqb, length-append}
-use Rattle.std.specs.Prelude.{IsTrue, ◌==◌, ◌&&◌, not, slice_index, slice_index_or, unwrap_or}
+use Rattle.std.proofs.Common.{◌≡◌, ◌⊎◌, ℕ, zero, suc, ◌+◌, ◌<◌, List, [], ◌∷◌, ◌++◌, length, map, Some, None, Bool, true, false, cond, slice_get, refl, ap, sym, subst, ◌∙◌, inl, inr, arith, eq-eqb, length-append}
+use Rattle.std.specs.Prelude.{IsTrue, ◌&&◌, not, slice_index, slice_index_or, unwrap_or}
 use Rattle.std.specs.List.{All, Contains, enumerate_from, filter, find, flat_map, range_with_len}
 use Rattle.std.specs.Option.{option_map}
-use Rattle.std.specs.List.Sorted.{IsNonDecreasing}
 use Rattle.std.proofs.lemmas.List.{length-map}
 use Rattle.std.proofs.lemmas.List.FromFn.{length-enumerate_from}
 use Rattle.std.proofs.lemmas.List.Elements.{All-contains}
-use Rattle.std.proofs.lemmas.Option.{get_or_from_slice_get, slice_get-map, slice_get_within, slice_get_read}
+use Rattle.std.proofs.lemmas.Option.{get_or_from_slice_get, slice_get-map, slice_get_within}
 use Rattle.std.proofs.lemmas.Simd.{map-map}
 use Rattle.log_node.specs.declared.ids.Id.{Id}
-use Rattle.log_node.specs.declared.ids.Row.{Row}
 use Rattle.log_node.specs.declared.node.Node.{Node}
-use Rattle.log_node.specs.declared.node.Shape.{Shape}
 use Rattle.log_node.specs.declared.marks.Outcome.TheVariants.{Open}
 use Rattle.log_node.specs.Order.{same_id}
-use Rattle.log_node.specs.Standings.{Standing, is_open_id, open_entry, queue_of}
+use Rattle.log_node.specs.Standings.{Standing, is_open_id, queue_of}
 use Rattle.col_core.specs.declared.Entry.{Entry}
 use Rattle.col_core.specs.History.{entries}
 use Rattle.col_core.specs.Computed.{dated}
@@ -23,12 +20,11 @@ use Rattle.col_core.specs.Copies.{AreTrueCopies}
 use Rattle.col_core.specs.Ids.{IsStepOf}
 use Rattle.col_core.specs.Legal.{IsColumnHistory}
 use Rattle.col_core.specs.Log.{Log, places_of}
-use Rattle.col_core.specs.Rows.{AreLawfulRows, BegunRow, FitsRow, is_of}
+use Rattle.col_core.specs.Rows.{BegunRow, FitsRow, is_of}
 use Rattle.col_core.proofs.CallerLemmas.{In, contains_in, cut-is_greatest, in_contains, in_filter-back, in_slice, same_id-refl, slice_in}
-use Rattle.column.specs.Columns.{ColumnState, base_of, cut_of}
+use Rattle.column.specs.Columns.{ColumnState, base_of}
 use Rattle.stamp_board.specs.declared.rows.ClosedRow.{ClosedRow}
 use Rattle.stamp_board.specs.declared.view.Size.{Size}
-use Rattle.script_text.specs.declared.script.Command.{Command}
 use Rattle.script_text.specs.declared.script.Script.{Script}
 use Rattle.script_text.specs.Fitting.{IsFitting}
 use Rattle.report_text.specs.declared.report.ClientReport.{ClientReport}
@@ -38,10 +34,9 @@ use Rattle.report_text.specs.declared.report.Report.{Report}
 use Rattle.report_text.specs.declared.report.ReplyLine.{ReplyLine}
 use Rattle.report_text.specs.declared.report.RowReport.{RowReport}
 use Rattle.lawful_run.specs.Callers.{Caller, caller_of, commands_of}
-use Rattle.lawful_run.specs.Columns.{AreColumns, AreCopies, AreRows, IsClientIn, IsColumnReport, column_numbers, row_report}
+use Rattle.lawful_run.specs.Columns.{AreColumns, AreCopies, AreRows, IsClientIn, IsColumnReport, row_report}
 use Rattle.lawful_run.specs.Explains.{Explained}
 use Rattle.lawful_run.specs.Lawful.{HasHelping, HasStopped, IsClientRun, IsComplete, IsHelp, LawfulRun, LeavesOpen}
-use Rattle.client_law.specs.Knowing.{IsExplainedBy}
 use Rattle.client_law.proofs.CallerLemmas.{explained_at_end}
 use Rattle.chain_store.specs.declared.closed.ClosedRegion.{ClosedRegion}
 use Rattle.chain_store.specs.declared.hold.Hold.{Hold}
@@ -51,9 +46,9 @@ use Rattle.closing_report.specs.Columns.{column_shown, waiting_shown}
 use Rattle.log_client.specs.declared.client.Client.{Client}
 use Rattle.log_client.specs.declared.closed.Closed.{Closed}
 use Rattle.log_client.specs.declared.store.Store.{Store}
-use Rattle.log_client.specs.Clients.{Finished, Helps, Keeps, holds_of, rows_of, seen_of}
+use Rattle.log_client.specs.Clients.{holds_of, rows_of, seen_of}
 use Rattle.log_client.specs.Clients.{caller_of as client_caller}
-use Rattle.log_client.specs.Closes.{Closes, EndsComplete, EndsFor}
+use Rattle.log_client.specs.Closes.{Closes, EndsFor}
 use Rattle.log_client.specs.Closing.{AreHoldsAt, EndsColumn, EndsRegion}
 use Rattle.log_client.specs.Fits.{Fits}
 use Rattle.log_client.proofs.CallerLemmas.{open_row}

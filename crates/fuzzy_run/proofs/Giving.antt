@@ -1,5 +1,5 @@
 -- What a client gives to a command of the log, by what its call left.
-use Rattle.std.proofs.Common.{◌≡◌, ℕ, List, [], length, true, false, refl, ap, sym, subst, ◌∙◌, inl}
+use Rattle.std.proofs.Common.{◌≡◌, ℕ, List, [], length, ap, sym, subst, ◌∙◌, inl}
 use Rattle.std.specs.Prelude.{IsTrue}
 use Rattle.log_node.specs.declared.ids.Counts.{Counts}
 use Rattle.log_node.specs.Seen.{PlacedNode}

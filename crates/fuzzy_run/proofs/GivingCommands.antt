@@ -1,17 +1,14 @@
 -- What a client gives to appends, stops, pulls and trims, by what its calls left.
-use Rattle.std.proofs.Common.{◌≡◌, ◌≢◌, ◌⊎◌, ℕ, zero, suc, ◌+◌, ◌*◌, ◌^◌, ◌<◌, ◌≤◌, List, [], ◌∷◌, length, map, true, false, Some, None, Ok, Err, refl, ap, sym, subst, ◌∙◌, inl, inr, arith, append-nil, cond, eqb-true, leb-true, slice_get}
-use Rattle.std.specs.Prelude.{IsTrue, Bool, Result, Option, ◌-◌, ◌==◌, ◌&&◌, not, nat_le, nat_lt}
+use Rattle.std.proofs.Common.{◌≡◌, ◌≢◌, ◌⊎◌, ℕ, zero, suc, ◌+◌, ◌*◌, ◌^◌, ◌<◌, ◌≤◌, List, [], length, map, true, false, Some, None, Err, refl, ap, sym, subst, ◌∙◌, inl, inr, arith, append-nil, eqb-true}
+use Rattle.std.specs.Prelude.{IsTrue, Bool, Result, ◌-◌, ◌&&◌, not, nat_lt}
 use Rattle.std.specs.Int.{bit_at}
-use Rattle.std.specs.List.{All, Contains, filter, range_with_len}
+use Rattle.std.specs.List.{range_with_len}
 use Rattle.std.proofs.lemmas.Bool.{cases_eq, cases_lt, ltb-false, ltb-true}
-use Rattle.std.proofs.lemmas.List.{length-map}
 use Rattle.std.proofs.lemmas.List.Elements.{All-contains}
-use Rattle.std.proofs.lemmas.List.FromFn.{length-range_with_len}
 use Rattle.std.proofs.lemmas.Nat.Bits.{bit_at_cat_high, bit_at-zero}
 use Rattle.log_node.specs.declared.ids.Colours.{Colours}
 use Rattle.log_node.specs.declared.ids.Counts.{Counts}
 use Rattle.log_node.specs.declared.node.At.{At}
-use Rattle.log_node.specs.Seen.{PlacedNode}
 use Rattle.log_node.specs.Sets.{has, members}
 use Rattle.col_core.specs.Keeping.{Kept}
 use Rattle.col_core.specs.Log.{Log}
@@ -29,7 +26,6 @@ use Rattle.lawful_run.specs.Explains.{Explains}
 use Rattle.lawful_run.specs.Stops.{Stops}
 use Rattle.client_law.specs.Knowing.{log_of}
 use Rattle.chain_store.specs.declared.hold.Hold.{Hold}
-use Rattle.append_core.specs.declared.stood.Point.{Point}
 use Rattle.append_core.specs.declared.several.MultiFault.{MultiFault}
 use Rattle.append_core.specs.declared.several.MultiFault.TheVariants as faults
 use Rattle.region_pull.specs.declared.pulled.Pulled.{Pulled}
@@ -45,7 +41,7 @@ use Rattle.script_meaning.specs.States.{has_colours}
 use Rattle.fuzzy_run.specs.Built.{is_served}
 use Rattle.fuzzy_run.specs.Serving.{Gives, IsStopped}
 use Rattle.fuzzy_run.proofs.CommandAnswers as commands
-use Rattle.fuzzy_run.proofs.Giving.{gives, gives_nothing}
+use Rattle.fuzzy_run.proofs.Giving.{gives}
 
 -- SETS OF COLOURS
 
@@ -60,20 +56,6 @@ in_range a (suc n) c lo hi = elim (cases_eq c a) [
     | inl less ↦ omega (arith, less)
     | inr more ↦ absurd (ne (omega (arith, lo, more)))
   ]
-
--- a set has few members
-few_of : (p : ℕ → Bool) (xs : List ℕ) → length (filter p xs) ≤ length xs
-few_of p [] = omega arith
-few_of p (x ∷ xs) = by (p x) (few_of p xs) where
-  by : (b : Bool) → length (filter p xs) ≤ length xs → length (cond b (x ∷ filter p xs) (filter p xs)) ≤ length (x ∷ xs)
-  by true r = omega (arith, r)
-  by false r = omega (arith, r)
-
-pub few_members : (set : Colours) → length (members set) ≤ 64
-few_members set =
-    let few = few_of (has set) (range_with_len 0 64) in
-    let all = length-range_with_len 0 64 in
-    omega (arith, few, all)
 
 -- a set of few bits has small members
 low_bit : (set : Colours) (c : ℕ) → set.0 < 2 ^ 64 → has set c ≡ true → c < 64
@@ -122,11 +104,10 @@ colours_of s colours n some is below =
 -- a stop that is served is of several colours, and after a step that its append has
 pub stop_of : (s : Store) (steps : ℕ) (colours : Colours) (text : List ℕ)
     → IsTrue (is_served (whats.Stop steps colours text)) → AreBelow s.size.colours colours
-    → AreColoursOf s colours × IsStopWithin colours steps
-stop_of s steps colours text is below =
-    let parts = and_parts (nat_le steps (2 * length (members colours) + 2)) (has_colours 2 colours) is in
-    let of = colours_of s colours 2 (omega arith) parts.1 below in
-    (of.0, (of.1, leb-true steps (2 * length (members colours) + 2) parts.0))
+    → steps ≤ 2 * length (members colours) + 2 → AreColoursOf s colours × IsStopWithin colours steps
+stop_of s steps colours text is below within =
+    let of = colours_of s colours 2 (omega arith) is below in
+    (of.0, (of.1, within))
 
 -- APPENDS
 

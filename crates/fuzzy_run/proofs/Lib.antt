@@ -10,5 +10,6 @@ mod Dealing
 mod EndsShown
 mod ClientsShown
 mod SomeRows
+mod StopsWithin
 mod RunningBeside
 mod RunsOf

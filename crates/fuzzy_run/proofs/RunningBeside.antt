@@ -1,12 +1,11 @@
 -- Clients who were dealt their commands, before they are served and after.
-use Rattle.std.proofs.Common.{◌≡◌, ℕ, ◌<◌, ◌≤◌, List, [], ◌∷◌, ◌++◌, length, map, take, drop, Some, slice_get, Ok, Err, refl, ap, sym, subst, ◌∙◌, arith}
+use Rattle.std.proofs.Common.{◌≡◌, ℕ, List, [], ◌∷◌, ◌++◌, length, map, take, drop, Some, slice_get, Ok, Err, refl, ap, sym, subst, ◌∙◌, arith}
 use Rattle.std.specs.Prelude.{IsTrue, IfOk, Result, ◌==◌, slice_index_or}
-use Rattle.std.specs.List.{All, filter}
+use Rattle.std.specs.List.{All}
 use Rattle.std.specs.Option.{option_map}
 use Rattle.std.proofs.lemmas.List.{length-map}
 use Rattle.std.proofs.lemmas.List.Elements.{All-filter}
 use Rattle.std.proofs.lemmas.Option.{get_or_from_slice_get, slice_get-map, slice_get_within}
-use Rattle.log_node.specs.declared.node.Shape.{Shape}
 use Rattle.stamp_board.specs.declared.view.Size.{Size}
 use Rattle.chain_store.specs.Opening.{size_of}
 use Rattle.chain_store.proofs.CallerLemmas.{got}
@@ -25,7 +24,7 @@ use Rattle.log_client.specs.Opening.{AreNewClients}
 use Rattle.fuzzy_run.specs.declared.serving.served.Served.{Served}
 use Rattle.fuzzy_run.specs.Built.{is_served}
 use Rattle.fuzzy_run.specs.Dealing.{AreDealt, IsDealt}
-use Rattle.fuzzy_run.specs.Served.{CanServe, IsServable, IsServed}
+use Rattle.fuzzy_run.specs.Served.{CanServe, IsServable, IsServed, StopsWithin}
 use Rattle.fuzzy_run.specs.Serving.{AreServed, Serves, StopsLast}
 use Rattle.fuzzy_run.proofs.ServedClients.{serves_none, stops_last_of}
 
@@ -34,7 +33,8 @@ mapped : {A B : Type 0} (f : A → B) (xs : List A) (n : ℕ) (x : A) → slice_
 mapped f xs n x at = slice_get-map f xs n ∙ ap (option_map f) at
 
 module _ (script : Script) (fits : IsFitting script)
-    (built : All (λ (c : Command). IsTrue (is_served c.what)) script.commands) (stops : StopsAreLast script) (s : Store)
+    (built : All (λ (c : Command). IsTrue (is_served c.what)) script.commands)
+    (steps : All (λ (c : Command). StopsWithin c.what) script.commands) (stops : StopsAreLast script) (s : Store)
     (size : s.size ≡ size_of script.shape) (regions : length s.regions ≡ script.shape.regions) (clients : List Client)
     (new : AreNewClients script.shape s clients) (before : List Served)
     (dealt : AreDealt clients script.commands before) where
@@ -54,6 +54,7 @@ module _ (script : Script) (fits : IsFitting script)
     within = subst (λ (r : ℕ). IsWithin r s.size.colours (slice_index_or script.commands k d).what) (sym regions)
         (subst (λ (z : Size). IsWithin script.shape.regions z.colours (slice_index_or script.commands k d).what) (sym size)
         (fits.commands k d lt));
+    steps = steps k d lt;
   }
 
   pub can_serve : (n : ℕ) (x : Served) → slice_get before n ≡ Some x → CanServe s x
@@ -113,7 +114,8 @@ module _ (script : Script) (fits : IsFitting script)
 -- The same as the run has it: of the commands that were moved to the clients, of the slice of clients that was served, and
 -- of the clients and replies that were taken out.
 pub were_served : (script : Script) → IsFitting script
-    → All (λ (c : Command). IsTrue (is_served c.what)) script.commands → StopsAreLast script → (s : Store)
+    → All (λ (c : Command). IsTrue (is_served c.what)) script.commands
+    → All (λ (c : Command). StopsWithin c.what) script.commands → StopsAreLast script → (s : Store)
     → s.size ≡ size_of script.shape → length s.regions ≡ script.shape.regions → (opened : List Client)
     → AreNewClients script.shape s opened → (commands : List Command) → commands ≡ script.commands
     → (before lent after : List Served) → lent ≡ before → AreDealt opened commands before → length after ≡ length lent
@@ -122,10 +124,10 @@ pub were_served : (script : Script) → IsFitting script
     → clients ≡ map (λ (x : Served). x.client) (take n (after ++ drop (length after) before))
     → replies ≡ map (λ (x : Served). x.replies.items) (take n (after ++ drop (length after) before))
     → AreServed script s clients replies
-were_served script fits built stops s size regions opened new commands moved before lent after same dealt long served n
+were_served script fits built steps stops s size regions opened new commands moved before lent after same dealt long served n
     many clients replies are given =
     let dealt' : AreDealt opened script.commands before = subst (λ (l : List Command). AreDealt opened l before) moved dealt in
-    let all = are_served script fits built stops s size regions opened new before dealt' after (long ∙ ap length same)
+    let all = are_served script fits built steps stops s size regions opened new before dealt' after (long ∙ ap length same)
     (λ n x y at later. served n x y (subst (λ (l : List Served). slice_get l n ≡ Some x) (sym same) at) later) in
     let whole : take n (after ++ drop (length after) before) ≡ after =
     front_of n after (drop (length after) before) (long ∙ (ap length same ∙ sym many)) in

@@ -1,5 +1,5 @@
 -- What the words ask for, and the report of a run that they ask for.
-use Rattle.std.proofs.Common.{◌≡◌, Option, Some, Ok, Err, refl, sym, ◌∙◌}
+use Rattle.std.proofs.Common.{◌≡◌, Option, Some, Ok, Err, sym, ◌∙◌}
 use Rattle.std.specs.Prelude.{IfOk, Result}
 use Rattle.script_text.specs.declared.script.Script.{Script}
 use Rattle.report_text.specs.declared.report.Report.{Report}

@@ -1,7 +1,6 @@
 -- A client that is served one command after another.
-use Rattle.std.proofs.Common.{◌≡◌, ℕ, ◌+◌, ◌<◌, List, [], ◌∷◌, ◌++◌, length, Some, slice_get, refl, ap, sym, subst, ◌∙◌, inl, inr, arith, append_assoc, eqb-true, length-append}
-use Rattle.std.specs.Prelude.{◌≢◌, ◌==◌, IsTrue, slice_index_or}
-use Rattle.std.specs.List.{AllPairs, filter}
+use Rattle.std.proofs.Common.{◌≡◌, ℕ, ◌+◌, List, [], ◌∷◌, ◌++◌, length, Some, slice_get, refl, ap, sym, subst, ◌∙◌, inl, inr, arith, append_assoc, eqb-true, length-append}
+use Rattle.std.specs.Prelude.{◌≢◌, ◌==◌, IsTrue}
 use Rattle.std.proofs.lemmas.List.Kept.{AllPairs-filter}
 use Rattle.std.proofs.lemmas.Option.{get_or_from_slice_get, slice_get_within}
 use Rattle.log_node.specs.declared.node.Shape.{Shape}

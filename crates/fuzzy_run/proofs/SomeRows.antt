@@ -1,5 +1,5 @@
 -- What is read as a script lets each client begin a row at least.
-use Rattle.std.proofs.Common.{◌≡◌, ℕ, ◌≤◌, ◌<◌, List, [], ◌∷◌, ◌++◌, Bool, true, false, Option, None, refl, ap, sym, subst, ◌∙◌, arith}
+use Rattle.std.proofs.Common.{◌≡◌, ℕ, ◌<◌, List, [], ◌∷◌, ◌++◌, Bool, true, false, Option, None, refl, ap, sym, subst, ◌∙◌, arith}
 use Rattle.std.proofs.Common.{append-nil, append_assoc, leb-true}
 use Rattle.std.specs.Prelude.{IsTrue, codes, nat_le, ◌&&◌}
 use Rattle.std.specs.List.{cons_option, enumerate_from, filter_map}

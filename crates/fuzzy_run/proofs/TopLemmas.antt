@@ -1,5 +1,5 @@
 -- What the parts of the top call say together.
-use Rattle.std.proofs.Common.{◌≡◌, ℕ, zero, suc, ◌+◌, ◌<◌, ◌≤◌, ◌^◌, List, [], ◌∷◌, ◌++◌, length, take, drop, Bool, true}
+use Rattle.std.proofs.Common.{◌≡◌, ℕ, zero, suc, ◌+◌, ◌<◌, ◌^◌, List, [], ◌∷◌, ◌++◌, length, take, drop, Bool, true}
 use Rattle.std.proofs.Common.{false, cond, Option, Some, None, refl, ap, sym, subst, ◌∙◌, replicate, inl, inr, ◌⊎◌, arith}
 use Rattle.std.specs.Prelude.{IsTrue, IfSome, not, ◌≢◌}
 use Rattle.std.specs.Option.{option_map}
@@ -11,11 +11,8 @@ use Rattle.fuzzy_io.specs.Causes.{AppendsFront}
 use Rattle.script_text.specs.declared.script.Object.{Object}
 use Rattle.script_text.specs.declared.script.Command.{Command}
 use Rattle.script_text.specs.declared.script.Script.{Script}
-use Rattle.script_text.specs.declared.script.Reason.{Reason}
 use Rattle.script_text.specs.declared.script.Reason.TheVariants.{ScriptTooLong}
 use Rattle.script_text.specs.Grammar.{IsScript}
-use Rattle.script_text.specs.Faults.{IsRefused}
-use Rattle.script_text.specs.Words.{reason_text}
 use Rattle.report_text.specs.ReportText.{report_bytes, refusal_bytes}
 use Rattle.fuzzy_run.specs.declared.asked.Asked.{Asked}
 use Rattle.fuzzy_run.specs.Built.{is_done}

@@ -1,6 +1,5 @@
 -- Which commands are done, by the word of the command line.
-use Rattle.std.specs.Prelude.{Bool, true, false, ◌&&◌, ◌+◌, ◌*◌, nat_le, List, [], length}
-use Rattle.log_node.specs.Sets.{members}
+use Rattle.std.specs.Prelude.{Bool, true, false, ◌&&◌, List, []}
 use Rattle.script_text.specs.declared.script.Object.{Object}
 use Rattle.script_text.specs.declared.script.What.{What}
 use Rattle.script_text.specs.declared.script.What.TheVariants as whats
@@ -8,10 +7,10 @@ use Rattle.script_meaning.specs.States.{is_built}
 use Rattle.fuzzy_run.specs.declared.asked.Asked.{Asked}
 use Rattle.fuzzy_run.specs.declared.asked.Asked.TheVariants.{Step, Run}
 
--- the command is none of an object and no scan, and it stops after no more steps than its append has
+-- the command is none of an object and no scan
 abbrev pub is_plain : What → Bool
 is_plain (whats.Append colours text) = true
-is_plain (whats.Stop steps colours text) = nat_le steps (2 * length (members colours) + 2)
+is_plain (whats.Stop steps colours text) = true
 is_plain (whats.Sync colour) = true
 is_plain (whats.Scan colours) = false
 is_plain (whats.Pull region colour) = true

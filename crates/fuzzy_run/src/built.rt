@@ -6,16 +6,13 @@ use crate::asked::Asked;
 use script_in_order::is_built;
 use script_text::{Object, What};
 
-// Whether the command is none of an object and no scan, and stops after no more steps than its append has.
+// Whether the command is none of an object and no scan.
 fn is_plain(what: &What) -> bool
     ensures { result ≡ is_plain what.now }
 {
     match what {
         What::Append { .. } => true,
-        What::Stop { steps, colours, .. } => {
-            let _bits = colours.0;
-            *steps as usize <= 2 * colours.count() + 2
-        }
+        What::Stop { .. } => true,
         What::Sync { .. } => true,
         What::Scan { .. } => false,
         What::Pull { .. } => true,

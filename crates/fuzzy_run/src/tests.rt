@@ -20,6 +20,7 @@ mod scans;
 mod several;
 mod singles;
 mod stops;
+mod threads;
 mod transactions;
 
 /// Does a script over a source and a sink of which the reads and writes with these numbers fail.

@@ -13,6 +13,7 @@ ghost use Rattle.script_meaning.specs.States.{StopsAreLast};
 ghost use Rattle.fuzzy_run.specs.declared.asked.Asked.{Asked};
 ghost use Rattle.fuzzy_run.specs.Words.{asked_by};
 ghost use Rattle.fuzzy_run.specs.Built.{is_done};
+ghost use Rattle.fuzzy_run.specs.Served.{StopsWithin};
 ghost use Rattle.fuzzy_run.specs.Refusals.{first_unbuilt, cause_text, IsDoable};
 ghost use Rattle.fuzzy_run.specs.Reading.{LawsForReaders};
 ghost use Rattle.fuzzy_run.specs.TopCall.{IsRunOf, IsRunText, IsRefusalText, Writes, WritesFront, Shows, ShowsFront};
@@ -63,6 +64,7 @@ fn report_of<R: Threads + Wait + Sync, G: Gate>(
     requires rows { script.shape.rows ≤ MAX_ROWS }
     requires some_rows { 0 < script.shape.rows }
     requires built { All (λ (c : Command). IsTrue (is_done asked script.objects c.what)) script.commands }
+    requires steps { All (λ (c : Command). StopsWithin c.what) script.commands }
     requires stops { StopsAreLast script }
     ensures { IfOk result (IsRunOf asked script) }
 {
@@ -89,6 +91,7 @@ fn do_script<K: Sink, G: Gate, R: Threads + Wait + Sync>(
     requires fits { IsFitting script }
     requires rows { script.shape.rows ≤ MAX_ROWS }
     requires some_rows { 0 < script.shape.rows }
+    requires steps { All (λ (c : Command). StopsWithin c.what) script.commands }
     requires stops { StopsAreLast script }
     ensures done { result ≡ Status.Done → Shows asked script (K.holds sink.old) (K.holds sink.new) }
     ensures refused { result ≡ Status.Refused → (line : ℕ) × (first_unbuilt asked script.objects script.commands ≡ Some line)

@@ -1,6 +1,5 @@
 use Rattle.std.proofs.Common.{subst, sym}
-use Rattle.std.specs.Prelude.{IfOk, IsTrue}
-use Rattle.std.specs.List.{All}
+use Rattle.std.specs.Prelude.{IfOk}
 use Rattle.fuzzy_run.specs.declared.asked.Asked.{Asked}
 use Rattle.fuzzy_run.specs.TopCall.{IsRunOf}
 use Rattle.fuzzy_run.proofs.RunsOf.{run_in_file, run_on_threads}

@@ -10,9 +10,11 @@ append-answer-requires-clause-colours g c κs within =
 pub stop-answer-requires-clause-colours : goal.stop-answer-requires-clause-colours
 stop-answer-requires-clause-colours g c κs within =
     (stop_of c.args.store.now c.in-Stop.steps c.in-Stop.colours c.in-Stop.text (rw c.in-Stop.is at c.requires.built)
-    (rw c.in-Stop.is at c.requires.within)).0
+    (rw c.in-Stop.is at c.requires.within)
+    (c.requires.steps c.in-Stop.steps c.in-Stop.colours c.in-Stop.text c.in-Stop.is)).0
 
 pub stop-answer-requires-clause-steps : goal.stop-answer-requires-clause-steps
 stop-answer-requires-clause-steps g c κs within =
     (stop_of c.args.store.now c.in-Stop.steps c.in-Stop.colours c.in-Stop.text (rw c.in-Stop.is at c.requires.built)
-    (rw c.in-Stop.is at c.requires.within)).1
+    (rw c.in-Stop.is at c.requires.within)
+    (c.requires.steps c.in-Stop.steps c.in-Stop.colours c.in-Stop.text c.in-Stop.is)).1

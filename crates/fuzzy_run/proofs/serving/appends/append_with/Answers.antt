@@ -1,4 +1,4 @@
-use Rattle.std.proofs.Common.{◌≡◌, ◌∙◌, ◌≤◌, ap, sym, subst, arith, refl, List, [], map, length, Some, None, Err, Ok}
+use Rattle.std.proofs.Common.{◌∙◌, ap, sym, subst, arith, List, [], map, length}
 use Rattle.std.proofs.lemmas.List.{length-map}
 use Rattle.append_core.specs.declared.stood.Point.{Point}
 use Rattle.script_text.specs.declared.script.What.TheVariants as whats

@@ -1,4 +1,4 @@
-use Rattle.std.proofs.Common.{◌≡◌, ◌∙◌, ap, sym, subst, Some, Err, Ok}
+use Rattle.std.proofs.Common.{ap, Some}
 use Rattle.fuzzy_run.proofs.GivingCommands.{not_stopped, gives_full_stop, gives_stopped, gives_no_stop}
 use Rattle.fuzzy_run.proofs.serving.appends.stop.Goals as goal
 

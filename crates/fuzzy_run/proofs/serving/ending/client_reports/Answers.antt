@@ -1,9 +1,8 @@
-use Rattle.std.proofs.Common.{◌≡◌, ◌∙◌, ap, sym, ℕ, ◌≤◌, ◌<◌, ◌++◌, ◌∷◌, [], List, arith, length, length-set, map, take}
+use Rattle.std.proofs.Common.{◌≡◌, ◌∙◌, ap, sym, ℕ, ◌<◌, ◌++◌, ◌∷◌, [], List, arith, length, length-set, map, take}
 use Rattle.std.proofs.Common.{get_or, get_or-set_other, subst}
 use Rattle.std.specs.Prelude.{slice_index_or}
 use Rattle.std.specs.List.{enumerate_from}
 use Rattle.report_text.specs.declared.report.ClientReport.{ClientReport}
-use Rattle.report_text.specs.declared.report.ReplyLine.{ReplyLine}
 use Rattle.fuzzy_run.specs.EndReports.{client_shown}
 use Rattle.fuzzy_run.proofs.ClientsShown.{any_default, numbered_next, reply_shown}
 use Rattle.fuzzy_run.proofs.serving.ending.client_reports.Goals as goal

@@ -1,4 +1,3 @@
-use Rattle.std.proofs.Common.{◌≡◌, ◌≢◌, ◌∙◌, arith, sym}
 use Rattle.script_text.specs.declared.script.What.TheVariants as whats
 use Rattle.fuzzy_run.proofs.Giving.{gives_nothing}
 use Rattle.fuzzy_run.proofs.GivingCommands.{gives_trimmed}

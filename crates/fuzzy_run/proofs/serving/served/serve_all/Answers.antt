@@ -1,4 +1,4 @@
-use Rattle.std.proofs.Common.{◌≡◌, ◌∙◌, refl, ap, sym, subst, arith, List, [], ◌∷◌, ◌++◌, length, take}
+use Rattle.std.proofs.Common.{◌∙◌, refl, ap, sym, subst, arith, List, [], ◌∷◌, ◌++◌, length, take}
 use Rattle.std.proofs.lemmas.List.{length_push, map-id}
 use Rattle.std.proofs.lemmas.Iterator.Adapters.{YieldsList-from_vec}
 use Rattle.std.proofs.lemmas.Iterator.Consumers.{YieldsList-turn, YieldsList-end, YieldsList-so_far}

@@ -1,0 +1,2 @@
+mod Colours
+mod NewClients

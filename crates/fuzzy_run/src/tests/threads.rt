@@ -1,0 +1,211 @@
+// Runs on threads.
+use super::*;
+use fuzzy_io::Gate;
+use memchr::memmem;
+use std::sync::atomic::{AtomicBool, AtomicU64, Ordering};
+use std::thread;
+
+/// Lines from line 8 on in one region of which one client alone makes events, and the report, which is then the same in
+/// every schedule.
+const REPORTS: [(&str, &str); 3] = [
+    // A second sync plays nothing again.
+    (
+        "a append x hi
+a sync x
+a sync x",
+        "report 1
+client a
+8 append ok 1 x!0@0
+9 sync ok x?1/1 plays 1
++ a.0 1 hi
+10 sync ok x?1/1 plays 0
+client b
+client c
+column r x
+0 a single a.0 floor 0 wants 0 stamp 1
+= clock 1 line a.0:1 queue - cut 1 base 0
+column r y
+= clock 0 line - queue - cut 0 base 0
+",
+    ),
+    // A stop before the first step does nothing, one after it begins a row alone, and one after the last does all.
+    (
+        "a stop 0 x,y q
+c stop 1 x,y q
+b stop 6 x,y q",
+        "report 1
+client a
+8 stop stopped 0
+client b
+10 stop stopped 6
+client c
+9 stop stopped 1
+row r b.0 b.0 x=1 y=1 final 1
+row r c.0 c.0 x=- y=- open
+column r x
+0 b propose b.0 floor 0 wants 0 stamp 1
+1 b settle b.0 final 1
+= clock 1 line b.0:1 queue - cut 1 base 0
+column r y
+0 b propose b.0 floor 0 wants 0 stamp 1
+1 b settle b.0 final 1
+= clock 1 line b.0:1 queue - cut 1 base 0
+",
+    ),
+    // A pull from the own region.
+    (
+        "a pull r x",
+        "report 1
+client a
+8 pull sameregion
+client b
+client c
+column r x
+= clock 0 line - queue - cut 0 base 0
+column r y
+= clock 0 line - queue - cut 0 base 0
+",
+    ),
+];
+
+/// Does a script on threads, with what stands between the steps of appends.
+fn run_at<R: Threads + Wait + Sync, G: Gate>(
+    alloc: Global,
+    rt: &R,
+    script: &[u8],
+    gate: &G,
+) -> Result<(Status, MemorySink), AllocError> {
+    let words = vec![in alloc; String::from_str(alloc, "run")?]?;
+    let mut source = MemorySource::open(alloc, script, 1_000, &[])?;
+    let mut sink = MemorySink::open(alloc, 1_000, &[])?;
+    let status = run(alloc, rt, words.as_slice(), &mut source, &mut sink, gate);
+    Ok((status, sink))
+}
+
+#[test]
+fn what_one_client_does_alone_is_the_same_on_threads(rt: HostRuntime) -> Result<(), Fail> {
+    for (lines, report) in REPORTS {
+        let script = in_one_region(rt.alloc(), lines)?;
+        let (status, sink) = run_at(rt.alloc(), &rt, script.as_bytes(), &OpenGate)?;
+        assert_eq!(rt; status, Status::Done);
+        assert_eq!(rt; sink.bytes(), report.as_bytes());
+    }
+    Ok(())
+}
+
+#[test]
+fn the_row_of_a_client_with_one_row_is_used_once(rt: HostRuntime) -> Result<(), Fail> {
+    let script =
+        b"fuzzylog 1\nregions r\ncolours x y\nrows 1\nclient a r\nclient b r\nclient c r\nbegin
+a append x,y p\na append x,y q\na append x s\n";
+    let (status, sink) = run_at(rt.alloc(), &rt, script, &OpenGate)?;
+    assert_eq!(rt; status, Status::Done);
+    let report = b"report 1
+client a
+9 append ok 1 row 0 x!0@0 y!0@0
+10 append full 1
+11 append ok 2 x!2@1
+client b
+client c
+row r a.0 a.0 x=1 y=1 final 1
+column r x
+0 a propose a.0 floor 0 wants 0 stamp 1
+1 a settle a.0 final 1
+2 a single a.1 floor 1 wants 0 stamp 2
+= clock 2 line a.0:1,a.1:2 queue - cut 2 base 0
+column r y
+0 a propose a.0 floor 0 wants 0 stamp 1
+1 a settle a.0 final 1
+= clock 1 line a.0:1 queue - cut 1 base 0
+";
+    assert_eq!(rt; sink.bytes(), report.as_slice());
+    Ok(())
+}
+
+#[test]
+fn a_command_that_is_not_served_yet_is_refused(rt: HostRuntime) -> Result<(), Fail> {
+    let script = in_one_region(rt.alloc(), "a append x p\nb scan x\n")?;
+    let (status, sink) = run_at(rt.alloc(), &rt, script.as_bytes(), &OpenGate)?;
+    assert_eq!(rt; status, Status::Refused);
+    assert_eq!(rt; sink.bytes(), b"refused: line 9: not built\n".as_slice());
+    Ok(())
+}
+
+#[test]
+fn four_clients_fill_one_line(rt: HostRuntime) -> Result<(), Fail> {
+    let mut script = String::from_str(
+        rt.alloc(),
+        "fuzzylog 1\nregions r\ncolours x\nclient a r\nclient b r\nclient c r\nclient d r\nbegin\n",
+    )?;
+    for _ in 0..200 {
+        script.push_str("a append x p\nb append x p\nc append x p\nd append x p\n")?;
+    }
+    let (status, sink) = run_at(rt.alloc(), &rt, script.as_bytes(), &OpenGate)?;
+    assert_eq!(rt; status, Status::Done);
+    assert!(rt; sink.bytes().ends_with(b" queue - cut 800 base 0\n"));
+    Ok(())
+}
+
+/// Holds the second client after its first step until the first client has passed its second, and the first client there
+/// until the second has begun its second append to several colours.
+#[derive(Drop)]
+struct Beside {
+    marked: AtomicBool,
+    begun: AtomicU64,
+    /// Whether a hold ended without what it waited for.
+    late: AtomicBool,
+}
+
+impl Beside {
+    // Waits until the other client has come so far; for so many turns at most.
+    fn hold(&self, client: u8) {
+        for _ in 0..1_000_000 {
+            let met = if client == 0 {
+                self.begun.load(Ordering::SeqCst) >= 2
+            } else {
+                self.marked.load(Ordering::SeqCst)
+            };
+            if met {
+                return;
+            }
+            thread::yield_now();
+        }
+        self.late.store(true, Ordering::SeqCst);
+    }
+}
+
+impl Gate for Beside {
+    fn pass<R: Wait>(&self, _rt: &R, client: u8, step: u8) {
+        if client == 0 && step == 2 {
+            self.marked.store(true, Ordering::SeqCst);
+            self.hold(client);
+        }
+        if client == 1 && step == 1 && self.begun.fetch_add(1, Ordering::SeqCst) == 0 {
+            self.hold(client);
+        }
+    }
+}
+
+#[test]
+fn an_append_returns_beside_one_that_is_between_two_marks(rt: HostRuntime) -> Result<(), Fail> {
+    let script = b"fuzzylog 1\nregions r\ncolours x y\nclient a r\nclient b r\nbegin
+a append x,y q\nb append x,y t\nb append x s\nb append x,y u\n";
+    let gate = Beside {
+        marked: AtomicBool::new(false),
+        begun: AtomicU64::new(0),
+        late: AtomicBool::new(false),
+    };
+    let (status, sink) = run_at(rt.alloc(), &rt, script, &gate)?;
+    assert_eq!(rt; status, Status::Done);
+    assert!(rt; !gate.late.load(Ordering::SeqCst));
+    for part in [
+        "\n8 append ok 2 row 0 x!1@0 y!0@0\n9 append ok 4 x!",
+        "@2\n10 append ok ",
+        "\nrow r a.0 a.0 x=1 y=3 final 3\n",
+        " cut 4 base 0\ncolumn r y\n",
+    ] {
+        assert!(rt; memmem::find(sink.bytes(), part.as_bytes()).is_some());
+    }
+    assert!(rt; sink.bytes().ends_with(b" cut 3 base 0\n"));
+    Ok(())
+}
