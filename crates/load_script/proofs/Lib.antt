@@ -1,0 +1,13 @@
+mod Made
+mod Counts
+mod Places
+mod Answers
+mod Traces
+mod Heads
+mod Stamps
+mod Bounds
+mod Follows
+mod Sums
+mod Lengths
+mod Loads
+mod Eights

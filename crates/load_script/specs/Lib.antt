@@ -1,0 +1,4 @@
+pub mod Generated
+pub mod Summing
+pub mod Plain
+pub mod Laws
