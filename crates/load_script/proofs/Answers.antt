@@ -172,6 +172,8 @@ answer_comes log caller kept command reply after q n a =
     let p = plain command.what q in
     let same = a.after_is ∙ same_behind command.what a.answered p in
     let before : Comes log caller (kept_before command.what kept) command.what reply.answer a.answered =
-    comes log caller (kept_before command.what kept) command.what a.answered p q reply.answer reply.nodes n a.explained in
+    comes log caller (kept_before command.what kept) command.what a.answered p q reply.answer reply.nodes n
+    a.explained in
     subst (λ (k : Kept). Comes log caller kept command.what reply.answer k) (sym same)
-    (subst (λ (k : Kept). Comes log caller k command.what reply.answer a.answered) (same_before command.what kept p) before)
+    (subst (λ (k : Kept). Comes log caller k command.what reply.answer a.answered) (same_before command.what kept p)
+    before)

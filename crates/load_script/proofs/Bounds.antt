@@ -36,7 +36,7 @@ use Rattle.lawful_run.specs.Lawful.{LawfulRun}
 use Rattle.load_script.specs.Plain.{IsPlainWhat, IsPlain, IsUnwanting}
 use Rattle.load_script.proofs.Counts.{Distinct, few, pairs, in_pairs, length_pairs, four, sixteen, length_range, in_range}
 use Rattle.load_script.proofs.Answers.{Comes, stood, without_stamp, full, synced, pulled, unchanged, answer_comes}
-use Rattle.load_script.proofs.Traces.{points_same}
+use Rattle.load_script.proofs.Traces.{either, points_same}
 use Rattle.load_script.proofs.Stamps.{Given, Has, IsFine, client_shown, commands_plain, replies_unwanting, legal, fine, stamped, clock_stamped}
 
 -- IDS
@@ -50,7 +50,8 @@ place_same kept region colour (ats.Look events) = (refl, refl)
 ids_step : (log : Log) (caller : Caller) (kept : Kept) (what : What) (answer : Answer) (after : Kept)
     → Comes log caller kept what answer after → after.ids ≤ kept.ids + 1
 ids_step log caller kept what answer after (stood set text stamp row points is tells a) = of row points a where
-  of : (row : Option ℕ) (points : List PointPiece) → Appends log caller kept (node_of caller kept set text) stamp row points after
+  of : (row : Option ℕ) (points : List PointPiece) → Appends log caller kept (node_of caller kept set text) stamp row
+      points after
       → after.ids ≤ kept.ids + 1
   of None [] a = absurd a
   of None (p ∷ []) a = let e = ap (λ (k : Kept). k.ids) a.4 in omega (arith, e)
@@ -60,7 +61,8 @@ ids_step log caller kept what answer after (stood set text stamp row points is t
       let s = (points_same caller.own kept points).0 in
       omega (arith, e, s)
 ids_step log caller kept what answer after (without_stamp set text colour is h) = of after h where
-  of : (after : Kept) → HasNoStamp log caller kept (node_of caller kept set text) colour after → after.ids ≤ kept.ids + 1
+  of : (after : Kept) → HasNoStamp log caller kept (node_of caller kept set text) colour after → after.ids ≤ kept.ids
+      + 1
   of _ (none_for_one only h) = omega arith
   of _ (none_for_several places g) = omega arith
 ids_step log caller kept what answer after (full set text used is same f) =
@@ -69,7 +71,8 @@ ids_step log caller kept what answer after (synced colour events snapshot nodes 
     let e = ap (λ (k : Kept). k.ids) same in omega (arith, e)
 ids_step log caller kept what answer after (pulled region colour count place carry too_low is tells p same) =
     let e = ap (λ (k : Kept). k.ids) same in
-    let p = (place_same (kept_after_event (with_places kept region colour too_low) region colour place) caller.own colour carry).0 in
+    let p = (place_same (kept_after_event (with_places kept region colour too_low) region colour place) caller.own
+    colour carry).0 in
     omega (arith, e, p)
 ids_step log caller kept what answer after (unchanged none tells same) =
     let e = ap (λ (k : Kept). k.ids) same in omega (arith, e)
@@ -79,9 +82,11 @@ ids_few : {log : Log} {caller : Caller} {commands : List Command} {replies : Lis
     → ((r : ReplyLine) → In r replies → r.answer ≢ answers.NoMemory) → kept.ids ≤ length commands
 ids_few start plain memory = omega arith
 ids_few {log} {caller} (next {commands} {replies} {kept} {after} command reply e a) plain memory =
-    let b = ids_few e (λ c i. plain c (in_left c commands (command ∷ []) i)) (λ r i. memory r (in_left r replies (reply ∷ []) i)) in
+    let b = ids_few e (λ c i. plain c (in_left c commands (command ∷ []) i))
+    (λ r i. memory r (in_left r replies (reply ∷ []) i)) in
     let s = ids_step log caller kept command.what reply.answer after
-    (answer_comes log caller kept command reply after (plain command (in_right command commands (command ∷ []) (inl refl)))
+    (answer_comes log caller kept command reply after (plain command
+    (in_right command commands (command ∷ []) (inl refl)))
     (memory reply (in_right reply replies (reply ∷ []) (inl refl))) a) in
     let l = length-append commands (command ∷ []) in
     omega (arith, b, s, l)
@@ -125,30 +130,35 @@ module _ (own regions : ℕ) (h : List Entry) (lawful : IsColumnHistory own regi
     before = sym (take-map (λ (x : Dated). x.entry) n (dated own h)) ∙ ap (take n) (dated-is_dated own h).same
 
     event : IsLawfulEvent own regions (take n (dated own h)) e.event e.stamp
-    event = subst (λ (x : Entry). IsLawfulEvent own regions (take n (dated own h)) x.event x.stamp) d.2 (lawful n d.0 d.1)
+    event = subst (λ (x : Entry). IsLawfulEvent own regions (take n (dated own h)) x.event x.stamp) d.2
+        (lawful n d.0 d.1)
+
+    -- of the same id, after the events of the history
+    moved : (other : Id) (floor : ℕ) → id ≡ other → MayEnter (entries_of (take n (dated own h))) other floor e.stamp
+        → MayEnter (take n h) id floor e.stamp
+    moved other floor same m =
+        subst (λ (es : List Entry). MayEnter es id floor e.stamp) before
+        (subst (λ (i : Id). MayEnter (entries_of (take n (dated own h))) i floor e.stamp) (sym same) m)
+
+    lawful_by : (ev : Event) → e.event ≡ ev → IsLawfulEvent own regions (take n (dated own h)) ev e.stamp
+    lawful_by ev is = subst (λ (x : Event). IsLawfulEvent own regions (take n (dated own h)) x e.stamp) is event
 
     by_event : (ev : Event) → e.event ≡ ev
         → (floor : ℕ) × (wants : Counts) × ((e.event ≡ Single id floor wants) ⊎ (e.event ≡ Propose id floor wants))
         × MayEnter (take n h) id floor e.stamp
     by_event (Single other floor wants) is =
-        let same = same_id-true id other (sym (ap (enters id) is) ∙ into) in
-        let m : MayEnter (entries_of (take n (dated own h))) other floor e.stamp =
-        subst (λ (x : Event). IsLawfulEvent own regions (take n (dated own h)) x e.stamp) is event in (
+        let same = same_id-true id other (sym (ap (enters id) is) ∙ into) in (
           floor,
           wants,
           inl (is ∙ ap (λ (i : Id). Single i floor wants) (sym same)),
-          subst (λ (es : List Entry). MayEnter es id floor e.stamp) before
-              (subst (λ (i : Id). MayEnter (entries_of (take n (dated own h))) i floor e.stamp) (sym same) m),
+          moved other floor same (lawful_by (Single other floor wants) is),
         )
     by_event (Propose other floor wants) is =
-        let same = same_id-true id other (sym (ap (enters id) is) ∙ into) in
-        let m : MayEnter (entries_of (take n (dated own h))) other floor e.stamp =
-        subst (λ (x : Event). IsLawfulEvent own regions (take n (dated own h)) x e.stamp) is event in (
+        let same = same_id-true id other (sym (ap (enters id) is) ∙ into) in (
           floor,
           wants,
           inr (is ∙ ap (λ (i : Id). Propose i floor wants) (sym same)),
-          subst (λ (es : List Entry). MayEnter es id floor e.stamp) before
-              (subst (λ (i : Id). MayEnter (entries_of (take n (dated own h))) i floor e.stamp) (sym same) m),
+          moved other floor same (lawful_by (Propose other floor wants) is),
         )
     by_event (Settle other outcome) is = absurd (true≢false (sym into ∙ ap (enters id) is))
     by_event (Raise to) is = absurd (true≢false (sym into ∙ ap (enters id) is))
@@ -160,7 +170,8 @@ module _ (own regions : ℕ) (h : List Entry) (lawful : IsColumnHistory own regi
       → enters id e.event ≡ true → enters id f.event ≡ true → n < m → ⊥
   not_later n m e f id there there' into into' lt =
       let w = may_enter m f id there' into' in
-      true≢false (sym (any_in (λ (x : Entry). enters id x.event) (take m h) e (in_taken h n m e there lt) into) ∙ w.3.fresh)
+      true≢false (sym (any_in (λ (x : Entry). enters id x.event) (take m h) e (in_taken h n m e there lt) into) ∙
+      w.3.fresh)
 
   -- an id enters once
   once : (n m : ℕ) (e f : Entry) (id : Id) → slice_get h n ≡ Some e → slice_get h m ≡ Some f
@@ -181,7 +192,8 @@ module _ (own regions : ℕ) (h : List Entry) (lawful : IsColumnHistory own regi
 abbrev Slot : Type 0
 Slot = ℕ × (ℕ × (ℕ × ℕ))
 
-module _ (script : Script) (report : Report) (fits : IsFitting script) (plain : IsPlain script) (run : LawfulRun script report)
+module _ (script : Script) (report : Report) (fits : IsFitting script) (plain : IsPlain script)
+    (run : LawfulRun script report)
     (unwanting : IsUnwanting report) where
   abbrev log : Log
   log = run.log
@@ -189,53 +201,71 @@ module _ (script : Script) (report : Report) (fits : IsFitting script) (plain : 
   abbrev IsGiven : ℕ → Type 0
   IsGiven s = Given log script s
 
+  abbrev Fine : Event → Type 0
+  Fine = IsFine (Has log script) (length script.shape.homes) (λ n. length (log.nodes n))
+
+  -- How an entry came: its client has used its id, and its stamp is above its column's clock and a floor that is 0 or a
+  -- stamp.
+  record Entering (s : ℕ) (g : IsGiven s) : Type 0 where
+    floor : ℕ
+    client : g.id.client < length script.shape.homes
+    count : g.id.count < length (log.nodes g.id.client)
+    given : Has log script floor
+    may : MayEnter (take g.place (log.histories g.region g.colour)) g.id floor g.entry.stamp
+
+  entering : (s : ℕ) (g : IsGiven s) → Entering s g
+  entering s g =
+      let w = may_enter g.region script.shape.regions (log.histories g.region g.colour)
+      (legal script report fits plain run unwanting g.region g.colour g.in_region g.in_colour) g.place g.entry g.id
+      g.there g.entered in
+      of w.0 w.1 w.2 w.3 where
+        here : Fine g.entry.event
+        here = fine script report fits plain run unwanting (Has log script)
+            (stamped script report fits plain run unwanting)
+            g.region g.colour g.in_region g.in_colour g.entry
+            (slice_in (log.histories g.region g.colour) g.place g.entry g.there)
+
+        made : (floor : ℕ) → (g.id.client < length script.shape.homes) ×
+            (g.id.count < length (log.nodes g.id.client)) × Has log script floor
+            → MayEnter (take g.place (log.histories g.region g.colour)) g.id floor g.entry.stamp → Entering s g
+        made floor f m = record { floor = floor; client = f.0; count = f.1; given = f.2; may = m }
+
+        of : (floor : ℕ) (wants : Counts) → (g.entry.event ≡ Single g.id floor wants) ⊎
+            (g.entry.event ≡ Propose g.id floor wants)
+            → MayEnter (take g.place (log.histories g.region g.colour)) g.id floor g.entry.stamp → Entering s g
+        of floor wants (inl is) m = made floor (subst Fine is here) m
+        of floor wants (inr is) m = made floor (subst Fine is here) m
+
   -- below a stamp stands the stamp before, or 0
   descent : (s : ℕ) → IsGiven s → (t : ℕ) × (s ≡ t + 1) × Has log script t
   descent s g =
-      let h = log.histories g.region g.colour in
-      let w = may_enter g.region script.shape.regions h (legal script report fits plain run unwanting g.region g.colour g.in_region g.in_colour)
-      g.place g.entry g.id g.there g.entered in
-      let floor = floor_of w.0 w.1 w.2 in (
-        max (clock (take g.place h)) w.0,
-        sym g.is ∙ w.3.stamped,
-        either_has (clock (take g.place h)) w.0
-            (clock_stamped script report fits plain run unwanting g.region g.colour g.place g.in_region g.in_colour) floor,
-      ) where
-        either_has : (a b : ℕ) → Has log script a → Has log script b → Has log script (max a b)
-        either_has a b x y = elim (cases_lt a b) [
-          | inl lt ↦ subst (Has log script) (let e : b ≡ max a b = omega (arith, lt) in e) y
-          | inr ge ↦ subst (Has log script) (let e : a ≡ max a b = omega (arith, ge) in e) x
-        ]
-
-        fine_here : IsFine (Has log script) (length script.shape.homes) (λ n. length (log.nodes n)) g.entry.event
-        fine_here = fine script report fits plain run unwanting (Has log script) (stamped script report fits plain run unwanting)
-            g.region g.colour g.in_region g.in_colour g.entry (slice_in (log.histories g.region g.colour) g.place g.entry g.there)
-
-        floor_of : (floor : ℕ) (wants : Counts) → (g.entry.event ≡ Single g.id floor wants) ⊎ (g.entry.event ≡ Propose g.id floor wants)
-            → Has log script floor
-        floor_of floor wants (inl is) =
-            (subst (IsFine (Has log script) (length script.shape.homes) (λ n. length (log.nodes n))) is fine_here).2
-        floor_of floor wants (inr is) =
-            (subst (IsFine (Has log script) (length script.shape.homes) (λ n. length (log.nodes n))) is fine_here).2
-
-  slot_of : (s : ℕ) → IsGiven s → Slot
-  slot_of s g = (g.region, (g.colour, (g.id.client, g.id.count)))
+      let before = clock (take g.place (log.histories g.region g.colour)) in
+      let e = entering s g in (
+        max before e.floor,
+        sym g.is ∙ e.may.stamped,
+        either (Has log script) before e.floor
+            (clock_stamped script report fits plain run unwanting g.region g.colour g.place g.in_region g.in_colour)
+            e.given,
+      )
 
   abbrev Filled : ℕ → Slot → Type 0
   Filled s x = (t : ℕ) × (t ≤ s) × (g : IsGiven t) × ((g.region, (g.colour, (g.id.client, g.id.count))) ≡ x)
 
-  one_stamp : (s t : ℕ) (g : IsGiven s) (k : IsGiven t) → g.region ≡ k.region → g.colour ≡ k.colour → g.id ≡ k.id → s ≡ t
+  one_stamp : (s t : ℕ) (g : IsGiven s) (k : IsGiven t) → g.region ≡ k.region → g.colour ≡ k.colour → g.id ≡ k.id → s
+      ≡ t
   one_stamp s t g k r c i =
       let h = log.histories k.region k.colour in
       let there : slice_get h g.place ≡ Some g.entry =
       subst (λ x. slice_get (log.histories k.region x) g.place ≡ Some g.entry) c
       (subst (λ x. slice_get (log.histories x g.colour) g.place ≡ Some g.entry) r g.there) in
       sym g.is ∙ (once k.region script.shape.regions h
-      (legal script report fits plain run unwanting k.region k.colour k.in_region k.in_colour) g.place k.place g.entry k.entry k.id
+      (legal script report fits plain run unwanting k.region k.colour k.in_region k.in_colour) g.place k.place
+      g.entry k.entry k.id
       there k.there (subst (λ (x : Id). enters x g.entry.event ≡ true) i g.entered) k.entered ∙ k.is)
 
   -- as many slots as the stamp says
-  chain : (s : ℕ) → Has log script s → (xs : List Slot) × (length xs ≡ s) × Distinct xs × ((x : Slot) → In x xs → Filled s x)
+  chain : (s : ℕ) → Has log script s → (xs : List Slot) × (length xs ≡ s) × Distinct xs ×
+      ((x : Slot) → In x xs → Filled s x)
   chain zero h = ([], refl, tt, λ x i. absurd i)
   chain (suc n) (inl e) = absurd (let f : ⊥ = omega (arith, e) in f)
   chain (suc n) (inr g) = more (descent (suc n) g) (chain n) where
@@ -283,39 +313,29 @@ module _ (script : Script) (report : Report) (fits : IsFitting script) (plain : 
 
   -- the places that there are
   space : List Slot
-  space = pairs (range_with_len 0 4) (pairs (range_with_len 0 16) (pairs (range_with_len 0 16) (range_with_len 0 (length script.commands))))
+  space = pairs (range_with_len 0 4) (pairs (range_with_len 0 16)
+      (pairs (range_with_len 0 16) (range_with_len 0 (length script.commands))))
 
   in_space : (s : ℕ) (g : IsGiven s) → In {A = Slot} (g.region, (g.colour, (g.id.client, g.id.count))) space
   unfolding space
   in_space s g =
-      let w = may_enter g.region script.shape.regions (log.histories g.region g.colour)
-      (legal script report fits plain run unwanting g.region g.colour g.in_region g.in_colour) g.place g.entry g.id g.there g.entered in
-      let i = id_of w.0 w.1 w.2 in
-      let client = i.0 in
-      let count = i.1 in
-      let many = nodes_few g.id.client i.0 in
+      let e = entering s g in
+      let client = e.client in
+      let count = e.count in
+      let many = nodes_few g.id.client client in
       let r = g.in_region in
       let c = g.in_colour in
       let fr = fits.shape.few_regions in
       let fc = fits.shape.few_colours in
       let fk = fits.shape.few_clients in
-      in_pairs (range_with_len 0 4) (pairs (range_with_len 0 16) (pairs (range_with_len 0 16) (range_with_len 0 (length script.commands))))
+      in_pairs (range_with_len 0 4) (pairs (range_with_len 0 16)
+      (pairs (range_with_len 0 16) (range_with_len 0 (length script.commands))))
       g.region (g.colour, (g.id.client, g.id.count)) (in_range 0 4 g.region (omega arith) (omega (arith, r, fr)))
       (in_pairs (range_with_len 0 16) (pairs (range_with_len 0 16) (range_with_len 0 (length script.commands)))
       g.colour (g.id.client, g.id.count) (in_range 0 16 g.colour (omega arith) (omega (arith, c, fc)))
       (in_pairs (range_with_len 0 16) (range_with_len 0 (length script.commands)) g.id.client g.id.count
       (in_range 0 16 g.id.client (omega arith) (omega (arith, client, fk)))
-      (in_range 0 (length script.commands) g.id.count (omega arith) (omega (arith, count, many))))) where
-        fine_here : IsFine (Has log script) (length script.shape.homes) (λ n. length (log.nodes n)) g.entry.event
-        fine_here = fine script report fits plain run unwanting (Has log script) (stamped script report fits plain run unwanting)
-            g.region g.colour g.in_region g.in_colour g.entry (slice_in (log.histories g.region g.colour) g.place g.entry g.there)
-
-        id_of : (floor : ℕ) (wants : Counts) → (g.entry.event ≡ Single g.id floor wants) ⊎ (g.entry.event ≡ Propose g.id floor wants)
-            → (g.id.client < length script.shape.homes) × (g.id.count < length (log.nodes g.id.client))
-        id_of floor wants (inl is) =
-            let f = subst (IsFine (Has log script) (length script.shape.homes) (λ n. length (log.nodes n))) is fine_here in (f.0, f.1)
-        id_of floor wants (inr is) =
-            let f = subst (IsFine (Has log script) (length script.shape.homes) (λ n. length (log.nodes n))) is fine_here in (f.0, f.1)
+      (in_range 0 (length script.commands) g.id.count (omega arith) (omega (arith, count, many)))))
 
   length_space : length space ≡ 4 * (16 * (16 * length script.commands))
   unfolding space
@@ -323,8 +343,10 @@ module _ (script : Script) (report : Report) (fits : IsFitting script) (plain : 
       let a = range_with_len 0 16 in
       let m = range_with_len 0 (length script.commands) in
       length_pairs (range_with_len 0 4) (pairs a (pairs a m))
-      ∙ (four (length (pairs a (pairs a m))) ∙ ap (λ n. 4 * n) (length_pairs a (pairs a m) ∙ (sixteen (length (pairs a m))
-      ∙ ap (λ n. 16 * n) (length_pairs a m ∙ (sixteen (length m) ∙ ap (λ n. 16 * n) (length_range 0 (length script.commands)))))))
+      ∙ (four (length (pairs a (pairs a m))) ∙ ap (λ n. 4 * n)
+      (length_pairs a (pairs a m) ∙ (sixteen (length (pairs a m))
+      ∙ ap (λ n. 16 * n) (length_pairs a m ∙ (sixteen (length m) ∙ ap (λ n. 16 * n)
+      (length_range 0 (length script.commands)))))))
 
   -- no stamp is above the number of entries that there may be
   pub bounded : (s : ℕ) → Has log script s → s < 2 ^ 26

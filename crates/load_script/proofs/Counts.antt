@@ -53,7 +53,8 @@ in_map_back f [] b i = absurd i
 in_map_back f (y ∷ ys) b (inl e) = (y, inl refl, e)
 in_map_back f (y ∷ ys) b (inr i) = let r = in_map_back f ys b i in (r.0, inr r.1, r.2)
 
-pub in_pairs : {A B : Type 0} (rest : List A) (bs : List B) (a : A) (b : B) → In a rest → In b bs → In {A = A × B} (a, b) (pairs rest bs)
+pub in_pairs : {A B : Type 0} (rest : List A) (bs : List B) (a : A) (b : B) → In a rest → In b bs → In {A = A × B}
+    (a, b) (pairs rest bs)
 unfolding pairs
 in_pairs [] bs a b i j = absurd i
 in_pairs {A} {B} (x ∷ rest) bs a b (inl e) j =
@@ -72,7 +73,8 @@ unfolding pairs times
 length_pairs [] bs = refl
 length_pairs {A} {B} (x ∷ xs) bs =
     length-append (map (λ (y : B). (x, y)) bs) (pairs xs bs)
-    ∙ (ap (λ n. n + length (pairs xs bs)) (length-map bs (λ (y : B). (x, y))) ∙ ap (λ n. length bs + n) (length_pairs xs bs))
+    ∙ (ap (λ n. n + length (pairs xs bs)) (length-map bs (λ (y : B). (x, y))) ∙ ap (λ n. length bs + n)
+    (length_pairs xs bs))
 
 pub four : (m : ℕ) → times 4 m ≡ 4 * m
 unfolding times
@@ -124,7 +126,8 @@ unfolding total
 total_none zero j n le = refl
 total_none (suc k) j n le =
     let a = total_none k j n (omega (arith, le)) in
-    let b = if_false (j == k) n 0 (false_from_ne_true (j == k) (λ t. let e = eqb-true j k t in let x : ⊥ = omega (arith, e, le) in x)) in
+    let b = if_false (j == k) n 0 (false_from_ne_true (j == k)
+    (λ t. let e = eqb-true j k t in let x : ⊥ = omega (arith, e, le) in x)) in
     omega (arith, a, b)
 
 pub total_one : (k j n : ℕ) → j < k → total k (λ i. cond (j == i) n 0) ≡ n
@@ -133,7 +136,8 @@ total_one zero j n lt = absurd (let x : ⊥ = omega (arith, lt) in x)
 total_one (suc k) j n lt = elim (cases_lt j k) [
   | inl l ↦
       let a = total_one k j n l in
-      let b = if_false (j == k) n 0 (false_from_ne_true (j == k) (λ t. let e = eqb-true j k t in let x : ⊥ = omega (arith, e, l) in x)) in
+      let b = if_false (j == k) n 0 (false_from_ne_true (j == k)
+      (λ t. let e = eqb-true j k t in let x : ⊥ = omega (arith, e, l) in x)) in
       omega (arith, a, b)
   | inr g ↦
       let a = total_none k j n g in
@@ -157,7 +161,8 @@ module _ {X : Type 0} (f : X → ℕ) (p : X → Bool) where
         ≡ cond b (cond (p x) 1 0) 0 + passes xs i
     at false c = omega arith
     at true c = inner (p x) where
-      inner : (d : Bool) → length (cond d (x ∷ filter p (filter (λ y. f y == i) xs)) (filter p (filter (λ y. f y == i) xs)))
+      inner : (d : Bool) → length (cond d (x ∷ filter p (filter (λ y. f y == i) xs))
+          (filter p (filter (λ y. f y == i) xs)))
           ≡ cond d 1 0 + passes xs i
       inner true = omega arith
       inner false = omega arith
@@ -175,8 +180,10 @@ module _ {X : Type 0} (f : X → ℕ) (p : X → Bool) where
       let rest = by_client k xs (λ y i. within y (inr i)) in
       let one = total_one k (f x) (cond (p x) 1 0) (within x (inl refl)) in
       let add = total_add k (λ i. cond (f x == i) (cond (p x) 1 0) 0) (passes xs) in
-      let same = total_same k (passes (x ∷ xs)) (λ i. cond (f x == i) (cond (p x) 1 0) 0 + passes xs i) (λ i lt. one_more x xs i) in
-      passes_more x xs ∙ (ap (λ n. n + length (filter p xs)) (sym one) ∙ (ap (λ n. total k (λ i. cond (f x == i) (cond (p x) 1 0) 0) + n) rest ∙ (sym add ∙ sym same)))
+      let same = total_same k (passes (x ∷ xs)) (λ i. cond (f x == i) (cond (p x) 1 0) 0 + passes xs i)
+      (λ i lt. one_more x xs i) in
+      passes_more x xs ∙ (ap (λ n. n + length (filter p xs)) (sym one) ∙
+      (ap (λ n. total k (λ i. cond (f x == i) (cond (p x) 1 0) 0) + n) rest ∙ (sym add ∙ sym same)))
 
 pub all_pass : {X : Type 0} (xs : List X) → length (filter (λ x. true) xs) ≡ length xs
 all_pass [] = refl

@@ -53,7 +53,8 @@ length_filter_push p [] x = at (p x) where
   at false = refl
 length_filter_push p (y ∷ ys) x = at (p y) (length_filter_push p ys x) where
   at : (b : Bool) → length (filter p (ys ++ x ∷ [])) ≡ length (filter p ys) + one_if (p x)
-      → length (cond b (y ∷ filter p (ys ++ x ∷ [])) (filter p (ys ++ x ∷ []))) ≡ length (cond b (y ∷ filter p ys) (filter p ys)) + one_if (p x)
+      → length (cond b (y ∷ filter p (ys ++ x ∷ [])) (filter p (ys ++ x ∷ []))) ≡ length
+      (cond b (y ∷ filter p ys) (filter p ys)) + one_if (p x)
   at true e = omega (arith, e)
   at false e = e
 
@@ -61,7 +62,8 @@ length_filter_push p (y ∷ ys) x = at (p y) (length_filter_push p ys x) where
 abbrev pub tells : ReplyLine → Bool
 tells reply = tells_node (told reply.answer)
 
-module _ (script : Script) (report : Report) (fits : IsFitting script) (plain : IsPlain script) (run : LawfulRun script report)
+module _ (script : Script) (report : Report) (fits : IsFitting script) (plain : IsPlain script)
+    (run : LawfulRun script report)
     (unwanting : IsUnwanting report) (n : ℕ) (lt : n < length script.shape.homes) where
   abbrev log : Log
   log = run.log
@@ -93,15 +95,18 @@ module _ (script : Script) (report : Report) (fits : IsFitting script) (plain : 
         let begun = g.fence.1 in
         let law = run.begun.lawful caller.own (home_within script report fits plain run unwanting n lt) in
         let m : ColourMark = record { colour = colour; mark = marks.Fenced StampEnd } in
-        let all = All-contains (λ (x : BegunRow). All (λ (m : ColourMark). IsMarkOf (log.histories caller.own m.colour) x.node m.mark) x.marks)
+        let all = All-contains (λ (x : BegunRow). All (λ (m : ColourMark). IsMarkOf
+        (log.histories caller.own m.colour) x.node m.mark) x.marks)
         (log.rows caller.own) r law.marks begun.begun in
-        let is = All-contains (λ (m : ColourMark). IsMarkOf (log.histories caller.own m.colour) r.node m.mark) r.marks m all g.fence.2 in
+        let is = All-contains (λ (m : ColourMark). IsMarkOf (log.histories caller.own m.colour) r.node m.mark)
+        r.marks m all g.fence.2 in
         let fit = All-contains (FitsRow caller.own) (log.rows caller.own) r law.fit begun.begun in
         let among : In colour (members r.node.colours) =
         subst (λ (l : List ℕ). In colour l) fit.a_mark_each
         (in_map (λ (x : ColourMark). x.colour) r.marks m (in_contains r.marks m g.fence.2)) in
         let here : In colour (members set) = subst (λ (x : Node). In colour (members x.colours)) begun.of_node among in
-        let lc = All-contains (λ c. c < script.shape.colours) (members set) colour below (contains_in (members set) colour here) in
+        let lc = All-contains (λ c. c < script.shape.colours) (members set) colour below
+        (contains_in (members set) colour here) in
         let h = log.histories caller.own colour in
         let ended : IsAtEnd h kept.floor = subst (λ (x : Node). IsAtEnd h x.floor) begun.of_node is.1 in
         not_at_end colour (length h) lc kept.floor floor
@@ -137,7 +142,8 @@ module _ (script : Script) (report : Report) (fits : IsFitting script) (plain : 
         → Comes log caller kept what answer after → Follows what answer after
     follow what answer after w (stood set text stamp row points is tell a) = (
       tell ∙ sym (ap (λ (x : What). is_node (appended x)) is),
-      stood_rows set text stamp row points after a ∙ ap (λ (x : What). kept.rows + one_if (is_of_row (appended x))) (sym is),
+      stood_rows set text stamp row points after a ∙ ap (λ (x : What). kept.rows + one_if (is_of_row (appended x)))
+          (sym is),
     )
     follow what answer after w (without_stamp set text colour is h) =
         absurd (has_stamps set text (subst (IsWithin script.shape.regions script.shape.colours) is w) colour after h)
@@ -151,7 +157,8 @@ module _ (script : Script) (report : Report) (fits : IsFitting script) (plain : 
     follow what answer after w (pulled region colour count place carry too_low is tell p same) =
         let none = ap (λ (x : What). is_node (appended x)) is in
         let e = ap (λ (k : Kept). k.rows) same in
-        let q = (place_same (kept_after_event (with_places kept region colour too_low) region colour place) caller.own colour carry).1 in
+        let q = (place_same (kept_after_event (with_places kept region colour too_low) region colour place)
+        caller.own colour carry).1 in
         let z = none_begun what none in
         (tell ∙ sym none, omega (arith, e, q, z))
     follow what answer after w (unchanged none tell same) =
@@ -179,7 +186,8 @@ module _ (script : Script) (report : Report) (fits : IsFitting script) (plain : 
       let m = b.1 in
       let s = filtered begins_row commands in
       let f = follow kept t.floor (omega (arith, m, s, few, l)) command.what reply.answer after last.1
-      (answer_comes log caller kept command reply after last.0 (memory reply (in_right reply replies (reply ∷ []) (inl refl))) a) in
+      (answer_comes log caller kept command reply after last.0
+      (memory reply (in_right reply replies (reply ∷ []) (inl refl))) a) in
       let p = length_filter_push begins_row commands command in
       let g = f.1 in (
         map_push tells replies reply

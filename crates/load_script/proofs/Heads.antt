@@ -22,7 +22,8 @@ use Rattle.col_core.proofs.CallerLemmas.{In, in_append, in_left, in_right, in_re
 use Rattle.load_script.proofs.Counts.{in_map_back}
 use Rattle.load_script.proofs.Traces.{of_greatest}
 
-pub in_flat_map : {A B : Type 0} (f : A → List B) (xs : List A) (b : B) → In b (flat_map f xs) → (x : A) × In x xs × In b (f x)
+pub in_flat_map : {A B : Type 0} (f : A → List B) (xs : List A) (b : B) → In b (flat_map f xs) → (x : A) × In x xs ×
+    In b (f x)
 in_flat_map f [] b i = absurd i
 in_flat_map {A} {B} f (y ∷ ys) b i = turn (in_flat_map f ys b) (in_append b (f y) (flat_map f ys) i) where
   turn : (In b (flat_map f ys) → (x : A) × In x ys × In b (f x)) → In b (f y) ⊎ In b (flat_map f ys)
@@ -30,7 +31,8 @@ in_flat_map {A} {B} f (y ∷ ys) b i = turn (in_flat_map f ys b) (in_append b (f
   turn rest (inl h) = (y, inl refl, h)
   turn rest (inr h) = let r = rest h in (r.0, inr r.1, r.2)
 
-pub to_flat_map : {A B : Type 0} (f : A → List B) (xs : List A) (x : A) (b : B) → In x xs → In b (f x) → In b (flat_map f xs)
+pub to_flat_map : {A B : Type 0} (f : A → List B) (xs : List A) (x : A) (b : B) → In x xs → In b (f x) → In b
+    (flat_map f xs)
 to_flat_map f [] x b i j = absurd i
 to_flat_map {A} {B} f (y ∷ ys) x b (inl e) j = in_left b (f y) (flat_map f ys) (subst (λ (z : A). In b (f z)) (sym e) j)
 to_flat_map f (y ∷ ys) x b (inr i) j = in_right b (f y) (flat_map f ys) (to_flat_map f ys x b i j)
@@ -78,7 +80,8 @@ module _ (F : ℕ → Type 0) where
       (past_stamps (reverse h) (λ d j. all d (in_reversed d h j)) e.0
       (subst (λ (es : List Standing). In e.0 es) (entries-of h) e.1))
 
-  pub clock_is : F 0 → (h : List Entry) → ((e : Entry) → In e h → F (event_number e.event e.stamp)) → F (history.clock h)
+  pub clock_is : F 0 → (h : List Entry) → ((e : Entry) → In e h → F (event_number e.event e.stamp)) → F
+      (history.clock h)
   clock_is none h all =
       of_greatest F none (map (λ (e : Entry). event_number e.event e.stamp) h) (λ n i.
       let r = in_map_back (λ (e : Entry). event_number e.event e.stamp) h n i in subst F r.2 (all r.0 r.1))
@@ -92,7 +95,8 @@ carries region (events.Settle id outcome) head i = absurd i
 carries region (events.Raise to) head i = absurd i
 carries region (events.Give other from) head i = absurd i
 carries region (events.Carry other start heads) head i =
-    choice (λ (l : List Head). In head l → (s : ℕ) × (hs : List Head) × (events.Carry other start heads ≡ events.Carry region s hs))
+    choice (λ (l : List Head). In head l → (s : ℕ) × (hs : List Head) ×
+    (events.Carry other start heads ≡ events.Carry region s hs))
     (other == region) heads []
     (λ t _. (start, heads, ap (λ r. events.Carry r start heads) (eqb-true other region t))) (λ _ j. absurd j) i
 carries region (events.Trim counts) head i = absurd i
@@ -116,11 +120,13 @@ module _ (F : ℕ → Type 0) (regions : ℕ) (histories : ℕ → List Entry)
     (copies : AreTrueCopies regions (λ r. dated r (histories r)))
     (all : (r : ℕ) → r < regions → (e : Entry) → In e (histories r) → F (event_number e.event e.stamp)) where
   -- of an own chain, over some of the events
-  own_stamps : (own : ℕ) → own < regions → (h : List Entry) → ((e : Entry) → In e h → In e (histories own)) → (head : Head)
+  own_stamps : (own : ℕ) → own < regions → (h : List Entry) → ((e : Entry) → In e h → In e (histories own)) →
+      (head : Head)
       → In head (chain own (dated own h) own) → F head.key.stamp
   own_stamps own lt h within head =
       choice (λ (l : List Head). In head l → F head.key.stamp) (own == own)
-      (map (λ key. record { key = key; needs = needs_of (dated own h) key.id }) (history.line (entries_of (dated own h))))
+      (map (λ key. record { key = key; needs = needs_of (dated own h) key.id })
+      (history.line (entries_of (dated own h))))
       (flat_map (λ (d : Dated). carried own d.entry.event) (dated own h))
       (λ _ i.
       let r = in_map_back (λ key. record { key = key; needs = needs_of (dated own h) key.id })
@@ -144,17 +150,20 @@ module _ (F : ℕ → Type 0) (regions : ℕ) (histories : ℕ → List Entry)
       let at = in_slice (dated own h) d.0 d.1 in
       let is : d.0.entry.event ≡ events.Carry region c.0 c.1 = ap (λ (x : Entry). x.event) d.2 ∙ c.2 in
       let l : IsLawfulEvent own regions (take at.0 (dated own h)) (events.Carry region c.0 c.1) d.0.entry.stamp =
-      subst (λ (ev : Event). IsLawfulEvent own regions (take at.0 (dated own h)) ev d.0.entry.stamp) is (legal own lt at.0 d.0 at.1) in
+      subst (λ (ev : Event). IsLawfulEvent own regions (take at.0 (dated own h)) ev d.0.entry.stamp) is
+      (legal own lt at.0 d.0 at.1) in
       let held = to_flat_map (λ (x : Dated). carried region x.entry.event) (dated own h) d.0 head d.1
       (subst (λ (x : Entry). In head (carried region x.event)) (sym d.2) f.2) in
       let copy = copies region own l.2 lt ne in
       let front : In head (chain own (dated own h) region) =
       choice (λ (l : List Head). In head l) (region == own)
-      (map (λ key. record { key = key; needs = needs_of (dated own h) key.id }) (history.line (entries_of (dated own h))))
+      (map (λ key. record { key = key; needs = needs_of (dated own h) key.id })
+      (history.line (entries_of (dated own h))))
       (flat_map (λ (x : Dated). carried region x.entry.event) (dated own h))
       (λ t. absurd (ne (eqb-true region own t))) (λ _. held) in
       own_stamps region l.2 (histories region) (λ x j. j) head
-      (subst (λ (l : List Head). In head l) copy.beginning (in_left head (chain own (dated own h) region) copy.rest front))
+      (subst (λ (l : List Head). In head l) copy.beginning (in_left head (chain own (dated own h) region) copy.rest
+      front))
 
   -- the stamps of all chains
   pub chain_stamps : (own count region : ℕ) → own < regions → (head : Head)
@@ -165,8 +174,10 @@ module _ (F : ℕ → Type 0) (regions : ℕ) (histories : ℕ → List Entry)
       (λ t. own_stamps own lt h (in_take count (histories own)) head
       (subst (λ r. In head (chain own (dated own h) r)) (eqb-true region own t) i))
       (λ f. other_stamps own count region lt (λ e. laws.apart (region == own) (eq-eqb region own e) f) head
-      (choice (λ (l : List Head). In head l → In head (flat_map (λ (d : Dated). carried region d.entry.event) (dated own h)))
+      (choice (λ (l : List Head). In head l → In head (flat_map (λ (d : Dated). carried region d.entry.event)
+      (dated own h)))
       (region == own)
-      (map (λ key. record { key = key; needs = needs_of (dated own h) key.id }) (history.line (entries_of (dated own h))))
+      (map (λ key. record { key = key; needs = needs_of (dated own h) key.id })
+      (history.line (entries_of (dated own h))))
       (flat_map (λ (d : Dated). carried region d.entry.event) (dated own h))
       (λ t. absurd (laws.apart (region == own) t f)) (λ _ j. j) i))

@@ -40,7 +40,8 @@ use Rattle.load_script.proofs.Stamps.{client_shown, commands_plain, replies_unwa
 use Rattle.load_script.proofs.Bounds.{get_map_back}
 use Rattle.load_script.proofs.Follows.{tells, all_follow}
 
-pub get_map : {A B : Type 0} (f : A → B) (xs : List A) (n : ℕ) (x : A) → slice_get xs n ≡ Some x → slice_get (map f xs) n ≡ Some (f x)
+pub get_map : {A B : Type 0} (f : A → B) (xs : List A) (n : ℕ) (x : A) → slice_get xs n ≡ Some x → slice_get
+    (map f xs) n ≡ Some (f x)
 get_map f [] n x e = absurd (let y : ⊥ = cc in y)
 get_map {A} {B} f (y ∷ ys) zero x e = let s : y ≡ x = cc in ap (λ (z : A). Some (f z)) s
 get_map f (y ∷ ys) (suc n) x e = get_map f ys n x e
@@ -56,14 +57,16 @@ stands_in : (report : Report) (region : ℕ) (id : Id) (colours : Colours) (t : 
     → (stamp : ℕ) × (position : ℕ) × StandsAtEnd report region colour position (entry_key stamp id)
 stands_in report region id colours Nowhere tell s colour i = absurd s
 stands_in report region id colours (UnderAt stamp points) tell s colour i =
-    let p = in_map_back (λ (p : PointPiece). p.colour) points colour (subst (λ (l : List ℕ). In colour l) (sym s.all) i) in (
+    let p = in_map_back (λ (p : PointPiece). p.colour) points colour
+    (subst (λ (l : List ℕ). In colour l) (sym s.all) i) in (
       stamp,
       p.0.position,
       subst (λ c. StandsAtEnd report region c p.0.position (entry_key stamp id)) p.2
           (s.each p.0 (contains_in points p.0 p.1)),
     )
 stands_in report region id colours (StoodAt points) tell s colour i =
-    let p = in_map_back (λ (p : PointPiece). p.colour) points colour (subst (λ (l : List ℕ). In colour l) (sym s.1.all) i) in (
+    let p = in_map_back (λ (p : PointPiece). p.colour) points colour
+    (subst (λ (l : List ℕ). In colour l) (sym s.1.all) i) in (
       s.0,
       p.0.position,
       subst (λ c. StandsAtEnd report region c p.0.position (entry_key s.0 id)) p.2
@@ -76,7 +79,8 @@ stands_in report region id colours Perhaps tell s colour i = absurd (true≢fals
 of_told : (t : Told) → tells_node t ≡ true → t ≢ Nowhere
 of_told t e n = true≢false (sym e ∙ ap tells_node n)
 
-module _ (script : Script) (report : Report) (fits : IsFitting script) (plain : IsPlain script) (run : LawfulRun script report)
+module _ (script : Script) (report : Report) (fits : IsFitting script) (plain : IsPlain script)
+    (run : LawfulRun script report)
     (unwanting : IsUnwanting report)
     (homes : (n : ℕ) → n < length script.shape.homes → slice_index script.shape.homes n ≡ home_of n)
     (returned : ReturnedAppendsStand) (one_command : OneCommand) (rising : ClosingLinesRise) (one_key : OneKey)
@@ -102,10 +106,12 @@ module _ (script : Script) (report : Report) (fits : IsFitting script) (plain : 
     column_colour : column.colour < script.shape.colours
     column_colour =
         let i = subst (λ (l : List (ℕ × ℕ)). In (column.region, column.colour) l) run.columns.all
-        (in_map (λ (c : ColumnReport). (c.region, c.colour)) report.columns column (in_contains report.columns column there)) in
+        (in_map (λ (c : ColumnReport). (c.region, c.colour)) report.columns column
+        (in_contains report.columns column there)) in
         let a = in_flat_map (λ region. map (λ colour. (region, colour)) (range_with_len 0 script.shape.colours))
         (range_with_len 0 script.shape.regions) (column.region, column.colour) i in
-        let b = in_map_back (λ colour. (a.0, colour)) (range_with_len 0 script.shape.colours) (column.region, column.colour) a.2 in
+        let b = in_map_back (λ colour. (a.0, colour)) (range_with_len 0 script.shape.colours)
+        (column.region, column.colour) a.2 in
         let e : b.0 ≡ column.colour = ap (λ (p : ℕ × ℕ). p.1) b.2 in
         let r = (range_in 0 script.shape.colours b.0 b.1).1 in
         omega (arith, e, r)
@@ -131,20 +137,26 @@ module _ (script : Script) (report : Report) (fits : IsFitting script) (plain : 
         let from = in_filter (λ (x : Command). x.client == key.id.client) a.command script.commands here in
         let client : a.command.client ≡ key.id.client = eqb-true a.command.client key.id.client from.1 in
         let lt : key.id.client < length script.shape.homes =
-        let l = within_there report.clients key.id.client a.replied.0 a.replied.1 in let m = clients_many in omega (arith, l, m) in
-        let home : home_of a.command.client ≡ column.region = ap home_of client ∙ (sym (homes key.id.client lt) ∙ s.7) in
+        let l = within_there report.clients key.id.client a.replied.0 a.replied.1 in let m = clients_many in omega
+        (arith, l, m) in
+        let home : home_of a.command.client ≡ column.region = ap home_of client ∙
+        (sym (homes key.id.client lt) ∙ s.7) in
         let colour : is_of_colour column.colour (appended a.command.what) ≡ true =
         ap (λ (x : What). is_of_colour column.colour (appended x)) what
         ∙ (in_filter (has s.2) column.colour (range_with_len 0 64) (in_contains (members s.2) column.colour s.6)).1 in
         let g : goes_to column.region column.colour a.command ≡ true =
         and_from (home_of a.command.client == column.region) (is_of_colour column.colour (appended a.command.what))
         (eq-eqb (home_of a.command.client) column.region home) colour in
-        let placed = places_in (goes_to column.region column.colour) 0 (commands_of script key.id.client) s.0 a.command a.asked g in
+        let placed = places_in (goes_to column.region column.colour) 0 (commands_of script key.id.client) s.0
+        a.command a.asked g in
         let count : number key.id.client (0 + s.0) ≡ key.id.count =
         ap (number key.id.client) (let z : 0 + s.0 ≡ s.0 = omega arith in z) ∙ sym (ap (λ (x : Id). x.count) a.id_is) in
-        subst (λ m. In key.id.count (map (number m) (places (goes_to column.region column.colour) 0 (commands_of script m)))) is
-        (subst (λ m. In m (map (number key.id.client) (places (goes_to column.region column.colour) 0 (commands_of script key.id.client))))
-        count (in_map (number key.id.client) (places (goes_to column.region column.colour) 0 (commands_of script key.id.client)) (0 + s.0) placed))
+        subst (λ m. In key.id.count (map (number m) (places (goes_to column.region column.colour) 0
+        (commands_of script m)))) is
+        (subst (λ m. In m (map (number key.id.client) (places (goes_to column.region column.colour) 0
+        (commands_of script key.id.client))))
+        count (in_map (number key.id.client) (places (goes_to column.region column.colour) 0
+        (commands_of script key.id.client)) (0 + s.0) placed))
 
     -- a command that goes there, with its reply
     record Gone (n k : ℕ) : Type 0 where
@@ -168,8 +180,10 @@ module _ (script : Script) (report : Report) (fits : IsFitting script) (plain : 
         let c = client_shown script report fits plain run unwanting n lt in
         let f = (client_follows n c.0 c.1).0 in
         let b = get_map_back tells c.0.replies k (appends p.2)
-        (subst (λ (l : List Bool). slice_get l k ≡ Some (appends p.2)) (sym f) (get_map appends (commands_of script n) k p.2 asked)) in
-        let g = and_parts (home_of p.2.client == column.region) (is_of_colour column.colour (appended p.2.what)) p.4 in record {
+        (subst (λ (l : List Bool). slice_get l k ≡ Some (appends p.2)) (sym f)
+        (get_map appends (commands_of script n) k p.2 asked)) in
+        let g = and_parts (home_of p.2.client == column.region) (is_of_colour column.colour (appended p.2.what)) p.4
+        in record {
           reply = b.0;
           replied = (c.0, c.1, b.1);
           telling = b.2 ∙ node_of_colour column.colour (appended p.2.what) g.1;
@@ -189,17 +203,23 @@ module _ (script : Script) (report : Report) (fits : IsFitting script) (plain : 
         let here = slice_in (commands_of script n) k g.command g.asked in
         let p = commands_plain script report fits plain run unwanting n a.command
         (subst (λ (x : Command). In x (commands_of script n)) (sym same) here) in
-        let what = asks_append (caller_of script n) (kept_of run n k) a.command.what s.1 s.2 (is_plain a.command.what p.0) a.asks in
-        let q = and_parts (home_of g.command.client == column.region) (is_of_colour column.colour (appended g.command.what)) g.going in
-        let client = eqb-true g.command.client n (in_filter (λ (x : Command). x.client == n) g.command script.commands here).1 in
+        let what = asks_append (caller_of script n) (kept_of run n k) a.command.what s.1 s.2
+        (is_plain a.command.what p.0) a.asks in
+        let q = and_parts (home_of g.command.client == column.region)
+        (is_of_colour column.colour (appended g.command.what)) g.going in
+        let client = eqb-true g.command.client n (in_filter (λ (x : Command). x.client == n) g.command
+        script.commands here).1 in
         let own : slice_index script.shape.homes n ≡ column.region =
         homes n lt ∙ (ap home_of (sym client) ∙ eqb-true (home_of g.command.client) column.region q.0) in
         let colour : has s.1 column.colour ≡ true =
         sym (ap (λ (x : What). is_of_colour column.colour (appended x)) what)
         ∙ (ap (λ (x : Command). is_of_colour column.colour (appended x.what)) same ∙ q.1) in
         let among : In column.colour (members s.1) =
-        in_filter-back (has s.1) column.colour (range_with_len 0 64) (in_range 0 64 column.colour (omega arith) (let c = column_colour in let m = fits.shape.few_colours in omega (arith, c, m))) colour in
-        let w = stands_in report (slice_index script.shape.homes n) s.0 s.1 (told g.reply.answer) g.telling s.4 column.colour among in
+        in_filter-back (has s.1) column.colour (range_with_len 0 64)
+        (in_range 0 64 column.colour (omega arith) (let c = column_colour in let m = fits.shape.few_colours in
+        omega (arith, c, m))) colour in
+        let w = stands_in report (slice_index script.shape.homes n) s.0 s.1 (told g.reply.answer) g.telling s.4
+        column.colour among in
         let at = w.2 column there (sym own) refl in
         (entry_key w.0 s.0, slice_in column.line w.1 (entry_key w.0 s.0) at, a.id_is)
 
@@ -212,13 +232,16 @@ module _ (script : Script) (report : Report) (fits : IsFitting script) (plain : 
         let h = gone n lt m j in
         let s = returned script report run n k g.reply g.replied (of_told (told g.reply.answer) g.telling) in
         let t = returned script report run n m h.reply h.replied (of_told (told h.reply.answer) h.telling) in
-        let id : t.0 ≡ s.0 = t.3.id_is ∙ (ap (λ (x : ℕ). let y : Id = record { client = n; count = x } in y) (sym same) ∙ sym s.3.id_is) in
-        one_command script report run n k m g.reply h.reply s.0 s.1 t.1 s.2 t.2 s.3 (of_told (told g.reply.answer) g.telling)
+        let id : t.0 ≡ s.0 = t.3.id_is ∙ (ap (λ (x : ℕ). let y : Id = record { client = n; count = x } in y)
+        (sym same) ∙ sym s.3.id_is) in
+        one_command script report run n k m g.reply h.reply s.0 s.1 t.1 s.2 t.2 s.3
+        (of_told (told g.reply.answer) g.telling)
         (subst (λ (x : Id). IsAppend run n m h.reply x t.1 t.2) id t.3) (of_told (told h.reply.answer) h.telling)
 
     line_distinct : Distinct column.line
     line_distinct = distinct_at column.line (λ i j x y lt a b e.
-        key-irrefl x (subst (λ (z : Key). IsTrue (key_below x z)) (sym e) (rising script report run column there i j x y a b lt)))
+        key-irrefl x (subst (λ (z : Key). IsTrue (key_below x z)) (sym e)
+        (rising script report run column there i j x y a b lt)))
 
     -- of each client as many keys stand in the line as commands go there
     client_line : (n : ℕ) → n < length script.shape.homes
@@ -229,10 +252,12 @@ module _ (script : Script) (report : Report) (fits : IsFitting script) (plain : 
         let gos = places (goes_to column.region column.colour) 0 (commands_of script n) in
         sym (length-map mine (λ (key : Key). key.id.count))
         ∙ (as_many (map (λ (key : Key). key.id.count) mine) (map (number n) gos)
-        (distinct_map (λ (key : Key). key.id.count) mine (distinct_filter (λ (key : Key). key.id.client == n) column.line line_distinct)
+        (distinct_map (λ (key : Key). key.id.count) mine (distinct_filter (λ (key : Key). key.id.client == n)
+        column.line line_distinct)
         (λ x y i j same. one_id x y (in_filter (λ (key : Key). key.id.client == n) x column.line i)
         (in_filter (λ (key : Key). key.id.client == n) y column.line j) same))
-        (distinct_map (number n) gos (distinct_places (goes_to column.region column.colour) 0 (commands_of script n)) (one_number n lt))
+        (distinct_map (number n) gos (distinct_places (goes_to column.region column.colour) 0 (commands_of script n))
+        (one_number n lt))
         (λ x i.
         let r = in_map_back (λ (key : Key). key.id.count) mine x i in
         let f = in_filter (λ (key : Key). key.id.client == n) r.0 column.line r.1 in
@@ -244,15 +269,18 @@ module _ (script : Script) (report : Report) (fits : IsFitting script) (plain : 
         subst (λ m. In m (map (λ (key : Key). key.id.count) mine)) (ap (λ (y : Id). y.count) k.2 ∙ r.2)
         (in_map (λ (key : Key). key.id.count) mine k.0
         (in_filter-back (λ (key : Key). key.id.client == n) k.0 column.line k.1 (eq-eqb k.0.id.client n client))))
-        ∙ (length-map gos (number n) ∙ length_places (goes_to column.region column.colour) 0 (commands_of script n))) where
-          one_id : (x y : Key) → In x column.line × ((x.id.client == n) ≡ true) → In y column.line × ((y.id.client == n) ≡ true)
-              → x.id.count ≡ y.id.count → x ≡ y
-          one_id x y a b same =
-              let e = eqb-true x.id.client n a.1 ∙ sym (eqb-true y.id.client n b.1) in
-              let id : x.id ≡ y.id =
-              ap (λ (c : ℕ). let i : Id = record { client = c; count = x.id.count } in i) e
-              ∙ ap (λ (c : ℕ). let i : Id = record { client = y.id.client; count = c } in i) same in
-              (one_key script report fits run column column there there x y (contains_in column.line x a.0) (contains_in column.line y b.0) id).0
+        ∙ (length-map gos (number n) ∙ length_places (goes_to column.region column.colour) 0 (commands_of script n)))
+      where
+        one_id : (x y : Key) → In x column.line × ((x.id.client == n) ≡ true) → In y column.line ×
+            ((y.id.client == n) ≡ true)
+            → x.id.count ≡ y.id.count → x ≡ y
+        one_id x y a b same =
+            let e = eqb-true x.id.client n a.1 ∙ sym (eqb-true y.id.client n b.1) in
+            let id : x.id ≡ y.id =
+            ap (λ (c : ℕ). let i : Id = record { client = c; count = x.id.count } in i) e
+            ∙ ap (λ (c : ℕ). let i : Id = record { client = y.id.client; count = c } in i) same in
+            (one_key script report fits run column column there there x y (contains_in column.line x a.0)
+            (contains_in column.line y b.0) id).0
 
     -- the closing line is as long as the commands say
     pub line_length : length column.line ≡ length_of script.commands (column.region, column.colour)
@@ -265,7 +293,8 @@ module _ (script : Script) (report : Report) (fits : IsFitting script) (plain : 
         (passes (λ (x : Command). x.client) (goes_to column.region column.colour) script.commands)
         (λ n lt. all_pass (filter (λ (key : Key). key.id.client == n) column.line) ∙ client_line n lt)
         ∙ sym (by_client (λ (x : Command). x.client) (goes_to column.region column.colour) k script.commands
-        (λ c i. All-contains (λ (x : Command). x.client < k) script.commands c fits.callers (contains_in script.commands c i))))) where
+        (λ c i. All-contains (λ (x : Command). x.client < k) script.commands c fits.callers
+        (contains_in script.commands c i))))) where
           key_within : (key : Key) → In key column.line → key.id.client < length script.shape.homes
           key_within key i =
               let s = nothing_else script report fits run column there key (contains_in column.line key i) in
@@ -279,11 +308,13 @@ module _ (script : Script) (report : Report) (fits : IsFitting script) (plain : 
       let k = length script.shape.homes in
       by_place tells (λ (c : ClientReport). c.replies) report.clients
       (passes (λ (x : Command). x.client) appends script.commands)
-      (λ n c there. passed tells c.replies ∙ (ap (λ (bs : List Bool). length (filter (λ b. b) bs)) (client_follows n c there).0
+      (λ n c there. passed tells c.replies ∙ (ap (λ (bs : List Bool). length (filter (λ b. b) bs))
+      (client_follows n c there).0
       ∙ sym (passed appends (commands_of script n))))
       ∙ (ap (λ m. total m (passes (λ (x : Command). x.client) appends script.commands)) clients_many
       ∙ sym (by_client (λ (x : Command). x.client) appends k script.commands
-      (λ c i. All-contains (λ (x : Command). x.client < k) script.commands c fits.callers (contains_in script.commands c i))))
+      (λ c i. All-contains (λ (x : Command). x.client < k) script.commands c fits.callers
+      (contains_in script.commands c i))))
 
   all_rows : List BegunRow
   all_rows = flat_map (λ r. log.rows r) (range_with_len 0 script.shape.regions)
@@ -296,13 +327,15 @@ module _ (script : Script) (report : Report) (fits : IsFitting script) (plain : 
       let own = slice_index script.shape.homes n in
       let c = client_shown script report fits plain run unwanting n lt in
       let count = length (filter (is_of n) (log.rows own)) in
-      by_place (is_of n) (λ r. log.rows r) (range_with_len 0 script.shape.regions) (λ r. cond (own == r) count 0) at_region
+      by_place (is_of n) (λ r. log.rows r) (range_with_len 0 script.shape.regions) (λ r. cond (own == r) count 0)
+      at_region
       ∙ (ap (λ m. total m (λ r. cond (own == r) count 0)) (length_range 0 script.shape.regions)
       ∙ (total_one script.shape.regions own count (home_within script report fits plain run unwanting n lt)
       ∙ ((run.clients n c.0 c.1).rows ∙ (client_follows n c.0 c.1).1))) where
         at_region : (m r : ℕ) → slice_get (range_with_len 0 script.shape.regions) m ≡ Some r
             → length (filter (is_of n) (log.rows r))
-            ≡ cond (slice_index script.shape.homes n == m) (length (filter (is_of n) (log.rows (slice_index script.shape.homes n)))) 0
+            ≡ cond (slice_index script.shape.homes n == m) (length
+            (filter (is_of n) (log.rows (slice_index script.shape.homes n)))) 0
         at_region m r e =
             let own = slice_index script.shape.homes n in
             let count = length (filter (is_of n) (log.rows own)) in
@@ -312,7 +345,8 @@ module _ (script : Script) (report : Report) (fits : IsFitting script) (plain : 
             let same : r ≡ m = omega (arith, is) in
             let lr : r < script.shape.regions = omega (arith, is, l, k) in
             by_test _ (own == m)
-            (λ t. ap (λ x. length (filter (is_of n) (log.rows x))) (same ∙ sym (eqb-true own m t)) ∙ sym (if_true (own == m) count 0 t))
+            (λ t. ap (λ x. length (filter (is_of n) (log.rows x))) (same ∙ sym (eqb-true own m t)) ∙ sym
+            (if_true (own == m) count 0 t))
             (λ f. none_pass (is_of n) (log.rows r) (λ row i. false_from_ne_true (is_of n row) (λ t.
             let o = row_owner script report fits plain run unwanting r lr row i in
             let client = eqb-true row.row.client n t in
@@ -331,7 +365,8 @@ module _ (script : Script) (report : Report) (fits : IsFitting script) (plain : 
       (passes (λ (x : Command). x.client) begins_row script.commands)
       (λ n lt. all_pass (filter (λ (r : BegunRow). r.row.client == n) all_rows) ∙ client_rows n lt)
       ∙ sym (by_client (λ (x : Command). x.client) begins_row k script.commands
-      (λ c i. All-contains (λ (x : Command). x.client < k) script.commands c fits.callers (contains_in script.commands c i))))))) where
+      (λ c i. All-contains (λ (x : Command). x.client < k) script.commands c fits.callers
+      (contains_in script.commands c i))))))) where
         row_within : (r : BegunRow) → In r all_rows → r.row.client < length script.shape.homes
         row_within r i =
             let a = in_flat_map (λ x. log.rows x) (range_with_len 0 script.shape.regions) r i in

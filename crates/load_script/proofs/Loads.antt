@@ -42,15 +42,18 @@ below_four (x ∷ xs) t c (inr i) = below_four xs (and_parts (nat_lt x 4) (list_
 
 -- the sets are of the first four colours
 sets_below : (set : ℕ) → In set sets → AreBelow 4 (record { 0 = set })
-sets_below set i = all_of (λ c. c < 4) (members (record { 0 = set })) (below_four (members (record { 0 = set })) (of set i)) where
-  of : (set : ℕ) → In set sets → list_all (λ c. nat_lt c 4) (members (record { 0 = set })) ≡ true
-  of set (inl e) = subst (λ n. list_all (λ c. nat_lt c 4) (members (record { 0 = n })) ≡ true) e refl
-  of set (inr (inl e)) = subst (λ n. list_all (λ c. nat_lt c 4) (members (record { 0 = n })) ≡ true) e refl
-  of set (inr (inr (inl e))) = subst (λ n. list_all (λ c. nat_lt c 4) (members (record { 0 = n })) ≡ true) e refl
-  of set (inr (inr (inr (inl e)))) = subst (λ n. list_all (λ c. nat_lt c 4) (members (record { 0 = n })) ≡ true) e refl
-  of set (inr (inr (inr (inr (inl e))))) = subst (λ n. list_all (λ c. nat_lt c 4) (members (record { 0 = n })) ≡ true) e refl
-  of set (inr (inr (inr (inr (inr (inl e)))))) = subst (λ n. list_all (λ c. nat_lt c 4) (members (record { 0 = n })) ≡ true) e refl
-  of set (inr (inr (inr (inr (inr (inr f)))))) = absurd f
+sets_below set i = all_of (λ c. c < 4) (members (record { 0 = set }))
+    (below_four (members (record { 0 = set })) (of set i)) where
+      of : (set : ℕ) → In set sets → list_all (λ c. nat_lt c 4) (members (record { 0 = set })) ≡ true
+      of set (inl e) = subst (λ n. list_all (λ c. nat_lt c 4) (members (record { 0 = n })) ≡ true) e refl
+      of set (inr (inl e)) = subst (λ n. list_all (λ c. nat_lt c 4) (members (record { 0 = n })) ≡ true) e refl
+      of set (inr (inr (inl e))) = subst (λ n. list_all (λ c. nat_lt c 4) (members (record { 0 = n })) ≡ true) e refl
+      of set (inr (inr (inr (inl e)))) = subst (λ n. list_all (λ c. nat_lt c 4) (members (record { 0 = n })) ≡ true) e refl
+      of set (inr (inr (inr (inr (inl e))))) = subst (λ n. list_all (λ c. nat_lt c 4) (members (record { 0 = n })) ≡
+          true) e refl
+      of set (inr (inr (inr (inr (inr (inl e)))))) = subst (λ n. list_all (λ c. nat_lt c 4) (members (record { 0 = n }))
+          ≡ true) e refl
+      of set (inr (inr (inr (inr (inr (inr f)))))) = absurd f
 
 -- what is asked is an append, a sync or a pull that names what there is
 abbrev Asks : What → Type 0
@@ -59,7 +62,8 @@ Asks what = IsPlainWhat what × IsWithin 2 4 what × UsesObject [] what
 remains : (n : ℕ) → (n % 4 < 4) × (n % 2 < 2)
 remains n = (omega arith, omega arith)
 
-asks : (o : Option ℕ) (choice client round : ℕ) → ((set : ℕ) → o ≡ Some set → In set sets) → Asks (asked_by o choice client round)
+asks : (o : Option ℕ) (choice client round : ℕ) → ((set : ℕ) → o ≡ Some set → In set sets) → Asks
+    (asked_by o choice client round)
 asks (Some set) choice' client round among = (tt, sets_below set (among set refl), tt)
 asks None choice' client round among =
     choice Asks (choice' == 6) (whats.Sync (round % 4)) (whats.Pull (home_of (client + 1)) (round % 4))
@@ -106,17 +110,20 @@ once : (count round n a m : ℕ)
 once count round n a zero = omega arith
 once count round n a (suc m) =
     let rest = map (command_of count round) (range_with_len (a + 1) m) in
-    choice (λ (l : List Command). length l ≤ 1) (a == n) (command_of count round a ∷ filter (λ (c : Command). c.client == n) rest)
+    choice (λ (l : List Command). length l ≤ 1) (a == n) (command_of count round a ∷ filter
+    (λ (c : Command). c.client == n) rest)
     (filter (λ (c : Command). c.client == n) rest)
     (λ t. let e = eqb-true a n t in let z = past count round n (a + 1) m (omega (arith, e)) in omega (arith, z))
     (λ _. once count round n (a + 1) m)
 
-few_each : (count n a m : ℕ) → length (filter (λ (c : Command). c.client == n) (flat_map (round_of count) (range_with_len a m))) ≤ m
+few_each : (count n a m : ℕ) → length (filter (λ (c : Command). c.client == n)
+    (flat_map (round_of count) (range_with_len a m))) ≤ m
 few_each count n a zero = omega arith
 few_each count n a (suc m) =
     let rest = flat_map (round_of count) (range_with_len (a + 1) m) in
     let split = ap length (filter-append (λ (c : Command). c.client == n) (round_of count a) rest)
-    ∙ length-append (filter (λ (c : Command). c.client == n) (round_of count a)) (filter (λ (c : Command). c.client == n) rest) in
+    ∙ length-append (filter (λ (c : Command). c.client == n) (round_of count a))
+    (filter (λ (c : Command). c.client == n) rest) in
     let one = once count a n 0 CLIENTS in
     let more = few_each count n (a + 1) m in
     omega (arith, split, one, more)
@@ -154,7 +161,8 @@ module _ (count : ℕ) (small : count ≤ MAX_LOAD) where
   }
 
   homes_are : (n : ℕ) → n < 8 → slice_index (map home_of (range_with_len 0 CLIENTS)) n ≡ home_of n
-  homes_are n lt = index_range home_of 0 CLIENTS n (omega (arith, lt)) ∙ ap home_of (let e : 0 + n ≡ n = omega arith in e)
+  homes_are n lt = index_range home_of 0 CLIENTS n (omega (arith, lt)) ∙ ap home_of
+      (let e : 0 + n ≡ n = omega arith in e)
 
   module _ (returned : ReturnedAppendsStand) (one_command : OneCommand) (rising : ClosingLinesRise) (one_key : OneKey)
       (nothing_else : NothingElseStands) (report : Report) (run : LawfulRun (load_script count) report)
@@ -163,26 +171,34 @@ module _ (count : ℕ) (small : count ≤ MAX_LOAD) where
         → slice_get (commands_of (load_script count) client) k ≡ Some command → HasReply report client k reply
         → tells_node (told reply.answer) ≡ is_node (appended command.what)
     each_stands client k command reply asked there =
-        let f = (client_follows (load_script count) report load_fits load_plain run unwanting homes_are returned one_command rising one_key nothing_else
+        let f = (client_follows (load_script count) report load_fits load_plain run unwanting homes_are returned
+        one_command rising one_key nothing_else
         client there.0 there.1).0 in
         let a = get_map tells there.0.replies k reply there.2 in
         let b = get_map appends (commands_of (load_script count) client) k command asked in
         let e : Some (tells reply) ≡ Some (appends command) = sym a ∙ (ap (λ (l : List Bool). slice_get l k) f ∙ b) in
         cc
 
-    lengths : map (λ (c : ColumnReport). length c.line) report.columns ≡ map (length_of (rounds_of count count)) (column_numbers 2 4)
+    lengths : map (λ (c : ColumnReport). length c.line) report.columns ≡ map (length_of (rounds_of count count))
+        (column_numbers 2 4)
     lengths =
-        map_same (λ (c : ColumnReport). length c.line) (λ (c : ColumnReport). length_of (rounds_of count count) (c.region, c.colour)) report.columns
-        (λ c i. line_length (load_script count) report load_fits load_plain run unwanting homes_are returned one_command rising one_key nothing_else
+        map_same (λ (c : ColumnReport). length c.line) (λ (c : ColumnReport). length_of (rounds_of count count)
+        (c.region, c.colour)) report.columns
+        (λ c i. line_length (load_script count) report load_fits load_plain run unwanting homes_are returned
+        one_command rising one_key nothing_else
         c (contains_in report.columns c i))
-        ∙ (sym (map_twice (length_of (rounds_of count count)) (λ (c : ColumnReport). (c.region, c.colour)) report.columns)
+        ∙ (sym (map_twice (length_of (rounds_of count count)) (λ (c : ColumnReport). (c.region, c.colour))
+        report.columns)
         ∙ ap (map (length_of (rounds_of count count))) run.columns.all)
 
     pub comes_to : shown_summary count report ≡ load_summary count
     comes_to =
-        let nodes = nodes_are (load_script count) report load_fits load_plain run unwanting homes_are returned one_command rising one_key nothing_else in
-        let rows = rows_are (load_script count) report load_fits load_plain run unwanting homes_are returned one_command rising one_key nothing_else in
-        let made = λ (l : List ℕ) (n r : ℕ). let s : Summary = record { count = count; lengths = l; nodes = n; rows = r } in s in
+        let nodes = nodes_are (load_script count) report load_fits load_plain run unwanting homes_are returned
+        one_command rising one_key nothing_else in
+        let rows = rows_are (load_script count) report load_fits load_plain run unwanting homes_are returned
+        one_command rising one_key nothing_else in
+        let made = λ (l : List ℕ) (n r : ℕ). let s : Summary = record
+        { count = count; lengths = l; nodes = n; rows = r } in s in
         ap (λ (l : List ℕ). made l (shown_summary count report).nodes (shown_summary count report).rows) lengths
         ∙ (ap (λ (n : ℕ). made (load_summary count).lengths n (shown_summary count report).rows) nodes
         ∙ ap (λ (r : ℕ). made (load_summary count).lengths (load_summary count).nodes r) rows)

@@ -5,7 +5,8 @@ use Rattle.std.proofs.lemmas.List.{map-id, flat_map_more}
 use Rattle.std.proofs.lemmas.List.FromFn.{map-range_with_len_more}
 
 -- one element more of those that a function makes of the numbers
-pub one_made : {X : Type 0} (f : ℕ → X) (first now new : List X) (x : X) (n : ℕ) → now ≡ first ++ map f (range_with_len 0 n)
+pub one_made : {X : Type 0} (f : ℕ → X) (first now new : List X) (x : X) (n : ℕ) → now ≡ first ++ map f
+    (range_with_len 0 n)
     → x ≡ f n → new ≡ now ++ x ∷ [] → new ≡ first ++ map f (range_with_len 0 (n + 1))
 one_made {X} f first now new x n before is pushed =
     pushed

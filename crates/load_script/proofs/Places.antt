@@ -38,7 +38,8 @@ module _ {X : Type 0} (p : X → Bool) where
         turn t rest (inl e) = (0, omega (arith, e), x, refl, t)
         turn t rest (inr j) = later n x xs k (rest j)
 
-  pub places_in : (n : ℕ) (xs : List X) (j : ℕ) (x : X) → slice_get xs j ≡ Some x → p x ≡ true → In (n + j) (places n xs)
+  pub places_in : (n : ℕ) (xs : List X) (j : ℕ) (x : X) → slice_get xs j ≡ Some x → p x ≡ true → In (n + j)
+      (places n xs)
   unfolding places
   places_in n [] j x e t = absurd (let f : ⊥ = cc in f)
   places_in n (y ∷ xs) zero x e t =
@@ -49,14 +50,18 @@ module _ {X : Type 0} (p : X → Bool) where
       let rest = places_in (n + 1) xs j x e t in
       let moved : In (n + suc j) (places (n + 1) xs) =
       subst (λ m. In m (places (n + 1) xs)) (let g : n + 1 + j ≡ n + suc j = omega arith in g) rest in
-      choice (λ (l : List ℕ). In (n + suc j) l) (p y) (n ∷ places (n + 1) xs) (places (n + 1) xs) (λ _. inr moved) (λ _. moved)
+      choice (λ (l : List ℕ). In (n + suc j) l) (p y) (n ∷ places (n + 1) xs) (places (n + 1) xs) (λ _. inr moved)
+      (λ _. moved)
 
   pub distinct_places : (n : ℕ) (xs : List X) → Distinct (places n xs)
   unfolding places
   distinct_places n [] = tt
   distinct_places n (x ∷ xs) =
       choice (λ (l : List ℕ). Distinct l) (p x) (n ∷ places (n + 1) xs) (places (n + 1) xs)
-      (λ _. (λ i. let r = in_places (n + 1) xs n i in let e = r.1 in let f : ⊥ = omega (arith, e) in f, distinct_places (n + 1) xs))
+      (λ _. (
+        λ i. let r = in_places (n + 1) xs n i in let e = r.1 in let f : ⊥ = omega (arith, e) in f,
+        distinct_places (n + 1) xs,
+      ))
       (λ _. distinct_places (n + 1) xs)
 
   pub distinct_filter : (xs : List X) → Distinct xs → Distinct (filter p xs)

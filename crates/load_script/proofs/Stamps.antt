@@ -66,7 +66,8 @@ places_there client (d ∷ h) p (suc n) e there own =
     let moved : In (p + suc n) (places_from (p + 1) client h) =
     subst (λ m. In m (places_from (p + 1) client h)) (let g : p + 1 + n ≡ p + suc n = omega arith in g)
     (places_there client h (p + 1) n e there own) in
-    choice (λ (l : List ℕ). In (p + suc n) l) ((d.by == client) && is_own client d.event) (p ∷ places_from (p + 1) client h)
+    choice (λ (l : List ℕ). In (p + suc n) l) ((d.by == client) && is_own client d.event)
+    (p ∷ places_from (p + 1) client h)
     (places_from (p + 1) client h) (λ _. inr moved) (λ _. moved)
 
 -- the number of a final outcome is the greatest of the marks' numbers
@@ -74,9 +75,11 @@ outcome_final : (all : List Mark) (f : ℕ) → outcome_of all ≡ Final f → g
 outcome_final all f =
     choice (λ (o : Outcome). o ≡ Final f → greatest (map number_of all) ≡ f) (list_any is_missing all) Open _
     (λ _ e. absurd (let x : ⊥ = cc in x))
-    (λ _. choice (λ (o : Outcome). o ≡ Final f → greatest (map number_of all) ≡ f) (list_any is_stamp_end_fence all) (Gone StampEnd) _
+    (λ _. choice (λ (o : Outcome). o ≡ Final f → greatest (map number_of all) ≡ f) (list_any is_stamp_end_fence all)
+    (Gone StampEnd) _
     (λ _ e. absurd (let x : ⊥ = cc in x))
-    (λ _. choice (λ (o : Outcome). o ≡ Final f → greatest (map number_of all) ≡ f) (list_any is_memory_fence all) (Gone Memory) _
+    (λ _. choice (λ (o : Outcome). o ≡ Final f → greatest (map number_of all) ≡ f) (list_any is_memory_fence all)
+    (Gone Memory) _
     (λ _ e. absurd (let x : ⊥ = cc in x)) (λ _ e. let x : greatest (map number_of all) ≡ f = cc in x)))
 
 -- an entry of a column with this stamp
@@ -106,13 +109,15 @@ IsFine F clients ids (Give region from) = Unit {0}
 IsFine F clients ids (Carry region start heads) = Unit {0}
 IsFine F clients ids (Trim counts) = Unit {0}
 
-module _ (script : Script) (report : Report) (fits : IsFitting script) (plain : IsPlain script) (run : LawfulRun script report)
+module _ (script : Script) (report : Report) (fits : IsFitting script) (plain : IsPlain script)
+    (run : LawfulRun script report)
     (unwanting : IsUnwanting report) where
   abbrev log : Log
   log = run.log
 
   -- a client with what explains it
-  pub client_shown : (n : ℕ) → n < length script.shape.homes → (c : ClientReport) × (slice_get report.clients n ≡ Some c)
+  pub client_shown : (n : ℕ) → n < length script.shape.homes → (c : ClientReport) ×
+      (slice_get report.clients n ≡ Some c)
   client_shown n lt =
       let long : length report.clients ≡ length script.clients =
       sym (length-map report.clients (λ (c : ClientReport). c.name)) ∙ ap length run.names in
@@ -124,10 +129,12 @@ module _ (script : Script) (report : Report) (fits : IsFitting script) (plain : 
   commands_plain n c i =
       let there = contains_in script.commands c (in_filter (λ (x : Command). x.client == n) c script.commands i).0 in (
         All-contains (λ (x : Command). IsPlainWhat x.what) script.commands c plain.plain there,
-        All-contains (λ (x : Command). IsWithin script.shape.regions script.shape.colours x.what) script.commands c fits.commands there,
+        All-contains (λ (x : Command). IsWithin script.shape.regions script.shape.colours x.what) script.commands c
+            fits.commands there,
       )
 
-  pub replies_unwanting : (n : ℕ) (c : ClientReport) → slice_get report.clients n ≡ Some c → (r : ReplyLine) → In r c.replies
+  pub replies_unwanting : (n : ℕ) (c : ClientReport) → slice_get report.clients n ≡ Some c → (r : ReplyLine) → In r
+      c.replies
       → r.answer ≢ answers.NoMemory
   replies_unwanting n c there r i is =
       let all = every found_all report.clients unwanting c (slice_in report.clients n c there) in
@@ -179,7 +186,8 @@ module _ (script : Script) (report : Report) (fits : IsFitting script) (plain : 
       × FitsRow r row
   row_owner r lr row i =
       let there = contains_in (log.rows r) row i in
-      let o = All-contains (λ (x : BegunRow). IsClientIn script r x.row.client) (log.rows r) row (run.begun.of_clients r lr) there in
+      let o = All-contains (λ (x : BegunRow). IsClientIn script r x.row.client) (log.rows r) row
+      (run.begun.of_clients r lr) there in
       (o.0, o.1, All-contains (FitsRow r) (log.rows r) row (run.begun.lawful r lr).fit there)
 
   -- WHAT HOLDS OF EACH CLIENT, for an F that holds of what each client comes to
@@ -202,7 +210,8 @@ module _ (script : Script) (report : Report) (fits : IsFitting script) (plain : 
         let n = row.row.client in
         let c = client_shown n o.0 in
         let k = run.clients n c.0 c.1 in
-        let there = k.row_nodes row (subst (λ x. Contains (log.rows x) row) (sym o.1) (contains_in (log.rows r) row i)) refl in
+        let there = k.row_nodes row (subst (λ x. Contains (log.rows x) row) (sym o.1)
+        (contains_in (log.rows r) row i)) refl in
         let within = slice_within (log.nodes n) row.node.id.count row.node there in
         let ids = k.nodes in
         let t = (client_trace n o.0).nodes row.node.id.count (omega (arith, within, ids)) in
@@ -219,9 +228,12 @@ module _ (script : Script) (report : Report) (fits : IsFitting script) (plain : 
           slice_within (y ∷ xs) zero x e = omega arith
           slice_within (y ∷ xs) (suc k) x e = let l = slice_within xs k x e in omega (arith, l)
 
+    abbrev Fine : Event → Type 0
+    Fine = IsFine F (length script.shape.homes) (λ n. length (log.nodes n))
+
     -- each event is fine
     pub fine : (r c : ℕ) → r < script.shape.regions → c < script.shape.colours → (e : Entry) → In e (log.histories r c)
-        → IsFine F (length script.shape.homes) (λ n. length (log.nodes n)) e.event
+        → Fine e.event
     fine r c lr lc e i = by_event e.event refl where
       h : List Entry
       h = log.histories r c
@@ -235,7 +247,8 @@ module _ (script : Script) (report : Report) (fits : IsFitting script) (plain : 
           × MadeBy F e.by (length (log.nodes e.by)) e.event
       made own =
           let at = in_slice h e i in
-          let by = All-contains (λ (x : Entry). x.by < length script.clients) h e (column_facts r c lr lc).1 (contains_in h e i) in
+          let by = All-contains (λ (x : Entry). x.by < length script.clients) h e (column_facts r c lr lc).1
+          (contains_in h e i) in
           let same = fits.clients in
           let lt : e.by < length script.shape.homes = omega (arith, by, same) in
           let k = client_shown e.by lt in
@@ -250,24 +263,30 @@ module _ (script : Script) (report : Report) (fits : IsFitting script) (plain : 
                 (subst (λ (x : Entry). MadeBy F e.by (run.clients e.by k.0 k.1).kept.ids x.event) is m.2),
           )
 
-      by_event : (ev : Event) → e.event ≡ ev → IsFine F (length script.shape.homes) (λ n. length (log.nodes n)) e.event
+      by_event : (ev : Event) → e.event ≡ ev → Fine e.event
       by_event (Single id floor wants) is =
           let m = made (ap (is_own e.by) is) in
           let s : MadeBy F e.by (length (log.nodes e.by)) (Single id floor wants) =
           subst (λ (x : Event). MadeBy F e.by (length (log.nodes e.by)) x) is m.1 in
-          subst (IsFine F (length script.shape.homes) (λ n. length (log.nodes n))) (sym is)
-          (subst (λ n. n < length script.shape.homes) (sym s.0) m.0, subst (λ n. id.count < length (log.nodes n)) (sym s.0) s.1, s.2)
+          subst Fine (sym is) (
+            subst (λ n. n < length script.shape.homes) (sym s.0) m.0,
+            subst (λ n. id.count < length (log.nodes n))
+                (sym s.0) s.1,
+            s.2,
+          )
       by_event (Propose id floor wants) is =
           let f = subst (FitsRows (log.rows r) c) is fitting in
           let n = row_node r lr f.1 (slice_in (log.rows r) f.0 f.1 f.2) in
-          subst (IsFine F (length script.shape.homes) (λ n. length (log.nodes n))) (sym is)
-          (subst (λ (x : Id). (x.client < length script.shape.homes) × (x.count < length (log.nodes x.client)) × F floor) f.3
+          subst Fine (sym is)
+          (subst (λ (x : Id). (x.client < length script.shape.homes) × (x.count < length (log.nodes x.client)) × F
+          floor) f.3
           (n.0, n.1, subst F f.5 n.3))
-      by_event (Settle id outcome) is = subst (IsFine F (length script.shape.homes) (λ n. length (log.nodes n))) (sym is) tt
-      by_event (Raise to) is = absurd (subst (λ (x : Event). MadeBy F e.by (length (log.nodes e.by)) x) is (made (ap (is_own e.by) is)).1)
-      by_event (Give region from) is = subst (IsFine F (length script.shape.homes) (λ n. length (log.nodes n))) (sym is) tt
-      by_event (Carry region start heads) is = subst (IsFine F (length script.shape.homes) (λ n. length (log.nodes n))) (sym is) tt
-      by_event (Trim counts) is = subst (IsFine F (length script.shape.homes) (λ n. length (log.nodes n))) (sym is) tt
+      by_event (Settle id outcome) is = subst Fine (sym is) tt
+      by_event (Raise to) is = absurd (subst (λ (x : Event). MadeBy F e.by (length (log.nodes e.by)) x) is
+          (made (ap (is_own e.by) is)).1)
+      by_event (Give region from) is = subst Fine (sym is) tt
+      by_event (Carry region start heads) is = subst Fine (sym is) tt
+      by_event (Trim counts) is = subst Fine (sym is) tt
 
   -- STAMPS
   abbrev Any : ℕ → Type 0
@@ -300,7 +319,8 @@ module _ (script : Script) (report : Report) (fits : IsFitting script) (plain : 
   })
 
   -- the number of a mark
-  marked : (r : ℕ) → r < script.shape.regions → (node : Node) (colour : ℕ) → colour < script.shape.colours → (mark : Mark)
+  marked : (r : ℕ) → r < script.shape.regions → (node : Node) (colour : ℕ) → colour < script.shape.colours →
+      (mark : Mark)
       → IsMarkOf (log.histories r colour) node mark → Stamped (number_of mark)
   marked r lr node colour lc marks.None m = inl refl
   marked r lr node colour lc (marks.Number s) m =
@@ -313,18 +333,22 @@ module _ (script : Script) (report : Report) (fits : IsFitting script) (plain : 
   row_final r lr row i f is =
       let l = run.begun.lawful r lr in
       let there = contains_in (log.rows r) row i in
-      let o = All-contains (λ (x : BegunRow). FitsMarks (map (λ (m : ColourMark). m.mark) x.marks) x.last) (log.rows r) row l.outcomes there in
+      let o = All-contains (λ (x : BegunRow). FitsMarks (map (λ (m : ColourMark). m.mark) x.marks) x.last)
+      (log.rows r) row l.outcomes there in
       let e = outcome_final (map (λ (m : ColourMark). m.mark) row.marks) f
       (subst (FitsMarks (map (λ (m : ColourMark). m.mark) row.marks)) is o) in
       let fit = (row_owner r lr row i).2 in
       let below = (row_node Any any r lr row i).2 in
-      let marks' = All-contains (λ (x : BegunRow). All (λ (m : ColourMark). IsMarkOf (log.histories r m.colour) x.node m.mark) x.marks)
+      let marks' = All-contains (λ (x : BegunRow). All (λ (m : ColourMark). IsMarkOf (log.histories r m.colour)
+      x.node m.mark) x.marks)
       (log.rows r) row l.marks there in
-      subst Stamped e (of_greatest Stamped (inl refl) (map number_of (map (λ (m : ColourMark). m.mark) row.marks)) (λ n j.
+      subst Stamped e (of_greatest Stamped (inl refl) (map number_of (map (λ (m : ColourMark). m.mark) row.marks))
+      (λ n j.
       let a = in_map_back number_of (map (λ (m : ColourMark). m.mark) row.marks) n j in
       let b = in_map_back (λ (m : ColourMark). m.mark) row.marks a.0 a.1 in
       let colour : In b.0.colour (members row.node.colours) =
-      subst (λ (cs : List ℕ). In b.0.colour cs) fit.a_mark_each (in_map (λ (m : ColourMark). m.colour) row.marks b.0 b.1) in
+      subst (λ (cs : List ℕ). In b.0.colour cs) fit.a_mark_each
+      (in_map (λ (m : ColourMark). m.colour) row.marks b.0 b.1) in
       let lc = All-contains (λ c. c < script.shape.colours) (members row.node.colours) b.0.colour below
       (contains_in (members row.node.colours) b.0.colour colour) in
       subst Stamped (ap number_of b.2 ∙ a.2)
@@ -333,7 +357,8 @@ module _ (script : Script) (report : Report) (fits : IsFitting script) (plain : 
       (contains_in row.marks b.0 b.1)))))
 
   -- the number to which an event raises the clock
-  pub event_stamped : (r c : ℕ) → r < script.shape.regions → c < script.shape.colours → (e : Entry) → In e (log.histories r c)
+  pub event_stamped : (r c : ℕ) → r < script.shape.regions → c < script.shape.colours → (e : Entry) → In e
+      (log.histories r c)
       → Stamped (event_number e.event e.stamp)
   event_stamped r c lr lc e i = by_event e.event refl where
     h : List Entry
@@ -354,10 +379,12 @@ module _ (script : Script) (report : Report) (fits : IsFitting script) (plain : 
         let at = in_slice h e i in back _ is (given r c at.0 e id lr lc at.1 (ap (enters id) is ∙ same_id-refl id))
     by_event (Settle id outcome) is =
         let f = subst (FitsRows (log.rows r) c) is
-        (All-contains (λ (x : Entry). FitsRows (log.rows r) c x.event) h e ((run.begun.lawful r lr).events c lc) (contains_in h e i)) in
+        (All-contains (λ (x : Entry). FitsRows (log.rows r) c x.event) h e ((run.begun.lawful r lr).events c lc)
+        (contains_in h e i)) in
         back _ is (settled outcome f.1 (slice_in (log.rows r) f.0 f.1 f.2) f.4)
     by_event (Raise to) is =
-        absurd (subst (IsFine Any (length script.shape.homes) (λ n. length (log.nodes n))) is (fine Any any r c lr lc e i))
+        absurd (subst (IsFine Any (length script.shape.homes) (λ n. length (log.nodes n))) is
+        (fine Any any r c lr lc e i))
     by_event (Give region from) is = back _ is (inl refl)
     by_event (Carry region start heads) is = back _ is (inl refl)
     by_event (Trim counts) is = back _ is (inl refl)
@@ -371,7 +398,8 @@ module _ (script : Script) (report : Report) (fits : IsFitting script) (plain : 
         single = λ colour place e id floor wants lc there is.
             given own colour place e id lr lc there (ap (enters id) is ∙ same_id-refl id);
         final = λ node f same below o.
-            row_final own lr o.0 (in_contains (log.rows own) o.0 (subst (λ r. Contains (log.rows r) o.0) same o.1.begun)) f o.2;
+            row_final own lr o.0 (in_contains (log.rows own) o.0
+            (subst (λ r. Contains (log.rows r) o.0) same o.1.begun)) f o.2;
         played = λ colour events place head lc s.
             chain_stamps Stamped script.shape.regions (λ r. log.histories r colour) (λ r l. legal r colour l lc)
             (run.copies colour lc) (λ r l e i. event_stamped r colour l lc e i) own events place.region lr head

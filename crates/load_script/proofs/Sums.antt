@@ -13,7 +13,8 @@ filter-append {X} q (x ∷ xs) ys = at (q x) (filter-append q xs ys) where
   at true e = ap (λ (l : List X). x ∷ l) e
   at false e = e
 
-pub filter_same : {X : Type 0} (p q : X → Bool) (xs : List X) → ((x : X) → In x xs → p x ≡ q x) → filter p xs ≡ filter q xs
+pub filter_same : {X : Type 0} (p q : X → Bool) (xs : List X) → ((x : X) → In x xs → p x ≡ q x) → filter p xs ≡
+    filter q xs
 filter_same p q [] same = refl
 filter_same {X} p q (x ∷ xs) same =
     ap (λ (b : Bool). cond b (x ∷ filter p xs) (filter p xs)) (same x (inl refl))
@@ -22,7 +23,8 @@ filter_same {X} p q (x ∷ xs) same =
 pub map_same : {X Y : Type 0} (f g : X → Y) (xs : List X) → ((x : X) → In x xs → f x ≡ g x) → map f xs ≡ map g xs
 map_same f g [] same = refl
 map_same {X} {Y} f g (x ∷ xs) same =
-    ap (λ (y : Y). y ∷ map f xs) (same x (inl refl)) ∙ ap (λ (l : List Y). g x ∷ l) (map_same f g xs (λ y i. same y (inr i)))
+    ap (λ (y : Y). y ∷ map f xs) (same x (inl refl)) ∙ ap (λ (l : List Y). g x ∷ l)
+    (map_same f g xs (λ y i. same y (inr i)))
 
 pub map_twice : {X Y Z : Type 0} (f : Y → Z) (g : X → Y) (xs : List X) → map f (map g xs) ≡ map (λ x. f (g x)) xs
 map_twice f g [] = refl
@@ -33,7 +35,8 @@ pub passed : {X : Type 0} (p : X → Bool) (xs : List X) → length (filter p xs
 passed p [] = refl
 passed p (x ∷ xs) = at (p x) (passed p xs) where
   at : (b : Bool) → length (filter p xs) ≡ length (filter (λ b. b) (map p xs))
-      → length (cond b (x ∷ filter p xs) (filter p xs)) ≡ length (cond b (b ∷ filter (λ b. b) (map p xs)) (filter (λ b. b) (map p xs)))
+      → length (cond b (x ∷ filter p xs) (filter p xs)) ≡ length
+      (cond b (b ∷ filter (λ b. b) (map p xs)) (filter (λ b. b) (map p xs)))
   at true e = ap suc e
   at false e = e
 
@@ -51,7 +54,8 @@ by_place q f [] g same = refl
 by_place {C} {X} q f (x ∷ xs) g same =
     let one = same 0 x refl in
     let rest = by_place q f xs (λ i. g (suc i)) (λ n c e. same (suc n) c e) in
-    let both = ap length (filter-append q (f x) (flat_map f xs)) ∙ length-append (filter q (f x)) (filter q (flat_map f xs)) in
+    let both = ap length (filter-append q (f x) (flat_map f xs)) ∙ length-append (filter q (f x))
+    (filter q (flat_map f xs)) in
     let all = front (length xs) g in
     omega (arith, one, rest, both, all)
 

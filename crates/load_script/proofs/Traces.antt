@@ -47,7 +47,8 @@ made_at f a n x b m place =
     choice (λ (g : ℕ → List ℕ). In place (g m) → In place (f b m) ⊎ ((b ≡ a) × (m ≡ n) × In place x)) (b == a)
     (updated (f a) n (f a n ++ x)) (f b)
     (λ t. let e = eqb-true b a t in
-    choice (λ (l : List ℕ). In place l → In place (f b m) ⊎ ((b ≡ a) × (m ≡ n) × In place x)) (m == n) (f a n ++ x) (f a m)
+    choice (λ (l : List ℕ). In place l → In place (f b m) ⊎ ((b ≡ a) × (m ≡ n) × In place x)) (m == n) (f a n ++ x)
+    (f a m)
     (λ u i. split e (eqb-true m n u) (in_append place (f a n) x i))
     (λ _ i. inl (subst (λ c. In place (f c m)) (sym e) i)))
     (λ _ i. inl i) where
@@ -66,7 +67,8 @@ made_own f a g b m place =
       split e (inl i) = inl (subst (λ c. In place (f c m)) (sym e) i)
       split e (inr i) = inr (e, i)
 
-pub points_same : (own : ℕ) (kept : Kept) (points : List PointPiece) → ((kept_after_points kept own points).ids ≡ kept.ids)
+pub points_same : (own : ℕ) (kept : Kept) (points : List PointPiece) →
+    ((kept_after_points kept own points).ids ≡ kept.ids)
     × ((kept_after_points kept own points).made ≡ kept.made) × ((kept_after_points kept own points).floor ≡ kept.floor)
     × ((kept_after_points kept own points).rows ≡ kept.rows)
 points_same own kept [] = (refl, refl, refl, refl)
@@ -97,7 +99,8 @@ abbrev pub IsMade : (ℕ → Type 0) → Log → Caller → ℕ → ℕ → ℕ 
 IsMade F log caller ids region colour place =
     (e : Entry) × (slice_get (log.histories region colour) place ≡ Some e) × MadeBy F caller.client ids e.event
 
-made_by_more : (F : ℕ → Type 0) (client ids more : ℕ) → ids ≤ more → (e : Event) → MadeBy F client ids e → MadeBy F client more e
+made_by_more : (F : ℕ → Type 0) (client ids more : ℕ) → ids ≤ more → (e : Event) → MadeBy F client ids e → MadeBy F
+    client more e
 made_by_more F client ids more le (Single id floor wants) m = let lt = m.1 in (m.0, omega (arith, lt, le), m.2)
 made_by_more F client ids more le (Propose id floor wants) m = tt
 made_by_more F client ids more le (Settle id outcome) m = tt
@@ -118,7 +121,8 @@ step_made F client ids id (Trim counts) s = absurd s
 -- a node of the client's
 abbrev pub IsNodeAt : (ℕ → Type 0) → ℕ → Log → Caller → ℕ → Type 0
 IsNodeAt F colours log caller count =
-    (node : Node) × (slice_get (log.nodes caller.client) count ≡ Some node) × AreBelow colours node.colours × F node.floor
+    (node : Node) × (slice_get (log.nodes caller.client) count ≡ Some node) × AreBelow colours node.colours × F
+    node.floor
 
 -- what holds of a client that keeps this
 pub record Trace (F : ℕ → Type 0) (colours : ℕ) (log : Log) (caller : Caller) (kept : Kept) : Type 0 where
@@ -175,11 +179,13 @@ module _ (F : ℕ → Type 0) (colours : ℕ) (log : Log) (caller : Caller) (hol
         ]);
   }
 
-  module _ (kept : Kept) (t : Trace F colours log caller kept) (set : Colours) (text : List ℕ) (below : AreBelow colours set) where
+  module _ (kept : Kept) (t : Trace F colours log caller kept) (set : Colours) (text : List ℕ)
+      (below : AreBelow colours set) where
     abbrev node : Node
     node = node_of caller kept set text
 
-    row_later : (middle : Kept) (places : ℕ → List ℕ) → F middle.floor → middle.ids ≡ kept.ids + 1 → middle.made ≡ kept.made
+    row_later : (middle : Kept) (places : ℕ → List ℕ) → F middle.floor → middle.ids ≡ kept.ids + 1 → middle.made ≡
+        kept.made
         → BeginsRow log caller kept node places → Trace F colours log caller (with_made middle caller.own places)
     row_later middle places floor ids same b =
         one_later kept (with_made middle caller.own places) node t floor ids b.next below t.floor made where
@@ -188,8 +194,12 @@ module _ (F : ℕ → Type 0) (colours : ℕ) (log : Log) (caller : Caller) (hol
           step region colour place i =
               let s = All-contains (λ (p : ℕ). (e : Entry) × (slice_get (log.histories caller.own colour) p ≡ Some e)
               × (e.by ≡ caller.client) × IsStepOf node.id e.event) (places colour) place (b.steps colour)
-              (contains_in (places colour) place i.1) in
-              (s.0, ap (λ r. slice_get (log.histories r colour) place) i.0 ∙ s.1, step_made F caller.client (kept.ids + 1) node.id s.0.event s.3)
+              (contains_in (places colour) place i.1) in (
+                s.0,
+                ap (λ r. slice_get (log.histories r colour) place) i.0 ∙ s.1,
+                step_made F caller.client
+                    (kept.ids + 1) node.id s.0.event s.3,
+              )
 
           made : (region colour place : ℕ) → In place ((with_made middle caller.own places).made region colour)
               → In place (kept.made region colour) ⊎ IsMade F log caller (kept.ids + 1) region colour place
@@ -200,7 +210,8 @@ module _ (F : ℕ → Type 0) (colours : ℕ) (log : Log) (caller : Caller) (hol
 
     one_of : (colour c : ℕ) → members set ≡ colour ∷ [] → c ≡ colour → colour < colours
     one_of colour c e f =
-        All-contains (λ c. c < colours) (members set) colour below (subst (λ (l : List ℕ). Contains l colour) (sym e) (0, omega arith, refl))
+        All-contains (λ c. c < colours) (members set) colour below
+        (subst (λ (l : List ℕ). Contains l colour) (sym e) (0, omega arith, refl))
 
     stood_later : (stamp : ℕ) (row : Option ℕ) (points : List PointPiece) (after : Kept)
         → Appends log caller kept node stamp row points after → Trace F colours log caller after
@@ -210,7 +221,8 @@ module _ (F : ℕ → Type 0) (colours : ℕ) (log : Log) (caller : Caller) (hol
         subst (λ (k : Kept). Trace F colours log caller k) (sym a.4)
         (one_later kept _ node t
         (either F kept.floor stamp t.floor
-        (holds.single p.colour a.1 _ node.id kept.floor (kept.starts p.colour) (one_of p.colour p.colour a.0 refl) one.entered refl))
+        (holds.single p.colour a.1 _ node.id kept.floor (kept.starts p.colour) (one_of p.colour p.colour a.0 refl)
+        one.entered refl))
         refl one.next below t.floor made) where
           new : (region colour place : ℕ) → (region ≡ caller.own) × (colour ≡ p.colour) × ((a.1 ≡ place) ⊎ ⊥)
               → IsMade F log caller (kept.ids + 1) region colour place
@@ -224,7 +236,8 @@ module _ (F : ℕ → Type 0) (colours : ℕ) (log : Log) (caller : Caller) (hol
           new region colour place (e, f, inr x) = absurd x
 
           made : (region colour place : ℕ)
-              → In place (updated_at kept.made caller.own p.colour (kept.made caller.own p.colour ++ a.1 ∷ []) region colour)
+              → In place (updated_at kept.made caller.own p.colour (kept.made caller.own p.colour ++ a.1 ∷ []) region
+              colour)
               → In place (kept.made region colour) ⊎ IsMade F log caller (kept.ids + 1) region colour place
           made region colour place i = elim (made_at kept.made caller.own p.colour (a.1 ∷ []) region colour place i) [
             | inl old ↦ inl old
@@ -239,7 +252,8 @@ module _ (F : ℕ → Type 0) (colours : ℕ) (log : Log) (caller : Caller) (hol
         (holds.final node stamp refl below a.2.outcome))
         (ap (λ n. n + 1) same.0) same.1 a.2.begins)
 
-    stampless_later : (colour : ℕ) (after : Kept) → HasNoStamp log caller kept node colour after → Trace F colours log caller after
+    stampless_later : (colour : ℕ) (after : Kept) → HasNoStamp log caller kept node colour after → Trace F colours
+        log caller after
     stampless_later colour _ (none_for_one only h) = t
     stampless_later colour _ (none_for_several places g) =
         row_later (with_row kept) places t.floor refl refl g.begins
@@ -252,14 +266,18 @@ module _ (F : ℕ → Type 0) (colours : ℕ) (log : Log) (caller : Caller) (hol
   shown colour events lt [] (x ∷ xs) z n i = absurd z
   shown colour events lt (p ∷ ps) [] z n i = absurd i
   shown colour events lt (p ∷ ps) (x ∷ xs) z n (inl e) =
-      subst F e (subst F (sym (ap (λ (k : Key). k.stamp) z.0.key)) (holds.played colour events p z.0.head lt z.0.stands))
+      subst F e (subst F (sym (ap (λ (k : Key). k.stamp) z.0.key))
+      (holds.played colour events p z.0.head lt z.0.stands))
   shown colour events lt (p ∷ ps) (x ∷ xs) z n (inr i) = shown colour events lt ps xs z.1 n i
 
-  synced_later : (kept : Kept) → Trace F colours log caller kept → (colour events : ℕ) (snapshot : Counts) (nodes : List PlacedNode)
-      → colour < colours → ShowsPlayed log caller kept colour events snapshot nodes → F (max kept.floor (greatest_stamp nodes))
+  synced_later : (kept : Kept) → Trace F colours log caller kept → (colour events : ℕ) (snapshot : Counts)
+      (nodes : List PlacedNode)
+      → colour < colours → ShowsPlayed log caller kept colour events snapshot nodes → F
+      (max kept.floor (greatest_stamp nodes))
   synced_later kept t colour events snapshot nodes lt s =
       either F kept.floor (greatest_stamp nodes) t.floor
-      (of_greatest F holds.none (map (λ (item : PlacedNode). item.head.key.stamp) nodes) (shown colour events lt s.order nodes s.lines))
+      (of_greatest F holds.none (map (λ (item : PlacedNode). item.head.key.stamp) nodes)
+      (shown colour events lt s.order nodes s.lines))
 
   -- events of another kind
   event_later : (kept : Kept) → Trace F colours log caller kept → (region colour place : ℕ) (e : Entry)
@@ -284,7 +302,8 @@ module _ (F : ℕ → Type 0) (colours : ℕ) (log : Log) (caller : Caller) (hol
         ]
 
   gives_later : (kept : Kept) → Trace F colours log caller kept → (region colour : ℕ) (places : List ℕ)
-      → All (GivesTooLow log caller region colour) places → Trace F colours log caller (with_places kept region colour places)
+      → All (GivesTooLow log caller region colour) places → Trace F colours log caller
+      (with_places kept region colour places)
   gives_later kept t region colour places all =
       later kept (with_places kept region colour places) t t.floor refl made where
         new : (r c p : ℕ) → (r ≡ region) × (c ≡ colour) × In p places → IsMade F log caller kept.ids r c p
@@ -303,7 +322,8 @@ module _ (F : ℕ → Type 0) (colours : ℕ) (log : Log) (caller : Caller) (hol
         ]
 
   carry_later : (kept held : Kept) → Trace F colours log caller kept → (region colour nodes : ℕ) (at : At)
-      → CarriesAt log caller held region colour nodes at → Trace F colours log caller (kept_after_place kept caller.own colour at)
+      → CarriesAt log caller held region colour nodes at → Trace F colours log caller
+      (kept_after_place kept caller.own colour at)
   carry_later kept held t region colour nodes (ats.Event place) c = event_later kept t caller.own colour place _ c.3 tt
   carry_later kept held t region colour nodes (ats.Look events) c =
       later kept (kept_after_place kept caller.own colour (ats.Look events)) t t.floor refl (λ r d p i. inl i)
@@ -318,7 +338,8 @@ module _ (F : ℕ → Type 0) (colours : ℕ) (log : Log) (caller : Caller) (hol
       subst (λ (k : Kept). Trace F colours log caller k) (sym same) t
   comes_later what answer regions kept after w t (synced colour events snapshot nodes is tells s shows same) =
       subst (λ (k : Kept). Trace F colours log caller k) (sym same)
-      (later kept _ t (synced_later kept t colour events snapshot nodes (subst (IsWithin regions colours) is w) shows) refl (λ r d p i. inl i))
+      (later kept _ t (synced_later kept t colour events snapshot nodes (subst (IsWithin regions colours) is w)
+      shows) refl (λ r d p i. inl i))
   comes_later what answer regions kept after w t (pulled region colour count place carry too_low is tells p same) =
       subst (λ (k : Kept). Trace F colours log caller k) (sym same)
       (carry_later (kept_after_event (with_places kept region colour too_low) region colour place) kept
@@ -342,4 +363,5 @@ module _ (F : ℕ → Type 0) (colours : ℕ) (log : Log) (caller : Caller) (hol
       (λ r i. memory r (in_left r replies (reply ∷ []) i)) in
       let q = plain command (in_right command commands (command ∷ []) (inl refl)) in
       comes_later command.what reply.answer regions kept after q.1 t
-      (answer_comes log caller kept command reply after q.0 (memory reply (in_right reply replies (reply ∷ []) (inl refl))) a)
+      (answer_comes log caller kept command reply after q.0 (memory reply
+      (in_right reply replies (reply ∷ []) (inl refl))) a)

@@ -90,7 +90,8 @@ four_from lengths from =
 abbrev pub summary_text : Summary → List ℕ
 summary_text s =
     codes "load " ++ decimal s.count
-    ++ codes "\neast " ++ lengths_text (four_from s.lengths 0) ++ codes "\nwest " ++ lengths_text (four_from s.lengths 4)
+    ++ codes "\neast " ++ lengths_text (four_from s.lengths 0) ++ codes "\nwest " ++ lengths_text
+    (four_from s.lengths 4)
     ++ codes "\nnodes " ++ decimal s.nodes ++ codes " rows " ++ decimal s.rows ++ codes "\n"
 
 -- the summary of a load of so many rounds
