@@ -1,12 +1,7 @@
 -- Sets of the first two colours.
-use Rattle.std.proofs.Common.{◌≡◌, ◌≢◌, ℕ, zero, suc, ◌+◌, ◌*◌, ◌<◌, ◌≤◌, true, false, length, None, Some, Option, refl, ap, sym, ◌∙◌, arith}
-use Rattle.std.specs.Prelude.{IfSome, ◌==◌}
-use Rattle.std.specs.Int.{bit_at}
-use Rattle.std.proofs.lemmas.Nat.Bits.{bit_at_above}
-use mathlib.Core.Logic.{dite}
-use native.Mathlib.Decide.{dec_le}
-use Rattle.log_node.specs.declared.ids.Colours.{Colours}
-use Rattle.log_node.specs.Sets.{has, members}
+use Rattle.std.proofs.Common.{◌≡◌, ℕ, ◌<◌, ◌≤◌, length, None, Some, Option, ap, arith}
+use Rattle.std.specs.Prelude.{IfSome}
+use Rattle.log_node.specs.Sets.{members}
 use Rattle.stamp_board.specs.declared.view.Size.{Size}
 use Rattle.log_client.specs.declared.store.Store.{Store}
 use Rattle.log_client.specs.Appends.{AreColoursOf, IsStopWithin}

@@ -7,3 +7,4 @@ pub use Rattle.log_client.proofs.FewColours.{few_colours}
 pub use Rattle.log_client.proofs.Growing.{grown_same, grown_then}
 pub use Rattle.log_client.proofs.ItemsRead.{items_show, items_are_objects}
 pub use Rattle.log_client.proofs.ReadCalls.{line_is_own}
+pub use Rattle.log_client.proofs.ReadLater.{read_above}

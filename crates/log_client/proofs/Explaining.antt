@@ -1,5 +1,5 @@
 -- Calls one after another, and what explains them.
-use Rattle.std.proofs.Common.{◌≡◌, ℕ, List, [], length, Some, refl, sym, subst, ◌∙◌, arith}
+use Rattle.std.proofs.Common.{◌≡◌, ℕ, List, [], Some, refl, sym, subst, ◌∙◌, arith}
 use Rattle.std.specs.Prelude.{slice_get}
 use Rattle.std.proofs.lemmas.Option.{slice_get_within}
 use Rattle.stamp_board.proofs.CallerLemmas.{Learns-trans}
@@ -19,23 +19,13 @@ use Rattle.log_client.specs.Calls.{IsExplained, IsSame}
 use Rattle.log_client.specs.Reading.{RestsOn, KeepsWith, KeepsAll}
 use Rattle.log_client.proofs.Lists.{got}
 use Rattle.log_client.proofs.Fitting.{fits_less}
-use Rattle.log_client.proofs.Seeing.{sees_on}
 use Rattle.log_client.proofs.Staying.{prefix_on}
-use Rattle.log_client.proofs.AtHome.{gone_same, are_regions}
+use Rattle.log_client.proofs.AtHome.{gone_same}
+use Rattle.log_client.proofs.GoingOn.{client_sees_on, same_caller}
 use Rattle.log_client.proofs.Growing.{grown_same, grown_then}
 
 pub same_then : (c d e : Client) → IsSame c d → IsSame d e → IsSame c e
 same_then c d e p q = (q.0 ∙ p.0, q.1 ∙ p.1)
-
-pub caller_same : (s : Store) (c d : Client) (objects : List Object) → IsSame c d
-    → caller_of s c objects ≡ caller_of s d objects
-caller_same s c d objects same = λ i. record {
-  client = sym same.0 i;
-  own = sym same.1 i;
-  regions = length s.regions;
-  rows = s.size.rows;
-  objects = objects;
-}
 
 -- HOLDS THAT GO ON
 
@@ -83,11 +73,7 @@ rests_then s c d e a b = record {
 module _ (s : Store) (c d : Client) (on : RestsOn s c d) where
   -- what is seen later is more, and lawful
   pub sees_then : (objects : List Object) → SeesOn (caller_of s d objects) (seen_of c) (seen_of d)
-  sees_then objects =
-      let few = s.fit.few in
-      let lt = on.client.region in
-      sees_on (caller_of s d objects) s.regions (holds_of c) (holds_of d) (omega (arith, few, lt)) (are_regions s)
-      on.client.holds on.goes
+  sees_then objects = client_sees_on s c d objects on.client on.goes
 
   pub log_then : (rest : Rest) → IsLater (log_of (seen_of c) rest) (log_of (seen_of d) rest)
   log_then rest = seen_later (caller_of s d []) (seen_of c) (seen_of d) rest (sees_then [])
@@ -111,7 +97,7 @@ keeps_then s c d e first second R Q a b later before last objects kept finished 
     let y = last objects (first kept) (a.finished finished) x.0 in (
       y.0,
       λ rest fits. (
-        subst (λ (z : Caller). R (log_of (seen_of e) rest) z kept) (caller_same s d e objects b.same)
+        subst (λ (z : Caller). R (log_of (seen_of e) rest) z kept) (same_caller s d e objects b.same)
             (later (log_of (seen_of d) rest) (log_of (seen_of e) rest) (caller_of s d objects) kept
             (log_then s d e b rest) (x.1 rest (fits_less (holds_of d) (holds_of e) rest b.goes fits))),
         y.1 rest fits,

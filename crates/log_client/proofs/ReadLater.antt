@@ -26,7 +26,7 @@ use Rattle.log_client.specs.declared.client.Client.{Client}
 use Rattle.log_client.specs.Fits.{HaveGoneOn}
 use Rattle.log_client.specs.Clients.{holds_of, seen_of, caller_of, IsClient}
 use Rattle.log_client.specs.Calls.{IsSame}
-use Rattle.log_client.specs.StampedReads.{HasRead, GoOnFrom, ReadsGoOn, is_behind, last_of}
+use Rattle.log_client.specs.StampedReads.{HasRead, IsAboveSeen, GoOnFrom, ReadsGoOn, is_behind, last_of}
 use Rattle.log_client.specs.Reading.{home_seen}
 use Rattle.log_client.proofs.GoingOn.{client_sees_on}
 use Rattle.log_client.proofs.Lines.{chain_keys}
@@ -140,6 +140,17 @@ module _ (law : ReadItemsLast) (s : Store) (c d : Client) (is : IsClient s d) (s
     order = order_longer law d.region (length s.regions) stamp colours was (λ k. home_seen d k) (λ k i. more k)
         (λ k i. lawful k) clear_before keys has.order;
   }
+
+-- a stamp above what was seen of the clocks is not below that of an earlier read
+pub read_above : (c : Client) (colours : List ℕ) (stamp later : ℕ) (keys : List Key) → 0 < length colours
+    → HasRead c colours stamp keys → IsAboveSeen c colours later → stamp ≤ later
+read_above c [] stamp later keys some has above = absurd (let f : ⊥ = omega (arith, some) in f)
+read_above c (k ∷ colours) stamp later keys some has above =
+    let low = All-contains (λ m. stamp ≤ clock (home_seen c m)) (k ∷ colours) k has.reached
+    (contains_in (k ∷ colours) k (inl refl)) in
+    let high = All-contains (λ m. clock (home_seen c m) ≤ later) (k ∷ colours) k above
+    (contains_in (k ∷ colours) k (inl refl)) in
+    omega (arith, low, high)
 
 -- THE LAST KEY
 

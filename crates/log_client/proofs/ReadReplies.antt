@@ -31,7 +31,8 @@ use Rattle.log_client.specs.Fits.{Fits}
 use Rattle.log_client.specs.Clients.{holds_of, seen_of, caller_of, Keeps, Finished}
 use Rattle.log_client.specs.StampedReads.{raise_piece, sync_piece}
 use Rattle.log_client.specs.Reading.{RestsOn, KeepsWith, KeepsAll, IsChosen, RaisesOne, RaisesAll, kept_raised, raised_colours, Playing, AreSyncs, SyncsKeep, kept_synced, syncs_of, synced_colours, home_seen}
-use Rattle.log_client.proofs.Explaining.{caller_same, keeps_less, log_then, rests_then, sees_then, keeps_then}
+use Rattle.log_client.proofs.GoingOn.{same_caller}
+use Rattle.log_client.proofs.Explaining.{keeps_less, log_then, rests_then, sees_then, keeps_then}
 use Rattle.log_client.proofs.HiddenReads.{all_from, clear_syncs, events_at, hidden_raises, hides_syncs, past_within, place_in, raised_away, raised_here, raised_less, raised_more, raised_same, raises_more, synced_same, synced_starts, syncs_seen, trimmed_before}
 use Rattle.log_client.proofs.ClearedHolds.{clock_grows}
 use Rattle.log_client.proofs.ReadStamps.{home_clock, home_lawful, home_more}
@@ -276,7 +277,7 @@ module _ (s : Store) (c b r q p : Client) (colours : List ℕ) (stamp : ℕ) (ra
     caller = caller_of s p objects
 
     by_c : IsKeptBy (seen_of c) caller kept
-    by_c = subst (λ (z : Caller). IsKeptBy (seen_of c) z kept) (caller_same s c p objects on_p.same) keeps.by
+    by_c = subst (λ (z : Caller). IsKeptBy (seen_of c) z kept) (same_caller s c p objects on_p.same) keeps.by
 
     on : SeesOn caller (seen_of c) (seen_of p)
     on = sees_then s c p on_p objects

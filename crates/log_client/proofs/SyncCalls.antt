@@ -156,9 +156,6 @@ module _ (s : Store) (c : Client) (r : Region) (g : Hold) (k : ℕ) (old : Track
           (synced_nodes s c after r g h old is changed at_colour but same.0 same.1 sees refl refl new y stamp tracks raised p
           nodes is_end)
 
-      pub sync_explained : IsExplained s c after (SyncsAs after k y)
-      sync_explained = explained_by_plays s c after k y sync_plays
-
     module _ (raised : floor ≡ c.floor) (unplayed : new ≡ old) where
       tracks_same : tracks_of after ≡ tracks_of c
       tracks_same = ap (λ (t : Track). slice_set (tracks_of c) k t) unplayed ∙ set_same (tracks_of c) k old at_old
@@ -174,6 +171,3 @@ module _ (s : Store) (c : Client) (r : Region) (g : Hold) (k : ℕ) (old : Track
       sync_refused fault why = subst (λ (m : ℕ). RefusesColour s c after m fault) colour_there
           (refused_plays s c after r g h old is changed at_colour but same.0 same.1 sees refl refl raised tracks_same fault
           why)
-
-      pub sync_refused_so : (fault : SyncFault) → IsRefusedOn r h old fault → SyncRefused s c after k fault
-      sync_refused_so fault why = refused_by_plays s c after k fault (sync_refused fault why)

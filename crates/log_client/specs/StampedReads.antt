@@ -45,6 +45,10 @@ IsAppended log item =
 abbrev pub ShowsItem : Log → Key → PlacedNode → Type 0
 ShowsItem log key item = (item.head.key ≡ key) × IsAppended log item
 
+-- the stamp is not below what the client has seen of the clock of any of the colours
+abbrev pub IsAboveSeen : Client → List ℕ → ℕ → Type 0
+IsAboveSeen c colours stamp = All (λ colour. clock (seen_of c c.region colour) ≤ stamp) colours
+
 -- A client has read these colours up to the stamp: in their columns, as far as it has seen them, the clock is at the stamp and
 -- nothing up to it is open; and these are the keys up to it of their lines, in the order of the region.
 pub record HasRead (c : Client) (colours : List ℕ) (stamp : ℕ) (keys : List Key) : Type 0 where

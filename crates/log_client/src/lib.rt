@@ -15,7 +15,6 @@ mod opening;
 mod played;
 mod pulls;
 mod reads;
-mod showing;
 mod store;
 mod syncs;
 mod track;

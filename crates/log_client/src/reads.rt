@@ -16,7 +16,7 @@ ghost use Rattle.log_client.specs.Growing.{HasGrown};
 ghost use Rattle.log_client.specs.Calls.{IsSame};
 ghost use Rattle.log_client.specs.Appends.{AreColoursOf};
 ghost use Rattle.log_client.specs.Reading.{RestsOn, KeepsAll, IsChosen, RaisesOne, RaisesAll, RaisesFirst, IsCleared, AreCleared, SyncsEach, SyncsFirst, home_seen, key_above, raised_colours, synced_colours};
-ghost use Rattle.log_client.specs.StampedReads.{ReadsOn, ReadsAll, ReadRefused};
+ghost use Rattle.log_client.specs.StampedReads.{IsAboveSeen, ReadsOn, ReadsAll, ReadRefused};
 
 use crate::answers::{Raised, StampedRead, Synced};
 use crate::client::Client;
@@ -180,8 +180,8 @@ impl Client {
     {
         let mut syncs = Vec::new(alloc);
         for colour in colours.members() {
-            match self.play_colour(rt, alloc, store, colour) {
-                Ok(synced) => match syncs.push(synced) {
+            match self.play_colour(rt, alloc, store, colour, false) {
+                Ok((synced, _)) => match syncs.push(synced) {
                     Ok(()) => {}
                     Err(_) => return Err(SyncFault::NoMemory),
                 },
@@ -212,6 +212,7 @@ impl Client {
         ensures finished { Finished self.old → Finished self.new }
         ensures raises { IfOk result (λ read. raised_colours read.raises ≡ members colours) }
         ensures syncs { IfOk result (λ read. synced_colours read.syncs ≡ members colours) }
+        ensures above { IfOk result (λ read. IsAboveSeen self.old (members colours) read.stamp) }
         ensures ok { IfOk result (ReadsOn store.now self.old self.new (members colours) last) }
         ensures err { IfErr result (ReadRefused store.now self.old self.new (members colours)) }
     {
@@ -252,6 +253,7 @@ impl Client {
         ensures finished { Finished self.old → Finished self.new }
         ensures raises { IfOk result (λ read. raised_colours read.raises ≡ members colours) }
         ensures syncs { IfOk result (λ read. synced_colours read.syncs ≡ members colours) }
+        ensures above { IfOk result (λ read. IsAboveSeen self.old (members colours) read.stamp) }
         ensures ok { IfOk result (ReadsAll store.now self.old self.new (members colours)) }
         ensures err { IfErr result (ReadRefused store.now self.old self.new (members colours)) }
     {

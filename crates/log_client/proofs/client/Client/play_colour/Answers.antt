@@ -1,6 +1,6 @@
 use Rattle.std.proofs.Common.{refl, arith, ap}
 use Rattle.stamp_board.specs.declared.view.Size.{Size}
-use Rattle.log_client.proofs.SyncCalls.{colour_there, few_there, plays_from, sync_goes, sync_grows, sync_finished, sync_idle, sync_client, sync_answer, sync_plays, sync_refused_client, sync_refused, sync_refused_grows}
+use Rattle.log_client.proofs.SyncCalls.{colour_there, few_there, plays_from, sync_goes, sync_grows, sync_finished, sync_idle, sync_client, sync_answer, sync_nodes, sync_plays, sync_refused_client, sync_refused, sync_refused_grows}
 use Rattle.log_client.proofs.client.Client.play_colour.Goals as goal
 
 pub play_on-requires-clause-few : goal.play_on-requires-clause-few
@@ -128,3 +128,13 @@ returns-in-Err-clause-idle g c =
     c.index_mut-track.result.now c.requires.client c.requires.colour c.region-region.ensures.there
     c.index_mut-hold.ensures.value c.index_mut-track.ensures.value
     c.play_on.new.hold c.play_on.new.track c.args.self.now.floor e.hold e.others e.same e.sees
+
+pub returns-in-Ok-clause-nodes : goal.returns-in-Ok-clause-nodes
+returns-in-Ok-clause-nodes g c shown =
+    let e = c.in-Ok.ensures in
+    sync_nodes
+    c.args.store.now c.args.self.now c.region-region.result.now c.index_mut-hold.result.now c.args.colour
+    c.index_mut-track.result.now c.requires.client c.requires.colour c.region-region.ensures.there
+    c.index_mut-hold.ensures.value c.index_mut-track.ensures.value
+    c.play_on.new.hold c.play_on.new.track c.max-self.result e.hold e.others e.same e.sees
+    c.in-Ok.synced c.in-Ok.stamp c.max-self.ensures e.ok c.in-Ok.nodes (e.nodes shown)

@@ -32,6 +32,7 @@ returns-in_default g c =
       finished = on.finished;
       raises = tt;
       syncs = tt;
+      above = tt;
       ok = tt;
       err = unraised s x b c.args.colours (members c.args.colours) refl stamp e.rests e.keeps e.chosen e.floor e.above
           c.raise_all.new.self c.raise_all.ensures.rests c.in_default.ensures.err;
@@ -60,6 +61,7 @@ returns-in_err-syncs g c =
       finished = on.finished;
       raises = tt;
       syncs = tt;
+      above = tt;
       ok = tt;
       err = unsynced s x b c.args.colours (members c.args.colours) refl stamp e.rests e.keeps e.chosen e.floor e.above
           r q c.in-Ok.raises.items c.raise_all.ensures.rests up.ok up.colours k.rests k.keeps k.clear
@@ -100,6 +102,7 @@ returns-in_default-items_read g c =
       finished = on.finished;
       raises = tt;
       syncs = tt;
+      above = tt;
       ok = tt;
       err = unanswered s x b c.args.colours (members c.args.colours) refl stamp e.rests e.keeps e.chosen e.floor e.above
           r q c.in-Ok.raises.items c.raise_all.ensures.rests up.ok up.colours k.rests k.keeps k.clear
@@ -130,6 +133,7 @@ returns g c =
       finished = on.finished;
       raises = ap raised_colours c.into.ensures ∙ up.colours;
       syncs = ap synced_colours c.into-2.ensures ∙ c.in_ok-syncs.ensures.ok.2;
+      above = e.above;
       ok = read_answered s x b c.args.colours (members c.args.colours) refl stamp e.rests e.keeps e.chosen e.floor e.above
           r q c.in-Ok.raises.items c.raise_all.ensures.rests up.ok up.colours k.rests k.keeps k.clear
           c.sync_all.new.self c.sync_all.ensures.rests c.in_ok-syncs.syncs.items c.in_ok-syncs.ensures.ok c.max-self.result

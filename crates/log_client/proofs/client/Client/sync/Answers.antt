@@ -1,22 +1,14 @@
-use Rattle.log_client.proofs.Results.{ok_then, err_then}
-use Rattle.log_client.specs.Calls.{IsExplained, SyncsAs, SyncRefused}
-use Rattle.log_client.specs.Reading.{PlaysColour, RefusesColour}
+use Rattle.std.proofs.lemmas.Result.{err_from_is_err_and}
 use Rattle.log_client.proofs.SyncCalls.{explained_by_plays, refused_by_plays}
 use Rattle.log_client.proofs.client.Client.sync.Goals as goal
 
+pub returns-in_err-answer-clause-err : goal.returns-in_err-answer-clause-err
+returns-in_err-answer-clause-err g c =
+    let p = err_from_is_err_and c.from_residual.result c.from_residual.ensures.1 in
+    rw (p.1, p.2) (refused_by_plays c.args.store.now c.args.self.now c.play_colour.new.self c.args.colour
+    c.in_err-answer.field-0.0 c.in_err-answer.ensures.err)
+
 pub returns-clause-ok : goal.returns-clause-ok
 returns-clause-ok g c =
-    let s = c.args.store.now in
-    let old = c.args.self.now in
-    let new = c.play_colour.new.self in
-    ok_then c.play_colour.result (PlaysColour s old new c.args.colour)
-    (λ y. IsExplained s old new (SyncsAs new c.args.colour y)) (explained_by_plays s old new c.args.colour)
-    c.play_colour.ensures.ok
-
-pub returns-clause-err : goal.returns-clause-err
-returns-clause-err g c =
-    let s = c.args.store.now in
-    let old = c.args.self.now in
-    let new = c.play_colour.new.self in
-    err_then c.play_colour.result (RefusesColour s old new c.args.colour) (SyncRefused s old new c.args.colour)
-    (refused_by_plays s old new c.args.colour) c.play_colour.ensures.err
+    explained_by_plays c.args.store.now c.args.self.now c.play_colour.new.self c.args.colour c.in_ok-answer.answer.0
+    c.in_ok-answer.ensures.ok

@@ -60,8 +60,8 @@ returns-in-Err-push-clause-err g c =
     (subst (λ (m : List ℕ). SyncedFirst s x l.self m (members c.args.colours) l.syncs.items) c.in-Some.ensures.steps
     l.invariant.first))
 
-pub loop-colour-preserved : goal.loop-colour-preserved
-loop-colour-preserved g c =
+pub loop-colour-preserved-in-Ok-push : goal.loop-colour-preserved-in-Ok-push
+loop-colour-preserved-in-Ok-push g c =
     let s = c.args.store.now in
     let x = c.args.self.now in
     let l = c.loop-colour in record {
