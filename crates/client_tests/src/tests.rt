@@ -2,5 +2,6 @@
 mod appends;
 mod ends;
 mod notes;
+mod reads;
 mod trims;
 mod two_regions;

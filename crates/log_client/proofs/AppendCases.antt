@@ -1,5 +1,5 @@
 -- One colour or several: which append is called, and what its answer says.
-use Rattle.std.proofs.Common.{◌≡◌, ℕ, zero, suc, ◌+◌, ◌<◌, ◌≤◌, List, [], ◌∷◌, length, Some, None, Option, Ok, Err, Result, true, refl, ap, arith, eqb-true}
+use Rattle.std.proofs.Common.{◌≡◌, ℕ, ◌<◌, ◌≤◌, List, [], ◌∷◌, length, Some, None, Option, Ok, Err, Result, true, refl, ap, arith, eqb-true}
 use Rattle.std.specs.Option.{option_eq}
 use Rattle.std.specs.Prelude.{eqb, IfErr, IfOk, IfSome, MatchResult, OnOk, slice_get}
 use Rattle.log_node.specs.declared.ids.Colours.{Colours}

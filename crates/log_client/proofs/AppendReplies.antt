@@ -66,6 +66,7 @@ use Rattle.log_client.proofs.Foreign.{Accounted, goes_accounted, foreign}
 use Rattle.log_client.proofs.AtHome.{ChangesHome, gone_looked, have_gone_on, home_after, others_after, sees_after, client_after}
 use Rattle.log_client.proofs.Looked.{lawful_after, rows_stay, finished_stays, pulls_stay, tracks_stay, made_looked, keeps_stay}
 use Rattle.log_client.proofs.Helping.{helps_at_home}
+use Rattle.log_client.proofs.Growing.{grown_same}
 use Rattle.log_client.proofs.TrimReplies.{look_client, look_goes, look_finished, look_nothing}
 use Rattle.log_client.proofs.NextNodes.{hold_read, number_is, counts_on, appends_next, fits_column, id_listed, node_is, id_kept, floor_kept, wants_kept}
 use Rattle.log_client.proofs.AppendsNothing.{one_takes_none, finds_nothing}
@@ -309,6 +310,7 @@ module _ (s : Store) (c : Client) (r : Region) (g : Hold) (k : ℕ) (colours : C
       client = single_client;
       same = (refl, refl);
       goes = have_gone_on s c after r g h is changed;
+      grows = grown_same c after refl;
       finished = λ finished. inl (finished_stays s c after r g h is changed refl finished);
       answer = (
         refl,
@@ -343,6 +345,7 @@ module _ (s : Store) (c : Client) (r : Region) (g : Hold) (k : ℕ) (colours : C
       client = look_client s c r g h k is there hold now but same sees;
       same = (refl, refl);
       goes = look_goes s c r g h k is there hold now but same sees;
+      grows = grown_same c left refl;
       finished = λ finished. inl (look_finished s c r g h k is there hold now but same sees finished);
       answer = why;
       points = tt;

@@ -1,22 +1,21 @@
 -- An append by which nothing was done: what its answer says.
-use Rattle.std.proofs.Common.{◌≡◌, ◌≢◌, inl, ℕ, ◌<◌, ◌≤◌, List, [], ◌∷◌, length, Some, Option, Err, refl, ap, sym, subst, ◌∙◌, arith}
-use Rattle.std.specs.Prelude.{slice_get}
+use Rattle.std.proofs.Common.{◌≡◌, inl, ℕ, List, [], ◌∷◌, length, Some, Option, Err, refl, ap, sym, subst, ◌∙◌, arith}
 use Rattle.std.proofs.lemmas.Option.{same_Some}
 use Rattle.log_node.specs.declared.ids.Colours.{Colours}
 use Rattle.log_node.specs.Sets.{members}
 use Rattle.append_core.specs.declared.several.MultiFault.{MultiFault}
 use Rattle.append_core.specs.declared.several.MultiFault.TheVariants as faults
 use Rattle.chain_store.specs.declared.hold.Hold.{Hold}
-use Rattle.lawful_run.specs.Appends.{IsFull}
 use Rattle.lawful_run.specs.Stops.{stopped_at_once}
 use Rattle.log_client.specs.declared.store.Store.{Store}
 use Rattle.log_client.specs.declared.client.Client.{Client}
 use Rattle.log_client.specs.Fits.{HasGoneOn, HaveGoneOn}
-use Rattle.log_client.specs.Clients.{holds_of, rows_of, IsClient}
+use Rattle.log_client.specs.Clients.{holds_of, IsClient}
 use Rattle.log_client.specs.Calls.{DidNothing}
 use Rattle.log_client.specs.Appends.{AppendRefused, HasNoRow}
 use Rattle.log_client.specs.Inside.{CallsAppend}
 use Rattle.log_client.proofs.AtHome.{gone_same}
+use Rattle.log_client.proofs.Growing.{grown_same}
 
 -- the holds are as they were
 pub goes_same_holds : (hs : List Hold) → HaveGoneOn hs hs
@@ -47,6 +46,7 @@ module _ (s : Store) (c : Client) (colours : Colours) (text : List ℕ) (stop : 
     client = is;
     same = (refl, refl);
     goes = goes_same_holds (holds_of c);
+    grows = grown_same c c refl;
     finished = λ finished. inl finished;
     answer = why;
     points = tt;

@@ -6,6 +6,9 @@ use Rattle.log_node.specs.declared.node.Shape.{Shape}
 use Rattle.log_node.specs.Reach.{nothing}
 use Rattle.col_core.specs.declared.Entry.{Entry}
 use Rattle.log_node.specs.Vectors.{at, zeros}
+use Rattle.log_node.proofs.CallerLemmas.{at-zeros}
+use Rattle.col_core.specs.Cuts.{chain}
+use Rattle.col_core.specs.Computed.{dated}
 use Rattle.col_core.specs.Keeping.{nothing_kept}
 use Rattle.col_core.specs.Log.{places_of}
 use Rattle.script_text.specs.declared.script.Object.{Object}
@@ -177,6 +180,9 @@ module _ (shape : Shape) (s : Store) (n : ℕ) (c : Client) (fresh : IsFresh sha
                 of_colour = refl;
                 reached = nothing;
                 played = nothing_played;
+                line = (chain c.region (dated c.region (entries_in (seen_in h k))) c.region, refl);
+                line_long = let low = home in let few = s.fit.few in sym (at-zeros c.region (omega (arith, low, few)));
+                named = λ n item at. absurd (let f : ⊥ = cc (at) in f);
               });
         };
     floored = let e = fresh.floor in omega (arith, e);

@@ -27,6 +27,7 @@ mod Shown
 mod Plays
 mod AtHome
 mod Staying
+mod Growing
 mod Looked
 mod GoingOn
 mod Helping
@@ -48,4 +49,22 @@ mod AppendCases
 mod AppendReplies
 mod RowReplies
 mod RowCalls
+mod Lines
+mod Explaining
+mod HiddenReads
+mod Results
+mod Colours
+mod FewColours
+mod Raising
+mod ClearedHolds
+mod ReadStamps
+mod SyncingAll
+mod PlayedStamps
+mod ClearedReads
+mod ReadReplies
+mod MergedItems
+mod LineParts
+mod ItemsRead
+mod ReadLater
+mod ReadCalls
 pub mod CallerLemmas

@@ -1,5 +1,6 @@
 -- A play on a track, from what a look showed.
-use Rattle.std.proofs.Common.{◌≡◌, ℕ, ◌<◌, ◌≤◌, List, ◌++◌, ap, sym, subst, ◌∙◌}
+use Rattle.std.proofs.Common.{◌≡◌, ℕ, ◌<◌, ◌≤◌, List, ◌++◌, map, ap, sym, subst, ◌∙◌}
+use Rattle.std.specs.Prelude.{slice_get}
 use mathlib.Core.List.{IsPrefix}
 use Rattle.log_node.specs.declared.ids.Counts.{Counts}
 use Rattle.log_node.specs.declared.limits.TheConstants.{MAX_STAMP}
@@ -7,10 +8,12 @@ use Rattle.log_node.specs.Vectors.{IsWithin}
 use Rattle.log_node.specs.Reach.{Chains, Reachable}
 use Rattle.col_core.specs.declared.view.View.{View}
 use Rattle.col_core.specs.Computed.{cut}
+use Rattle.col_core.specs.PlayOrder.{nodes_between}
+use Rattle.log_node.specs.Seen.{PlacedNode}
 use Rattle.col_core.proofs.CallerLemmas.{cut-is_greatest, reachable_grows}
 use Rattle.playback.specs.declared.player.Played.{Played}
 use Rattle.playback.specs.declared.player.Snapshot.{Snapshot}
-use Rattle.playback.specs.Playing.{ShowsChains, ArePlayed}
+use Rattle.playback.specs.Playing.{ShowsChains, ArePlayed, items_of}
 use Rattle.chain_store.specs.declared.told.Tag.{Tag}
 use Rattle.chain_store.specs.declared.told.Told.{Told}
 use Rattle.chain_store.specs.declared.hold.Hold.{Hold}
@@ -24,7 +27,7 @@ use Rattle.log_client.specs.declared.track.Track.{Track}
 use Rattle.log_client.specs.declared.answers.Synced.{Synced}
 use Rattle.log_client.specs.Clients.{Plays}
 use Rattle.log_client.specs.Inside.{Extends, PlaysOn}
-use Rattle.log_client.proofs.Shown.{chains_in, shows_its_chains, its_cut_reached, plays_shown, plays_stamped}
+use Rattle.log_client.proofs.Shown.{chains_in, shows_its_chains, its_cut_reached, own_shown, own_named, plays_shown, plays_stamped}
 
 -- what could be reached can be as more is seen, and is within the cut
 pub reached_longer : (t : Tag) (old new : List Told) (v : Counts) → IsPrefix old new → IsLawfulTold t new
@@ -47,7 +50,7 @@ within_view r k g h from view is lt more shows reached =
     (reached_within_cut (tag_at r k) (seen_in g k) (seen_in h k) from more (lawful_seen r h k is lt) reached)
 
 module _ (r : Region) (h : Hold) (old new : Track) (y : Synced) (stamp events : ℕ) (view : View) (played : Played)
-    (is : IsHold r h) (lt : old.snapshot.colour < r.board.size.colours)
+    (line : List PlacedNode) (few : r.number < 4) (is : IsHold r h) (lt : old.snapshot.colour < r.board.size.colours)
     (shows : ShowsHistory (tag_at r old.snapshot.colour) (seen_in h old.snapshot.colour) old.snapshot.counts view) where
   abbrev t : Tag
   t = tag_at r old.snapshot.colour
@@ -58,9 +61,9 @@ module _ (r : Region) (h : Hold) (old new : Track) (y : Synced) (stamp events : 
   pub plays_on : ((chains : Chains) → ShowsChains view chains → Reachable chains view.cut
       → ArePlayed view chains old.snapshot.counts played.items)
       → played.snapshot ≡ record { region = view.region; colour = view.colour; counts = view.cut }
-      → IsWithin view.base old.snapshot.counts → events ≡ view.events → Extends old new events played y stamp
+      → IsWithin view.base old.snapshot.counts → events ≡ view.events → line ≡ items_of view view.region → Extends old new events played line y stamp
       → PlaysOn r h old new y stamp
-  plays_on items snapshot trimmed looked extends =
+  plays_on items snapshot trimmed looked shown extends =
       let all = items (chains_in t log) (shows_its_chains t log old.snapshot.counts view shows)
       (its_cut_reached t log old.snapshot.counts view shows) in
       let answered : y.snapshot ≡ record { region = view.region; colour = view.colour; counts = view.cut } =
@@ -68,6 +71,12 @@ module _ (r : Region) (h : Hold) (old new : Track) (y : Synced) (stamp events : 
       let counts : y.snapshot.counts ≡ view.cut = ap (λ (s : Snapshot). s.counts) answered in
       record {
         nodes = played.items;
+        line = line;
+        heads = ap (map (λ (i : PlacedNode). i.head)) own
+            ∙ (own_shown t log old.snapshot.counts view shows few trimmed
+            ∙ ap (λ (v : Counts). nodes_between (chains_in t log) old.snapshot.counts v r.number) (sym counts));
+        named = λ n item at. own_named t log old.snapshot.counts view shows few n item
+            (ap (λ (l : List PlacedNode). slice_get l n) (sym own) ∙ at);
         plays = subst (λ (v : Counts). Plays r.number log old.snapshot.counts v played.items) (sym counts)
             (plays_shown t log old.snapshot.counts view shows old.snapshot.counts played.items all);
         looked = ap (λ (z : Synced). z.events) extends.answer ∙ (looked ∙ shows.events);
@@ -85,4 +94,7 @@ module _ (r : Region) (h : Hold) (old new : Track) (y : Synced) (stamp events : 
             (lawful_seen r h old.snapshot.colour is lt));
       } where
         track_of : Snapshot → Track
-        track_of s = record { snapshot = s; nodes = old.nodes ++ played.items }
+        track_of s = record { snapshot = s; nodes = old.nodes ++ played.items; line = old.line ++ line }
+
+        own : line ≡ items_of view r.number
+        own = shown ∙ ap (items_of view) shows.region

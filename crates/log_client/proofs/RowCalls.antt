@@ -1,5 +1,5 @@
 -- What an append to several colours does, as its code reads the client's hold.
-use Rattle.std.proofs.Common.{◌≡◌, ◌≢◌, ℕ, zero, suc, ◌+◌, ◌*◌, ◌<◌, ◌≤◌, List, [], ◌∷◌, ◌++◌, length, map, true, false, Bool, Some, None, Option, Err, refl, ap, sym, subst, ◌∙◌, arith}
+use Rattle.std.proofs.Common.{◌≡◌, ◌≢◌, ℕ, zero, suc, ◌+◌, ◌*◌, ◌<◌, ◌≤◌, List, [], ◌∷◌, ◌++◌, length, map, true, Some, None, Option, Err, refl, ap, sym, subst, ◌∙◌, arith}
 use Rattle.std.specs.Prelude.{IfSome, slice_get, slice_set, slice_index_or}
 use Rattle.std.specs.declared.sync.Arc.{Arc}
 use Rattle.std.proofs.lemmas.List.{map-append}
@@ -22,8 +22,8 @@ use Rattle.log_client.specs.declared.client.Client.{Client}
 use Rattle.log_client.specs.Clients.{holds_of, rows_of, tracks_of, IsClient}
 use Rattle.log_client.specs.Appends.{IsStopWithin, next_node}
 use Rattle.log_client.specs.Inside.{CallsAppend}
-use Rattle.log_client.proofs.AtHome.{ChangesHome, gone_same}
-use Rattle.log_client.proofs.NextNodes.{hold_read, on_row, row_on_several, rests_there, used_is, number_is}
+use Rattle.log_client.proofs.AtHome.{gone_same}
+use Rattle.log_client.proofs.NextNodes.{hold_read, on_row, row_on_several}
 use Rattle.log_client.proofs.AppendsNothing.{full_stays}
 use Rattle.log_client.proofs.RowReplies.{no_node, row_not_begun}
 

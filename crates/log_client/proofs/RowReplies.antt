@@ -1,5 +1,5 @@
 -- What an append of a client to several colours leaves that has begun its row, and what explains its answer.
-use Rattle.std.proofs.Common.{◌≡◌, ◌≢◌, ◌⊎◌, inl, inr, ℕ, zero, suc, true, ◌+◌, ◌-◌, ◌<◌, ◌≤◌, List, [], ◌∷◌, ◌++◌, length, map, Some, None, Option, Ok, Err, Result, refl, ap, sym, subst, ◌∙◌, arith, eq-eqb, length-append}
+use Rattle.std.proofs.Common.{◌≡◌, ◌≢◌, ◌⊎◌, inl, inr, ℕ, suc, true, ◌+◌, ◌-◌, ◌<◌, ◌≤◌, List, [], ◌∷◌, ◌++◌, length, map, Some, None, Option, Ok, Err, Result, refl, ap, sym, subst, ◌∙◌, arith, eq-eqb, length-append}
 use Rattle.std.specs.Prelude.{IsTrue, IfOk, MatchResult, replicate, slice_get, max, ◌==◌}
 use Rattle.std.specs.Vec.{with_item}
 use Rattle.std.proofs.lemmas.List.{length-map}
@@ -13,7 +13,6 @@ use Rattle.log_node.specs.declared.limits.TheConstants.{MAX_STAMP}
 use Rattle.log_node.specs.declared.node.Head.{Head}
 use Rattle.log_node.specs.declared.node.Node.{Node}
 use Rattle.log_node.specs.Seen.{BegunAppend}
-use Rattle.log_node.specs.declared.marks.Mark.{Mark}
 use Rattle.log_node.specs.declared.marks.Mark.TheVariants.{Fenced}
 use Rattle.log_node.specs.declared.marks.Outcome.{Outcome}
 use Rattle.log_node.specs.declared.marks.Outcome.TheVariants.{Open, Gone, Final}
@@ -67,8 +66,8 @@ use Rattle.log_client.specs.declared.track.Track.{Track}
 use Rattle.log_client.specs.declared.answers.Appended.{Appended}
 use Rattle.log_client.specs.Fits.{Fits}
 use Rattle.log_client.specs.Ending.{IsNoMove}
-use Rattle.log_client.specs.Clients.{holds_of, seen_of, rows_of, tracks_of, starts_of, caller_of, counts_in, IsClient, IsClosed, IsClosedIn, AllClosed, AreRows, Keeps, Finished}
-use Rattle.log_client.specs.Appends.{next_node, piece_of, AppendsAs, AppendRefused, FindsNoMemory, HasNoRow, HasStopped}
+use Rattle.log_client.specs.Clients.{holds_of, seen_of, rows_of, tracks_of, caller_of, counts_in, IsClient, IsClosed, IsClosedIn, AllClosed, AreRows, Keeps, Finished}
+use Rattle.log_client.specs.Appends.{next_node, piece_of, AppendsAs, AppendRefused, HasNoRow, HasStopped}
 use Rattle.log_client.specs.Calls.{IsExplained}
 use Rattle.log_client.specs.Inside.{CallsAppend}
 use Rattle.log_client.proofs.Lists.{got, got_end, mapped, unmapped}
@@ -78,6 +77,7 @@ use Rattle.log_client.proofs.Foreign.{Accounted, goes_accounted, foreign_but}
 use Rattle.log_client.proofs.Several.{begun_so, ends_at_colour, settled_everywhere, settled_outcome, settled_begun, stops_begun, stops_there, stand_in_all, stand_so}
 use Rattle.log_client.proofs.AtHome.{ChangesHome, gone_same, have_gone_on, home_after, others_after, sees_after, client_after}
 use Rattle.log_client.proofs.Helping.{helps_at_home, idle_at_home, idle_same}
+use Rattle.log_client.proofs.Growing.{grown_same}
 use Rattle.log_client.proofs.Looked.{IsPlain, client_looked, did_nothing, finished_stays, lawful_after, pulls_stay, tracks_stay}
 use Rattle.log_client.proofs.AppendReplies.{replicated, step_moves}
 use Rattle.log_client.proofs.AppendsNothing.{finds_nothing, no_memory_stays}
@@ -268,6 +268,7 @@ module _ (s : Store) (c e : Client) (r : Region) (g h : Hold) (colours : Colours
       client = row_client;
       same = (refl, refl);
       goes = have_gone_on s c after r g h is changed;
+      grows = grown_same c after refl;
       finished = finished;
       answer = answer;
       points = points;
@@ -619,6 +620,7 @@ module _ (s : Store) (c : Client) (r : Region) (g : Hold) (colours : Colours) (t
           (tracks_stay s c d r g g is ch tracks) (idle_at_home s c d r g g is ch (idle_same c.number g));
       same = (ch.number, ch.region);
       goes = have_gone_on s c d r g g is ch;
+      grows = grown_same c d tracks;
       finished = λ finished. inl (finished_stays s c d r g g is ch rows finished);
       answer = finds_nothing s c d colours text stop (did_nothing s c d r g g is ch (λ k. refl) floor count rows
           (λ k. ap (λ (l : List Track). counts_in (slice_get l k)) tracks));

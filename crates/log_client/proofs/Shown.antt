@@ -1,18 +1,19 @@
 -- What a look shows and what is played of it.
-use Rattle.std.proofs.Common.{◌≡◌, inl, inr, ℕ, zero, suc, ◌-◌, ◌<◌, ◌≤◌, List, [], ◌∷◌, length, map, Some, sym, subst, arith}
+use Rattle.std.proofs.Common.{◌≡◌, inl, inr, ℕ, zero, suc, ◌-◌, ◌<◌, ◌≤◌, List, [], ◌∷◌, length, map, take, drop, max, Some, ap, sym, subst, ◌∙◌, arith}
 use Rattle.std.specs.Prelude.{slice_get, slice_index_or}
 use Rattle.std.specs.List.{AllZip}
 use Rattle.std.proofs.lemmas.Bool.{cases_eq}
 use Rattle.log_node.specs.declared.ids.Counts.{Counts}
 use Rattle.log_node.specs.declared.limits.TheConstants.{MAX_STAMP}
 use Rattle.log_node.specs.Seen.{PlacedNode}
-use Rattle.log_node.specs.Vectors.{at}
+use Rattle.log_node.specs.Vectors.{at, IsWithin}
+use Rattle.log_node.proofs.CallerLemmas.{at-vector, within-at}
 use Rattle.log_node.specs.Reach.{Chains, Reachable}
 use Rattle.col_core.specs.declared.view.View.{View}
 use Rattle.col_core.specs.Cuts.{chain}
-use Rattle.col_core.specs.PlayOrder.{Place, Stands}
+use Rattle.col_core.specs.PlayOrder.{Place, Stands, nodes_between}
 use Rattle.col_core.proofs.CallerLemmas.{cut-is_greatest}
-use Rattle.playback.specs.Playing.{ShowsChains, ArePlayed, item_at, head_at}
+use Rattle.playback.specs.Playing.{ShowsChains, ArePlayed, item_at, items_of, head_at}
 use Rattle.playback.specs.Orders.{play_order}
 use Rattle.playback.proofs.CallerLemmas.{shows_chains}
 use Rattle.chain_store.specs.declared.told.Tag.{Tag}
@@ -40,6 +41,22 @@ module _ (t : Tag) (log : List Told) (from : Counts) (view : View) (shows : Show
 
   pub its_cut_reached : Reachable (chains_in t log) view.cut
   its_cut_reached = subst (Reachable (chains_in t log)) (sym shows.cut) (cut-is_greatest t.region (dated_in t log)).reached
+
+  -- the own line that it shows
+  module _ (few : t.region < 4) where
+    pub own_shown : IsWithin view.base from → map (λ (i : PlacedNode). i.head) (items_of view t.region)
+        ≡ nodes_between (chains_in t log) from view.cut t.region
+    own_shown within =
+        let low = within-at view.base from within t.region few in
+        let greatest = at-vector (λ region. max (at from region) (at view.base region)) t.region few in
+        let start : at view.from t.region ≡ at from t.region =
+        ap (λ (v : Counts). at v t.region) shows.start ∙ omega (arith, low, greatest) in
+        shows_its_chains t.region few
+        ∙ ap (λ (n : ℕ). drop n (take (at view.cut t.region) (chains_in t log t.region))) start
+
+    pub own_named : (n : ℕ) (item : PlacedNode) → slice_get (items_of view t.region) n ≡ Some item
+        → Names log item.head.key.id item.node
+    own_named n item e = shows.nodes t.region n item few e
 
   -- a node that the view shows at a place
   named_at : (place : Place) (item : PlacedNode) → item_at view place ≡ Some item

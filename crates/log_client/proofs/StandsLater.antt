@@ -9,7 +9,6 @@ use Rattle.log_node.specs.declared.marks.Outcome.TheVariants.{Final}
 use Rattle.col_core.specs.declared.Event.{Event as ColumnEvent}
 use Rattle.col_core.specs.History.{line, entry_key}
 use Rattle.turn_cell.specs.Histories.{made_by}
-use Rattle.stamp_board.specs.Seats.{IsLater}
 use Rattle.stamp_board.specs.Views.{Grows}
 use Rattle.stamp_board.proofs.CallerLemmas.{Grows-trans, Learns-from, begun_learnt, outcome_learnt}
 use Rattle.chain_store.specs.declared.told.Told.{Told}

@@ -1,5 +1,5 @@
 -- What a client has stays as its holds see more.
-use Rattle.std.proofs.Common.{◌≡◌, inl, inr, ℕ, true, List, ◌++◌, ap, sym, subst, ◌∙◌, append_assoc}
+use Rattle.std.proofs.Common.{◌≡◌, inl, inr, ℕ, true, List, ◌++◌, map, ap, sym, subst, ◌∙◌, append_assoc}
 use mathlib.Core.List.{IsPrefix}
 use Rattle.log_node.specs.declared.ids.Counts.{Counts}
 use Rattle.log_node.specs.declared.node.Node.{Node}
@@ -7,6 +7,7 @@ use Rattle.log_node.specs.declared.marks.Mark.TheVariants.{Fenced}
 use Rattle.log_node.specs.Seen.{PlacedNode}
 use Rattle.col_core.specs.declared.Entry.{Entry}
 use Rattle.col_core.specs.History.{has_entered}
+use Rattle.col_core.specs.Cuts.{chain}
 use Rattle.col_core.specs.Computed.{dated}
 use Rattle.col_core.specs.Legal.{IsColumnHistory}
 use Rattle.col_core.proofs.CallerLemmas.{entered_longer}
@@ -16,12 +17,14 @@ use Rattle.chain_store.specs.declared.told.Tag.{Tag}
 use Rattle.chain_store.specs.declared.told.Told.{Told}
 use Rattle.chain_store.specs.declared.hold.Hold.{Hold}
 use Rattle.chain_store.specs.Owning.{row_of}
-use Rattle.chain_store.specs.Passes.{IsLawfulTold}
+use Rattle.chain_store.specs.Passes.{IsLawfulTold, dated_in}
 use Rattle.chain_store.specs.Holds.{seen_in, entries_seen, view_of}
+use Rattle.region_pull.proofs.CallerLemmas.{chain_longer}
 use Rattle.client_law.proofs.CallerLemmas.{closed_stays}
 use Rattle.log_client.specs.declared.track.Track.{Track}
 use Rattle.log_client.specs.Fits.{HasGoneOn}
 use Rattle.log_client.specs.Clients.{HasPlayed, nothing_played, played_then, IsTrack, AreRows, IsClosedIn, AllClosed}
+use Rattle.log_client.proofs.Fitting.{names_longer}
 use Rattle.log_client.proofs.Plays.{reached_longer}
 use Rattle.log_client.proofs.Seeing.{entries_longer}
 
@@ -45,6 +48,10 @@ track_longer t k old new track p lawful is = record {
   of_colour = is.of_colour;
   reached = reached_longer t old new track.snapshot.counts p lawful is.reached;
   played = played_longer t.region old new p track.snapshot.counts track.nodes is.played;
+  line = prefix_on (map (λ (item : PlacedNode). item.head) track.line) (chain t.region (dated_in t old) t.region)
+      (chain t.region (dated_in t new) t.region) is.line (chain_longer t old new p lawful t.region);
+  line_long = is.line_long;
+  named = λ n item at. names_longer old new item.head.key.id item.node p (is.named n item at);
 }
 
 -- ROWS

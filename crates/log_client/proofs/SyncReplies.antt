@@ -1,20 +1,24 @@
 -- What a sync of a client leaves, and what explains its answer.
-use Rattle.std.proofs.Common.{◌≡◌, ◌≢◌, inl, inr, ℕ, false, List, [], ◌∷◌, ◌++◌, length, drop, Some, refl, ap, sym, subst, ◌∙◌, arith, append-nil, eq-eqb}
+use Rattle.std.proofs.Common.{◌≡◌, ◌≢◌, inl, inr, ℕ, false, List, [], ◌∷◌, ◌++◌, length, map, drop, ◌<◌, Option, Some, refl, ap, sym, subst, ◌∙◌, arith, append-nil, eq-eqb}
 use Rattle.std.specs.Prelude.{slice_get, slice_set, max, ◌==◌}
 use Rattle.std.specs.List.{AllZip}
 use Rattle.std.proofs.lemmas.Bool.{cases_eq, ne_eqb}
 use Rattle.std.proofs.lemmas.Option.{same_Some}
+use Rattle.std.proofs.lemmas.List.{length-map, map-append}
 use Rattle.log_node.specs.declared.ids.Counts.{Counts}
 use Rattle.log_node.specs.declared.node.Head.{Head}
 use Rattle.log_node.specs.Seen.{PlacedNode}
-use Rattle.log_node.specs.Vectors.{IsWithin, is_within}
+use Rattle.log_node.specs.Vectors.{at, IsWithin, is_within}
 use Rattle.log_node.specs.Reach.{Reachable}
 use Rattle.col_core.specs.declared.Entry.{Entry}
 use Rattle.col_core.specs.Cuts.{chain, base}
 use Rattle.col_core.specs.Computed.{cut, dated}
-use Rattle.col_core.specs.PlayOrder.{Place, Stands, IsPlayOrder}
+use Rattle.col_core.specs.History.{line}
+use Rattle.col_core.specs.Legal.{IsColumnHistory}
+use mathlib.Core.List.{IsPrefix}
+use Rattle.col_core.specs.PlayOrder.{Place, Stands, IsPlayOrder, nodes_between}
 use Rattle.col_core.specs.Keeping.{Kept, updated, kept_after_sync}
-use Rattle.col_core.proofs.CallerLemmas.{cut-is_greatest, if_true, if_false}
+use Rattle.col_core.proofs.CallerLemmas.{cut-is_greatest, if_true, if_false, own_line_within}
 use Rattle.script_text.specs.declared.script.Object.{Object}
 use Rattle.chain_store.specs.declared.told.Told.{Told}
 use Rattle.chain_store.specs.declared.hold.Hold.{Hold}
@@ -38,15 +42,18 @@ use Rattle.log_client.specs.declared.faults.SyncFault.{SyncFault}
 use Rattle.log_client.specs.declared.faults.SyncFault.TheVariants as sync_faults
 use Rattle.log_client.specs.Fits.{Fits}
 use Rattle.log_client.specs.Ending.{HelpsWhole}
-use Rattle.log_client.specs.Clients.{holds_of, seen_of, rows_of, tracks_of, starts_of, played_of, counts_in, nodes_in, caller_of, Plays, HasPlayed, played_then, IsClient, IsTrack, Keeps}
+use Rattle.log_client.specs.Clients.{holds_of, seen_of, rows_of, tracks_of, starts_of, played_of, counts_in, nodes_in, line_in, caller_of, Plays, HasPlayed, played_then, IsClient, IsTrack, Keeps}
 use Rattle.log_client.specs.Inside.{PlaysOn, IsRefusedOn, dated_seen}
-use Rattle.log_client.specs.Calls.{IsExplained, SyncsAs, SyncRefused, AnswersSync, nodes_played}
+use Rattle.log_client.specs.Calls.{SyncsAs, AnswersSync, nodes_played}
+use Rattle.log_client.specs.Reading.{PlaysColour, RefusesColour, keys_of, kept_after_playing}
 use Rattle.log_client.proofs.Seeing.{seen_there}
 use Rattle.log_client.proofs.Alone.{seen_long}
 use Rattle.log_client.proofs.Playing.{plays_there}
 use Rattle.log_client.proofs.AtHome.{ChangesHome, set_there, set_elsewhere, set_long, home_after, sees_after, are_regions}
 use Rattle.log_client.proofs.Staying.{played_longer}
-use Rattle.log_client.proofs.Looked.{IsPlain, made_looked, track_stays, kept_before, makes_none, client_looked, keeps_stay, did_nothing}
+use Rattle.log_client.proofs.Lines.{joined, chain_long, keys_are}
+use Rattle.log_client.proofs.Lists.{got_split}
+use Rattle.log_client.proofs.Looked.{IsPlain, made_looked, lawful_after, track_stays, kept_before, makes_none, client_looked, keeps_stay}
 use Rattle.log_client.proofs.Helping.{GoesIdle, idle_looked, idle_at_home}
 
 dropped : {A : Type 0} (xs ys : List A) → drop (length xs) (xs ++ ys) ≡ ys
@@ -122,23 +129,22 @@ module _ (s : Store) (c d : Client) (r : Region) (g h : Hold) (old : Track) (is 
         (track_stays s c d r g h is ch m track
         ((is.home g ch.before).tracks m track (ap (λ (l : List Track). slice_get l m) (sym tracks) ∙ at)))) helps
 
-    pub refused_explained : (fault : SyncFault) → IsRefusedOn r h old fault → SyncRefused s c d k fault
-    refused_explained (sync_faults.Trimmed colour shown) why = (
+    pub refused_plays : (fault : SyncFault) → IsRefusedOn r h old fault → RefusesColour s c d k fault
+    refused_plays (sync_faults.Trimmed colour shown) why = (
       why.0,
       λ objects kept finished keeps. (
-        kept,
         keeps_stay s c d r g h is ch made floor count rows starts_same objects kept keeps,
-        λ rest fits. (
-          trimmed_there (seen_of c) (seen_of d) rest (caller_of s d objects) kept k shown
-              (sees_after s c d r g h is ch objects) (kept_before s c d r g h is ch objects kept keeps)
-              (why.1 ∙ its_base)
-              (subst (λ (v : Counts). is_within shown v ≡ false) (sym (keeps.starts k ∙ started)) why.2),
-          refl,
-        ),
+        λ rest fits.
+            trimmed_there (seen_of c) (seen_of d) rest (caller_of s d objects) kept k shown
+            (sees_after s c d r g h is ch objects) (kept_before s c d r g h is ch objects kept keeps)
+            (why.1 ∙ its_base)
+            (subst (λ (v : Counts). is_within shown v ≡ false) (sym (keeps.starts k ∙ started)) why.2),
       ),
     )
-    refused_explained sync_faults.NoMemory why =
-        did_nothing s c d r g h is ch made floor count rows starts_same
+    refused_plays sync_faults.NoMemory why = λ objects kept finished keeps. (
+      keeps_stay s c d r g h is ch made floor count rows starts_same objects kept keeps,
+      λ rest fits. tt,
+    )
 
   -- PLAYED
 
@@ -166,8 +172,54 @@ module _ (s : Store) (c d : Client) (r : Region) (g h : Hold) (old : Track) (is 
     old_track : IsTrack c.region k (seen_in g k) old
     old_track = (is.home g ch.before).tracks k old at_old
 
+    -- the own line is whole
+    few : d.region < 4
+    few =
+        let lt = is.region in
+        let low = s.fit.few in
+        let same = ch.region in
+        omega (arith, lt, low, same)
+
+    abbrev own_line : List Head
+    own_line = chain d.region (dated d.region (entries_in log)) d.region
+
+    counted_line : at y.snapshot.counts d.region ≡ length own_line
+    counted_line =
+        ap (λ (v : Counts). at v d.region) cut_is
+        ∙ (own_line_within d.region (length s.regions) (entries_in log) few
+        (subst (λ (n : ℕ). IsColumnHistory n (length s.regions) (dated n (entries_in log))) (sym ch.region)
+        (lawful_after s c d r g h is ch k))
+        ∙ sym (chain_long d.region (entries_in log)))
+
+    stayed : IsTrack c.region k log old
+    stayed = track_stays s c d r g h is ch k old old_track
+
+    new_line : new.line ≡ old.line ++ p.line
+    new_line = ap (λ (t : Track). t.line) p.track
+
+    line_heads : map (λ (item : PlacedNode). item.head) new.line ≡ own_line
+    line_heads =
+        ap (map (λ (item : PlacedNode). item.head)) new_line
+        ∙ (map-append (λ (item : PlacedNode). item.head) old.line p.line
+        ∙ joined (map (λ (item : PlacedNode). item.head) old.line) (map (λ (item : PlacedNode). item.head) p.line) own_line
+        (at old.snapshot.counts d.region) (at y.snapshot.counts d.region)
+        (subst (λ (n : ℕ). IsPrefix (map (λ (item : PlacedNode). item.head) old.line)
+        (chain n (dated n (entries_in log)) n)) (sym ch.region) stayed.line)
+        (length-map old.line (λ (item : PlacedNode). item.head)
+        ∙ (stayed.line_long ∙ ap (at old.snapshot.counts) (sym ch.region))) counted_line
+        (subst (λ (n : ℕ). map (λ (item : PlacedNode). item.head) p.line
+        ≡ nodes_between (chain n (dated n (entries_in log))) old.snapshot.counts y.snapshot.counts n) own p.heads))
+
     new_track : IsTrack d.region k log new
     new_track = record {
+      line = ([], append-nil (map (λ (item : PlacedNode). item.head) new.line) ∙ line_heads);
+      line_long = sym (length-map new.line (λ (item : PlacedNode). item.head))
+          ∙ (ap length line_heads ∙ (sym counted_line ∙ ap (λ (v : Counts). at v d.region) (sym counted)));
+      named = λ n item at. elim (got_split old.line p.line n item
+          (ap (λ (l : List PlacedNode). slice_get l n) (sym new_line) ∙ at)) [
+            | inl early ↦ stayed.named n item early
+            | inr late ↦ p.named late.0 item late.1
+          ];
       region = ap (λ (t : Track). t.snapshot.region) p.track ∙ (ap (λ (q : Snapshot). q.region) p.of_column ∙ own);
       of_colour = ap (λ (t : Track). t.snapshot.colour) p.track ∙ ap (λ (q : Snapshot). q.colour) p.of_column;
       reached = subst (Reachable (chain d.region (dated d.region (entries_in log)))) (sym counted) reached;
@@ -313,6 +365,24 @@ module _ (s : Store) (c d : Client) (r : Region) (g h : Hold) (old : Track) (is 
             (sym nodes_are),
       )
 
-    pub synced_explained : IsExplained s c d (SyncsAs d k y)
-    synced_explained objects kept finished keeps =
-        (kept_then kept, keeps_then objects kept keeps, record_then objects kept keeps)
+    colour_is : y.snapshot.colour ≡ k
+    colour_is = ap (λ (q : Snapshot). q.colour) p.of_column
+
+    kept_is : (kept : Kept) → kept_after_playing d y kept ≡ kept_then kept
+    kept_is kept =
+        ap (λ (m : ℕ). kept_after_sync kept d.region m y.events y.snapshot.counts (greatest_stamp (nodes_played d m y)))
+        colour_is
+        ∙ ap (λ (l : List PlacedNode). kept_after_sync kept d.region k y.events y.snapshot.counts (greatest_stamp l)) nodes_are
+
+    pub synced_plays : PlaysColour s c d k y
+    synced_plays = record {
+      of_colour = colour_is;
+      looked = looked;
+      keeps = λ objects kept finished keeps. (
+        subst (Keeps s d objects) (sym (kept_is kept)) (keeps_then objects kept keeps),
+        λ rest fits. let r = record_then objects kept keeps rest fits in (r.0, r.1),
+      );
+      line = ap (λ (o : Option Track). keys_of (line_in o)) new_there
+          ∙ (keys_are d.region (entries_in log) new.line line_heads ∙ ap line (sym seen_is));
+      others = others_there;
+    }

@@ -30,10 +30,10 @@ use Rattle.log_client.proofs.Helping.{GoesIdle, IsNoStep, helped_at_home, idle_a
 module _ (s : Store) (c : Client) (r : Region) (g h : Hold) (k : ℕ) (is : IsClient s c)
     (there : slice_get s.regions c.region ≡ Some r) (hold : g ≡ slice_index_or c.holds.items c.region g)
     (rests : IsHold r h) (but : SameBut k g h) (same : (h.seat ≡ g.seat) × (h.next ≡ g.next)) where
-  abbrev after : Client
+  abbrev pub after : Client
   after = record c { holds = with_item c.holds c.region h }
 
-  at_g : slice_get (holds_of c) c.region ≡ Some g
+  pub at_g : slice_get (holds_of c) c.region ≡ Some g
   at_g =
       let many = is.holds.0 in
       let within = is.region in
@@ -41,7 +41,7 @@ module _ (s : Store) (c : Client) (r : Region) (g h : Hold) (k : ℕ) (is : IsCl
 
   -- by a look
   module _ (sees : SeesMoreIn k g h) where
-    looked : ChangesHome s c after r g h
+    pub looked : ChangesHome s c after r g h
     looked = record {
       number = refl;
       region = refl;

@@ -7,7 +7,7 @@ use Rattle.log_node.specs.declared.limits.TheConstants.{MAX_STAMP}
 use Rattle.log_node.specs.declared.node.Node.{Node}
 use Rattle.log_node.specs.Seen.{PlacedNode}
 use Rattle.log_node.specs.Sets.{has}
-use Rattle.log_node.specs.Vectors.{zeros}
+use Rattle.log_node.specs.Vectors.{at, zeros}
 use Rattle.log_node.specs.Reach.{Reachable}
 use Rattle.log_node.specs.Standings.{open_entry}
 use Rattle.log_node.specs.declared.marks.Why.{Why}
@@ -67,6 +67,14 @@ nodes_in (Some track) = track.nodes
 abbrev pub played_of : Client → ℕ → List PlacedNode
 played_of c colour = nodes_in (slice_get (tracks_of c) colour)
 
+-- of these the own line of its region, by position
+abbrev pub line_in : Option Track → List PlacedNode
+line_in None = []
+line_in (Some track) = track.line
+
+abbrev pub line_of : Client → ℕ → List PlacedNode
+line_of c colour = line_in (slice_get (tracks_of c) colour)
+
 -- the client as one who commands, with any objects
 abbrev pub caller_of : Store → Client → List Object → Caller
 caller_of s c objects = record {
@@ -99,6 +107,11 @@ pub record IsTrack (own colour : ℕ) (seen : List Told) (track : Track) : Type 
   pub of_colour : track.snapshot.colour ≡ colour
   pub reached : Reachable (chain own (dated own (entries_in seen))) track.snapshot.counts
   pub played : HasPlayed own seen track.snapshot.counts track.nodes
+  -- the own line up to the snapshot, each node as the history names it
+  pub line : IsPrefix (map (λ (item : PlacedNode). item.head) track.line) (chain own (dated own (entries_in seen)) own)
+  pub line_long : length track.line ≡ at track.snapshot.counts own
+  pub named : (n : ℕ) (item : PlacedNode) → slice_get track.line n ≡ Some item
+      → Names seen item.head.key.id item.node
 
 -- A CLIENT AT REST
 

@@ -1,12 +1,14 @@
 -- What the functions of this crate say of each other: appends, and plays on a track.
-use Rattle.std.specs.Prelude.{◌≡◌, ◌⊎◌, ◌↔◌, ℕ, false, ◌≤◌, List, ◌++◌, length, map, Option, None, Result, Err, IfOk, MatchResult}
+use Rattle.std.specs.Prelude.{◌≡◌, ◌⊎◌, ◌↔◌, ℕ, false, ◌≤◌, List, ◌++◌, length, map, Option, Some, None, slice_get, Result, Err, IfOk, MatchResult}
 use Rattle.log_node.specs.declared.ids.Colours.{Colours}
 use Rattle.log_node.specs.declared.limits.TheConstants.{MAX_STAMP}
 use Rattle.log_node.specs.Seen.{PlacedNode}
 use Rattle.log_node.specs.Sets.{members}
 use Rattle.log_node.specs.Vectors.{IsWithin, is_within}
-use Rattle.col_core.specs.Cuts.{Dated, base}
+use Rattle.col_core.specs.Cuts.{Dated, base, chain}
 use Rattle.col_core.specs.Computed.{cut, dated}
+use Rattle.col_core.specs.PlayOrder.{nodes_between}
+use Rattle.chain_store.specs.Histories.{Names}
 use Rattle.chain_store.specs.declared.hold.Hold.{Hold}
 use Rattle.chain_store.specs.declared.region.Region.{Region}
 use Rattle.chain_store.specs.Holds.{seen_in, entries_seen}
@@ -24,6 +26,7 @@ use Rattle.log_client.specs.declared.faults.SyncFault.{SyncFault}
 use Rattle.log_client.specs.declared.faults.SyncFault.TheVariants.{Trimmed, NoMemory}
 use Rattle.log_client.specs.Fits.{HaveGoneOn}
 use Rattle.log_client.specs.Clients.{IsClient, Finished, Plays, holds_of}
+use Rattle.log_client.specs.Growing.{HasGrown}
 use Rattle.log_client.specs.Calls.{IsExplained, IsSame}
 use Rattle.log_client.specs.Appends.{AppendsAs, AppendRefused, HasNoRow, HasStopped}
 
@@ -33,6 +36,7 @@ pub record CallsAppend (s : Store) (c d : Client) (colours : Colours) (text : Li
   pub client : IsClient s d
   pub same : IsSame c d
   pub goes : HaveGoneOn (holds_of c) (holds_of d)
+  pub grows : HasGrown c d
   pub finished : Finished c → Finished d ⊎ HasStopped result
   pub answer : MatchResult result
       (λ a. (stop ≡ None) × IsExplained s c d (AppendsAs colours text a))
@@ -44,9 +48,12 @@ pub record CallsAppend (s : Store) (c d : Client) (colours : Colours) (text : Li
 abbrev pub dated_seen : Region → Hold → ℕ → List Dated
 dated_seen r h colour = dated r.number (entries_seen h colour)
 
--- what was played is put at the end of a track, after a look at so many events; the greatest stamp of it
-pub record Extends (old new : Track) (events : ℕ) (played : Played) (y : Synced) (stamp : ℕ) : Type 0 where
-  pub track : new ≡ record { snapshot = played.snapshot; nodes = old.nodes ++ played.items }
+-- what was played, and the own line of it, is put at the end of a track, after a look at so many events; the greatest
+-- stamp of it
+pub record Extends (old new : Track) (events : ℕ) (played : Played) (line : List PlacedNode) (y : Synced)
+    (stamp : ℕ) : Type 0 where
+  pub track : new
+      ≡ record { snapshot = played.snapshot; nodes = old.nodes ++ played.items; line = old.line ++ line }
   pub answer : y ≡ record {
     events = events;
     snapshot = played.snapshot;
@@ -59,13 +66,19 @@ pub record Extends (old new : Track) (events : ℕ) (played : Played) (y : Synce
 -- before, up to the cut.
 pub record PlaysOn (r : Region) (h : Hold) (old new : Track) (y : Synced) (stamp : ℕ) : Type 0 where
   pub nodes : List PlacedNode
+  -- the own line of what was played
+  pub line : List PlacedNode
+  pub heads : map (λ (item : PlacedNode). item.head) line
+      ≡ nodes_between (chain r.number (dated_seen r h old.snapshot.colour)) old.snapshot.counts y.snapshot.counts r.number
+  pub named : (n : ℕ) (item : PlacedNode) → slice_get line n ≡ Some item
+      → Names (seen_in h old.snapshot.colour) item.head.key.id item.node
   pub plays : Plays r.number (seen_in h old.snapshot.colour) old.snapshot.counts y.snapshot.counts nodes
   pub looked : y.events ≡ length (seen_in h old.snapshot.colour)
   pub is_cut : y.snapshot.counts ≡ cut r.number (dated_seen r h old.snapshot.colour)
   pub not_trimmed : IsWithin (base r.number r.regions (dated_seen r h old.snapshot.colour)) old.snapshot.counts
   pub of_column : y.snapshot
       ≡ record { region = r.number; colour = old.snapshot.colour; counts = y.snapshot.counts }
-  pub track : new ≡ record { snapshot = y.snapshot; nodes = old.nodes ++ nodes }
+  pub track : new ≡ record { snapshot = y.snapshot; nodes = old.nodes ++ nodes; line = old.line ++ line }
   pub first : y.first ≡ length old.nodes
   pub count : y.count ≡ length nodes
   pub greatest : stamp ≡ greatest_stamp nodes

@@ -3,10 +3,14 @@ pub mod Fits
 pub mod Ending
 pub mod Closing
 pub mod Clients
+pub mod Growing
 pub mod Between
 pub mod Calls
 pub mod Appends
 pub mod Inside
+pub mod StampedReads
+pub mod Reading
+pub mod Items
 pub mod Notes
 pub mod Opening
 pub mod Leaving

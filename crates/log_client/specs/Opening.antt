@@ -16,7 +16,7 @@ use Rattle.log_client.specs.Clients.{IsClient, Keeps, Finished, Helps, holds_of}
 -- nothing is played on it
 abbrev pub fresh_track : ℕ → ℕ → Track
 fresh_track region colour =
-    record { snapshot = record { region = region; colour = colour; counts = zeros }; nodes = [] }
+    record { snapshot = record { region = region; colour = colour; counts = zeros }; nodes = []; line = [] }
 
 -- such a track of each colour
 abbrev pub AreFreshTracks : ℕ → ℕ → List Track → Type 0

@@ -16,6 +16,7 @@ ghost use Rattle.append_core.specs.Several.{IsStopOf, Leaves, StandsInAll, own_r
 ghost use Rattle.lawful_run.specs.Callers.{row_of};
 ghost use Rattle.log_client.specs.Fits.{HaveGoneOn};
 ghost use Rattle.log_client.specs.Clients.{IsClient, Finished, holds_of, rows_of, starts_of, tracks_of};
+ghost use Rattle.log_client.specs.Growing.{HasGrown};
 ghost use Rattle.log_client.specs.Appends.{AreColoursOf, IsStopWithin, next_node, AppendsAs, AppendRefused, HasNoRow, HasStopped};
 ghost use Rattle.log_client.specs.Calls.{IsExplained, IsSame};
 ghost use Rattle.log_client.specs.Inside.{CallsAppend};
@@ -262,6 +263,7 @@ impl Client {
     /// played of them as wants. On Ok it stands in the lines of all of them, behind all nodes that the client knew to stand
     /// there. Several colours take the client's next row; the gate is passed between their steps, and with a stop the append
     /// stops after so many. Open entries in its way are helped. Waits for turns of the columns.
+    #[tactic(auto, using(crate::proofs::Growing::grown_same))]
     pub fn append<R: Wait, G: Gate>(
         &mut self,
         rt: &R,
@@ -278,6 +280,7 @@ impl Client {
         ensures client { IsClient store.now self.new }
         ensures same { IsSame self.old self.new }
         ensures goes { HaveGoneOn (holds_of self.old) (holds_of self.new) }
+        ensures grows { HasGrown self.old self.new }
         ensures finished { Finished self.old → Finished self.new ⊎ HasStopped result }
         ensures ok { IfOk result (λ a. IsExplained store.now self.old self.new (AppendsAs colours text a)) }
         ensures whole { OnOk result (stop ≡ None) }

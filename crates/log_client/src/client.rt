@@ -21,7 +21,7 @@ pub struct Client {
 
 impl Client {
     ghost use Rattle.std.specs.Prelude.{◌≡◌, ◌<◌, length};
-    ghost use Rattle.log_client.specs.Clients.{tracks_of, starts_of, played_of};
+    ghost use Rattle.log_client.specs.Clients.{tracks_of, starts_of, played_of, line_of};
 
     /// The client's number.
     pub fn number(&self) -> u8
@@ -43,6 +43,14 @@ impl Client {
         ensures { result.now ≡ played_of self.now colour }
     {
         self.tracks[colour as usize].nodes.as_slice()
+    }
+
+    /// Of the nodes of the colour that the client has played the own line of its region, by position.
+    pub fn line(&self, colour: u8) -> &[Item]
+        requires { colour < length (tracks_of self.now) }
+        ensures { result.now ≡ line_of self.now colour }
+    {
+        self.tracks[colour as usize].line.as_slice()
     }
 
     /// The snapshot of the client's last sync of the colour that was not refused; all zeros before.

@@ -4,6 +4,7 @@ ghost use Rattle.chain_store.specs.declared.region.Region.{Region};
 ghost use Rattle.log_client.specs.Fits.{HaveGoneOn};
 ghost use Rattle.log_client.specs.Ending.{AreHoldsIn};
 ghost use Rattle.log_client.specs.Clients.{IsClient, Finished, Helps, holds_of};
+ghost use Rattle.log_client.specs.Growing.{HasGrown};
 ghost use Rattle.log_client.specs.Notes.{AreNotes, IsNoteOf, TellsAll, KnowSame, HearAll, TellsSeen, HearsSeen};
 ghost use Rattle.log_client.specs.Calls.{DidNothing, IsSame};
 
@@ -56,6 +57,7 @@ impl Client {
         ensures client { IsClient store.now self.new }
         ensures same { IsSame self.old self.new }
         ensures goes { HaveGoneOn (holds_of self.old) (holds_of self.new) }
+        ensures grows { HasGrown self.old self.new }
         ensures finished { Finished self.old → Finished self.new }
         ensures idle { Helps self.new → Helps self.old }
         ensures nothing { DidNothing store.now self.old self.new }
@@ -72,6 +74,7 @@ impl Client {
         ensures client { IsClient store.now self.new }
         ensures same { IsSame self.old self.new }
         ensures goes { HaveGoneOn (holds_of self.old) (holds_of self.new) }
+        ensures grows { HasGrown self.old self.new }
         ensures finished { Finished self.old → Finished self.new }
         ensures idle { Helps self.new → Helps self.old }
         ensures nothing { DidNothing store.now self.old self.new }

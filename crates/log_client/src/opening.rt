@@ -30,7 +30,12 @@ fn fresh_tracks(alloc: Global, region: u8, colours: u8) -> Result<Vec<Track>, Al
             counts: Counts([0; 4]),
         };
         let nodes = PlayedNodes::new(alloc);
-        tracks.push(Track { snapshot, nodes })?;
+        let line = PlayedNodes::new(alloc);
+        tracks.push(Track {
+            snapshot,
+            nodes,
+            line,
+        })?;
     }
     Ok(tracks)
 }

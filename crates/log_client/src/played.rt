@@ -1,5 +1,5 @@
 // The nodes that a client has played of a colour.
-ghost use Rattle.std.specs.Prelude.{◌≡◌, ◌++◌, [], length, OnOk, OnErr};
+ghost use Rattle.std.specs.Prelude.{◌≡◌, ◌++◌, [], length, take, OnOk, OnErr};
 
 use log_node::{Item, Items};
 use std::alloc::{AllocError, Global};
@@ -42,6 +42,13 @@ impl PlayedNodes {
         ensures { result.now ≡ self.now }
     {
         self.items.as_slice()
+    }
+
+    /// The first so many nodes, where there are more.
+    pub fn truncate(&mut self, count: usize)
+        ensures { self.new ≡ take count self.old }
+    {
+        self.items.truncate(count);
     }
 
     /// More nodes at the end. Without memory they stay as they were.

@@ -5,6 +5,7 @@ ghost use Rattle.chain_store.specs.Holds.{IsHold};
 ghost use Rattle.region_pull.specs.Stores.{AreOfOneStore};
 ghost use Rattle.log_client.specs.Fits.{HaveGoneOn};
 ghost use Rattle.log_client.specs.Clients.{IsClient, Finished, Helps, holds_of};
+ghost use Rattle.log_client.specs.Growing.{HasGrown};
 ghost use Rattle.log_client.specs.Between.{PullsBetween, LeavesBetween};
 ghost use Rattle.log_client.specs.Calls.{IsExplained, IsSame, PullsAs, PullRefused};
 
@@ -46,6 +47,7 @@ fn pull_between<R: Wait>(
 impl Client {
     /// Brings what is new of another region's line of the colour into the column of the client's region. Each step waits
     /// for one turn. It ends unless others go on pulling and trimming between its steps.
+    #[tactic(auto, using(crate::proofs::Growing::grown_same))]
     pub fn pull<R: Wait>(
         &mut self,
         rt: &R,
@@ -60,6 +62,7 @@ impl Client {
         ensures client { IsClient store.now self.new }
         ensures same { IsSame self.old self.new }
         ensures goes { HaveGoneOn (holds_of self.old) (holds_of self.new) }
+        ensures grows { HasGrown self.old self.new }
         ensures finished { Finished self.old → Finished self.new }
         ensures idle { Helps self.new → Helps self.old }
         ensures ok { IfOk result (λ p. IsExplained store.now self.old self.new (PullsAs from colour p)) }

@@ -2,6 +2,7 @@
 ghost use Rattle.std.specs.Prelude.{◌<◌, IfOk, IfErr, OnOk};
 ghost use Rattle.log_client.specs.Fits.{HaveGoneOn};
 ghost use Rattle.log_client.specs.Clients.{IsClient, Finished, Helps, holds_of};
+ghost use Rattle.log_client.specs.Growing.{HasGrown};
 ghost use Rattle.log_client.specs.Calls.{IsExplained, IsSame, IsOfColumn, TrimsAs, TrimRefused};
 
 use crate::client::Client;
@@ -14,6 +15,7 @@ use std::sync::Wait;
 impl Client {
     /// Drops nodes of the colour below the snapshot's counts that every other region has asked past, and answers the base.
     /// The snapshot is one of the client's region and the colour. Waits for the column's turn.
+    #[tactic(auto, using(crate::proofs::Growing::grown_same))]
     pub fn trim<R: Wait>(
         &mut self,
         rt: &R,
@@ -26,6 +28,7 @@ impl Client {
         ensures client { IsClient store.now self.new }
         ensures same { IsSame self.old self.new }
         ensures goes { HaveGoneOn (holds_of self.old) (holds_of self.new) }
+        ensures grows { HasGrown self.old self.new }
         ensures finished { Finished self.old → Finished self.new }
         ensures idle { Helps self.new → Helps self.old }
         ensures column { OnOk result (IsOfColumn self.old colour snapshot.now) }

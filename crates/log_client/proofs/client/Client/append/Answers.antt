@@ -63,6 +63,7 @@ returns g c =
       client = e.client;
       same = e.same;
       goes = e.goes;
+      grows = e.grows;
       finished = e.finished;
       ok = said_ok (c.args.stop ≡ None)
           (λ a. IsExplained c.args.store.now c.args.self.now c.append_alone.new.self

@@ -1,6 +1,7 @@
 use Rattle.std.proofs.Common.{List, refl, subst}
 use Rattle.chain_store.specs.declared.region.Region.{Region}
 use Rattle.log_client.specs.Ending.{AreHoldsIn}
+use Rattle.log_client.proofs.Growing.{grown_same}
 use Rattle.log_client.proofs.TellingAll.{heard_all}
 use Rattle.log_client.proofs.Everywhere.{client_along, all_gone_on, finished_along, idle_along, nothing_along}
 use Rattle.log_client.proofs.client.Client.hear.Goals as goal
@@ -49,3 +50,7 @@ returns-clause-nothing c =
     nothing_along s old (record old { holds = c.hear_all.new.holds }) c.requires.client refl refl refl refl refl refl holds
     (heard_all s.regions old.holds.items c.args.note.holds.items c.hear_all.new.holds.items holds.0 c.requires.note.0
     c.hear_all.ensures.heard)
+
+pub returns-clause-grows : goal.returns-clause-grows
+returns-clause-grows c =
+    grown_same c.args.self.now (record c.args.self.now { holds = c.hear_all.new.holds }) refl

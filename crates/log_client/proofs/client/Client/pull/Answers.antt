@@ -1,4 +1,5 @@
 use Rattle.std.proofs.Common.{refl}
+use Rattle.log_client.proofs.Growing.{grown_same}
 use Rattle.log_client.proofs.PullCalls.{call_client, call_goes, call_finished, call_idle, call_ok, call_err, hold_there}
 use Rattle.log_client.proofs.client.Client.pull.Goals as goal
 
@@ -53,3 +54,7 @@ returns-clause-err g c =
     refl refl refl refl refl c.args.from c.args.colour c.region-other.result.now c.region-own.result.now
     c.region-other.ensures.there c.region-own.ensures.there c.requires.colour c.pull_between.result c.pull_between.ensures.ok
     c.pull_between.ensures.err
+
+pub returns-clause-grows : goal.returns-clause-grows
+returns-clause-grows g c =
+    grown_same c.args.self.now (record c.args.self.now { holds = c.pull_between.new.holds }) refl

@@ -1,124 +1,14 @@
-use Rattle.std.proofs.Common.{refl, arith, ap}
-use Rattle.stamp_board.specs.declared.view.Size.{Size}
-use Rattle.log_client.proofs.SyncCalls.{colour_there, plays_from, sync_goes, sync_finished, sync_idle, sync_client, sync_answer, sync_explained, sync_refused_client, sync_refused}
+use Rattle.std.proofs.lemmas.Result.{err_from_is_err_and}
+use Rattle.log_client.proofs.SyncCalls.{explained_by_plays, refused_by_plays}
 use Rattle.log_client.proofs.client.Client.sync.Goals as goal
 
-pub play_on-requires-clause-colour : goal.play_on-requires-clause-colour
-play_on-requires-clause-colour g c =
-    let is = colour_there
-    c.args.store.now c.args.self.now c.region-region.result.now c.index_mut-hold.result.now c.args.colour
-    c.index_mut-track.result.now c.requires.client c.requires.colour c.region-region.ensures.there
-    c.index_mut-hold.ensures.value c.index_mut-track.ensures.value in
-    let size = ap (λ (k : Size). k.colours) c.region-region.ensures.size in
-    let lt = c.requires.colour in
-    omega (arith, is, size, lt)
+pub returns-in_err-answer-clause-err : goal.returns-in_err-answer-clause-err
+returns-in_err-answer-clause-err g c =
+    let p = err_from_is_err_and c.from_residual.result c.from_residual.ensures.1 in
+    rw (p.1, p.2) (refused_by_plays c.args.store.now c.args.self.now c.play_colour.new.self c.args.colour
+    c.in_err-answer.field-0.0 c.in_err-answer.ensures.err)
 
-pub play_on-requires-clause-track : goal.play_on-requires-clause-track
-play_on-requires-clause-track g c =
-    plays_from
-    c.args.store.now c.args.self.now c.region-region.result.now c.index_mut-hold.result.now c.args.colour
-    c.index_mut-track.result.now c.requires.client c.requires.colour c.region-region.ensures.there
-    c.index_mut-hold.ensures.value c.index_mut-track.ensures.value
-
-pub returns-in-Ok-clause-client : goal.returns-in-Ok-clause-client
-returns-in-Ok-clause-client g c =
-    let e = c.in-Ok.ensures in
-    sync_client
-    c.args.store.now c.args.self.now c.region-region.result.now c.index_mut-hold.result.now c.args.colour
-    c.index_mut-track.result.now c.requires.client c.requires.colour c.region-region.ensures.there
-    c.index_mut-hold.ensures.value c.index_mut-track.ensures.value
-    c.play_on.new.hold c.play_on.new.track c.max-self.result e.hold e.others e.same e.sees
-    c.in-Ok.synced c.in-Ok.stamp c.max-self.ensures e.ok
-
-pub returns-in-Ok-clause-goes : goal.returns-in-Ok-clause-goes
-returns-in-Ok-clause-goes g c =
-    let e = c.in-Ok.ensures in
-    sync_goes
-    c.args.store.now c.args.self.now c.region-region.result.now c.index_mut-hold.result.now c.args.colour
-    c.index_mut-track.result.now c.requires.client c.requires.colour c.region-region.ensures.there
-    c.index_mut-hold.ensures.value c.index_mut-track.ensures.value
-    c.play_on.new.hold c.play_on.new.track c.max-self.result e.hold e.others e.same e.sees
-
-pub returns-in-Ok-clause-finished : goal.returns-in-Ok-clause-finished
-returns-in-Ok-clause-finished g c =
-    let e = c.in-Ok.ensures in
-    sync_finished
-    c.args.store.now c.args.self.now c.region-region.result.now c.index_mut-hold.result.now c.args.colour
-    c.index_mut-track.result.now c.requires.client c.requires.colour c.region-region.ensures.there
-    c.index_mut-hold.ensures.value c.index_mut-track.ensures.value
-    c.play_on.new.hold c.play_on.new.track c.max-self.result e.hold e.others e.same e.sees
-
-pub returns-in-Ok-clause-idle : goal.returns-in-Ok-clause-idle
-returns-in-Ok-clause-idle g c =
-    let e = c.in-Ok.ensures in
-    sync_idle
-    c.args.store.now c.args.self.now c.region-region.result.now c.index_mut-hold.result.now c.args.colour
-    c.index_mut-track.result.now c.requires.client c.requires.colour c.region-region.ensures.there
-    c.index_mut-hold.ensures.value c.index_mut-track.ensures.value
-    c.play_on.new.hold c.play_on.new.track c.max-self.result e.hold e.others e.same e.sees
-
-pub returns-in-Ok-clause-answer : goal.returns-in-Ok-clause-answer
-returns-in-Ok-clause-answer g c =
-    let e = c.in-Ok.ensures in
-    sync_answer
-    c.args.store.now c.args.self.now c.region-region.result.now c.index_mut-hold.result.now c.args.colour
-    c.index_mut-track.result.now c.requires.client c.requires.colour c.region-region.ensures.there
-    c.index_mut-hold.ensures.value c.index_mut-track.ensures.value
-    c.play_on.new.hold c.play_on.new.track c.max-self.result e.hold e.others e.same e.sees
-    c.in-Ok.synced c.in-Ok.stamp c.max-self.ensures e.ok
-
-pub returns-in-Ok-clause-ok : goal.returns-in-Ok-clause-ok
-returns-in-Ok-clause-ok g c =
-    let e = c.in-Ok.ensures in
-    sync_explained
-    c.args.store.now c.args.self.now c.region-region.result.now c.index_mut-hold.result.now c.args.colour
-    c.index_mut-track.result.now c.requires.client c.requires.colour c.region-region.ensures.there
-    c.index_mut-hold.ensures.value c.index_mut-track.ensures.value
-    c.play_on.new.hold c.play_on.new.track c.max-self.result e.hold e.others e.same e.sees
-    c.in-Ok.synced c.in-Ok.stamp c.max-self.ensures e.ok
-
-pub returns-in-Err-clause-client : goal.returns-in-Err-clause-client
-returns-in-Err-clause-client g c =
-    let e = c.in-Err.ensures in
-    sync_refused_client
-    c.args.store.now c.args.self.now c.region-region.result.now c.index_mut-hold.result.now c.args.colour
-    c.index_mut-track.result.now c.requires.client c.requires.colour c.region-region.ensures.there
-    c.index_mut-hold.ensures.value c.index_mut-track.ensures.value
-    c.play_on.new.hold c.play_on.new.track c.args.self.now.floor e.hold e.others e.same e.sees refl e.same_track
-
-pub returns-in-Err-clause-goes : goal.returns-in-Err-clause-goes
-returns-in-Err-clause-goes g c =
-    let e = c.in-Err.ensures in
-    sync_goes
-    c.args.store.now c.args.self.now c.region-region.result.now c.index_mut-hold.result.now c.args.colour
-    c.index_mut-track.result.now c.requires.client c.requires.colour c.region-region.ensures.there
-    c.index_mut-hold.ensures.value c.index_mut-track.ensures.value
-    c.play_on.new.hold c.play_on.new.track c.args.self.now.floor e.hold e.others e.same e.sees
-
-pub returns-in-Err-clause-finished : goal.returns-in-Err-clause-finished
-returns-in-Err-clause-finished g c =
-    let e = c.in-Err.ensures in
-    sync_finished
-    c.args.store.now c.args.self.now c.region-region.result.now c.index_mut-hold.result.now c.args.colour
-    c.index_mut-track.result.now c.requires.client c.requires.colour c.region-region.ensures.there
-    c.index_mut-hold.ensures.value c.index_mut-track.ensures.value
-    c.play_on.new.hold c.play_on.new.track c.args.self.now.floor e.hold e.others e.same e.sees
-
-pub returns-in-Err-clause-idle : goal.returns-in-Err-clause-idle
-returns-in-Err-clause-idle g c =
-    let e = c.in-Err.ensures in
-    sync_idle
-    c.args.store.now c.args.self.now c.region-region.result.now c.index_mut-hold.result.now c.args.colour
-    c.index_mut-track.result.now c.requires.client c.requires.colour c.region-region.ensures.there
-    c.index_mut-hold.ensures.value c.index_mut-track.ensures.value
-    c.play_on.new.hold c.play_on.new.track c.args.self.now.floor e.hold e.others e.same e.sees
-
-pub returns-in-Err-clause-err : goal.returns-in-Err-clause-err
-returns-in-Err-clause-err g c =
-    let e = c.in-Err.ensures in
-    sync_refused
-    c.args.store.now c.args.self.now c.region-region.result.now c.index_mut-hold.result.now c.args.colour
-    c.index_mut-track.result.now c.requires.client c.requires.colour c.region-region.ensures.there
-    c.index_mut-hold.ensures.value c.index_mut-track.ensures.value
-    c.play_on.new.hold c.play_on.new.track c.args.self.now.floor e.hold e.others e.same e.sees refl e.same_track
-    c.in-Err.fault e.err
+pub returns-clause-ok : goal.returns-clause-ok
+returns-clause-ok g c =
+    explained_by_plays c.args.store.now c.args.self.now c.play_colour.new.self c.args.colour c.in_ok-answer.answer.0
+    c.in_ok-answer.ensures.ok

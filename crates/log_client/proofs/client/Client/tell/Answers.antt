@@ -1,6 +1,7 @@
 use Rattle.std.proofs.Common.{List, refl, subst}
 use Rattle.chain_store.specs.declared.region.Region.{Region}
 use Rattle.log_client.specs.Ending.{AreHoldsIn}
+use Rattle.log_client.proofs.Growing.{grown_same}
 use Rattle.log_client.proofs.TellingAll.{told_all}
 use Rattle.log_client.proofs.Everywhere.{client_along, finished_along, idle_along, nothing_along}
 use Rattle.log_client.proofs.client.Client.tell.Goals as goal
@@ -76,3 +77,11 @@ returns-clause-nothing c =
     nothing_along s old (record old { holds = c.tell_all.new.holds }) c.requires.client refl refl refl refl refl refl
     (subst (λ (l : List Region). AreHoldsIn l c.tell_all.new.holds.items) c.as_slice.ensures e.0)
     (told_all old.holds.items c.tell_all.new.holds.items e.1)
+
+pub returns-in_err-holds-clause-grows : goal.returns-in_err-holds-clause-grows
+returns-in_err-holds-clause-grows c =
+    grown_same c.args.self.now (record c.args.self.now { holds = c.tell_all.new.holds }) refl
+
+pub returns-clause-grows : goal.returns-clause-grows
+returns-clause-grows c =
+    grown_same c.args.self.now (record c.args.self.now { holds = c.tell_all.new.holds }) refl

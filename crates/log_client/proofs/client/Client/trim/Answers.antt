@@ -1,4 +1,6 @@
-use Rattle.std.proofs.Common.{arith}
+use Rattle.std.proofs.Common.{arith, refl}
+use Rattle.std.specs.Vec.{with_item}
+use Rattle.log_client.proofs.Growing.{grown_same}
 use Rattle.log_client.proofs.TrimReplies.{look_client, look_goes, look_finished, look_idle, look_nothing, trim_client, trim_goes, trim_finished, trim_idle, trim_explained}
 use Rattle.log_client.proofs.client.Client.trim.Goals as goal
 
@@ -80,3 +82,9 @@ returns-in-Err-clause-err g c =
           c.args.store.now c.args.self.now c.region-region.result.now c.index_mut-hold.result.now c.trim.new.hold c.args.colour
           c.requires.client c.region-region.ensures.there c.index_mut-hold.ensures.value e.hold e.others e.same e.err,
     )
+
+pub returns-in-Ok-clause-grows : goal.returns-in-Ok-clause-grows
+returns-in-Ok-clause-grows g c = grown_same c.args.self.now (record c.args.self.now { holds = with_item c.args.self.now.holds c.args.self.now.region c.trim.new.hold }) refl
+
+pub returns-in-Err-clause-grows : goal.returns-in-Err-clause-grows
+returns-in-Err-clause-grows g c = grown_same c.args.self.now (record c.args.self.now { holds = with_item c.args.self.now.holds c.args.self.now.region c.trim.new.hold }) refl

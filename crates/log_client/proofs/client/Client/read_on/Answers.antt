@@ -1,0 +1,146 @@
+use Rattle.std.proofs.Common.{◌∙◌, ◌<◌, List, length, ap, refl, sym, subst}
+use Rattle.std.specs.List.{All}
+use Rattle.std.proofs.lemmas.Result.{err_from_is_err_and}
+use Rattle.log_node.specs.Sets.{members}
+use Rattle.playback.specs.Merging.{AreRising}
+use Rattle.log_client.specs.declared.track.Track.{Track}
+use Rattle.log_client.specs.Items.{are_parts, AreItems}
+use Rattle.log_client.specs.Reading.{keys_of, raised_colours, synced_colours}
+use Rattle.log_client.proofs.Colours.{all_within}
+use Rattle.log_client.proofs.Explaining.{rests_then}
+use Rattle.log_client.proofs.ReadCalls.{reached_all, read_answered, read_rests, tracks_rising, unanswered, unraised, unsynced}
+use Rattle.log_client.proofs.client.Client.read_on.Goals as goal
+
+pub clear_up_to-requires-clause-reached : goal.clear_up_to-requires-clause-reached
+clear_up_to-requires-clause-reached g c =
+    reached_all c.args.store.now c.read_stamp-stamp.new.self c.raise_all.new.self c.read_stamp-stamp.result
+    c.in-Ok.raises.items (members c.args.colours) c.in-Ok.ensures.colours c.in-Ok.ensures.ok
+
+pub returns-in_default : goal.returns-in_default
+returns-in_default g c =
+    let s = c.args.store.now in
+    let x = c.args.self.now in
+    let b = c.read_stamp-stamp.new.self in
+    let e = c.read_stamp-stamp.ensures in
+    let stamp = c.read_stamp-stamp.result in
+    let on = rests_then s x b c.raise_all.new.self e.rests c.raise_all.ensures.rests in
+    record {
+      client = on.client;
+      same = on.same;
+      goes = on.goes;
+      grows = on.grows;
+      finished = on.finished;
+      raises = tt;
+      syncs = tt;
+      above = tt;
+      ok = tt;
+      err = unraised s x b c.args.colours (members c.args.colours) refl stamp e.rests e.keeps e.chosen e.floor e.above
+          c.raise_all.new.self c.raise_all.ensures.rests c.in_default.ensures.err;
+    }
+
+pub returns-in_err-syncs : goal.returns-in_err-syncs
+returns-in_err-syncs g c =
+    let s = c.args.store.now in
+    let x = c.args.self.now in
+    let b = c.read_stamp-stamp.new.self in
+    let e = c.read_stamp-stamp.ensures in
+    let stamp = c.read_stamp-stamp.result in
+    let r = c.raise_all.new.self in
+    let q = c.clear_up_to.new.self in
+    let k = c.clear_up_to.ensures in
+    let up = c.in-Ok.ensures in
+    let on = rests_then s x b c.sync_all.new.self e.rests
+    (rests_then s b r c.sync_all.new.self c.raise_all.ensures.rests
+    (rests_then s r q c.sync_all.new.self k.rests c.sync_all.ensures.rests)) in
+    let p = err_from_is_err_and c.from_residual.result c.from_residual.ensures.1 in
+    rw (p.1, p.2) record {
+      client = on.client;
+      same = on.same;
+      goes = on.goes;
+      grows = on.grows;
+      finished = on.finished;
+      raises = tt;
+      syncs = tt;
+      above = tt;
+      ok = tt;
+      err = unsynced s x b c.args.colours (members c.args.colours) refl stamp e.rests e.keeps e.chosen e.floor e.above
+          r q c.in-Ok.raises.items c.raise_all.ensures.rests up.ok up.colours k.rests k.keeps k.clear
+          c.sync_all.new.self c.in_err-syncs.field-0.0 c.sync_all.ensures.rests c.in_err-syncs.ensures.err;
+    }
+
+pub items_read-requires-clause-within : goal.items_read-requires-clause-within
+items_read-requires-clause-within g c =
+    subst (λ n. All (λ m. m < n) (members c.args.colours))
+    (sym (ap length c.as_slice.ensures.value ∙ c.sync_all.ensures.rests.client.colours))
+    (all_within c.args.store.now c.args.colours c.requires.colours)
+
+pub items_read-requires-clause-rising : goal.items_read-requires-clause-rising
+items_read-requires-clause-rising g c =
+    subst (All (λ (t : Track). AreRising (keys_of t.line))) (sym c.as_slice.ensures.value)
+    (tracks_rising c.args.store.now c.sync_all.new.self c.sync_all.ensures.rests.client)
+
+pub returns-in_default-items_read : goal.returns-in_default-items_read
+returns-in_default-items_read g c =
+    let s = c.args.store.now in
+    let x = c.args.self.now in
+    let b = c.read_stamp-stamp.new.self in
+    let e = c.read_stamp-stamp.ensures in
+    let stamp = c.read_stamp-stamp.result in
+    let r = c.raise_all.new.self in
+    let q = c.clear_up_to.new.self in
+    let k = c.clear_up_to.ensures in
+    let up = c.in-Ok.ensures in
+    let on = read_rests s x b c.args.colours (members c.args.colours) refl stamp e.rests e.keeps e.chosen e.floor e.above
+    r q c.in-Ok.raises.items c.raise_all.ensures.rests up.ok up.colours k.rests k.keeps k.clear
+    c.sync_all.new.self c.sync_all.ensures.rests c.in_ok-syncs.syncs.items c.in_ok-syncs.ensures.ok c.max-self.result
+    c.max-self.ensures e.in_range in
+    record {
+      client = on.client;
+      same = on.same;
+      goes = on.goes;
+      grows = on.grows;
+      finished = on.finished;
+      raises = tt;
+      syncs = tt;
+      above = tt;
+      ok = tt;
+      err = unanswered s x b c.args.colours (members c.args.colours) refl stamp e.rests e.keeps e.chosen e.floor e.above
+          r q c.in-Ok.raises.items c.raise_all.ensures.rests up.ok up.colours k.rests k.keeps k.clear
+          c.sync_all.new.self c.sync_all.ensures.rests c.in_ok-syncs.syncs.items c.in_ok-syncs.ensures.ok c.max-self.result
+          c.max-self.ensures e.in_range;
+    }
+
+pub returns : goal.returns
+returns g c =
+    let s = c.args.store.now in
+    let x = c.args.self.now in
+    let b = c.read_stamp-stamp.new.self in
+    let e = c.read_stamp-stamp.ensures in
+    let stamp = c.read_stamp-stamp.result in
+    let r = c.raise_all.new.self in
+    let q = c.clear_up_to.new.self in
+    let k = c.clear_up_to.ensures in
+    let up = c.in-Ok.ensures in
+    let on = read_rests s x b c.args.colours (members c.args.colours) refl stamp e.rests e.keeps e.chosen e.floor e.above
+    r q c.in-Ok.raises.items c.raise_all.ensures.rests up.ok up.colours k.rests k.keeps k.clear
+    c.sync_all.new.self c.sync_all.ensures.rests c.in_ok-syncs.syncs.items c.in_ok-syncs.ensures.ok c.max-self.result
+    c.max-self.ensures e.in_range in
+    record {
+      client = on.client;
+      same = on.same;
+      goes = on.goes;
+      grows = on.grows;
+      finished = on.finished;
+      raises = ap raised_colours c.into.ensures ∙ up.colours;
+      syncs = ap synced_colours c.into-2.ensures ∙ c.in_ok-syncs.ensures.ok.2;
+      above = e.above;
+      ok = read_answered s x b c.args.colours (members c.args.colours) refl stamp e.rests e.keeps e.chosen e.floor e.above
+          r q c.in-Ok.raises.items c.raise_all.ensures.rests up.ok up.colours k.rests k.keeps k.clear
+          c.sync_all.new.self c.sync_all.ensures.rests c.in_ok-syncs.syncs.items c.in_ok-syncs.ensures.ok c.max-self.result
+          c.max-self.ensures e.in_range
+          c.args.last c.in-Ok-items_read.items
+          (subst (λ (ts : List Track). AreItems (are_parts ts c.args.last stamp (members c.args.colours))
+          c.in-Ok-items_read.items) c.as_slice.ensures.value c.in-Ok-items_read.ensures)
+          c.read_items_last.ensures c.into.result c.into-2.result c.into.ensures c.into-2.ensures;
+      err = tt;
+    }
