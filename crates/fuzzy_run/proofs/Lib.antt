@@ -5,6 +5,7 @@ mod CommandAnswers
 mod ClosingRuns
 mod Giving
 mod GivingCommands
+mod GivingScans
 mod Yielding
 mod Dealing
 mod EndsShown

@@ -7,12 +7,12 @@ use Rattle.script_meaning.specs.States.{is_built}
 use Rattle.fuzzy_run.specs.declared.asked.Asked.{Asked}
 use Rattle.fuzzy_run.specs.declared.asked.Asked.TheVariants.{Step, Run}
 
--- the command is none of an object and no scan
+-- the command is none of an object
 abbrev pub is_plain : What → Bool
 is_plain (whats.Append colours text) = true
 is_plain (whats.Stop steps colours text) = true
 is_plain (whats.Sync colour) = true
-is_plain (whats.Scan colours) = false
+is_plain (whats.Scan colours) = true
 is_plain (whats.Pull region colour) = true
 is_plain (whats.Trim colour) = true
 is_plain (whats.Put object key value) = false

@@ -6,7 +6,7 @@ use crate::asked::Asked;
 use script_in_order::is_built;
 use script_text::{Object, What};
 
-// Whether the command is none of an object and no scan.
+// Whether the command is none of an object.
 fn is_plain(what: &What) -> bool
     ensures { result ≡ is_plain what.now }
 {
@@ -14,7 +14,7 @@ fn is_plain(what: &What) -> bool
         What::Append { .. } => true,
         What::Stop { .. } => true,
         What::Sync { .. } => true,
-        What::Scan { .. } => false,
+        What::Scan { .. } => true,
         What::Pull { .. } => true,
         What::Trim { .. } => true,
         What::Put { .. } => false,

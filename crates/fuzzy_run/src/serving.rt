@@ -6,6 +6,7 @@ mod dealing;
 mod ending;
 mod moves;
 mod run_beside;
+mod scans;
 mod served;
 mod syncs;
 

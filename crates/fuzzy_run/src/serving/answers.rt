@@ -10,6 +10,7 @@ ghost use Rattle.fuzzy_run.specs.Served.{IsServable, StopsWithin};
 
 use crate::serving::appends::{append, stop};
 use crate::serving::moves::{pull, trim};
+use crate::serving::scans::scan;
 use crate::serving::syncs::sync;
 use fuzzy_io::Gate;
 use log_client::{Client, Store};
@@ -48,6 +49,7 @@ fn answer<R: Wait, G: Gate>(
             (answer, ListOf::new(alloc))
         }
         What::Sync { colour } => sync(rt, alloc, store, client, colour),
+        What::Scan { colours } => scan(rt, alloc, store, client, colours),
         What::Pull { region, colour } => {
             let answer = pull(rt, alloc, store, client, region, colour);
             (answer, ListOf::new(alloc))
@@ -56,8 +58,7 @@ fn answer<R: Wait, G: Gate>(
             let answer = trim(rt, store, client, colour);
             (answer, ListOf::new(alloc))
         }
-        What::Scan { .. }
-        | What::Put { .. }
+        What::Put { .. }
         | What::Get { .. }
         | What::Del { .. }
         | What::PutAll { .. }

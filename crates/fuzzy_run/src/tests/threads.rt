@@ -7,7 +7,7 @@ use std::thread;
 
 /// Lines from line 8 on in one region of which one client alone makes events, and the report, which is then the same in
 /// every schedule.
-const REPORTS: [(&str, &str); 3] = [
+const REPORTS: [(&str, &str); 4] = [
     // A second sync plays nothing again.
     (
         "a append x hi
@@ -50,6 +50,33 @@ column r y
 0 b propose b.0 floor 0 wants 0 stamp 1
 1 b settle b.0 final 1
 = clock 1 line b.0:1 queue - cut 1 base 0
+",
+    ),
+    // A read of two colours, of which one is behind.
+    (
+        "a append x,y p
+a append y q
+a scan y,x",
+        "report 1
+client a
+8 append ok 1 row 0 x!0@0 y!0@0
+9 append ok 2 y!2@1
+10 scan ok 2 nodes 2 x!2 y?3 x?3/1 y?3/2
++ a.0 1 p
++ a.1 2 q
+client b
+client c
+row r a.0 a.0 x=1 y=1 final 1
+column r x
+0 a propose a.0 floor 0 wants 0 stamp 1
+1 a settle a.0 final 1
+2 a raise 2
+= clock 2 line a.0:1 queue - cut 1 base 0
+column r y
+0 a propose a.0 floor 0 wants 0 stamp 1
+1 a settle a.0 final 1
+2 a single a.1 floor 1 wants 0 stamp 2
+= clock 2 line a.0:1,a.1:2 queue - cut 2 base 0
 ",
     ),
     // A pull from the own region.
@@ -124,10 +151,11 @@ column r y
 
 #[test]
 fn a_command_that_is_not_served_yet_is_refused(rt: HostRuntime) -> Result<(), Fail> {
-    let script = in_one_region(rt.alloc(), "a append x p\nb scan x\n")?;
-    let (status, sink) = run_at(rt.alloc(), &rt, script.as_bytes(), &OpenGate)?;
+    let script = b"fuzzylog 1\nregions r\ncolours x\nclient a r\nmap m r x\nbegin
+a append x p\na put m k v\n";
+    let (status, sink) = run_at(rt.alloc(), &rt, script, &OpenGate)?;
     assert_eq!(rt; status, Status::Refused);
-    assert_eq!(rt; sink.bytes(), b"refused: line 9: not built\n".as_slice());
+    assert_eq!(rt; sink.bytes(), b"refused: line 8: not built\n".as_slice());
     Ok(())
 }
 

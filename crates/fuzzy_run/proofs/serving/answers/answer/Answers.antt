@@ -7,6 +7,11 @@ append-answer-requires-clause-colours g c κs within =
     (colours_of c.args.store.now c.in-Append.colours 1 (omega arith) (rw c.in-Append.is at c.requires.built)
     (rw c.in-Append.is at c.requires.within)).0
 
+pub scan-requires-clause-colours : goal.scan-requires-clause-colours
+scan-requires-clause-colours g c =
+    (colours_of c.args.store.now c.in-Scan.colours 1 (omega arith) (rw c.in-Scan.is at c.requires.built)
+    (rw c.in-Scan.is at c.requires.within)).0
+
 pub stop-answer-requires-clause-colours : goal.stop-answer-requires-clause-colours
 stop-answer-requires-clause-colours g c κs within =
     (stop_of c.args.store.now c.in-Stop.steps c.in-Stop.colours c.in-Stop.text (rw c.in-Stop.is at c.requires.built)
