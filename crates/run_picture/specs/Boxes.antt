@@ -19,7 +19,6 @@ use Rattle.report_text.specs.declared.report.ClientReport.{ClientReport}
 use Rattle.report_text.specs.declared.report.ColumnReport.{ColumnReport}
 use Rattle.report_text.specs.declared.report.Report.{Report}
 use Rattle.report_text.specs.Names.{client_name}
-use Rattle.run_picture.specs.declared.picture.Spot.{Spot}
 use Rattle.run_picture.specs.declared.picture.Kind.{Kind}
 use Rattle.run_picture.specs.declared.picture.Kind.TheVariants.{Stands, Trimmed, Waits, Open}
 use Rattle.run_picture.specs.declared.picture.Mark.{Mark}

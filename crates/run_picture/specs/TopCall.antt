@@ -1,5 +1,5 @@
 -- What the program writes for the bytes that it reads.
-use Rattle.std.specs.Prelude.{◌≡◌, ◌⊎◌, ℕ, List, Option, IfSome, not}
+use Rattle.std.specs.Prelude.{◌≡◌, ℕ, List, Option, IfSome, not}
 use Rattle.std.specs.List.{find}
 use Rattle.std.specs.Option.{option_map}
 use Rattle.std.specs.Io.KnownBytes.{Appends}

@@ -59,14 +59,7 @@ fn covers(node: &NodeBox, by: u8, colour: u8, count: u64, region: u8, wanted: u6
 }
 
 // Whether one of the first nodes of this region and colour wants so many of a region.
-fn is_wanted(
-    boxes: &[NodeBox],
-    by: u8,
-    colour: u8,
-    count: u64,
-    region: u8,
-    wanted: u64,
-) -> bool
+fn is_wanted(boxes: &[NodeBox], by: u8, colour: u8, count: u64, region: u8, wanted: u64) -> bool
     ensures { result ≡ list_any (covers by colour count region wanted) boxes.now }
 {
     boxes

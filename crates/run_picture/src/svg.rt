@@ -290,7 +290,11 @@ impl Drawn for Lane {
     fn put(&self, out: &mut String) -> Result<(), AllocError> {
         put_point(18, lane_top(self.lane), out)?;
         put_lane_start(self.region, out)?;
-        put_names(self.region_name.as_bytes(), self.colour_name.as_bytes(), out)?;
+        put_names(
+            self.region_name.as_bytes(),
+            self.colour_name.as_bytes(),
+            out,
+        )?;
         put_clock(self.clock, out)?;
         put_left_out(self.left_out, out)?;
         put("</g>\n", out)?;
@@ -311,7 +315,10 @@ fn put_holding_start(y: u32, out: &mut String) -> Result<(), AllocError>
 fn put_held(held: u64, plays: u64, dropped: u64, out: &mut String) -> Result<(), AllocError>
     ensures { OnOk result (string_bytes out.new ≡ string_bytes out.old ++ held_text held plays dropped) }
 {
-    write!(out, ": holds {held}, plays {plays}, dropped {dropped}</text>\n")
+    write!(
+        out,
+        ": holds {held}, plays {plays}, dropped {dropped}</text>\n"
+    )
 }
 
 impl Drawn for Holding {

@@ -1,4 +1,3 @@
-use Rattle.std.proofs.Common.{refl}
 use Rattle.script_text.proofs.CallerLemmas.{script_fits}
 use Rattle.run_picture.proofs.top.draw_bytes.Goals as goal
 
