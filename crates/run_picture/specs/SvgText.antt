@@ -15,7 +15,7 @@ use Rattle.run_picture.specs.declared.picture.Picture.{Picture}
 
 -- the left end of a place of the axis
 abbrev pub x_of : ℕ → ℕ
-x_of slot = 330 + 150 * slot
+x_of slot = 380 + 150 * slot
 
 -- the upper end of a lane
 abbrev pub lane_top : ℕ → ℕ

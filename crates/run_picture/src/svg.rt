@@ -40,7 +40,7 @@ fn x_of(slot: u8) -> u32
     ensures value { result ≡ x_of slot }
     ensures range { result < 2 ^ 23 }
 {
-    330 + 150 * slot as u32
+    380 + 150 * slot as u32
 }
 
 // The upper end of a lane.
