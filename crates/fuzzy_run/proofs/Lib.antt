@@ -13,3 +13,5 @@ mod SomeRows
 mod StopsWithin
 mod RunningBeside
 mod RunsOf
+mod WordLemmas
+mod Loads
