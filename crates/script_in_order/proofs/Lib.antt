@@ -27,4 +27,5 @@ mod GetSteps
 mod TransactionSets
 mod Committing
 mod TransactionSteps
+mod KeysSplit
 mod ReadVerdicts

@@ -18,8 +18,8 @@ ghost use Rattle.script_in_order.specs.Folds.{nodes_at, AreThere, IsShardFold, A
 use crate::causal::CausalFold;
 use crate::tx_folds::{LinesRead, TxFold};
 use log_node::{ColourList, Key, Keys, ListOf, Names, Shape, Text, Versions};
-use report_text::KeyAnswer;
 use object_fold::{ShardMap, ValueQueue, Verdict};
+use report_text::KeyAnswer;
 use script_text::{Kind, Object, Script};
 use std::alloc::{AllocError, Global};
 use std::marker::Model;

@@ -269,7 +269,9 @@ fn rule(
 {
     match stamped_read(alloc, world, client, colours) {
         Err(_) => Answer::UnreadNoMemory { stamp: own.stamp },
-        Ok(read) => rule_by(alloc, client, object, colours, own, row, points, read, world, folds),
+        Ok(read) => rule_by(
+            alloc, client, object, colours, own, row, points, read, world, folds,
+        ),
     }
 }
 
@@ -304,7 +306,17 @@ fn commit_on(
     match append_form(alloc, command, set, form, world)? {
         Answer::Stood { stamp, row, points } => {
             let own = Key { stamp, id };
-            Ok(rule(alloc, command.client, object, colours, own, row, points, world, folds))
+            Ok(rule(
+                alloc,
+                command.client,
+                object,
+                colours,
+                own,
+                row,
+                points,
+                world,
+                folds,
+            ))
         }
         other => Ok(other),
     }

@@ -99,7 +99,12 @@ impl TxFold {
     }
 
     // The keys that are read and not folded yet, in rising key, each once.
-    fn new_keys(&self, alloc: Global, world: &World, read: LinesRead) -> Result<Vec<Key>, AllocError> {
+    fn new_keys(
+        &self,
+        alloc: Global,
+        world: &World,
+        read: LinesRead,
+    ) -> Result<Vec<Key>, AllocError> {
         let mut keys = Vec::new(alloc);
         for colour in 0..MAX_COLOURS {
             if read.colours.has(colour) {
