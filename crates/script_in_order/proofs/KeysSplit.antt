@@ -1,10 +1,11 @@
 -- Lines that are merged in two parts, of which the first is below the second.
-use Rattle.std.proofs.Common.{◌≡◌, Bool, true, false, List, [], ◌∷◌, ◌++◌, refl, ap, sym, subst, ◌∙◌, inl, inr}
+use Rattle.std.proofs.Common.{◌≡◌, ℕ, Bool, true, false, List, [], ◌∷◌, ◌++◌, refl, ap, sym, subst, ◌∙◌, inl, inr}
 use Rattle.std.specs.Prelude.{if◌then◌else◌}
+use Rattle.std.specs.List.{fold}
 use Rattle.log_node.specs.declared.ids.Key.{Key}
 use Rattle.log_node.specs.Order.{key_below, same_key}
 use Rattle.log_node.proofs.CallerLemmas.{key-asym, key-irrefl, same_key-is}
-use Rattle.col_core.proofs.CallerLemmas.{In, by_test, if_true, if_false}
+use Rattle.col_core.proofs.CallerLemmas.{In, by_test, choice, if_true, if_false}
 use Rattle.playback.specs.Merging.{merged, merged_behind}
 
 -- each key of the first list is below each of the second
@@ -78,3 +79,62 @@ pub merged_parts : (xs bs cs ds : List Key) → AreBelow xs bs → AreBelow xs d
 merged_parts [] bs cs ds ab ad cb cd = first_part bs cs ds cb
 merged_parts (a ∷ xs) bs cs ds ab ad cb cd =
     behind a xs bs (λ es fs p q r s. merged_parts xs bs es fs p q r s) ab ds ad cs cb cd
+
+-- WHAT HOLDS OF EACH
+
+abbrev pub Each : (Key → Type 0) → List Key → Type 0
+Each P keys = (key : Key) → In key keys → P key
+
+first_each : (P : Key → Type 0) (x : Key) (xs : List Key) → P x → Each P xs → Each P (x ∷ xs)
+first_each P x xs p all k (inl e) = subst P e p
+first_each P x xs p all k (inr i) = all k i
+
+behind_each : (P : Key → Type 0) (a : Key) (rest : List Key → List Key) → P a
+    → ((others : List Key) → Each P others → Each P (rest others)) → (bs : List Key) → Each P bs
+    → Each P (merged_behind a rest bs)
+behind_each P a rest p goes [] all = first_each P a (rest []) p (goes [] all)
+behind_each P a rest p goes (b ∷ bs) all =
+    choice (Each P) (key_below b a) (b ∷ merged_behind a rest bs) (a ∷ rest (if same_key b a then bs else b ∷ bs))
+    (λ _. first_each P b (merged_behind a rest bs) (all b (inl refl))
+    (behind_each P a rest p goes bs (λ k i. all k (inr i))))
+    (λ _. first_each P a (rest (if same_key b a then bs else b ∷ bs)) p
+    (choice (λ (l : List Key). Each P (rest l)) (same_key b a) bs (b ∷ bs) (λ _. goes bs (λ k i. all k (inr i)))
+    (λ _. goes (b ∷ bs) all)))
+
+-- what holds of each key of two lists holds of each that is merged
+pub merged_each : (P : Key → Type 0) (xs bs : List Key) → Each P xs → Each P bs → Each P (merged xs bs)
+merged_each P [] bs px pb = pb
+merged_each P (a ∷ xs) bs px pb =
+    behind_each P a (merged xs) (px a (inl refl)) (λ others po. merged_each P xs others (λ k i. px k (inr i)) po) bs pb
+
+-- two lists that are merged are below two others where each is below each
+pub merged_below : (xs ys bs ds : List Key) → AreBelow xs bs → AreBelow xs ds → AreBelow ys bs → AreBelow ys ds
+    → AreBelow (merged xs ys) (merged bs ds)
+merged_below xs ys bs ds xb xd yb yd a b i j =
+    merged_each (λ (k : Key). key_below k b ≡ true) xs ys
+    (λ k ik. merged_each (λ (h : Key). key_below k h ≡ true) bs ds (λ h ih. xb k h ik ih) (λ h ih. xd k h ik ih) b j)
+    (λ k ik. merged_each (λ (h : Key). key_below k h ≡ true) bs ds (λ h ih. yb k h ik ih) (λ h ih. yd k h ik ih) b j)
+    a i
+
+-- ALL LINES
+
+-- the keys of these lines are merged with others, one line after another
+abbrev pub merged_on : (ℕ → List Key) → List Key → List ℕ → List Key
+merged_on lines keys colours = fold (λ (ks : List Key) (colour : ℕ). merged ks (lines colour)) keys colours
+
+-- Lines in two parts each, the first parts below the second ones, are merged part by part.
+pub parts_merged : (low high : ℕ → List Key) (colours : List ℕ) (xs bs : List Key) → AreBelow xs bs
+    → ((c : ℕ) → In c colours → AreBelow xs (high c)) → ((c : ℕ) → In c colours → AreBelow (low c) bs)
+    → ((c d : ℕ) → In c colours → In d colours → AreBelow (low c) (high d))
+    → merged_on (λ c. low c ++ high c) (xs ++ bs) colours ≡ merged_on low xs colours ++ merged_on high bs colours
+parts_merged low high [] xs bs ab ah lb lh = refl
+parts_merged low high (c ∷ cs) xs bs ab ah lb lh =
+    ap (λ (ks : List Key). merged_on (λ d. low d ++ high d) ks cs)
+    (merged_parts xs bs (low c) (high c) ab (ah c (inl refl)) (lb c (inl refl)) (lh c c (inl refl) (inl refl)))
+    ∙ parts_merged low high cs (merged xs (low c)) (merged bs (high c))
+    (merged_below xs (low c) bs (high c) ab (ah c (inl refl)) (lb c (inl refl)) (lh c c (inl refl) (inl refl)))
+    (λ d i a b j k. merged_each (λ (x : Key). key_below x b ≡ true) xs (low c) (λ x y. ah d (inr i) x b y k)
+    (λ x y. lh c d (inl refl) (inr i) x b y k) a j)
+    (λ d i a b j k. merged_each (λ (x : Key). key_below a x ≡ true) bs (high c) (λ x y. lb d (inr i) a x j y)
+    (λ x y. lh d c (inr i) (inl refl) a x j y) b k)
+    (λ d e i j. lh d e (inr i) (inr j))
