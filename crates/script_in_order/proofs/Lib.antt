@@ -28,4 +28,5 @@ mod TransactionSets
 mod Committing
 mod TransactionSteps
 mod KeysSplit
+mod LinesRead
 mod ReadVerdicts
