@@ -27,4 +27,6 @@ mod GetSteps
 mod TransactionSets
 mod Committing
 mod TransactionSteps
+mod KeysSplit
+mod LinesRead
 mod ReadVerdicts

@@ -16,8 +16,10 @@ ghost use Rattle.script_in_order.specs.CausalFolds.{held_nodes, cut_of, AreCausa
 ghost use Rattle.script_in_order.specs.Folds.{nodes_at, AreThere, IsShardFold, AreShardFolds, IsQueueFold, IsFoldOf, AreFolded, ShardsWithin, QueueWithin, MayFold};
 
 use crate::causal::CausalFold;
-use log_node::{ColourList, Key, ListOf, Names, Shape, Text};
-use object_fold::{ShardMap, ValueQueue};
+use crate::tx_folds::{LinesRead, TxFold};
+use log_node::{ColourList, Key, Keys, ListOf, Names, Shape, Text, Versions};
+use object_fold::{ShardMap, ValueQueue, Verdict};
+use report_text::KeyAnswer;
 use script_text::{Kind, Object, Script};
 use std::alloc::{AllocError, Global};
 use std::marker::Model;
@@ -46,8 +48,8 @@ pub enum Fold {
     Queue(QueueFold),
     /// Of a causal map: what each region's column lets play, by region.
     Causal(Vec<CausalFold>),
-    /// Of an object that is not folded yet.
-    Nothing,
+    /// Of a transactional map.
+    Tx(TxFold),
 }
 
 /// What is folded of each object, by the object's number.
@@ -232,7 +234,7 @@ fn open_fold(alloc: Global, kind: &Kind, shape: &Shape) -> Result<Fold, AllocErr
         Kind::Tx {
             home: _home,
             colours: _colours,
-        } => Ok(Fold::Nothing),
+        } => Ok(Fold::Tx(TxFold::open(alloc, shape.colours)?)),
         Kind::Causal { colour: _colour } => Ok(Fold::Causal(open_causal(alloc, shape.regions)?)),
     }
 }
@@ -326,6 +328,37 @@ impl Folds {
             Fold::Causal(folds) => {
                 folds[region as usize].values(alloc, world, region, colour, key)
             }
+            _ => unreachable!(),
+        }
+    }
+
+    /// What the nodes that are read of a transactional map leave under keys, and who wrote these last. The fold goes on from
+    /// where it is; without memory it may begin anew.
+    pub fn found(
+        &mut self,
+        alloc: Global,
+        world: &World,
+        object: u8,
+        read: LinesRead,
+        keys: &Keys,
+    ) -> Result<(ListOf<KeyAnswer>, Versions), AllocError> {
+        match &mut self.of[object as usize] {
+            Fold::Tx(fold) => fold.found(alloc, world, read, keys),
+            _ => unreachable!(),
+        }
+    }
+
+    /// The verdict on the node with a key among the nodes that are read of a transactional map, of which it is a new one.
+    pub fn verdict(
+        &mut self,
+        alloc: Global,
+        world: &World,
+        object: u8,
+        read: LinesRead,
+        own: Key,
+    ) -> Result<Verdict, AllocError> {
+        match &mut self.of[object as usize] {
+            Fold::Tx(fold) => fold.verdict(alloc, world, read, own),
             _ => unreachable!(),
         }
     }

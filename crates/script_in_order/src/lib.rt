@@ -24,6 +24,7 @@ mod stamped;
 mod stops;
 mod syncs;
 mod transactions;
+mod tx_folds;
 
 pub use built::is_built;
 pub use in_order::run_in_order;

@@ -76,6 +76,7 @@ fn do_transaction(
     command: &Command,
     object: u8,
     world: &mut World,
+    folds: &mut Folds,
     mine: &mut Replies,
 )
     requires kind { transaction_of command.now.what ≡ Some object }
@@ -86,7 +87,7 @@ fn do_transaction(
     ensures { Transacts objects.now command.now object (world_of world.old) (world_of world.new) mine.old mine.new }
 {
     let taken = mine.take_read(object);
-    match transact(alloc, objects, command, object, taken, world) {
+    match transact(alloc, objects, command, object, taken, world, folds) {
         Ok((answer, kept)) => {
             mine.keep_read(object, kept);
             mine.add(reply_of(alloc, command, Ok((answer, ListOf::new(alloc)))));
@@ -123,7 +124,7 @@ fn do_command(
         }
         Some(object) => {
             let mine = &mut replies[command.client as usize];
-            do_transaction(alloc, objects, command, object, world, mine);
+            do_transaction(alloc, objects, command, object, world, folds, mine);
         }
     }
 }
