@@ -119,16 +119,24 @@ merged_below xs ys bs ds xb xd yb yd a b i j =
 -- ALL LINES
 
 -- the keys of these lines are merged with others, one line after another
-abbrev pub merged_on : (ℕ → List Key) → List Key → List ℕ → List Key
-merged_on lines keys colours = fold (λ (ks : List Key) (colour : ℕ). merged ks (lines colour)) keys colours
+abbrev pub merged_on : {A : Type 0} → (A → List Key) → List Key → List A → List Key
+merged_on {A} lines keys xs = fold (λ (ks : List Key) (x : A). merged ks (lines x)) keys xs
+
+-- what holds of each key of all lines holds of each that is merged
+pub each_merged : {A : Type 0} (P : Key → Type 0) (lines : A → List Key) (keys : List Key) (xs : List A) → Each P keys
+    → ((x : A) → In x xs → Each P (lines x)) → Each P (merged_on lines keys xs)
+each_merged P lines keys [] p all = p
+each_merged {A} P lines keys (x ∷ xs) p all =
+    each_merged P lines (merged keys (lines x)) xs (merged_each P keys (lines x) p (all x (inl refl)))
+    (λ y i. all y (inr i))
 
 -- Lines in two parts each, the first parts below the second ones, are merged part by part.
-pub parts_merged : (low high : ℕ → List Key) (colours : List ℕ) (xs bs : List Key) → AreBelow xs bs
-    → ((c : ℕ) → In c colours → AreBelow xs (high c)) → ((c : ℕ) → In c colours → AreBelow (low c) bs)
-    → ((c d : ℕ) → In c colours → In d colours → AreBelow (low c) (high d))
+pub parts_merged : {A : Type 0} (low high : A → List Key) (colours : List A) (xs bs : List Key) → AreBelow xs bs
+    → ((c : A) → In c colours → AreBelow xs (high c)) → ((c : A) → In c colours → AreBelow (low c) bs)
+    → ((c d : A) → In c colours → In d colours → AreBelow (low c) (high d))
     → merged_on (λ c. low c ++ high c) (xs ++ bs) colours ≡ merged_on low xs colours ++ merged_on high bs colours
 parts_merged low high [] xs bs ab ah lb lh = refl
-parts_merged low high (c ∷ cs) xs bs ab ah lb lh =
+parts_merged {A} low high (c ∷ cs) xs bs ab ah lb lh =
     ap (λ (ks : List Key). merged_on (λ d. low d ++ high d) ks cs)
     (merged_parts xs bs (low c) (high c) ab (ah c (inl refl)) (lb c (inl refl)) (lh c c (inl refl) (inl refl)))
     ∙ parts_merged low high cs (merged xs (low c)) (merged bs (high c))

@@ -29,4 +29,6 @@ mod Committing
 mod TransactionSteps
 mod KeysSplit
 mod LinesRead
+mod TxFolds
+mod TxFeeds
 mod ReadVerdicts

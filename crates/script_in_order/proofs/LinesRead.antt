@@ -76,14 +76,14 @@ module _ (line : List Key) (n s t : ℕ) (grows : s ≤ t) (cut : take n line �
       (all_up_to t (take n line) (λ k i. let a = low k i in omega (arith, a, grows))))
 
 -- the same of all lines
-module _ (lines : ℕ → List Key) (counts : ℕ → ℕ) (s t : ℕ) (grows : s ≤ t) where
-  abbrev pub first_of : ℕ → List Key
+module _ {A : Type 0} (lines : A → List Key) (counts : A → ℕ) (s t : ℕ) (grows : s ≤ t) where
+  abbrev pub first_of : A → List Key
   first_of c = take (counts c) (lines c)
 
-  abbrev pub new_of : ℕ → List Key
+  abbrev pub new_of : A → List Key
   new_of c = up_to t (drop (counts c) (lines c))
 
-  by_lines : (colours : List ℕ) (keys : List Key) → ((c : ℕ) → In c colours → first_of c ≡ up_to s (lines c))
+  by_lines : (colours : List A) (keys : List Key) → ((c : A) → In c colours → first_of c ≡ up_to s (lines c))
       → fold (λ ks l. merged ks (up_to t l)) keys (map lines colours)
       ≡ merged_on (λ c. first_of c ++ new_of c) keys colours
   by_lines [] keys cut = refl
@@ -93,7 +93,7 @@ module _ (lines : ℕ → List Key) (counts : ℕ → ℕ) (s t : ℕ) (grows : 
       (in_parts (lines c) (counts c) s t grows (cut c (inl refl)))
 
   -- What is read up to the later stamp is what was read up to the earlier one, and then what is new.
-  pub read_goes_on : (colours : List ℕ) → ((c : ℕ) → In c colours → first_of c ≡ up_to s (lines c))
+  pub read_goes_on : (colours : List A) → ((c : A) → In c colours → first_of c ≡ up_to s (lines c))
       → region_order t (map lines colours) ≡ merged_on first_of [] colours ++ merged_on new_of [] colours
   read_goes_on colours cut =
       by_lines colours [] cut

@@ -100,8 +100,8 @@ fn get_value(
     Ok(Answer::Got { value, sync })
 }
 
-// The nodes of the own line of a colour's column of a client's region up to a stamp.
-fn nodes_up_to(world: &World, client: u8, colour: u8, stamp: u64) -> FirstNodes
+/// The nodes of the own line of a colour's column of a client's region up to a stamp.
+pub fn nodes_up_to(world: &World, client: u8, colour: u8, stamp: u64) -> FirstNodes
     requires client { client < length world.now.shape.homes }
     requires colour { colour < world.now.shape.colours }
     ensures there { AreThere (world_of world.now) result }

@@ -84,7 +84,9 @@ fn do_transaction(
     requires reads { length mine.old.reads ≡ length objects.now }
     requires rests { AreFit (read_at mine.old.reads) }
     requires room { 0 < mine.old.room }
-    ensures { Transacts objects.now command.now object (world_of world.old) (world_of world.new) mine.old mine.new }
+    requires folded { AreFolded (world_of world.old) objects.now folds.old }
+    ensures done { Transacts objects.now command.now object (world_of world.old) (world_of world.new) mine.old mine.new }
+    ensures folded { AreFolded (world_of world.new) objects.now folds.new }
 {
     let taken = mine.take_read(object);
     match transact(alloc, objects, command, object, taken, world, folds) {

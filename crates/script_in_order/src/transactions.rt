@@ -20,10 +20,10 @@ ghost use Rattle.script_meaning.specs.Transactions.{version_keys, ruled, verdict
 ghost use Rattle.script_meaning.specs.Meaning.{done};
 ghost use Rattle.script_in_order.specs.Doing.{IsFit, DoneBy, transaction_of};
 ghost use Rattle.script_in_order.specs.Stamped.{Reads, end_in};
-ghost use Rattle.script_in_order.specs.Transacting.{AreOfLines, Leaves, Rules};
+ghost use Rattle.script_in_order.specs.Folds.{AreFolded, IsTxAt};
+ghost use Rattle.script_in_order.specs.Transacting.{Leaves, Rules};
 
 use crate::appends::next_id;
-use crate::clears::home;
 use crate::folds::Folds;
 use crate::homes::refusing_home;
 use crate::object_appends::{append_form, copied_pairs, shard};
@@ -118,10 +118,12 @@ fn read(
     requires caller { command.now.client < length world.old.shape.homes }
     requires kinds { All (λ (o : Object). IsKindWithin world.old.shape.regions world.old.shape.colours o.kind) objects.now }
     requires uses { UsesObject objects.now (What.Read object keys.now) }
+    requires folded { AreFolded (world_of world.old) objects.now folds.old }
     ensures ok { IfOk result (λ g. (taken : Option (List Version))
         → Leaves (λ grants state. read_in objects.now grants state command.now object keys.now) command.now object taken
         (world_of world.old) (world_of world.new) g.0 g.1) }
     ensures err { OnErr result (world_of world.new ≡ world_of world.old) }
+    ensures folded { AreFolded (world_of world.new) objects.now folds.new }
 {
     world.is_whole();
     let colours = all_colours(&objects[object as usize].kind);
@@ -133,7 +135,11 @@ fn read(
             raises,
             syncs,
         } => {
-            let lines = lines_read(world, command.client, stamp, colours);
+            let lines = LinesRead {
+                client: command.client,
+                colours,
+                stamp,
+            };
             match folds.found(alloc, world, object, lines, keys) {
                 Ok((keys, versions)) => {
                     let answer = Answer::GotKeys {
@@ -147,17 +153,6 @@ fn read(
                 Err(_) => Ok((Answer::NoMemory, None)),
             }
         }
-    }
-}
-
-// What a stamped read of a client has.
-fn lines_read(world: &World, client: u8, stamp: u64, colours: Colours) -> LinesRead
-    requires client { client < length world.now.shape.homes }
-{
-    LinesRead {
-        region: home(world, client),
-        colours,
-        stamp,
     }
 }
 
@@ -203,7 +198,15 @@ fn verdict_at(
     own: Key,
     points: Points,
     folds: &mut Folds,
-) -> Result<(Verdict, ListOf<PointPiece>), AllocError> {
+) -> Result<(Verdict, ListOf<PointPiece>), AllocError>
+    requires client { lines.client < length world.now.shape.homes }
+    requires within { AreBelow world.now.shape.colours lines.colours }
+    requires may { (objects : List Object) × IsTxAt objects object × AreFolded (world_of world.now) objects folds.old }
+    ensures ok { IfOk result (λ r. (r.0 ≡ verdict_in (world_of world.now)
+        (keys_read (world_of world.now) lines.client lines.stamp (members lines.colours)) own) × (r.1 ≡ points)) }
+    ensures folded { (objects : List Object) → IsTxAt objects object → AreFolded (world_of world.now) objects folds.old
+        → AreFolded (world_of world.now) objects folds.new }
+{
     let verdict = folds.verdict(alloc, world, object, lines, own)?;
     let points = Vec::from_slice(alloc, points.as_slice())?;
     Ok((verdict, ListOf::from(points)))
@@ -225,9 +228,12 @@ fn rule_by(
 ) -> Answer
     requires caller { client < length world.now.shape.homes }
     requires within { AreBelow world.now.shape.colours colours }
-    ensures { (old : Meant) → Reads old (world_of world.now) client (members colours)
+    requires may { (objects : List Object) × IsTxAt objects object × AreFolded (world_of world.now) objects folds.old }
+    ensures is_ruled { (old : Meant) → Reads old (world_of world.now) client (members colours)
         (end_in (world_of world.now) client (members colours) read)
         → Rules client (members colours) own row points old (world_of world.now) result }
+    ensures folded { (objects : List Object) → IsTxAt objects object → AreFolded (world_of world.now) objects folds.old
+        → AreFolded (world_of world.now) objects folds.new }
 {
     match read {
         Stamped::Unraised => Answer::UnreadNoMemory { stamp: own.stamp },
@@ -241,7 +247,11 @@ fn rule_by(
             raises,
             syncs,
         } => {
-            let lines = lines_read(world, client, stamp, colours);
+            let lines = LinesRead {
+                client,
+                colours,
+                stamp,
+            };
             match verdict_at(alloc, world, object, lines, own, points, folds) {
                 Ok((verdict, points)) => ruled(verdict, row, points, stamp, raises, syncs),
                 Err(_) => Answer::UnreadNoMemory { stamp: own.stamp },
@@ -265,8 +275,12 @@ fn rule(
     requires caller { client < length world.old.shape.homes }
     requires within { AreBelow world.old.shape.colours colours }
     requires some { members colours ≢ [] }
-    ensures { Rules client (members colours) own row points (world_of world.old) (world_of world.new) result }
+    requires may { (objects : List Object) × IsTxAt objects object × AreFolded (world_of world.old) objects folds.old }
+    ensures is_ruled { Rules client (members colours) own row points (world_of world.old) (world_of world.new) result }
+    ensures folded { (objects : List Object) → IsTxAt objects object → AreFolded (world_of world.old) objects folds.old
+        → AreFolded (world_of world.new) objects folds.new }
 {
+    world.agrees();
     match stamped_read(alloc, world, client, colours) {
         Err(_) => Answer::UnreadNoMemory { stamp: own.stamp },
         Ok(read) => rule_by(
@@ -291,10 +305,12 @@ fn commit_on(
     requires kinds { All (λ (o : Object). IsKindWithin world.old.shape.regions world.old.shape.colours o.kind) objects.now }
     requires uses { UsesObject objects.now (What.Commit object pairs.now) }
     requires rests { AreVersions reads }
+    requires folded { AreFolded (world_of world.old) objects.now folds.old }
     ensures ok { IfOk result (λ answer. DoneBy
         (λ grants state. committed_by objects.now grants state command.now object pairs.now (Some reads)) command.now
         (world_of world.old) (world_of world.new) answer []) }
     ensures err { OnErr result (world_of world.new ≡ world_of world.old) }
+    ensures folded { AreFolded (world_of world.new) objects.now folds.new }
 {
     world.is_whole();
     let kind = &objects[object as usize].kind;
@@ -337,10 +353,12 @@ fn commit(
     requires kinds { All (λ (o : Object). IsKindWithin world.old.shape.regions world.old.shape.colours o.kind) objects.now }
     requires uses { UsesObject objects.now (What.Commit object pairs.now) }
     requires rests { IfSome taken AreVersions }
+    requires folded { AreFolded (world_of world.old) objects.now folds.old }
     ensures ok { IfOk result (λ answer. DoneBy
         (λ grants state. committed_by objects.now grants state command.now object pairs.now taken) command.now
         (world_of world.old) (world_of world.new) answer []) }
     ensures err { OnErr result (world_of world.new ≡ world_of world.old) }
+    ensures folded { AreFolded (world_of world.new) objects.now folds.new }
 {
     match taken {
         None => Ok(Answer::NoTx),
@@ -362,9 +380,11 @@ pub fn transact(
     requires kind { transaction_of command.now.what ≡ Some object }
     requires fits { IsFit (world_of world.old) objects.now command.now.client command.now.what }
     requires rests { IfSome taken AreVersions }
+    requires folded { AreFolded (world_of world.old) objects.now folds.old }
     ensures ok { IfOk result (λ g. Leaves (λ grants state. done objects.now grants state command.now) command.now object
         taken (world_of world.old) (world_of world.new) g.0 g.1) }
     ensures err { OnErr result (world_of world.new ≡ world_of world.old) }
+    ensures folded { AreFolded (world_of world.new) objects.now folds.new }
 {
     match refusing_home(objects, command, world) {
         Some(home) => Ok((Answer::NotHome { home }, None)),

@@ -3,7 +3,7 @@ use Rattle.std.proofs.lemmas.List.{take_all}
 use Rattle.object_fold.specs.Transactions.{value_of, writes_after}
 use Rattle.script_meaning.specs.Gets.{key_answers}
 use Rattle.script_in_order.proofs.GetSteps.{answers_more}
-use Rattle.script_in_order.proofs.transactions.key_answers.Goals as goal
+use Rattle.script_in_order.proofs.tx_folds.key_answers.Goals as goal
 
 pub loop-key-preserved : goal.loop-key-preserved
 loop-key-preserved c = λ nodes is.

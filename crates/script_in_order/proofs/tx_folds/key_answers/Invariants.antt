@@ -3,7 +3,7 @@ use Rattle.object_fold.specs.Nodes.{ObjectNode}
 use Rattle.object_fold.specs.States.{IsTxState}
 use Rattle.object_fold.specs.Transactions.{value_of, writes_after}
 use Rattle.script_meaning.specs.Gets.{key_answers}
-use Rattle.script_in_order.proofs.transactions.key_answers.Given as goal
+use Rattle.script_in_order.proofs.tx_folds.key_answers.Given as goal
 
 -- the keys so far
 abbrev pub invariant-loop-key : goal.invariant-loop-key

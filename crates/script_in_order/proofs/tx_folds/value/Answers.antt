@@ -1,5 +1,5 @@
 use Rattle.std.proofs.Common.{◌∙◌, List, ℕ, Some, ap}
-use Rattle.script_in_order.proofs.transactions.value.Goals as goal
+use Rattle.script_in_order.proofs.tx_folds.value.Goals as goal
 
 pub returns-in-None : goal.returns-in-None
 returns-in-None c = λ nodes is. c.in-None.ensures nodes is

@@ -1,0 +1,5 @@
+use Rattle.script_in_order.proofs.TxFolds.{opened}
+use Rattle.script_in_order.proofs.tx_folds.TxFold.open.Goals as goal
+
+pub returns-clause-folded : goal.returns-clause-folded
+returns-clause-folded c = λ w. opened w _ c.new-2.ensures c.new.ensures
