@@ -231,3 +231,31 @@ rising_behind zero keys rises = rises
 rising_behind (suc n) [] rises = rises
 rising_behind (suc n) (key ∷ keys) rises =
     rising_behind n keys (λ i j d lt there. rises (suc i) (suc j) d (omega (arith, lt)) (omega (arith, there)))
+
+-- the lines of no colour
+pub no_lines : (w : World) (client stamp : ℕ) → AreRead w client stamp [] []
+no_lines w client stamp = record {
+  lines = refl;
+  there = λ first i. absurd (in_contains [] first i);
+  cut = λ first i. absurd (in_contains [] first i);
+}
+
+-- the line of a colour of a set more, by its first nodes
+pub line_made : (w : World) (client stamp : ℕ) (colours : List ℕ) (colour : ℕ) (old new : List FirstNodes)
+    (first : FirstNodes) → new ≡ old ++ first ∷ [] → AreThere w first → first.region ≡ home_of w client
+    → first.colour ≡ colour
+    → take first.count (line_of w first) ≡ up_to stamp (line (home_history w client colour))
+    → AreRead w client stamp colours old → AreRead w client stamp (colours ++ colour ∷ []) new
+line_made w client stamp colours colour old new first made there region is nodes read =
+    let its : line_of w first ≡ line (home_history w client colour) =
+    ap (λ (r : ℕ). line (w.histories r first.colour)) region
+    ∙ ap (λ (c : ℕ). line (w.histories (home_of w client) c)) is in
+    subst (AreRead w client stamp (colours ++ colour ∷ [])) (sym made)
+    (one_line_more w client stamp colours colour old first read there its
+    (nodes ∙ ap (up_to stamp) (sym its)))
+
+-- where it goes on, and where it begins anew
+pub from_none : (w : World) (firsts : List FirstNodes) (keys all : List Key) → firsts ≡ [] → keys ≡ all
+    → all ≡ first_keys w firsts ++ keys
+from_none w firsts keys all none is =
+    sym is ∙ ap (λ (l : List FirstNodes). first_keys w l ++ keys) (sym none)

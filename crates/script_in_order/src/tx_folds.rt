@@ -119,12 +119,7 @@ fn feed_all(
 }
 
 // The verdict on a node, where it was found before, or now that the one with this key was given its own.
-fn found_with(
-    found: Option<Verdict>,
-    given: Option<Verdict>,
-    key: Key,
-    own: Key,
-) -> Option<Verdict>
+fn found_with(found: Option<Verdict>, given: Option<Verdict>, key: Key, own: Key) -> Option<Verdict>
     ensures { result ≡ found_with found given key own }
 {
     match found {
