@@ -67,4 +67,10 @@ mod LineParts
 mod ItemsRead
 mod ReadLater
 mod ReadCalls
+mod ObjectNodes
+mod ObjectFolds
+mod ObjectCalls
+mod ObjectColours
+mod ObjectAppends
+mod ObjectShards
 pub mod CallerLemmas

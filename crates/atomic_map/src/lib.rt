@@ -1,0 +1,6 @@
+//! Several keys of a map at once, over a client: their puts are one node of all their shards, and they are read under one stamp.
+#![tactic(auto)]
+
+mod several;
+
+pub use several::{get_all, put_all};

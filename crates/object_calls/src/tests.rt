@@ -1,0 +1,4 @@
+mod causal_maps;
+mod maps;
+mod queues;
+mod shown;
