@@ -88,12 +88,13 @@ caller_of s c objects = record {
 -- WHAT WAS PLAYED
 
 -- They are, in the order of play, the nodes of a column with this history from the first counts to the second, each with
--- its needs and as a node that the history names.
+-- its needs, as a node that the history names, and of the region in whose chain it stands.
 pub record Plays (own : ℕ) (log : List Told) (from to : Counts) (nodes : List PlacedNode) : Type 0 where
   pub order : List Place
   pub in_order : IsPlayOrder (chain own (dated own (entries_in log))) from to order
   pub shown : AllZip (λ place (item : PlacedNode). Stands (chain own (dated own (entries_in log))) place item.head
       × Names log item.head.key.id item.node) order nodes
+  pub regions : AllZip (λ place (item : PlacedNode). item.node.region ≡ place.region) order nodes
 
 -- The nodes were played up to the counts by plays one after another, each of what had then been seen of the column.
 pub data HasPlayed (own : ℕ) (seen : List Told) : Counts → List PlacedNode → Type 0 where
