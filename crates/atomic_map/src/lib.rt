@@ -1,6 +1,7 @@
 //! Several keys of a map at once, over a client: their puts are one node of all their shards, and they are read under one stamp.
 #![tactic(auto)]
 
-mod several;
+mod atomic;
+mod kept_read;
 
-pub use several::{get_all, put_all};
+pub use atomic::AtomicMap;

@@ -3,6 +3,7 @@ use Rattle.std.specs.Prelude.{◌≡◌, ◌≢◌, ℕ, ◌<◌, ◌≤◌, Lis
 use Rattle.std.specs.List.{All}
 use Rattle.log_node.specs.declared.ids.Colours.{Colours}
 use Rattle.log_node.specs.declared.limits.TheConstants.{MAX_COLOURS}
+use Rattle.log_node.specs.declared.forms.Version.{Version}
 use Rattle.log_node.specs.Seen.{PlacedNode}
 use Rattle.log_node.specs.Sets.{members}
 use Rattle.object_fold.specs.Nodes.{ObjectNode, object_node}
@@ -22,6 +23,10 @@ use Rattle.log_client.specs.declared.object_fault.ObjectFault.TheVariants as fau
 use Rattle.log_client.specs.Clients.{line_of, tracks_of}
 use Rattle.log_client.specs.Calls.{IsExplained}
 use Rattle.log_client.specs.Appends.{AppendsAs, AppendRefused}
+
+-- the keys of versions
+abbrev pub version_keys : List Version → List (List ℕ)
+version_keys versions = map (λ (v : Version). v.key) versions
 
 -- WHAT IS FOLDED
 
