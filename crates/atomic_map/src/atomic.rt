@@ -1,4 +1,12 @@
 // The map of several keys.
+ghost use Rattle.std.specs.Prelude.{◌≡◌, ◌≢◌, ◌<◌, length, Some, Err, IfOk, IfErr, slice_get};
+ghost use Rattle.object_form.specs.Forms.{ArePairs, form_text};
+ghost use Rattle.lawful_run.specs.Asks.{shards, keys_of};
+ghost use Rattle.log_client.specs.Clients.{IsClient};
+ghost use Rattle.log_client.specs.Reading.{RestsOn};
+ghost use Rattle.log_client.specs.Objects.{AreColours, StandsIn, PutRefused};
+ghost use Rattle.atomic_map.specs.Several.{IsAtomicMapOf, IsSameMap, GetsAll, GetAllRefused};
+
 use crate::kept_read::KeptRead;
 use fuzzy_io::Gate;
 use log_client::{
@@ -20,7 +28,10 @@ pub struct AtomicMap {
 
 impl AtomicMap {
     /// The map of these colours at a home, of which nothing is folded. Takes no memory.
-    pub fn open(alloc: Global, home: u8, colours: ColourList) -> AtomicMap {
+    pub fn open(alloc: Global, home: u8, colours: ColourList) -> AtomicMap
+        ensures of { (result.home ≡ home) × (result.colours ≡ colours) }
+        ensures map { (client : Client) → AreColours client colours → IsAtomicMapOf client result }
+    {
         AtomicMap {
             home,
             colours,
@@ -37,7 +48,19 @@ impl AtomicMap {
         store: &Store,
         gate: &G,
         pairs: &Pairs,
-    ) -> Result<Appended, ObjectFault> {
+    ) -> Result<Appended, ObjectFault>
+        requires client { IsClient store.now client.old }
+        requires map { IsAtomicMapOf client.old self.old }
+        requires pairs { ArePairs 4 pairs.now }
+        ensures client { RestsOn store.now client.old client.new }
+        ensures map { IsAtomicMapOf client.new self.new }
+        ensures same { self.new ≡ self.old }
+        ensures ok { IfOk result (StandsIn store.now client.old client.new (shards self.old.colours (keys_of pairs.now))
+            (form_text (Form.PutAll pairs.now))) }
+        ensures away { client.old.region ≢ self.old.home → result ≡ Err (ObjectFault.NotHome self.old.home) }
+        ensures err { IfErr result (PutRefused (Some self.old.home) store.now client.old client.new
+            (shards self.old.colours (keys_of pairs.now)) (form_text (Form.PutAll pairs.now))) }
+    {
         if client.region() != self.home {
             return Err(ObjectFault::NotHome { home: self.home });
         }
@@ -49,7 +72,12 @@ impl AtomicMap {
     }
 
     // Where what was read of the set is kept, which is begun where it was not read before.
-    fn place_of(&mut self, alloc: Global, set: Colours) -> Result<usize, AllocError> {
+    fn place_of(&mut self, alloc: Global, set: Colours) -> Result<usize, AllocError>
+        ensures same { IsSameMap self.old self.new }
+        ensures map { (client : Client) → IsAtomicMapOf client self.old → IsAtomicMapOf client self.new }
+        ensures place { IfOk result (λ place. (kept : KeptRead)
+            × (slice_get self.new.reads.items place ≡ Some kept) × (kept.set ≡ set)) }
+    {
         match self.reads.iter().position(|read| read.set == set) {
             Some(place) => Ok(place),
             None => {
@@ -70,7 +98,18 @@ impl AtomicMap {
         store: &Store,
         _gate: &G,
         keys: &Keys,
-    ) -> Result<(Values, StampedRead), ObjectFault> {
+    ) -> Result<(Values, StampedRead), ObjectFault>
+        requires client { IsClient store.now client.old }
+        requires map { IsAtomicMapOf client.old self.old }
+        requires some { 0 < length keys.now }
+        ensures client { RestsOn store.now client.old client.new }
+        ensures map { IsAtomicMapOf client.new self.new }
+        ensures same { IsSameMap self.old self.new }
+        ensures ok { IfOk result (λ r. GetsAll store.now client.old client.new self.old.colours keys.now r.0 r.1) }
+        ensures away { client.old.region ≢ self.old.home → result ≡ Err (ObjectFault.NotHome self.old.home) }
+        ensures err { IfErr result (GetAllRefused self.old.home store.now client.old client.new
+            (shards self.old.colours keys.now)) }
+    {
         if client.region() != self.home {
             return Err(ObjectFault::NotHome { home: self.home });
         }

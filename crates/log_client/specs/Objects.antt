@@ -1,7 +1,8 @@
 -- What calls of objects over a client say: what is folded of the nodes that it has played, and what explains the answers.
-use Rattle.std.specs.Prelude.{◌≡◌, ◌≢◌, ℕ, ◌<◌, ◌≤◌, List, [], ◌∷◌, length, map, take, Option, Some, None}
-use Rattle.std.specs.List.{All}
+use Rattle.std.specs.Prelude.{◌≡◌, ◌≢◌, ◌⊎◌, ℕ, ◌<◌, ◌≤◌, List, [], ◌∷◌, length, map, take, Option, Some, None}
+use Rattle.std.specs.List.{All, fold}
 use Rattle.log_node.specs.declared.ids.Colours.{Colours}
+use Rattle.log_node.specs.declared.ids.Key.{Key}
 use Rattle.log_node.specs.declared.limits.TheConstants.{MAX_COLOURS}
 use Rattle.log_node.specs.declared.forms.Version.{Version}
 use Rattle.log_node.specs.Seen.{PlacedNode}
@@ -12,6 +13,8 @@ use Rattle.col_core.specs.Keeping.{Kept}
 use Rattle.lawful_run.specs.Callers.{Caller, node_of}
 use Rattle.lawful_run.specs.Appends.{AppendsUnshown}
 use Rattle.lawful_run.specs.Reads.{HidesSyncs, IsTrimmed}
+use Rattle.lawful_run.specs.Objects.{AreObjectNodes}
+use Rattle.client_law.specs.Knowing.{Rest, log_of}
 use Rattle.append_core.specs.declared.stood.Point.{Point}
 use Rattle.log_client.specs.declared.store.Store.{Store}
 use Rattle.log_client.specs.declared.client.Client.{Client}
@@ -20,9 +23,11 @@ use Rattle.log_client.specs.declared.faults.SyncFault.{SyncFault}
 use Rattle.log_client.specs.declared.faults.SyncFault.TheVariants as sync_faults
 use Rattle.log_client.specs.declared.object_fault.ObjectFault.{ObjectFault}
 use Rattle.log_client.specs.declared.object_fault.ObjectFault.TheVariants as faults
-use Rattle.log_client.specs.Clients.{line_of, tracks_of}
+use Rattle.log_client.specs.Fits.{Fits}
+use Rattle.log_client.specs.Clients.{line_of, tracks_of, holds_of, seen_of}
 use Rattle.log_client.specs.Calls.{IsExplained}
 use Rattle.log_client.specs.Appends.{AppendsAs, AppendRefused}
+use Rattle.log_client.specs.StampedReads.{HasRead, last_of}
 
 -- the keys of versions
 abbrev pub version_keys : List Version → List (List ℕ)
@@ -41,6 +46,26 @@ FoldsFirst line count Folds = (count ≤ length line) × Folds (object_nodes (ta
 -- The fold is of the first so many nodes of the own line that the client has played of the colour.
 abbrev pub Follows : Client → ℕ → ℕ → (List ObjectNode → Type 0) → Type 0
 Follows c colour count Folds = FoldsFirst (line_of c colour) count Folds
+
+-- The nodes are those of the first keys of a stamped read of these colours that the client has made, each as it was appended,
+-- and this is the last of those keys.
+pub record FoldsRead (c : Client) (colours : List ℕ) (last : Option Key) (nodes : List ObjectNode) : Type 0 where
+  pub stamp : ℕ
+  pub keys : List Key
+  pub has : HasRead c colours stamp keys
+  pub count : ℕ
+  pub within : count ≤ length keys
+  pub last_is : last ≡ last_of (take count keys)
+  pub appended : (rest : Rest) → Fits (holds_of c) rest
+      → AreObjectNodes (log_of (seen_of c) rest) (take count keys) nodes
+
+-- the same, or nothing of any read is folded
+abbrev pub KeepsRead : Client → List ℕ → Option Key → List ObjectNode → Type 0
+KeepsRead c colours last nodes = ((last ≡ None) × (nodes ≡ [])) ⊎ FoldsRead c colours last nodes
+
+-- the last key after items
+abbrev pub last_after : Option Key → List PlacedNode → Option Key
+last_after last items = fold (λ (k : Option Key) (item : PlacedNode). Some item.head.key) last items
 
 -- an object has these colours, one or more, all of the client
 pub record AreColours (c : Client) (colours : List ℕ) : Type 0 where

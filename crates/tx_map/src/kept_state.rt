@@ -1,4 +1,17 @@
 // What of a transactional map is folded, and kept.
+ghost use Rattle.std.specs.Prelude.{◌≡◌, ◌++◌, ◌∷◌, [], ℕ, List, Some, None, true, false, not, IfOk, OnOk, OnErr, take, slice_get};
+ghost use Rattle.std.specs.List.{All};
+ghost use Rattle.log_node.specs.Order.{same_key};
+ghost use Rattle.log_node.specs.Seen.{PlacedNode};
+ghost use Rattle.object_form.specs.Readings.{form_of};
+ghost use Rattle.object_fold.specs.Nodes.{ObjectNode};
+ghost use Rattle.object_fold.specs.States.{IsTxState};
+ghost use Rattle.object_fold.specs.declared.verdict.Verdict.{Verdict as Ruling};
+ghost use Rattle.object_fold.specs.Transactions.{form_verdict, writes_after};
+ghost use Rattle.log_client.specs.StampedReads.{is_behind};
+ghost use Rattle.log_client.specs.Objects.{object_nodes};
+ghost use Rattle.tx_map.specs.Kept.{FeedsAll, FeedsFirst};
+
 use log_node::{Item, Key};
 use object_fold::{TxState, Verdict};
 use std::alloc::{AllocError, Global};
@@ -11,7 +24,9 @@ pub struct KeptState {
 }
 
 // Whether the key comes behind the last one, or there is no last one.
-fn is_behind(last: Option<Key>, key: Key) -> bool {
+fn is_behind(last: Option<Key>, key: Key) -> bool
+    ensures { result ≡ is_behind last key }
+{
     match last {
         Some(last) => last.is_below(key),
         None => true,
@@ -20,7 +35,10 @@ fn is_behind(last: Option<Key>, key: Key) -> bool {
 
 impl KeptState {
     /// The fold of no node.
-    pub fn new(alloc: Global) -> KeptState {
+    pub fn new(alloc: Global) -> KeptState
+        ensures state { IsTxState result.state [] }
+        ensures last { result.last ≡ None }
+    {
         KeptState {
             state: TxState::new(alloc),
             last: None,
@@ -28,14 +46,22 @@ impl KeptState {
     }
 
     // Feeds the next node, and answers the verdict on it where it is a transaction.
-    fn feed(&mut self, alloc: Global, item: &Item) -> Result<Option<Verdict>, AllocError> {
+    fn feed(&mut self, alloc: Global, item: &Item) -> Result<Option<Verdict>, AllocError>
+        ensures verdict { (nodes : List ObjectNode) → IsTxState self.old.state nodes
+            → IfOk result (λ verdict. verdict ≡ form_verdict item.now.head.key (writes_after nodes) (form_of item.now.node.text)) }
+        ensures ok { OnOk result (FeedsAll self.old self.new (item.now ∷ [])) }
+        ensures err { OnErr result (FeedsAll self.old self.new []) }
+    {
         let verdict = self.state.feed(alloc, item.head.key, &item.node().text)?;
         self.last = Some(item.head.key);
         Ok(verdict)
     }
 
     /// Folds on by nodes that were read behind the last one. Without memory it has come a part of the way.
-    pub fn fold_on(&mut self, alloc: Global, items: &[Item]) -> Result<(), AllocError> {
+    pub fn fold_on(&mut self, alloc: Global, items: &[Item]) -> Result<(), AllocError>
+        ensures first { FeedsFirst self.old self.new items.now }
+        ensures whole { OnOk result (FeedsAll self.old self.new items.now) }
+    {
         for item in items {
             let _verdict = self.feed(alloc, item)?;
         }
@@ -44,24 +70,34 @@ impl KeptState {
 
     /// Begins anew where the key of a node that is to be ruled on was folded. A client's own node has a greater stamp than all
     /// that it read before, so nothing is ever folded twice.
-    pub fn stay_before(&mut self, alloc: Global, own: Key) {
+    pub fn stay_before(&mut self, alloc: Global, own: Key)
+        ensures before { is_behind self.new.last own ≡ true }
+        ensures same { is_behind self.old.last own ≡ true → self.new ≡ self.old }
+        ensures anew { is_behind self.old.last own ≡ false → (self.new.last ≡ None) × IsTxState self.new.state [] }
+    {
         if !is_behind(self.last, own) {
             *self = KeptState::new(alloc);
         }
     }
 
-    /// Folds on by nodes that were read behind the last one, and answers the verdict on the own one among them.
-    pub fn ruled(&mut self, alloc: Global, items: &[Item], own: Key) -> Result<Verdict, AllocError> {
-        let mut found = None;
+    /// Folds on by nodes that were read behind the last one, up to the own one among them, and answers the verdict on it. Without
+    /// memory it has come a part of the way.
+    pub fn ruled(&mut self, alloc: Global, items: &[Item], own: Key) -> Result<Verdict, AllocError>
+        ensures first { FeedsFirst self.old self.new items.now }
+        ensures ok { (nodes : List ObjectNode) (place : ℕ) (item : PlacedNode) (ruling : Ruling)
+            → IsTxState self.old.state nodes
+            → slice_get items.now place ≡ Some item → same_key item.head.key own ≡ true
+            → All (λ (i : PlacedNode). same_key i.head.key own ≡ false) (take place items.now)
+            → form_verdict item.head.key (writes_after (nodes ++ object_nodes (take place items.now))) (form_of item.node.text)
+            ≡ Some ruling
+            → IfOk result (λ verdict. verdict ≡ ruling) }
+    {
         for item in items {
             let verdict = self.feed(alloc, item)?;
             if item.head.key.is_same(own) {
-                found = verdict;
+                return Ok(verdict.unwrap_or(Verdict::Committed { stamp: own.stamp }));
             }
         }
-        match found {
-            Some(verdict) => Ok(verdict),
-            None => unreachable!(),
-        }
+        Ok(Verdict::Committed { stamp: own.stamp })
     }
 }

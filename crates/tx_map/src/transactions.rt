@@ -1,4 +1,17 @@
 // The transactional map.
+ghost use Rattle.std.specs.Prelude.{◌≡◌, ◌≢◌, ◌++◌, List, Some, None, Err, IfOk, IfErr, IfSome};
+ghost use Rattle.std.specs.Option.{option_map};
+ghost use Rattle.object_form.specs.Forms.{ArePairs, AreVersions};
+ghost use Rattle.lawful_run.specs.Asks.{rising, shards, keys_of};
+ghost use Rattle.object_fold.specs.Nodes.{ObjectNode};
+ghost use Rattle.object_fold.specs.States.{IsTxState};
+ghost use Rattle.object_fold.specs.Transactions.{values_after, versions_after};
+ghost use Rattle.log_client.specs.Clients.{IsClient};
+ghost use Rattle.log_client.specs.Reading.{RestsOn};
+ghost use Rattle.log_client.specs.Objects.{AreColours, StandsIn, StandsNot, version_keys};
+ghost use Rattle.tx_map.specs.Kept.{FeedsFirst, FeedsAll};
+ghost use Rattle.tx_map.specs.Transactions.{IsTxMapOf, IsSameTx, ReadsKeys, KeysRefused, Rules, RuleLeaves, Commits, CommitRefused, transaction_text};
+
 use crate::kept_state::KeptState;
 use fuzzy_io::Gate;
 use log_client::{
@@ -28,7 +41,10 @@ pub struct TxMap {
 
 impl TxMap {
     /// The map of these colours at a home, of which nothing is folded. Takes no memory.
-    pub fn open(alloc: Global, home: u8, colours: ColourList) -> TxMap {
+    pub fn open(alloc: Global, home: u8, colours: ColourList) -> TxMap
+        ensures of { (result.home ≡ home) × (result.colours ≡ colours) }
+        ensures map { (client : Client) → AreColours client colours → IsTxMapOf client result }
+    {
         TxMap {
             home,
             colours,
@@ -42,7 +58,14 @@ impl TxMap {
         alloc: Global,
         read: &StampedRead,
         keys: &Keys,
-    ) -> Result<(Values, Tx), AllocError> {
+    ) -> Result<(Values, Tx), AllocError>
+        ensures same { IsSameTx self.old self.new }
+        ensures first { FeedsFirst self.old.kept self.new.kept read.now.items }
+        ensures whole { IfOk result (λ r. FeedsAll self.old.kept self.new.kept read.now.items) }
+        ensures found { IfOk result (λ r. (r.1.stamp ≡ read.now.stamp)
+            × ((nodes : List ObjectNode) → IsTxState self.new.kept.state nodes
+            → (r.0 ≡ values_after nodes keys.now) × (r.1.versions ≡ versions_after nodes keys.now))) }
+    {
         self.kept.fold_on(alloc, read.items.as_slice())?;
         let values = self.kept.state.values(alloc, keys)?;
         let versions = self.kept.state.versions(alloc, keys)?;
@@ -64,7 +87,16 @@ impl TxMap {
         store: &Store,
         _gate: &G,
         keys: &Keys,
-    ) -> Result<(Values, Tx, StampedRead), ObjectFault> {
+    ) -> Result<(Values, Tx, StampedRead), ObjectFault>
+        requires client { IsClient store.now client.old }
+        requires map { IsTxMapOf client.old self.old }
+        ensures client { RestsOn store.now client.old client.new }
+        ensures map { IsTxMapOf client.new self.new }
+        ensures same { IsSameTx self.old self.new }
+        ensures ok { IfOk result (λ r. ReadsKeys store.now client.old client.new self.old.colours keys.now r.0 r.1 r.2) }
+        ensures away { client.old.region ≢ self.old.home → result ≡ Err (ObjectFault.NotHome self.old.home) }
+        ensures err { IfErr result (KeysRefused self.old.home store.now client.old client.new (rising self.old.colours)) }
+    {
         if client.region() != self.home {
             return Err(ObjectFault::NotHome { home: self.home });
         }
@@ -86,7 +118,15 @@ impl TxMap {
         client: &mut Client,
         store: &Store,
         own: Key,
-    ) -> Result<(Verdict, StampedRead), SyncFault> {
+    ) -> Result<(Verdict, StampedRead), SyncFault>
+        requires client { IsClient store.now client.old }
+        requires map { IsTxMapOf client.old self.old }
+        ensures client { RestsOn store.now client.old client.new }
+        ensures map { IsTxMapOf client.new self.new }
+        ensures same { IsSameTx self.old self.new }
+        ensures ok { IfOk result (λ r. Rules store.now client.old client.new (rising self.old.colours) own r.0 r.1) }
+        ensures err { IfErr result (RuleLeaves store.now client.old client.new (rising self.old.colours)) }
+    {
         self.kept.stay_before(alloc, own);
         let set = colour_set(self.colours.as_slice());
         let read = client.read_on(rt, alloc, store, set, self.kept.last)?;
@@ -106,7 +146,17 @@ impl TxMap {
         gate: &G,
         tx: Tx,
         writes: &Pairs,
-    ) -> Result<Appended, ObjectFault> {
+    ) -> Result<Appended, ObjectFault>
+        requires client { IsClient store.now client.old }
+        requires colours { AreColours client.old self.now.colours }
+        requires versions { AreVersions tx.versions }
+        requires writes { ArePairs 2 writes.now }
+        ensures client { RestsOn store.now client.old client.new }
+        ensures ok { IfOk result (StandsIn store.now client.old client.new
+            (shards self.now.colours (version_keys tx.versions ++ keys_of writes.now)) (transaction_text tx.versions writes.now)) }
+        ensures err { IfErr result (StandsNot store.now client.old client.new
+            (shards self.now.colours (version_keys tx.versions ++ keys_of writes.now)) (transaction_text tx.versions writes.now)) }
+    {
         let Ok(pairs) = copied_pairs(alloc, writes.as_slice()) else {
             return Err(ObjectFault::NoMemory);
         };
@@ -131,7 +181,21 @@ impl TxMap {
         gate: &G,
         tx: Option<Tx>,
         writes: &Pairs,
-    ) -> Result<(Verdict, Appended, StampedRead), ObjectFault> {
+    ) -> Result<(Verdict, Appended, StampedRead), ObjectFault>
+        requires client { IsClient store.now client.old }
+        requires map { IsTxMapOf client.old self.old }
+        requires versions { IfSome tx (λ t. AreVersions t.versions) }
+        requires writes { ArePairs 2 writes.now }
+        ensures client { RestsOn store.now client.old client.new }
+        ensures map { IsTxMapOf client.new self.new }
+        ensures same { IsSameTx self.old self.new }
+        ensures ok { IfOk result (λ r. (rests : Tx) × (tx ≡ Some rests)
+            × Commits store.now client.old client.new self.old.colours rests.versions writes.now r.0 r.1 r.2) }
+        ensures away { client.old.region ≢ self.old.home → result ≡ Err (ObjectFault.NotHome self.old.home) }
+        ensures no_tx { client.old.region ≡ self.old.home → tx ≡ None → result ≡ Err ObjectFault.NoTx }
+        ensures err { IfErr result (CommitRefused self.old.home store.now client.old client.new self.old.colours
+            (option_map (λ (t : Tx). t.versions) tx) writes.now) }
+    {
         if client.region() != self.home {
             return Err(ObjectFault::NotHome { home: self.home });
         }
