@@ -17,3 +17,4 @@ pub use Rattle.log_client.proofs.ObjectCalls.{rests_synced, sync_hidden, sync_le
 pub use Rattle.log_client.proofs.ObjectColours.{one_member, one_of_store}
 pub use Rattle.log_client.proofs.ObjectAppends.{put_refused}
 pub use Rattle.log_client.proofs.ObjectShards.{shard_in, shard_low}
+pub use Rattle.log_client.proofs.ObjectReads.{reads_later, all_appended, all_explained, first_kept, all_kept, last_keys}

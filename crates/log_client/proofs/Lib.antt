@@ -73,4 +73,5 @@ mod ObjectCalls
 mod ObjectColours
 mod ObjectAppends
 mod ObjectShards
+mod ObjectReads
 pub mod CallerLemmas

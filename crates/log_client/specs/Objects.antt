@@ -54,7 +54,6 @@ pub record FoldsRead (c : Client) (colours : List ℕ) (last : Option Key) (node
   pub keys : List Key
   pub has : HasRead c colours stamp keys
   pub count : ℕ
-  pub within : count ≤ length keys
   pub last_is : last ≡ last_of (take count keys)
   pub appended : (rest : Rest) → Fits (holds_of c) rest
       → AreObjectNodes (log_of (seen_of c) rest) (take count keys) nodes
