@@ -74,4 +74,5 @@ mod ObjectColours
 mod ObjectAppends
 mod ObjectShards
 mod ObjectReads
+mod PlayedOrders
 pub mod CallerLemmas

@@ -132,6 +132,7 @@ module _ (t : Tag) (log : List Told) (from : Counts) (view : View) (shows : Show
       in_order = played.in_order;
       shown = all_named (play_order (chains_in t log) counts view.cut) items played.items_shown played.heads;
       regions = all_of_regions (play_order (chains_in t log) counts view.cut) items played.items_shown;
+      reached = its_cut_reached;
     }
 
     pub plays_stamped : IsLawfulTold t log → greatest_stamp items ≤ MAX_STAMP

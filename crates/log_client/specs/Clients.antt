@@ -95,6 +95,7 @@ pub record Plays (own : ℕ) (log : List Told) (from to : Counts) (nodes : List 
   pub shown : AllZip (λ place (item : PlacedNode). Stands (chain own (dated own (entries_in log))) place item.head
       × Names log item.head.key.id item.node) order nodes
   pub regions : AllZip (λ place (item : PlacedNode). item.node.region ≡ place.region) order nodes
+  pub reached : Reachable (chain own (dated own (entries_in log))) to
 
 -- The nodes were played up to the counts by plays one after another, each of what had then been seen of the column.
 pub data HasPlayed (own : ℕ) (seen : List Told) : Counts → List PlacedNode → Type 0 where
