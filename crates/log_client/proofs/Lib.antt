@@ -75,4 +75,5 @@ mod ObjectAppends
 mod ObjectShards
 mod ObjectReads
 mod PlayedOrders
+mod PlayedPlaces
 pub mod CallerLemmas

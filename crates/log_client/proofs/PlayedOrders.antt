@@ -243,6 +243,9 @@ module _ (chains : Chains) (from to : Counts) (order : List Place) (reached : Re
       let lt = slice_get_within order j p e in
       next_of j p (stretches j (omega (arith, lt))) e
 
+  pub short_of : (j : ℕ) (p : Place) → slice_get order j ≡ Some p → p.position < at to p.region
+  short_of j p e = (is_one j p e).short
+
   pub region_low : (j : ℕ) (p : Place) → slice_get order j ≡ Some p → p.region < 4
   region_low j p e = (is_one j p e).region
 

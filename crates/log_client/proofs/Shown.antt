@@ -126,12 +126,13 @@ module _ (t : Tag) (log : List Told) (from : Counts) (view : View) (shows : Show
 
   module _ (counts : Counts) (items : List PlacedNode)
       (played : ArePlayed view (chains_in t log) counts items) where
-    pub plays_shown : Plays t.region log counts view.cut items
-    plays_shown = record {
+    pub plays_shown : IsWithin counts view.cut → Plays t.region log counts view.cut items
+    plays_shown within = record {
       order = play_order (chains_in t log) counts view.cut;
       in_order = played.in_order;
       shown = all_named (play_order (chains_in t log) counts view.cut) items played.items_shown played.heads;
       regions = all_of_regions (play_order (chains_in t log) counts view.cut) items played.items_shown;
+      within = within;
       reached = its_cut_reached;
     }
 
