@@ -76,4 +76,5 @@ mod ObjectShards
 mod ObjectReads
 mod PlayedOrders
 mod PlayedPlaces
+mod ObjectPlaces
 pub mod CallerLemmas

@@ -70,19 +70,19 @@ counted_within own history v few reached =
     omega (arith, a, b)
 
 module _ (s : Store) (d : Client) (colour : ℕ) (is : IsClient s d) (lt : colour < length (tracks_of d)) where
-  track_at : (t : Track) × (slice_get (tracks_of d) colour ≡ Some t)
+  pub track_at : (t : Track) × (slice_get (tracks_of d) colour ≡ Some t)
   track_at = got (tracks_of d) colour lt
 
-  hold_at : (h : Hold) × (slice_get (holds_of d) d.region ≡ Some h)
+  pub hold_at : (h : Hold) × (slice_get (holds_of d) d.region ≡ Some h)
   hold_at =
       let many = is.holds.0 in
       let within = is.region in
       got (holds_of d) d.region (omega (arith, many, within))
 
-  tracked : IsTrack d.region colour (seen_in hold_at.0 colour) track_at.0
+  pub tracked : IsTrack d.region colour (seen_in hold_at.0 colour) track_at.0
   tracked = (is.home hold_at.0 hold_at.1).tracks colour track_at.0 track_at.1
 
-  seen_is : seen_of d d.region colour ≡ entries_seen hold_at.0 colour
+  pub seen_is : seen_of d d.region colour ≡ entries_seen hold_at.0 colour
   seen_is = seen_there (holds_of d) d.region hold_at.0 hold_at.1 colour
 
   line_is : line_of d colour ≡ track_at.0.line

@@ -53,14 +53,14 @@ zip_more R [] us (y ∷ ys) vs a b = absurd a
 zip_more R (x ∷ xs) us [] vs a b = absurd a
 zip_more R (x ∷ xs) us (y ∷ ys) vs a b = (a.0, zip_more R xs us ys vs a.1 b)
 
-zip_as : {A B : Type 0} (R Q S : A → B → Type 0) (xs : List A) (ys : List B)
+pub zip_as : {A B : Type 0} (R Q S : A → B → Type 0) (xs : List A) (ys : List B)
     → ((x : A) (y : B) → R x y → Q x y → S x y) → AllZip R xs ys → AllZip Q xs ys → AllZip S xs ys
 zip_as R Q S [] [] f a b = tt
 zip_as R Q S [] (y ∷ ys) f a b = absurd a
 zip_as R Q S (x ∷ xs) [] f a b = absurd a
 zip_as R Q S (x ∷ xs) (y ∷ ys) f a b = (f x y a.0 b.0, zip_as R Q S xs ys f a.1 b.1)
 
-zip_at : {A B : Type 0} (R : A → B → Type 0) (xs : List A) (ys : List B) (j : ℕ) (x : A) (y : B) → AllZip R xs ys
+pub zip_at : {A B : Type 0} (R : A → B → Type 0) (xs : List A) (ys : List B) (j : ℕ) (x : A) (y : B) → AllZip R xs ys
     → slice_get xs j ≡ Some x → slice_get ys j ≡ Some y → R x y
 zip_at R [] ys j x y a e f = absurd (let g : ⊥ = cc (e) in g)
 zip_at R (z ∷ xs) [] j x y a e f = absurd a
@@ -70,7 +70,7 @@ zip_at {A} {B} R (z ∷ xs) (w ∷ ys) zero x y a e f =
     subst (λ (k : A). R k y) one (subst (λ (k : B). R z k) two a.0)
 zip_at R (z ∷ xs) (w ∷ ys) (suc j) x y a e f = zip_at R xs ys j x y a.1 e f
 
-zip_long : {A B : Type 0} (R : A → B → Type 0) (xs : List A) (ys : List B) → AllZip R xs ys → length xs ≡ length ys
+pub zip_long : {A B : Type 0} (R : A → B → Type 0) (xs : List A) (ys : List B) → AllZip R xs ys → length xs ≡ length ys
 zip_long R [] [] a = refl
 zip_long R [] (y ∷ ys) a = absurd a
 zip_long R (x ∷ xs) [] a = absurd a
