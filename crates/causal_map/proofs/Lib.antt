@@ -1,1 +1,4 @@
+mod Shuffles
+mod PlacesPlayed
+mod CausalAnswers
 mod PlayedNodes

@@ -1,6 +1,6 @@
 -- The nodes that a client has played, as a causal map reads them, could be played in this order.
 use Rattle.std.proofs.Common.{◌≡◌, ℕ, zero, suc, ◌+◌, ◌<◌, ◌≤◌, List, [], ◌∷◌, ◌++◌, length, take, Some, Bool, cond, refl, ap, sym, subst, ◌∙◌, inl, inr, arith, append_assoc, append-nil}
-use Rattle.std.specs.Prelude.{◌==◌, slice_get}
+use Rattle.std.specs.Prelude.{◌==◌, slice_get, slice_index}
 use Rattle.std.specs.List.{AllZip, count_by}
 use Rattle.std.proofs.lemmas.Bool.{cases_lt}
 use Rattle.std.proofs.lemmas.List.Sums.{sum_by-cons}
@@ -81,26 +81,31 @@ module _ (d : Client) (colour : ℕ) (all : PlayedIn d colour) where
   so_far r n = place_counts d colour r all.order items n all.shown
 
   pub are_played : ArePlayed items
-  are_played n node e =
-      let c = chain_at [] items n node e in
-      let item = c.0 in
-      let p = place_of n item c.1 in
-      let at_place = zip_at (IsPlacedIn d colour) all.order items n p.0 item all.shown p.1 c.1 in
-      let before = λ (r : ℕ). chain_counts r [] items n in
-      subst (IsNext (take n (chain_nodes items))) (sym c.2) (record {
-        region = subst (λ (r : ℕ). r < 4) (sym at_place.1) (all.placed n p.0 p.1).0;
-        position = sym (before item.node.region);
-        needs = λ region.
-            few_or region n p.0 item p.1 c.1;
-      }) where
-        few_or : (region n : ℕ) (p : Place) (item : PlacedNode) → slice_get all.order n ≡ Some p
-            → slice_get items n ≡ Some item
-            → at item.head.needs region ≤ count_by (chain_of_region region) (take n (chain_nodes items))
-        few_or region n p item at_p at_item = elim (cases_lt region 4) [
-          | inl few ↦
-              (let x = all.needs n p item at_p at_item region few in
-              let y = so_far region n in
-              let z = chain_counts region [] items n in
-              omega (arith, x, y, z))
-          | inr many ↦ (let none = at_past item.head.needs region many in omega (arith, none))
-        ]
+  are_played n item there =
+      let p = place_of n item there in
+      let at_place = zip_at (IsPlacedIn d colour) all.order items n p.0 item all.shown p.1 there in (
+        subst (λ (r : ℕ). r < 4) (sym at_place.1) (all.placed n p.0 p.1).0,
+        λ region few.
+            let x = all.needs n p.0 item p.1 there region few in
+            let y = so_far region n in
+            omega (arith, x, y),
+      )
+
+-- a node whose needs are four numbers is the next one after those before it
+pub next_node : (items : List PlacedNode) (n : ℕ) (item : PlacedNode) → ArePlayed items → slice_get items n ≡ Some item
+    → length item.head.needs.0 ≡ 4 → IsNext (take n (chain_nodes items)) (chain_node (take n items) item)
+next_node items n item played there four = record {
+  region = (played n item there).0;
+  position = sym (chain_counts item.node.region [] items n);
+  needs = λ region. elim (cases_lt region 4) [
+    | inl few ↦
+        (let x = (played n item there).1 region few in
+        let y = chain_counts region [] items n in
+        omega (arith, x, y))
+    | inr many ↦ (let none = past item.head.needs.0 region (omega (arith, four, many)) in omega (arith, none))
+  ];
+} where
+  past : (xs : List ℕ) (r : ℕ) → length xs ≤ r → slice_index xs r ≡ 0
+  past [] r le = refl
+  past (x ∷ xs) zero le = absurd (let f : ⊥ = omega (arith, le) in f)
+  past (x ∷ xs) (suc r) le = past xs r (omega (arith, le))
