@@ -99,3 +99,95 @@ permuted (one_moved xs x ys) = IsPermutation-middle xs x ys
 permuted (one_under x xs ys s) = IsPermutation-cons x xs ys (permuted s)
 permuted (one_back xs ys s) = IsPermutation-sym xs ys (permuted s)
 permuted (one_more xs ys zs s t) = IsPermutation-trans xs ys zs (permuted s) (permuted t)
+
+-- WHAT STANDS BESIDE THEM
+
+module _ {A B : Type 0} (R : A → B → Type 0) where
+  -- beside one element and those before and behind it
+  pub record Beside (xs : List A) (x : A) (ys : List A) (ns : List B) : Type 0 where
+    pub front : List B
+    pub one : B
+    pub others : List B
+    pub whole : ns ≡ front ++ one ∷ others
+    pub front_beside : AllZip R xs front
+    pub one_beside : R x one
+    pub others_beside : AllZip R ys others
+
+  at_middle : (xs : List A) (x : A) (ys : List A) (ns : List B) → AllZip R (xs ++ x ∷ ys) ns → Beside xs x ys ns
+  at_middle [] x ys [] a = absurd a
+  at_middle [] x ys (n ∷ ns) a =
+      record { front = []; one = n; others = ns; whole = refl; front_beside = tt; one_beside = a.0; others_beside = a.1 }
+  at_middle (z ∷ xs) x ys [] a = absurd a
+  at_middle (z ∷ xs) x ys (n ∷ ns) a =
+      let r = at_middle xs x ys ns a.1 in record {
+        front = n ∷ r.front;
+        one = r.one;
+        others = r.others;
+        whole = ap (λ (l : List B). n ∷ l) r.whole;
+        front_beside = (a.0, r.front_beside);
+        one_beside = r.one_beside;
+        others_beside = r.others_beside;
+      }
+
+  joined : (xs ys : List A) (ns ms : List B) → AllZip R xs ns → AllZip R ys ms → AllZip R (xs ++ ys) (ns ++ ms)
+  joined [] ys [] ms a b = b
+  joined [] ys (n ∷ ns) ms a b = absurd a
+  joined (x ∷ xs) ys [] ms a b = absurd a
+  joined (x ∷ xs) ys (n ∷ ns) ms a b = (a.0, joined xs ys ns ms a.1 b)
+
+  parted : (xs ys : List A) (ns : List B) → AllZip R (xs ++ ys) ns
+      → (front others : List B) × (ns ≡ front ++ others) × AllZip R xs front × AllZip R ys others
+  parted [] ys ns a = ([], ns, refl, tt, a)
+  parted (x ∷ xs) ys [] a = absurd a
+  parted (x ∷ xs) ys (n ∷ ns) a =
+      let r = parted xs ys ns a.1 in (n ∷ r.0, r.1, ap (λ (l : List B). n ∷ l) r.2, (a.0, r.3), r.4)
+
+  -- in the other order, beside the other list
+  Moves : List A → List B → Type 0
+  Moves ys ns = (ms : List B) × AllZip R ys ms × Shuffled ns ms
+
+  both : {xs ys : List A} → Shuffled xs ys
+      → ((ns : List B) → AllZip R xs ns → Moves ys ns) × ((ns : List B) → AllZip R ys ns → Moves xs ns)
+  both (one_list xs) = ((λ ns a. (ns, a, same ns)), (λ ns a. (ns, a, same ns)))
+  both (one_moved xs x ys) = (
+    (λ ns a.
+        let r = at_middle xs x ys ns a in (
+          r.one ∷ (r.front ++ r.others),
+          (r.one_beside, joined xs ys r.front r.others r.front_beside r.others_beside),
+          subst (λ (l : List B). Shuffled l (r.one ∷ (r.front ++ r.others))) (sym r.whole)
+              (moved_to r.front r.one r.others),
+        )),
+    (λ ns a. behind x xs ys ns a),
+  ) where
+    behind : (x : A) (xs ys : List A) (ns : List B) → AllZip R (x ∷ (xs ++ ys)) ns → Moves (xs ++ x ∷ ys) ns
+    behind x xs ys [] a = absurd a
+    behind x xs ys (n ∷ ns) a =
+        let r = parted xs ys ns a.1 in (
+          r.0 ++ n ∷ r.1,
+          joined xs (x ∷ ys) r.0 (n ∷ r.1) r.3 (a.0, r.4),
+          subst (λ (l : List B). Shuffled (n ∷ l) (r.0 ++ n ∷ r.1)) (sym r.2)
+              (turned (r.0 ++ n ∷ r.1) (n ∷ (r.0 ++ r.1)) (moved_to r.0 n r.1)),
+        )
+  both (one_under x xs ys s) = (
+    (λ ns a. over x xs ys ns a (both s).0),
+    (λ ns a. over x ys xs ns a (both s).1),
+  ) where
+    over : (x : A) (xs ys : List A) (ns : List B) → AllZip R (x ∷ xs) ns
+        → ((ms : List B) → AllZip R xs ms → Moves ys ms) → Moves (x ∷ ys) ns
+    over x xs ys [] a f = absurd a
+    over x xs ys (n ∷ ns) a f = let r = f ns a.1 in (n ∷ r.0, (a.0, r.1), under n ns r.0 r.2)
+  both (one_back xs ys s) = ((both s).1, (both s).0)
+  both (one_more xs ys zs s t) = (
+    (λ ns a.
+        let r = (both s).0 ns a in
+        let q = (both t).0 r.0 r.1 in
+        (q.0, q.1, then_on ns r.0 q.0 r.2 q.2)),
+    (λ ns a.
+        let r = (both t).1 ns a in
+        let q = (both s).1 r.0 r.1 in
+        (q.0, q.1, then_on ns r.0 q.0 r.2 q.2)),
+  )
+
+  pub beside_others : {xs ys : List A} → Shuffled xs ys → (ns : List B) → AllZip R xs ns
+      → (ms : List B) × AllZip R ys ms × Shuffled ns ms
+  beside_others s ns a = (both s).0 ns a

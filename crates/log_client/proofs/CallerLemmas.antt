@@ -18,6 +18,6 @@ pub use Rattle.log_client.proofs.ObjectColours.{one_member, one_of_store}
 pub use Rattle.log_client.proofs.ObjectAppends.{put_refused}
 pub use Rattle.log_client.proofs.ObjectShards.{shard_in, shard_low}
 pub use Rattle.log_client.proofs.ObjectReads.{reads_later, all_appended, all_explained, first_kept, all_kept, last_keys}
-pub use Rattle.log_client.proofs.ObjectPlaces.{IsPlacedIn, PlayedIn, played_in}
+pub use Rattle.log_client.proofs.ObjectPlaces.{IsPlacedIn, PlayedIn, played_in, stood_there}
 pub use Rattle.log_client.proofs.PlayedOrders.{of_region, counted_more}
 pub use Rattle.log_client.proofs.PlayedPlaces.{zip_at, zip_long}

@@ -39,7 +39,7 @@ pub record ArePlacedAt (own : ℕ) (seen : List Told) (counts : Counts) (items :
   pub order : List Place
   pub shown : AllZip (IsAt own seen) order items
   pub placed : (j : ℕ) (p : Place) → slice_get order j ≡ Some p
-      → (p.region < 4) × (p.position ≡ count_by (of_region p.region) (take j order))
+      → (p.region < 4) × (p.position ≡ count_by (of_region p.region) (take j order)) × (p.position < at counts p.region)
   pub needs : (j : ℕ) (p : Place) (item : PlacedNode) → slice_get order j ≡ Some p → slice_get items j ≡ Some item → (r : ℕ)
       → r < 4 → at item.head.needs r ≤ count_by (of_region r) (take j order)
   pub whole : (r : ℕ) → r < 4 → count_by (of_region r) order ≡ at counts r
@@ -168,12 +168,14 @@ module _ (own regions : ℕ) (seen : List Told) (lawful : IsColumnHistory own re
           (let x = old.placed j q early in (
             x.0,
             x.1 ∙ ap (count_by (of_region q.region)) (sym (taken_front old.order plays.order j q early)),
+            (let low = x.2 in let up = within-at from to plays.within q.region x.0 in omega (arith, low, up)),
           ))
       | inr late ↦
           (let few = region_low chains from to plays.order plays.reached plays.in_order late.0 q late.2 in (
             few,
             position_is chains from to plays.order plays.reached plays.in_order late.0 q late.2
                 ∙ sym (so_far q.region few j late.0 late.1),
+            place_short late.0 q late.2,
           ))
     ];
     needs = λ j q item e there r few. elim (split old.order plays.order j q e) [
