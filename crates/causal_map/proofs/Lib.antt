@@ -2,3 +2,5 @@ mod Shuffles
 mod PlacesPlayed
 mod CausalAnswers
 mod PlayedNodes
+mod GetAnswers
+pub mod CallerLemmas
