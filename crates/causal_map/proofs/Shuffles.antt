@@ -143,7 +143,7 @@ module _ {A B : Type 0} (R : A → B → Type 0) where
       let r = parted xs ys ns a.1 in (n ∷ r.0, r.1, ap (λ (l : List B). n ∷ l) r.2, (a.0, r.3), r.4)
 
   -- in the other order, beside the other list
-  Moves : List A → List B → Type 0
+  abbrev Moves : List A → List B → Type 0
   Moves ys ns = (ms : List B) × AllZip R ys ms × Shuffled ns ms
 
   both : {xs ys : List A} → Shuffled xs ys
