@@ -119,7 +119,12 @@ impl AtomicMap {
         };
         let kept = &mut self.reads[place];
         match client.read_on(rt, alloc, store, set, kept.last) {
-            Ok(read) => match kept.values(alloc, self.colours.as_slice(), read.items.as_slice(), keys) {
+            Ok(read) => match kept.values(
+                alloc,
+                self.colours.as_slice(),
+                read.items.as_slice(),
+                keys,
+            ) {
                 Ok(values) => Ok((values, read)),
                 Err(_) => Err(ObjectFault::NoMemory),
             },

@@ -4,15 +4,18 @@ use Rattle.std.specs.Prelude.{◌==◌, slice_get, slice_index}
 use Rattle.std.specs.List.{AllZip, count_by}
 use Rattle.std.proofs.lemmas.Bool.{cases_lt}
 use Rattle.std.proofs.lemmas.List.Sums.{sum_by-cons}
+use Rattle.std.proofs.lemmas.Option.{slice_get_within}
 use Rattle.log_node.specs.Seen.{PlacedNode}
 use Rattle.log_node.specs.Vectors.{at}
 use Rattle.col_core.specs.PlayOrder.{Place}
 use Rattle.object_fold.specs.Causal.{ChainNode}
+use Rattle.object_fold.specs.CausalStates.{IsCausalMap}
 use Rattle.object_fold.specs.Pasts.{IsNext}
 use Rattle.log_client.specs.declared.client.Client.{Client}
 use Rattle.log_client.specs.Clients.{played_of}
 use Rattle.log_client.proofs.CallerLemmas.{IsPlacedIn, PlayedIn, of_region, zip_at, zip_long}
-use Rattle.causal_map.specs.Played.{chain_node, chain_nodes, chain_nodes_after, ArePlayed}
+use Rattle.causal_map.specs.declared.kept_writes.KeptWrites.{KeptWrites}
+use Rattle.causal_map.specs.Played.{chain_node, chain_nodes, chain_nodes_after, ArePlayed, KeepsFirst}
 
 abbrev pub node_of_region : ℕ → PlacedNode → Bool
 node_of_region r item = item.node.region == r
@@ -109,3 +112,37 @@ next_node items n item played there four = record {
   past [] r le = refl
   past (x ∷ xs) zero le = absurd (let f : ⊥ = omega (arith, le) in f)
   past (x ∷ xs) (suc r) le = past xs r (omega (arith, le))
+
+-- one node more is read
+taken_more : (earlier items : List PlacedNode) (n : ℕ) (item : PlacedNode) → slice_get items n ≡ Some item
+    → take (suc n) (chain_nodes_after earlier items)
+    ≡ take n (chain_nodes_after earlier items) ++ chain_node (earlier ++ take n items) item ∷ []
+taken_more earlier [] n item e = absurd (let f : ⊥ = cc (e) in f)
+taken_more earlier (i ∷ items) zero item e =
+    let same : i ≡ item = cc (e) in
+    ap (λ (x : PlacedNode). chain_node earlier x ∷ []) same
+    ∙ ap (λ (l : List PlacedNode). chain_node l item ∷ []) (sym (append-nil earlier))
+taken_more earlier (i ∷ items) (suc n) item e =
+    ap (λ (l : List ChainNode). chain_node earlier i ∷ l)
+    (taken_more (earlier ++ i ∷ []) items n item e
+    ∙ ap (λ (l : List PlacedNode). take n (chain_nodes_after (earlier ++ i ∷ []) items) ++ chain_node l item ∷ [])
+    (append_assoc earlier (i ∷ []) (take n items)))
+
+-- what is folded, with the next node
+pub keeps_more : (items : List PlacedNode) (old new : KeptWrites) (place : ℕ) (item : PlacedNode) → ArePlayed items
+    → slice_get items place ≡ Some item → length item.head.needs.0 ≡ 4 → old.count ≡ place → new.count ≡ place + 1
+    → ((played : List ChainNode) (node : ChainNode) → node.region ≡ item.node.region → node.needs ≡ item.head.needs
+    → node.text ≡ item.node.text → IsNext played node → IsCausalMap old.map played → IsCausalMap new.map (played ++ node ∷ []))
+    → KeepsFirst items old → KeepsFirst items new
+keeps_more items old new place item played there four was is feeds kept =
+    let node = chain_node (take place items) item in
+    let all = chain_nodes items in
+    let next = next_node items place item played there four in
+    let count : new.count ≡ suc place = omega (arith, is) in
+    let lt = slice_get_within items place item there in (
+      omega (arith, count, lt),
+      subst (λ (n : ℕ). IsCausalMap new.map (take n all)) (sym count)
+          (subst (IsCausalMap new.map) (sym (taken_more [] items place item there))
+          (feeds (take place all) node refl refl refl next
+          (subst (λ (n : ℕ). IsCausalMap old.map (take n all)) was kept.1))),
+    )

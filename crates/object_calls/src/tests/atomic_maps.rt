@@ -19,7 +19,13 @@ fn keys_that_were_put_at_once_are_got_at_once(rt: HostRuntime) -> Result<(), Fai
     let asked = keys(alloc, b"ab")?;
     let (values, read) = second.get_all(&rt, alloc, &mut two, &store, &OpenGate, &asked)?;
     are_values(&rt, &values, b"21");
-    reads(&rt, &read, 1, &[At::Look(2), At::Look(2)], &[(2, 1), (2, 1)]);
+    reads(
+        &rt,
+        &read,
+        1,
+        &[At::Look(2), At::Look(2)],
+        &[(2, 1), (2, 1)],
+    );
     assert_eq!(rt; read.items.len(), 1);
     let all = pairs(alloc, &[(b'a', b'3'), (b'c', b'4')])?;
     let own = first.put_all(&rt, alloc, &mut one, &store, &OpenGate, &all)?;
@@ -27,7 +33,13 @@ fn keys_that_were_put_at_once_are_got_at_once(rt: HostRuntime) -> Result<(), Fai
     let asked = keys(alloc, b"abc")?;
     let (values, read) = second.get_all(&rt, alloc, &mut two, &store, &OpenGate, &asked)?;
     are_values(&rt, &values, b"314");
-    reads(&rt, &read, 2, &[At::Event(2), At::Look(3)], &[(3, 1), (3, 2)]);
+    reads(
+        &rt,
+        &read,
+        2,
+        &[At::Event(2), At::Look(3)],
+        &[(3, 1), (3, 2)],
+    );
     assert_eq!(rt; read.items.len(), 1);
     Ok(())
 }

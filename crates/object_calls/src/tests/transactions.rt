@@ -21,7 +21,10 @@ fn committed(rt: &impl Abort, verdict: &Verdict, stamp: u64) {
 fn in_conflict(rt: &impl Abort, verdict: &Verdict, key: &[u8], stamp: u64) {
     match verdict {
         Verdict::Committed { .. } => assert!(rt; false),
-        Verdict::Conflict { key: shown, stamp: own } => {
+        Verdict::Conflict {
+            key: shown,
+            stamp: own,
+        } => {
             assert_eq!(rt; shown.as_bytes(), key);
             assert_eq!(rt; *own, stamp);
         }
@@ -37,27 +40,81 @@ fn of_two_that_read_alike_the_first_commits(rt: HostRuntime) -> Result<(), Fail>
     let asked = keys(alloc, b"b")?;
     let (values, late, read) = a.read(&rt, alloc, &mut one, &store, &OpenGate, &asked)?;
     are_values(&rt, &values, &[0]);
-    reads(&rt, &read, 0, &[At::Look(0), At::Look(0)], &[(0, 0), (0, 0)]);
+    reads(
+        &rt,
+        &read,
+        0,
+        &[At::Look(0), At::Look(0)],
+        &[(0, 0), (0, 0)],
+    );
     let (_values, early, _read) = b.read(&rt, alloc, &mut two, &store, &OpenGate, &asked)?;
     let seven = pairs(alloc, &[(b'b', b'7')])?;
-    let (verdict, own, read) = b.commit(&rt, alloc, &mut two, &store, &OpenGate, Some(early), &seven)?;
+    let (verdict, own, read) = b.commit(
+        &rt,
+        alloc,
+        &mut two,
+        &store,
+        &OpenGate,
+        Some(early),
+        &seven,
+    )?;
     committed(&rt, &verdict, 1);
     stands_at(&rt, &own, 1, None, &[(0, 0, 0)]);
-    reads(&rt, &read, 1, &[At::Look(1), At::Event(0)], &[(1, 1), (1, 0)]);
+    reads(
+        &rt,
+        &read,
+        1,
+        &[At::Look(1), At::Event(0)],
+        &[(1, 1), (1, 0)],
+    );
     let eight = pairs(alloc, &[(b'b', b'8')])?;
-    let (verdict, own, read) = a.commit(&rt, alloc, &mut one, &store, &OpenGate, Some(late), &eight)?;
+    let (verdict, own, read) = a.commit(
+        &rt,
+        alloc,
+        &mut one,
+        &store,
+        &OpenGate,
+        Some(late),
+        &eight,
+    )?;
     in_conflict(&rt, &verdict, b"b", 1);
     stands_at(&rt, &own, 2, None, &[(0, 1, 1)]);
-    reads(&rt, &read, 2, &[At::Look(2), At::Event(1)], &[(2, 2), (2, 0)]);
+    reads(
+        &rt,
+        &read,
+        2,
+        &[At::Look(2), At::Event(1)],
+        &[(2, 2), (2, 0)],
+    );
     let (values, next, read) = b.read(&rt, alloc, &mut two, &store, &OpenGate, &asked)?;
     are_values(&rt, &values, b"7");
-    reads(&rt, &read, 2, &[At::Look(2), At::Look(2)], &[(2, 2), (2, 0)]);
+    reads(
+        &rt,
+        &read,
+        2,
+        &[At::Look(2), At::Look(2)],
+        &[(2, 2), (2, 0)],
+    );
     assert_eq!(rt; read.items.len(), 1);
     let nine = pairs(alloc, &[(b'b', b'9')])?;
-    let (verdict, own, read) = b.commit(&rt, alloc, &mut two, &store, &OpenGate, Some(next), &nine)?;
+    let (verdict, own, read) = b.commit(
+        &rt,
+        alloc,
+        &mut two,
+        &store,
+        &OpenGate,
+        Some(next),
+        &nine,
+    )?;
     committed(&rt, &verdict, 3);
     stands_at(&rt, &own, 3, None, &[(0, 2, 2)]);
-    reads(&rt, &read, 3, &[At::Look(3), At::Event(2)], &[(3, 3), (3, 0)]);
+    reads(
+        &rt,
+        &read,
+        3,
+        &[At::Look(3), At::Event(2)],
+        &[(3, 3), (3, 0)],
+    );
     assert_eq!(rt; read.items.len(), 1);
     Ok(())
 }
