@@ -122,7 +122,7 @@ still_so s c d rest (k ∷ keys) (n ∷ nodes) all = (
 )
 
 taken_past : {A : Type 0} (xs ys : List A) (n : ℕ) → take (length xs + n) (xs ++ ys) ≡ xs ++ take n ys
-taken_past [] ys n = refl
+taken_past [] ys n = let e : 0 + n ≡ n = omega arith in ap (λ (m : ℕ). take m ys) e
 taken_past {A} (x ∷ xs) ys n =
     let e : length (x ∷ xs) + n ≡ suc (length xs + n) = omega arith in
     ap (λ (m : ℕ). take m ((x ∷ xs) ++ ys)) e ∙ ap (λ (l : List A). x ∷ l) (taken_past xs ys n)

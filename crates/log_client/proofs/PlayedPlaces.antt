@@ -78,7 +78,7 @@ zip_long R (x ∷ xs) (y ∷ ys) a = ap suc (zip_long R xs ys a.1)
 
 split : {A : Type 0} (xs ys : List A) (j : ℕ) (x : A) → slice_get (xs ++ ys) j ≡ Some x
     → (slice_get xs j ≡ Some x) ⊎ ((m : ℕ) × (j ≡ length xs + m) × (slice_get ys m ≡ Some x))
-split [] ys j x e = inr (j, refl, e)
+split [] ys j x e = inr (j, omega arith, e)
 split (z ∷ xs) ys zero x e = inl e
 split (z ∷ xs) ys (suc j) x e = elim (split xs ys j x e) [
   | inl early ↦ inl early
@@ -91,13 +91,13 @@ taken_front (z ∷ xs) ys zero x e = refl
 taken_front {A} (z ∷ xs) ys (suc j) x e = ap (λ (l : List A). z ∷ l) (taken_front xs ys j x e)
 
 taken_past : {A : Type 0} (xs ys : List A) (m : ℕ) → take (length xs + m) (xs ++ ys) ≡ xs ++ take m ys
-taken_past [] ys m = refl
+taken_past [] ys m = let e : 0 + m ≡ m = omega arith in ap (λ (n : ℕ). take n ys) e
 taken_past {A} (x ∷ xs) ys m =
     let e : length (x ∷ xs) + m ≡ suc (length xs + m) = omega arith in
     ap (λ (n : ℕ). take n ((x ∷ xs) ++ ys)) e ∙ ap (λ (l : List A). x ∷ l) (taken_past xs ys m)
 
 past_front : {A : Type 0} (xs ys : List A) (m : ℕ) → slice_get (xs ++ ys) (length xs + m) ≡ slice_get ys m
-past_front [] ys m = refl
+past_front [] ys m = let e : 0 + m ≡ m = omega arith in ap (slice_get ys) e
 past_front {A} (x ∷ xs) ys m =
     let e : length (x ∷ xs) + m ≡ suc (length xs + m) = omega arith in
     ap (slice_get ((x ∷ xs) ++ ys)) e ∙ past_front xs ys m
