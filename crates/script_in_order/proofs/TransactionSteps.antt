@@ -8,7 +8,7 @@ use Rattle.log_node.specs.Sets.{members}
 use Rattle.col_core.proofs.CallerLemmas.{In}
 use Rattle.script_text.specs.declared.script.Kind.{Kind}
 use Rattle.script_text.specs.Items.{set_of}
-use Rattle.script_text.specs.Fitting.{AreBelow, AreObjectColours, IsKindWithin, UsesObject, HasObject, is_tx}
+use Rattle.script_text.specs.Fitting.{AreBelow, HasColours, AreObjectColours, IsKindWithin, UsesObject, HasObject, is_tx}
 use Rattle.script_text.specs.Grammar.{are_pairs}
 use Rattle.lawful_run.specs.Asks.{object_colours, keys_of}
 use Rattle.lawful_run.proofs.CallerLemmas.{get_within}
@@ -37,7 +37,7 @@ use Rattle.report_text.specs.declared.report.KeyAnswer.{KeyAnswer}
 use Rattle.report_text.specs.declared.report.PointPiece.{PointPiece}
 use Rattle.report_text.specs.declared.report.RaisePiece.{RaisePiece}
 use Rattle.report_text.specs.declared.report.SyncPiece.{SyncPiece}
-use Rattle.script_meaning.specs.States.{State, Grants, Reads as Keeps, all_granted, answered, reads_left, kind_in, has_colours}
+use Rattle.script_meaning.specs.States.{State, Grants, Reads as Keeps, all_granted, answered, reads_left, kind_in}
 use Rattle.script_meaning.specs.Appends.{appended}
 use Rattle.script_meaning.specs.Objects.{caller_in, refusing_home, shard_set}
 use Rattle.script_meaning.specs.Dequeues.{object_at}
@@ -387,10 +387,10 @@ module _ (objects : List Object) (command : Command) (object : ℕ) (pairs : Lis
         (sym (kind_is objects object other has))
 
     -- it has a colour, and all its colours are among the world's
-    pub its_some : are_pairs 2 pairs ≡ true → has_colours 1 set ≡ true
+    pub its_some : are_pairs 2 pairs ≡ true → HasColours 1 set
     its_some some =
         let key = some_of (keys_of pairs) (key_some 2 pairs some) in
-        subst (λ (s : Colours). has_colours 1 s ≡ true) (sym as_kind)
+        subst (HasColours 1) (sym as_kind)
         (has_some regions count few objects all object is_tx has its_kind (kind_is objects object other has)
         (version_keys reads ++ keys_of pairs) key.0 (in_right key.0 (version_keys reads) (keys_of pairs) key.1))
 

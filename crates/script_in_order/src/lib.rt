@@ -3,7 +3,6 @@
 
 mod answers;
 mod appends;
-mod built;
 mod causal;
 mod clears;
 mod folding;
@@ -25,5 +24,4 @@ mod stops;
 mod syncs;
 mod transactions;
 
-pub use built::is_built;
 pub use in_order::run_in_order;

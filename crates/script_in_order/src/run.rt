@@ -1,11 +1,11 @@
 // A run in the order of the file.
-ghost use Rattle.std.specs.Prelude.{◌≡◌, ◌+◌, ◌<◌, ◌≤◌, IsTrue, IfOk, Some, length, map};
-ghost use Rattle.std.specs.List.{All, range_with_len};
+ghost use Rattle.std.specs.Prelude.{◌≡◌, ◌+◌, ◌<◌, ◌≤◌, IfOk, Some, length, map};
+ghost use Rattle.std.specs.List.{range_with_len};
 ghost use Rattle.script_text.specs.declared.script.Command.{Command};
 ghost use Rattle.script_text.specs.Fitting.{IsFitting};
 ghost use Rattle.world_code.specs.WorldView.{world_of};
 ghost use Rattle.world_laws.specs.Worlds.{opened};
-ghost use Rattle.script_meaning.specs.States.{is_built, StopsAreLast};
+ghost use Rattle.script_meaning.specs.States.{StopsAreLast};
 ghost use Rattle.script_in_order.specs.Doing.{IsFit, transaction_of};
 ghost use Rattle.script_in_order.specs.Folds.{AreFolded};
 ghost use Rattle.script_in_order.specs.Runs.{no_replies, replies_at, read_at, asks, IsDone, IsRunAt};
@@ -104,7 +104,6 @@ fn do_command(
     folds: &mut Folds,
     replies: &mut Vec<Replies>,
 )
-    requires built { IsTrue (is_built objects.now command.now.what) }
     requires fits { IsFit (world_of world.old) objects.now command.now.client command.now.what }
     requires folded { AreFolded (world_of world.old) objects.now folds.old }
     requires client { command.now.client < length replies.old.items }
@@ -138,7 +137,6 @@ pub fn do_next(
     replies: &mut Vec<Replies>,
 )
     requires fits { IsFitting script.now }
-    requires built { All (λ (c : Command). IsTrue (is_built script.now.objects c.what)) script.now.commands }
     requires stops { StopsAreLast script.now }
     requires place { place < length script.now.commands }
     requires run { IsRunAt script.now place (record { world = world.old; replies = replies.old.items }) }
