@@ -11,6 +11,5 @@ mod Dealing
 mod EndsShown
 mod ClientsShown
 mod SomeRows
-mod StopsWithin
 mod RunningBeside
 mod RunsOf

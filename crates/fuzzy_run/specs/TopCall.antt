@@ -59,5 +59,5 @@ Shows asked script old new = (report : Report) × IsRunOf asked script report ×
 abbrev pub ShowsFront : Asked → Script → Option (List ℕ) → Option (List ℕ) → Type 0
 ShowsFront asked script old new =
     ((report : Report) × IsRunOf asked script report × AppendsFront old new (report_bytes report))
-    ⊎ ((line : ℕ) × (first_unbuilt asked script.objects script.commands ≡ Some line)
+    ⊎ ((line : ℕ) × (first_unbuilt asked script.commands ≡ Some line)
     × AppendsFront old new (refusal_bytes line (cause_text NotBuilt)))

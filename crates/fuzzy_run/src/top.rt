@@ -2,9 +2,7 @@
 ghost use Rattle.std.specs.Prelude.{◌≡◌, ◌≢◌, ◌<◌, ◌≤◌, ◌↔◌, ◌⊎◌, ℕ, map, None, Some, string_bytes};
 ghost use Rattle.std.specs.Io.KnownBytes.{Appends, IsAtEnd};
 ghost use Rattle.fuzzy_io.specs.Causes.{Rose, ConsumesUpTo, AppendsFront};
-ghost use Rattle.std.specs.Prelude.{IsTrue, IfOk};
-ghost use Rattle.std.specs.List.{All};
-ghost use Rattle.script_text.specs.declared.script.Command.{Command};
+ghost use Rattle.std.specs.Prelude.{IfOk};
 ghost use Rattle.script_text.specs.declared.script.Script.{Script};
 ghost use Rattle.script_text.specs.Fitting.{IsFitting};
 ghost use Rattle.report_text.specs.declared.report.Report.{Report};
@@ -12,8 +10,6 @@ ghost use Rattle.report_text.specs.ReportText.{report_bytes, refusal_bytes};
 ghost use Rattle.script_meaning.specs.States.{StopsAreLast};
 ghost use Rattle.fuzzy_run.specs.declared.asked.Asked.{Asked};
 ghost use Rattle.fuzzy_run.specs.Words.{asked_by};
-ghost use Rattle.fuzzy_run.specs.Built.{is_done};
-ghost use Rattle.fuzzy_run.specs.Served.{StopsWithin};
 ghost use Rattle.fuzzy_run.specs.Refusals.{first_unbuilt, cause_text, IsDoable};
 ghost use Rattle.fuzzy_run.specs.Reading.{LawsForReaders};
 ghost use Rattle.fuzzy_run.specs.TopCall.{IsRunOf, IsRunText, IsRefusalText, Writes, WritesFront, Shows, ShowsFront};
@@ -63,8 +59,7 @@ fn report_of<R: Threads + Wait + Sync, G: Gate>(
     requires fits { IsFitting script }
     requires rows { script.shape.rows ≤ MAX_ROWS }
     requires some_rows { 0 < script.shape.rows }
-    requires built { All (λ (c : Command). IsTrue (is_done asked script.objects c.what)) script.commands }
-    requires steps { All (λ (c : Command). StopsWithin c.what) script.commands }
+    requires built { first_unbuilt asked script.commands ≡ None }
     requires stops { StopsAreLast script }
     ensures { IfOk result (IsRunOf asked script) }
 {
@@ -91,21 +86,16 @@ fn do_script<K: Sink, G: Gate, R: Threads + Wait + Sync>(
     requires fits { IsFitting script }
     requires rows { script.shape.rows ≤ MAX_ROWS }
     requires some_rows { 0 < script.shape.rows }
-    requires steps { All (λ (c : Command). StopsWithin c.what) script.commands }
     requires stops { StopsAreLast script }
     ensures done { result ≡ Status.Done → Shows asked script (K.holds sink.old) (K.holds sink.new) }
-    ensures refused { result ≡ Status.Refused → (line : ℕ) × (first_unbuilt asked script.objects script.commands ≡ Some line)
+    ensures refused { result ≡ Status.Refused → (line : ℕ) × (first_unbuilt asked script.commands ≡ Some line)
         × Appends (K.holds sink.old) (K.holds sink.new) (refusal_bytes line (cause_text Cause.NotBuilt)) }
     ensures write_fault { result ≡ Status.WriteFault → Rose (K.faults sink.old) (K.faults sink.new) }
     ensures front { result ≡ Status.WriteFault → ShowsFront asked script (K.holds sink.old) (K.holds sink.new) }
     ensures no_memory { result ≡ Status.NoMemory → sink.new ≡ sink.old }
     ensures no_other { (result ≢ Status.BadWords) × (result ≢ Status.ReadFault) }
 {
-    if let Some(line) = first_unbuilt(
-        asked,
-        script.objects.as_slice(),
-        script.commands.as_slice(),
-    ) {
+    if let Some(line) = first_unbuilt(asked, script.commands.as_slice()) {
         return refuse(sink, line, Cause::NotBuilt);
     }
     let report = match report_of(rt, alloc, asked, gate, script) {
@@ -210,7 +200,8 @@ pub fn run<S: Source, K: Sink, G: Gate, R: Threads + Wait + Sync>(
     ensures front { (asked : Asked) → asked_by (map string_bytes words.now) ≡ Some asked → result ≡ Status.WriteFault
         → WritesFront asked (S.left source.old) (K.holds sink.old) (K.holds sink.new) }
     ensures taken { ConsumesUpTo MAX_BYTES (S.left source.old) (S.left source.new) }
-    // What is a script of commands that are done is done: nothing but want of memory stands in the way.
+    // What is a script of commands that are done, which in the order of the file is every script, is done: nothing but
+    // want of memory stands in the way.
     ensures complete { (asked : Asked) → asked_by (map string_bytes words.now) ≡ Some asked
         → (Rose (S.faults source.old) (S.faults source.new) → ⊥) → (Rose (K.faults sink.old) (K.faults sink.new) → ⊥)
         → IsDoable asked (S.left source.old) → (result ≡ Status.Done) ⊎ (result ≡ Status.NoMemory) }
