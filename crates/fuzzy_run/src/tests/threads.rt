@@ -174,6 +174,57 @@ fn four_clients_fill_one_line(rt: HostRuntime) -> Result<(), Fail> {
     Ok(())
 }
 
+/// A service's users, jobs and notes as plain nodes, between two sites.
+const SERVICE: &[u8] = b"fuzzylog 1
+regions e w
+colours x y z
+client a e
+client b e
+client c w
+client d w
+begin
+a append x p:user1=ann
+a append y p:user2=bob
+b append x p:user3=cyd
+b append x,y m:user1=ada,user2=ben
+a append z e:job1
+b append z e:job2
+a append z q:
+b append z q:
+c append x note1
+d append x,y note2
+c append y c:k1=v1
+c pull e x
+c sync x
+d pull e y
+d sync y
+a pull w x
+a sync x
+a scan x,y
+b sync y
+d sync y
+";
+
+#[test]
+fn a_small_service_comes_to_the_same_lines_in_every_schedule(rt: HostRuntime) -> Result<(), Fail> {
+    let (status, sink) = run_at(rt.alloc(), &rt, SERVICE, &OpenGate)?;
+    assert_eq!(rt; status, Status::Done);
+    // How long the own lines are: that many nodes may be played of them.
+    for part in [
+        " queue - cut 3,",
+        " queue - cut 2,0 base 0,0\ncolumn e z\n",
+        " queue - cut 4,0 base 0,0\ncolumn w x\n",
+        ",2 base 0,0\ncolumn w y\n",
+        ",2 base 0,0\ncolumn w z\n= clock 0 line - queue - cut 0,0 base 0,0\n",
+    ] {
+        assert!(rt; memmem::find(sink.bytes(), part.as_bytes()).is_some());
+    }
+    for refusal in ["nomemory", "stampend", "full", "trimmed"] {
+        assert!(rt; memmem::find(sink.bytes(), refusal.as_bytes()).is_none());
+    }
+    Ok(())
+}
+
 /// Holds the second client after its first step until the first client has passed its second, and the first client there
 /// until the second has begun its second append to several colours.
 #[derive(Drop)]
