@@ -1,0 +1,75 @@
+-- How boxes are joined: bands, the arrows of chains, and cross-edges.
+use Rattle.std.specs.Prelude.{Bool, ℕ, ◌-◌, ◌==◌, nat_lt, nat_le, not, ◌&&◌, ◌||◌, List, [], ◌∷◌, ◌++◌, Option, Some, None, if◌then◌else◌}
+use Rattle.std.specs.List.{list_any, find, flat_map}
+use Rattle.log_node.specs.Order.{same_id}
+use Rattle.log_node.specs.Vectors.{at, all_regions}
+use Rattle.run_picture.specs.declared.picture.NodeBox.{NodeBox}
+use Rattle.run_picture.specs.declared.picture.Tie.{Tie}
+use Rattle.run_picture.specs.declared.picture.Tie.TheVariants.{Band, Chain, Edge}
+use Rattle.run_picture.specs.declared.picture.Link.{Link}
+use Rattle.run_picture.specs.Marks.{is_in_line}
+
+-- the box is of the node at this position of the line of this region and colour
+abbrev pub stands_at : ℕ → ℕ → ℕ → NodeBox → Bool
+stands_at region colour position node =
+    is_in_line node.mark.kind && (node.region == region) && (node.colour == colour) && (node.mark.position == position)
+
+-- the box of the node at this position, where it is drawn
+abbrev pub node_at : List NodeBox → ℕ → ℕ → ℕ → Option NodeBox
+node_at boxes region colour position = find (stands_at region colour position) boxes
+
+-- the second box is of the same node in a later colour
+abbrev pub is_next_of : NodeBox → NodeBox → Bool
+is_next_of node other =
+    same_id other.mark.key.id node.mark.key.id && (other.region == node.region) && nat_lt node.colour other.colour
+
+-- the box is of one of the first nodes of this region and colour, and wants so many of a region
+abbrev pub covers : ℕ → ℕ → ℕ → ℕ → ℕ → NodeBox → Bool
+covers by colour count region wanted node =
+    is_in_line node.mark.kind && (node.region == by) && (node.colour == colour) && nat_lt node.mark.position count
+    && nat_le wanted (at node.wants region)
+
+-- how many nodes of a region a node comes after: of its own those before it, and of another those that it wants
+abbrev pub count_before : NodeBox → ℕ → ℕ
+count_before node by = if by == node.region then node.mark.position else at node.wants by
+
+-- a drawn node of the region that comes before this one wants as much as it does
+abbrev pub is_covered : List NodeBox → NodeBox → ℕ → ℕ → Bool
+is_covered boxes node region by =
+    not (by == region) && list_any (covers by node.colour (count_before node by) region (at node.wants region)) boxes
+
+-- drawn nodes that come before this one imply what it wants of the region
+abbrev pub is_implied : List NodeBox → NodeBox → ℕ → Bool
+is_implied boxes node region = list_any (is_covered boxes node region) all_regions
+
+-- the box of the predecessor in the chain, where it is drawn
+abbrev pub chain_of : List NodeBox → NodeBox → Option NodeBox
+chain_of boxes node =
+    if not (is_in_line node.mark.kind) || (node.mark.position == 0) then None
+    else node_at boxes node.region node.colour (node.mark.position - 1)
+
+-- The box of the last node that the entering event wants of another region, where it is drawn and not implied.
+abbrev pub edge_to : List NodeBox → NodeBox → ℕ → Option NodeBox
+edge_to boxes node region =
+    if (region == node.region) || (at node.wants region == 0) || is_implied boxes node region then None
+    else node_at boxes region node.colour (at node.wants region - 1)
+
+-- from the one box to the other, where there is another
+abbrev pub link_to : Tie → NodeBox → Option NodeBox → List Link
+link_to tie node None = []
+link_to tie node (Some other) = record { tie = tie; from = node.at; to = other.at } ∷ []
+
+-- the edge to a region, where there is one
+abbrev pub edge_link : List NodeBox → NodeBox → ℕ → List Link
+edge_link boxes node region = link_to Edge node (edge_to boxes node region)
+
+-- The links from a box: to its node's box in the next colour, to its predecessor, and to what it wants of others.
+abbrev pub links_of : List NodeBox → NodeBox → List Link
+links_of boxes node =
+    link_to Band node (find (is_next_of node) boxes)
+    ++ link_to Chain node (chain_of boxes node)
+    ++ flat_map (edge_link boxes node) all_regions
+
+-- the links between all boxes
+abbrev pub links : List NodeBox → List Link
+links boxes = flat_map (links_of boxes) boxes

@@ -1,0 +1,45 @@
+-- What the program writes for the bytes that it reads.
+use Rattle.std.specs.Prelude.{◌≡◌, ℕ, List, Option, IfSome, not}
+use Rattle.std.specs.List.{find}
+use Rattle.std.specs.Option.{option_map}
+use Rattle.std.specs.Io.KnownBytes.{Appends}
+use Rattle.script_text.specs.declared.script.Object.{Object}
+use Rattle.script_text.specs.declared.script.Command.{Command}
+use Rattle.script_text.specs.declared.script.Script.{Script}
+use Rattle.script_text.specs.Grammar.{IsScript}
+use Rattle.report_text.specs.declared.report.Report.{Report}
+use Rattle.lawful_run.specs.Lawful.{LawfulRun}
+use Rattle.script_meaning.specs.States.{is_built}
+use Rattle.script_meaning.specs.Meaning.{IsStepReport}
+use Rattle.run_picture.specs.declared.top.Status.{Status}
+use Rattle.run_picture.specs.declared.top.Status.TheVariants.{Done, Refused, ReadFault, WriteFault, NoMemory}
+use Rattle.run_picture.specs.Drawing.{picture}
+use Rattle.run_picture.specs.SvgText.{svg_text}
+
+-- 0 to 5, as the program `fuzzy_run` ends
+abbrev pub code_of : Status → ℕ
+code_of Done = 0
+code_of Refused = 2
+code_of ReadFault = 3
+code_of WriteFault = 4
+code_of NoMemory = 5
+
+-- the line of the first command over these objects that is not done yet
+abbrev pub first_unbuilt : List Object → List Command → Option ℕ
+first_unbuilt objects commands =
+    option_map (λ (c : Command). c.line) (find (λ (c : Command). not (is_built objects c.what)) commands)
+
+-- a report of the script, done in the order of the file
+pub record IsReportOf (script : Script) (report : Report) : Type 0 where
+  pub in_order : IsStepReport script report
+  pub lawful : LawfulRun script report
+
+-- the picture of such a report was written whole
+abbrev pub Shows : Script → Option (List ℕ) → Option (List ℕ) → Type 0
+Shows script old new = (report : Report) × IsReportOf script report × Appends old new (svg_text (picture script report))
+
+-- The bytes are a script, and the picture of its run was written whole; where the source tells what was left, these are
+-- the bytes.
+abbrev pub Draws : Option (List ℕ) → Option (List ℕ) → Option (List ℕ) → Type 0
+Draws left old new =
+    (bytes : List ℕ) × (script : Script) × IfSome left (λ all. all ≡ bytes) × IsScript bytes script × Shows script old new
