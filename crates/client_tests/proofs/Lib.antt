@@ -1,2 +1,3 @@
 mod Both
 mod Colours
+mod Taken

@@ -1,5 +1,5 @@
 -- Stores and clients that tests begin with.
-use Rattle.std.specs.Prelude.{◌≡◌}
+use Rattle.std.specs.Prelude.{◌≡◌, length}
 use Rattle.stamp_board.specs.declared.view.Size.{Size}
 use Rattle.log_client.specs.declared.store.Store.{Store}
 use Rattle.log_client.specs.declared.client.Client.{Client}
@@ -16,3 +16,8 @@ pub record IsSmall (s : Store) : Type 0 where
 -- a client of the store
 pub record IsOf (s : Store) (c : Client) : Type 0 where
   pub rests : IsClient s c
+
+-- a store of three regions and two colours
+pub record IsOfThree (s : Store) : Type 0 where
+  pub colours : s.size.colours ≡ 2
+  pub regions : length s.regions ≡ 3

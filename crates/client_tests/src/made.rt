@@ -1,6 +1,6 @@
 // What tests of clients begin with.
 ghost use Rattle.std.specs.Prelude.{◌≡◌, ◌<◌, ◌≤◌, ◌-◌, [], ◌∷◌, length, IfOk};
-ghost use Rattle.client_tests.specs.Stores.{IsSmall, IsOf};
+ghost use Rattle.client_tests.specs.Stores.{IsSmall, IsOf, IsOfThree};
 
 use log_client::{Client, Store};
 use log_node::{ListOf, Shape};
@@ -37,6 +37,29 @@ pub fn opened(alloc: Global, regions: u8) -> Result<(Store, Client, Client), All
     let mut clients = clients.into_vec();
     match (clients.pop(), clients.pop()) {
         (Some(two), Some(one)) => Ok((store, one, two)),
+        _ => unreachable!(),
+    }
+}
+
+/// A store of three regions and two colours, with a client in each.
+pub fn opened_three(alloc: Global) -> Result<(Store, Client, Client, Client), AllocError>
+    ensures store { IfOk result (λ r. IsOfThree r.0) }
+    ensures clients { IfOk result (λ r. IsOf r.0 r.1 × IsOf r.0 r.2 × IsOf r.0 r.3) }
+{
+    let mut homes = ListOf::new(alloc);
+    homes.push(0)?;
+    homes.push(1)?;
+    homes.push(2)?;
+    let shape = Shape {
+        regions: 3,
+        colours: 2,
+        homes,
+        rows: 1,
+    };
+    let (store, clients) = Store::open(alloc, &shape)?;
+    let mut clients = clients.into_vec();
+    match (clients.pop(), clients.pop(), clients.pop()) {
+        (Some(three), Some(two), Some(one)) => Ok((store, one, two, three)),
         _ => unreachable!(),
     }
 }

@@ -3,5 +3,6 @@ mod appends;
 mod ends;
 mod notes;
 mod reads;
+mod three_regions;
 mod trims;
 mod two_regions;
