@@ -290,8 +290,8 @@ module _ (script : Script) (report : Report) (fits : IsFitting script) (run : La
       (get_in (line (run.log.histories z.0.region sync.colour)) z.0.position s.head.key c.1)) item.node.text s.text)
   shown_in client lo kept what (answers.Scanned stamp count raises syncs) nodes after e w n item there =
       let own = (caller_of script client).own in
-      let below : All (λ c. c < script.shape.colours) (members e.0) = subst
-      (NamesWithin regions script.shape.colours) e.1 w in
+      let below : All (λ c. c < script.shape.colours) (members e.0) =
+      (subst (NamesWithin regions script.shape.colours) e.1 w).1 in
       let z = zip_at (ShowsKey run.log) e.4 nodes e.6 n item there in
       let o = e.5.no_other z.0 (contains_at e.4 n z.0 z.1) in
       let m = in_map_back (λ (s : SyncPiece). line (take s.events (run.log.histories own s.colour))) syncs o.1

@@ -146,7 +146,7 @@ module _ (script : Script) (report : Report) (fits : IsFitting script) (plain : 
           (sym is),
     )
     follow what answer after w (without_stamp set text colour is h) =
-        absurd (has_stamps set text (subst (IsWithin script.shape.regions script.shape.colours) is w) colour after h)
+        absurd (has_stamps set text (subst (IsWithin script.shape.regions script.shape.colours) is w).1 colour after h)
     follow what answer after w (full set text used is same f) =
         let e = f.all in absurd (let x : ⊥ = omega (arith, e, rows) in x)
     follow what answer after w (synced colour events snapshot nodes is tell s shows same) =

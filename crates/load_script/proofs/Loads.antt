@@ -1,8 +1,8 @@
 -- The script of a load fits, and only appends, syncs and pulls; so each of its runs that found memory comes to its summary.
 use Rattle.std.proofs.Common.{◌≡◌, ℕ, zero, suc, ◌+◌, ◌*◌, ◌%◌, ◌<◌, ◌≤◌, Bool, true, List, [], ◌∷◌, length, map, Option, Some, None, slice_get, refl, ap, sym, subst, ◌∙◌, inl, inr, arith, length-append}
-use Rattle.std.specs.Prelude.{◌==◌, nat_lt, slice_index}
+use Rattle.std.specs.Prelude.{◌==◌, ◌&&◌, nat_le, nat_lt, slice_index}
 use Rattle.std.specs.List.{All, filter, flat_map, list_all, range_with_len}
-use Rattle.std.proofs.lemmas.Bool.{eqb-true, and_parts, ltb-true, false_from_ne_true}
+use Rattle.std.proofs.lemmas.Bool.{eqb-true, and_parts, leb-true, ltb-true, false_from_ne_true}
 use Rattle.std.proofs.lemmas.List.{length-map}
 use Rattle.std.proofs.lemmas.List.Elements.{All-nil, All-cons}
 use Rattle.log_node.specs.Sets.{members}
@@ -10,7 +10,7 @@ use Rattle.col_core.proofs.CallerLemmas.{In, contains_in, slice_in, choice}
 use Rattle.script_text.specs.declared.script.What.{What}
 use Rattle.script_text.specs.declared.script.What.TheVariants as whats
 use Rattle.script_text.specs.declared.script.Command.{Command}
-use Rattle.script_text.specs.Fitting.{AreBelow, IsWithin, UsesObject, IsFitting}
+use Rattle.script_text.specs.Fitting.{AreBelow, HasColours, IsWithin, UsesObject, IsFitting}
 use Rattle.report_text.specs.declared.report.ColumnReport.{ColumnReport}
 use Rattle.report_text.specs.declared.report.ReplyLine.{ReplyLine}
 use Rattle.report_text.specs.declared.report.Report.{Report}
@@ -40,19 +40,30 @@ below_four (x ∷ xs) t c (inl e) = let p = and_parts (nat_lt x 4) (list_all (λ
     subst (λ n. n < 4) e (ltb-true x 4 p.0)
 below_four (x ∷ xs) t c (inr i) = below_four xs (and_parts (nat_lt x 4) (list_all (λ c. nat_lt c 4) xs) t).1 c i
 
--- the sets are of the first four colours
-sets_below : (set : ℕ) → In set sets → AreBelow 4 (record { 0 = set })
-sets_below set i = all_of (λ c. c < 4) (members (record { 0 = set }))
-    (below_four (members (record { 0 = set })) (of set i)) where
-      of : (set : ℕ) → In set sets → list_all (λ c. nat_lt c 4) (members (record { 0 = set })) ≡ true
-      of set (inl e) = subst (λ n. list_all (λ c. nat_lt c 4) (members (record { 0 = n })) ≡ true) e refl
-      of set (inr (inl e)) = subst (λ n. list_all (λ c. nat_lt c 4) (members (record { 0 = n })) ≡ true) e refl
-      of set (inr (inr (inl e))) = subst (λ n. list_all (λ c. nat_lt c 4) (members (record { 0 = n })) ≡ true) e refl
-      of set (inr (inr (inr (inl e)))) = subst (λ n. list_all (λ c. nat_lt c 4) (members (record { 0 = n })) ≡ true) e refl
-      of set (inr (inr (inr (inr (inl e))))) = subst (λ n. list_all (λ c. nat_lt c 4) (members (record { 0 = n })) ≡
-          true) e refl
-      of set (inr (inr (inr (inr (inr (inl e)))))) = subst (λ n. list_all (λ c. nat_lt c 4) (members (record { 0 = n }))
-          ≡ true) e refl
+-- a set of one of the first four colours or more
+abbrev is_fit : ℕ → Bool
+is_fit set =
+    list_all (λ c. nat_lt c 4) (members (record { 0 = set })) && nat_le 1 (length (members (record { 0 = set })))
+    && nat_le set 8
+
+-- the sets are such
+sets_fit : (set : ℕ) → In set sets → HasColours 1 (record { 0 = set }) × AreBelow 4 (record { 0 = set })
+sets_fit set i =
+    let low : Bool = list_all (λ c. nat_lt c 4) (members (record { 0 = set })) in
+    let some : Bool = nat_le 1 (length (members (record { 0 = set }))) in
+    let fit = and_parts (low && some) (nat_le set 8) (of set i) in
+    let first = and_parts low some fit.0 in
+    let small = leb-true set 8 fit.1 in (
+      record { many = leb-true 1 (length (members (record { 0 = set }))) first.1; bits = omega (arith, small) },
+      all_of (λ c. c < 4) (members (record { 0 = set })) (below_four (members (record { 0 = set })) first.0),
+    ) where
+      of : (set : ℕ) → In set sets → is_fit set ≡ true
+      of set (inl e) = subst (λ n. is_fit n ≡ true) e refl
+      of set (inr (inl e)) = subst (λ n. is_fit n ≡ true) e refl
+      of set (inr (inr (inl e))) = subst (λ n. is_fit n ≡ true) e refl
+      of set (inr (inr (inr (inl e)))) = subst (λ n. is_fit n ≡ true) e refl
+      of set (inr (inr (inr (inr (inl e))))) = subst (λ n. is_fit n ≡ true) e refl
+      of set (inr (inr (inr (inr (inr (inl e)))))) = subst (λ n. is_fit n ≡ true) e refl
       of set (inr (inr (inr (inr (inr (inr f)))))) = absurd f
 
 -- what is asked is an append, a sync or a pull that names what there is
@@ -64,7 +75,7 @@ remains n = (omega arith, omega arith)
 
 asks : (o : Option ℕ) (choice client round : ℕ) → ((set : ℕ) → o ≡ Some set → In set sets) → Asks
     (asked_by o choice client round)
-asks (Some set) choice' client round among = (tt, sets_below set (among set refl), tt)
+asks (Some set) choice' client round among = (tt, sets_fit set (among set refl), tt)
 asks None choice' client round among =
     choice Asks (choice' == 6) (whats.Sync (round % 4)) (whats.Pull (home_of (client + 1)) (round % 4))
     (λ _. (tt, (remains round).0, tt)) (λ _. (tt, ((remains (client + 1)).1, (remains round).0), tt))

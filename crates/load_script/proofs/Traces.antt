@@ -331,9 +331,9 @@ module _ (F : ℕ → Type 0) (colours : ℕ) (log : Log) (caller : Caller) (hol
   comes_later : (what : What) (answer : Answer) (regions : ℕ) (kept after : Kept) → IsWithin regions colours what
       → Trace F colours log caller kept → Comes log caller kept what answer after → Trace F colours log caller after
   comes_later what answer regions kept after w t (stood set text stamp row points is tells a) =
-      stood_later kept t set text (subst (IsWithin regions colours) is w) stamp row points after a
+      stood_later kept t set text (subst (IsWithin regions colours) is w).1 stamp row points after a
   comes_later what answer regions kept after w t (without_stamp set text colour is h) =
-      stampless_later kept t set text (subst (IsWithin regions colours) is w) colour after h
+      stampless_later kept t set text (subst (IsWithin regions colours) is w).1 colour after h
   comes_later what answer regions kept after w t (full set text used is same f) =
       subst (λ (k : Kept). Trace F colours log caller k) (sym same) t
   comes_later what answer regions kept after w t (synced colour events snapshot nodes is tells s shows same) =

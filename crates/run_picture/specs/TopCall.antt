@@ -1,15 +1,10 @@
 -- What the program writes for the bytes that it reads.
-use Rattle.std.specs.Prelude.{◌≡◌, ℕ, List, Option, IfSome, not}
-use Rattle.std.specs.List.{find}
-use Rattle.std.specs.Option.{option_map}
+use Rattle.std.specs.Prelude.{◌≡◌, ℕ, List, Option, IfSome}
 use Rattle.std.specs.Io.KnownBytes.{Appends}
-use Rattle.script_text.specs.declared.script.Object.{Object}
-use Rattle.script_text.specs.declared.script.Command.{Command}
 use Rattle.script_text.specs.declared.script.Script.{Script}
 use Rattle.script_text.specs.Grammar.{IsScript}
 use Rattle.report_text.specs.declared.report.Report.{Report}
 use Rattle.lawful_run.specs.Lawful.{LawfulRun}
-use Rattle.script_meaning.specs.States.{is_built}
 use Rattle.script_meaning.specs.Meaning.{IsStepReport}
 use Rattle.run_picture.specs.declared.top.Status.{Status}
 use Rattle.run_picture.specs.declared.top.Status.TheVariants.{Done, Refused, ReadFault, WriteFault, NoMemory}
@@ -23,11 +18,6 @@ code_of Refused = 2
 code_of ReadFault = 3
 code_of WriteFault = 4
 code_of NoMemory = 5
-
--- the line of the first command over these objects that is not done yet
-abbrev pub first_unbuilt : List Object → List Command → Option ℕ
-first_unbuilt objects commands =
-    option_map (λ (c : Command). c.line) (find (λ (c : Command). not (is_built objects c.what)) commands)
 
 -- a report of the script, done in the order of the file
 pub record IsReportOf (script : Script) (report : Report) : Type 0 where

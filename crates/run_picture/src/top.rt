@@ -5,18 +5,16 @@ ghost use Rattle.fuzzy_io.specs.Causes.{Rose};
 ghost use Rattle.script_text.specs.Fitting.{IsFitting};
 ghost use Rattle.script_meaning.specs.States.{StopsAreLast};
 ghost use Rattle.report_text.specs.ReportText.{refusal_bytes};
-ghost use Rattle.run_picture.specs.TopCall.{code_of, first_unbuilt, Shows, Draws};
+ghost use Rattle.run_picture.specs.TopCall.{code_of, Shows, Draws};
 
 use crate::drawing::draw;
 use crate::svg::{PrintFault, print};
 use fuzzy_io::{Failed, ReadStop, Sink, Source, read_all};
 use log_node::MAX_ROWS;
 use report_text::print_refusal;
-use script_in_order::{is_built, run_in_order};
+use script_in_order::run_in_order;
 use script_meaning::scripts_stop_last;
-use script_text::{
-    Command, MAX_BYTES, Object, Reason, Script, ScriptFault, parse, rows_are_within_limits,
-};
+use script_text::{MAX_BYTES, Reason, Script, ScriptFault, parse, rows_are_within_limits};
 use std::alloc::Global;
 
 /// How a run ends; the program exits with its code.
@@ -24,7 +22,7 @@ use std::alloc::Global;
 pub enum Status {
     /// The whole picture was written.
     Done,
-    /// The bytes are no script that can be done, and the line that says why was written.
+    /// The bytes are no script, and the line that says why was written.
     Refused,
     /// The source failed. Nothing was written.
     ReadFault,
@@ -72,17 +70,7 @@ fn refuse<K: Sink>(line: u32, why: &[u8], sink: &mut K) -> Status
     }
 }
 
-// The line of the first command that is not done yet, if there is one.
-fn first_unbuilt(objects: &[Object], commands: &[Command]) -> Option<u32>
-    ensures { result ≡ first_unbuilt objects.now commands.now }
-{
-    commands
-        .iter()
-        .find(|command| !is_built(objects, &command.what))
-        .map(|command| command.line)
-}
-
-// Does the commands of a script, and writes the picture of its run, or the line of the first command that is not done.
+// Does the commands of a script, and writes the picture of its run.
 fn draw_script<K: Sink>(alloc: Global, script: &Script, sink: &mut K) -> Status
     requires fits { IsFitting script.now }
     requires rows { script.now.shape.rows ≤ MAX_ROWS }
@@ -92,9 +80,6 @@ fn draw_script<K: Sink>(alloc: Global, script: &Script, sink: &mut K) -> Status
     ensures no_memory { result ≡ Status.NoMemory → sink.new ≡ sink.old }
     ensures no_read_fault { result ≢ Status.ReadFault }
 {
-    if let Some(line) = first_unbuilt(script.objects.as_slice(), script.commands.as_slice()) {
-        return refuse(line, b"not built", sink);
-    }
     let Ok(report) = run_in_order(alloc, script) else {
         return Status::NoMemory;
     };

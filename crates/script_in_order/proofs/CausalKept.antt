@@ -21,7 +21,7 @@ abbrev pub IsCausalOf : World → ℕ → Fold → Type 0
 IsCausalOf w colour (folds.Map shards) = ⊥
 IsCausalOf w colour (folds.Queue queue) = ⊥
 IsCausalOf w colour (folds.Causal regions) = AreCausalFolds w colour regions.items
-IsCausalOf w colour folds.Nothing = ⊥
+IsCausalOf w colour (folds.Tx fold) = ⊥
 
 -- it is no other
 pub no_other : (w : World) (colour : ℕ) (fold : Fold) → IsCausalOf w colour fold
@@ -29,14 +29,14 @@ pub no_other : (w : World) (colour : ℕ) (fold : Fold) → IsCausalOf w colour 
 no_other w colour (folds.Map shards) f none = f
 no_other w colour (folds.Queue queue) f none = f
 no_other w colour (folds.Causal regions) f none = none regions refl
-no_other w colour folds.Nothing f none = f
+no_other w colour (folds.Tx fold) f none = f
 
 by_kind : (w : World) (colour : ℕ) (fold : Fold) → IsFoldOf w (kinds.Causal colour) fold → IsCausalOf w colour fold
 by_kind w colour (folds.Map shards) (home, colours, is, f) = absurd (let g : ⊥ = cc in g)
 by_kind w colour (folds.Queue queue) (home, other, is, f) = absurd (let g : ⊥ = cc in g)
 by_kind w colour (folds.Causal regions) (other, is, f) =
     let e : other ≡ colour = cc in subst (λ (c : ℕ). AreCausalFolds w c regions.items) e f
-by_kind w colour folds.Nothing n = absurd (n.2 colour refl)
+by_kind w colour (folds.Tx fold) (home, colours, is, f) = absurd (let g : ⊥ = cc in g)
 
 object_of : (found : Option Object) (kind : Kind) → option_map (λ (o : Object). o.kind) found ≡ Some kind
     → (o : Object) × (found ≡ Some o) × (o.kind ≡ kind)
@@ -86,7 +86,7 @@ causal_put w objects all object colour fold f is right =
       by_fold o at (folds.Map shards) r = absurd r
       by_fold o at (folds.Queue queue) r = absurd r
       by_fold o at (folds.Causal regions) r = (colour, same_kind o at, r)
-      by_fold o at folds.Nothing r = absurd r
+      by_fold o at (folds.Tx fold) r = absurd r
 
 -- one item more at the end of a list
 pub pushed : {A : Type 0} (xs : List A) (x : A) (n : ℕ) (y : A) → slice_get (xs ++ x ∷ []) n ≡ Some y

@@ -11,7 +11,7 @@ use Rattle.script_text.specs.declared.script.What.{What}
 use Rattle.script_text.specs.declared.script.What.TheVariants as whats
 use Rattle.report_text.specs.declared.report.Answer.{Answer}
 use Rattle.report_text.specs.declared.report.Answer.TheVariants as answers
-use Rattle.script_meaning.specs.States.{State, Grants, all_granted, answered, is_built}
+use Rattle.script_meaning.specs.States.{State, Grants, all_granted, answered}
 use Rattle.script_meaning.specs.Objects.{caller_in, refusing_home}
 use Rattle.script_meaning.specs.Meaning.{done_one, done_from}
 use Rattle.script_in_order.specs.Doing.{DoneBy, Does, DoesAtHome, folds_nodes, transaction_of, with_replies}
@@ -81,22 +81,22 @@ other_kinds (whats.Commit object pairs) b p q r k s t u v x y = let f : ⊥ = cc
 other_kinds (whats.Enq object value) b p q r k s t u v x y = y object value refl
 other_kinds (whats.Deq object) b p q r k s t u v x y = let f : ⊥ = cc in f
 
--- no command of another kind is built that folds nodes
-pub fold_kinds : (objects : List Object) (what : What) → is_built objects what ≡ true → transaction_of what ≡ None → folds_nodes what ≡ true
+-- no command of another kind folds nodes
+pub fold_kinds : (what : What) → transaction_of what ≡ None → folds_nodes what ≡ true
     → ((o : ℕ) (k : List ℕ) → what ≡ whats.Get o k → ⊥)
     → ((o : ℕ) (ks : List (List ℕ)) → what ≡ whats.GetAll o ks → ⊥) → ((o : ℕ) → what ≡ whats.Deq o → ⊥) → ⊥
-fold_kinds objects (whats.Append colours text) b n f p q r = let g : ⊥ = cc in g
-fold_kinds objects (whats.Stop steps colours text) b n f p q r = let g : ⊥ = cc in g
-fold_kinds objects (whats.Sync colour) b n f p q r = let g : ⊥ = cc in g
-fold_kinds objects (whats.Scan colours) b n f p q r = let g : ⊥ = cc in g
-fold_kinds objects (whats.Pull region colour) b n f p q r = let g : ⊥ = cc in g
-fold_kinds objects (whats.Trim colour) b n f p q r = let g : ⊥ = cc in g
-fold_kinds objects (whats.Put object key value) b n f p q r = let g : ⊥ = cc in g
-fold_kinds objects (whats.Get object key) b n f p q r = p object key refl
-fold_kinds objects (whats.Del object key) b n f p q r = let g : ⊥ = cc in g
-fold_kinds objects (whats.PutAll object pairs) b n f p q r = let g : ⊥ = cc in g
-fold_kinds objects (whats.GetAll object keys) b n f p q r = q object keys refl
-fold_kinds objects (whats.Read object keys) b n f p q r = let g : ⊥ = cc in g
-fold_kinds objects (whats.Commit object pairs) b n f p q r = let g : ⊥ = cc in g
-fold_kinds objects (whats.Enq object value) b n f p q r = let g : ⊥ = cc in g
-fold_kinds objects (whats.Deq object) b n f p q r = r object refl
+fold_kinds (whats.Append colours text) n f p q r = let g : ⊥ = cc in g
+fold_kinds (whats.Stop steps colours text) n f p q r = let g : ⊥ = cc in g
+fold_kinds (whats.Sync colour) n f p q r = let g : ⊥ = cc in g
+fold_kinds (whats.Scan colours) n f p q r = let g : ⊥ = cc in g
+fold_kinds (whats.Pull region colour) n f p q r = let g : ⊥ = cc in g
+fold_kinds (whats.Trim colour) n f p q r = let g : ⊥ = cc in g
+fold_kinds (whats.Put object key value) n f p q r = let g : ⊥ = cc in g
+fold_kinds (whats.Get object key) n f p q r = p object key refl
+fold_kinds (whats.Del object key) n f p q r = let g : ⊥ = cc in g
+fold_kinds (whats.PutAll object pairs) n f p q r = let g : ⊥ = cc in g
+fold_kinds (whats.GetAll object keys) n f p q r = q object keys refl
+fold_kinds (whats.Read object keys) n f p q r = let g : ⊥ = cc in g
+fold_kinds (whats.Commit object pairs) n f p q r = let g : ⊥ = cc in g
+fold_kinds (whats.Enq object value) n f p q r = let g : ⊥ = cc in g
+fold_kinds (whats.Deq object) n f p q r = r object refl

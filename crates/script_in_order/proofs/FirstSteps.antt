@@ -1,5 +1,5 @@
 -- What the steps answer by which appends begin.
-use Rattle.std.proofs.Common.{◌≡◌, ℕ, suc, ◌+◌, ◌<◌, ◌≤◌, ◌^◌, Bool, true, false, List, [], ◌∷◌, length, refl, ap, sym}
+use Rattle.std.proofs.Common.{◌≡◌, ℕ, suc, ◌+◌, ◌<◌, Bool, true, false, List, [], ◌∷◌, length, refl, ap, sym}
 use Rattle.std.proofs.Common.{subst, ◌∙◌, arith, lt-ltb}
 use Rattle.std.specs.Prelude.{◌&&◌, not, nat_lt, if◌then◌else◌}
 use Rattle.std.specs.List.{All, list_all}
@@ -17,7 +17,6 @@ use Rattle.world_laws.specs.Worlds.{is_column, may_begin, may_single, next_row, 
 use Rattle.world_laws.specs.Worlds.{after_single, begun_node, is_begun, row_of}
 use Rattle.world_laws.specs.Laws.{IsBounded}
 use Rattle.world_laws.proofs.CallerLemmas.{updated-here, updated_at-here}
-use Rattle.script_meaning.specs.States.{has_colours}
 use Rattle.script_meaning.specs.Appends.{is_full}
 
 -- A row that is begun
@@ -168,13 +167,3 @@ not_entered w w1 client colour text e is =
     let b = refused_reply (may_single w client colour) (length (home_history w client colour))
     (single_stamp w client colour) (sym e) in
     (b, is ∙ ap (λ (x : Bool). if x then after_single w client colour text else w) b)
-
--- a set has so many colours
-pub at_least : (count : ℕ) (colours : Colours) → has_colours count colours ≡ true → count ≤ length (members colours)
-unfolding has_colours
-at_least count colours t =
-    let few = and_parts (not (nat_lt (length (members colours)) count)) (nat_lt colours.0 (2 ^ 64)) t in
-    ltb-false (length (members colours)) count (turn (nat_lt (length (members colours)) count) few.0) where
-      turn : (b : Bool) → not b ≡ true → b ≡ false
-      turn true e = absurd (let f : ⊥ = cc in f)
-      turn false e = refl

@@ -27,9 +27,11 @@ use Rattle.script_in_order.proofs.CausalLater.{fold_later}
 use Rattle.script_in_order.specs.declared.folds.FirstNodes.{FirstNodes}
 use Rattle.script_in_order.specs.declared.folds.ShardFold.{ShardFold}
 use Rattle.script_in_order.specs.declared.folds.QueueFold.{QueueFold}
+use Rattle.script_in_order.specs.declared.tx_folds.TxFold.{TxFold}
+use Rattle.script_in_order.proofs.TxFolds.{tx_stays}
 use Rattle.script_in_order.specs.declared.folds.Fold.{Fold}
 use Rattle.script_in_order.specs.declared.folds.Fold.TheVariants as folds
-use Rattle.script_in_order.specs.Folds.{IsShardFold, AreShardFolds, IsQueueFold, IsFoldOf, AreFolded, ShardsWithin, QueueWithin, line_of, nodes_at}
+use Rattle.script_in_order.specs.Folds.{IsShardFold, AreShardFolds, IsQueueFold, IsTxFold, IsFoldOf, AreFolded, ShardsWithin, QueueWithin, IsTxAt, line_of, nodes_at}
 
 module _ (w v : World) (reached : IsReached w) (to : RunsTo w v) where
   shard_stays : (home colour : ℕ) (colours : List ℕ) (fold : ShardFold) → IsShardFold w home colours colour fold
@@ -80,7 +82,7 @@ module _ (w v : World) (reached : IsReached w) (to : RunsTo w v) where
   )
   fold_stays kind (folds.Queue queue) (home, colour, is, f) = (home, colour, is, queue_stays home colour queue f)
   fold_stays kind (folds.Causal regions) (colour, is, f) = (colour, is, causal_stays colour regions.items f)
-  fold_stays kind folds.Nothing n = n
+  fold_stays kind (folds.Tx fold) (home, colours, is, f) = (home, colours, is, tx_stays w v reached to fold f)
 
   -- what is folded stays right
   pub folds_stay : (objects : List Object) (all : List Fold) → AreFolded w objects all → AreFolded v objects all
@@ -308,7 +310,7 @@ module _ (w : World) (home : ℕ) (colours : List ℕ) where
   only_map (folds.Map shards) f n = n shards refl
   only_map (folds.Queue queue) (h, c, e, right) n = let g : ⊥ = cc in g
   only_map (folds.Causal regions) (c, e, right) n = let g : ⊥ = cc in g
-  only_map folds.Nothing f n = f.0 home colours refl
+  only_map (folds.Tx fold) (h, cs, e, right) n = let g : ⊥ = cc in g
 
 -- the fold of a queue
 module _ (w : World) (home colour : ℕ) where
@@ -324,7 +326,28 @@ module _ (w : World) (home colour : ℕ) where
   only_queue (folds.Map shards) (h, cs, e, right) n = let g : ⊥ = cc in g
   only_queue (folds.Queue queue) f n = n queue refl
   only_queue (folds.Causal regions) (c, e, right) n = let g : ⊥ = cc in g
-  only_queue folds.Nothing f n = f.1 home colour refl
+  only_queue (folds.Tx fold) (h, cs, e, right) n = let g : ⊥ = cc in g
+
+-- the fold of a transactional map
+module _ (w : World) (home : ℕ) (colours : List ℕ) where
+  pub tx_fold : (fold : TxFold) → IsFoldOf w (kinds.Tx home colours) (folds.Tx fold) → IsTxFold w fold
+  tx_fold fold (h, cs, e, right) = right
+
+  pub only_tx : (fold : Fold) → IsFoldOf w (kinds.Tx home colours) fold
+      → ((tx : TxFold) → fold ≡ folds.Tx tx → ⊥) → ⊥
+  only_tx (folds.Map shards) (h, cs, e, right) n = let g : ⊥ = cc in g
+  only_tx (folds.Queue queue) (h, c, e, right) n = let g : ⊥ = cc in g
+  only_tx (folds.Causal regions) (c, e, right) n = let g : ⊥ = cc in g
+  only_tx (folds.Tx tx) f n = n tx refl
+
+-- that of an object
+pub tx_of : (w : World) (objects : List Object) (all : List Fold) (object : ℕ) (fold : Fold) (tx : TxFold)
+    → AreFolded w objects all → IsTxAt objects object → fold ≡ get_or all object fold → fold ≡ folds.Tx tx
+    → IsTxFold w tx
+tx_of w objects all object fold tx f at there same =
+    tx_fold w at.0 at.1 tx
+    (subst (IsFoldOf w (kinds.Tx at.0 at.1)) same
+    (fold_there w objects all object (kinds.Tx at.0 at.1) f at.2 fold there))
 
 -- a shard that was folded on is within its bound
 pub within_with : (all : List Fold) (object : ℕ) (shards : Vec ShardFold Global) (n : ℕ) (fold : ShardFold)

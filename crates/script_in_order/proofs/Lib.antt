@@ -27,4 +27,8 @@ mod GetSteps
 mod TransactionSets
 mod Committing
 mod TransactionSteps
+mod KeysSplit
+mod LinesRead
+mod TxFolds
+mod TxFeeds
 mod ReadVerdicts

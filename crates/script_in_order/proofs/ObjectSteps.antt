@@ -23,10 +23,10 @@ use Rattle.script_text.specs.declared.script.Object.{Object}
 use Rattle.script_text.specs.declared.script.Command.{Command}
 use Rattle.script_text.specs.Pieces.{is_key}
 use Rattle.script_text.specs.Items.{set_of}
-use Rattle.script_text.specs.Fitting.{AreBelow, AreObjectColours, IsKindWithin, is_queue, HasObject}
+use Rattle.script_text.specs.Fitting.{AreBelow, HasColours, AreObjectColours, IsKindWithin, is_any_map, is_queue, HasObject}
 use Rattle.report_text.specs.declared.report.Answer.{Answer}
 use Rattle.lawful_run.specs.Asks.{object_colours, keys_of, put_form}
-use Rattle.script_meaning.specs.States.{has_colours, kind_in}
+use Rattle.script_meaning.specs.States.{kind_in}
 use Rattle.script_meaning.specs.Appends.{appended}
 use Rattle.script_meaning.specs.Objects.{appended_form, shard_set}
 use Rattle.script_meaning.proofs.CallerLemmas.{at_or, keys_set, shard_below, key_is_word, object_has, queue_one, set_has, shard_members, shards_below, shards_has}
@@ -39,11 +39,20 @@ kind_is objects object other has =
     ap (λ (o : Object). Some o.kind) (at_or objects object has.found other has.there)
     ∙ ap (λ (o : Option Object). option_map (λ (x : Object). x.kind) o) (sym has.there)
 
--- a queue that a command uses is one
-pub queue_is : (objects : List Object) (object : ℕ) (other : Object) → HasObject objects object is_queue
-    → is_queue (get_or objects object other).kind ≡ true
-queue_is objects object other has =
-    ap (λ (o : Object). is_queue o.kind) (at_or objects object has.found other has.there) ∙ has.kind
+-- an object that a command uses is of such a kind
+pub has_kind : {test : Kind → Bool} (objects : List Object) (object : ℕ) (other : Object)
+    → HasObject objects object test → test (get_or objects object other).kind ≡ true
+has_kind {test} objects object other has =
+    ap (λ (o : Object). test o.kind) (at_or objects object has.found other has.there) ∙ has.kind
+
+-- no map is of another kind than these
+pub map_kinds : (kind : Kind) → is_any_map kind ≡ true
+    → ((home : ℕ) (colours : List ℕ) → kind ≡ kinds.Map home colours → ⊥)
+    → ((colour : ℕ) → kind ≡ kinds.Causal colour → ⊥) → ⊥
+map_kinds (kinds.Map home colours) is p q = p home colours refl
+map_kinds (kinds.Tx home colours) is p q = let f : ⊥ = cc in f
+map_kinds (kinds.Causal colour) is p q = q colour refl
+map_kinds (kinds.Queue home colour) is p q = let f : ⊥ = cc in f
 
 pub put_is_form : (kind : Kind) (key value : List ℕ) → is_key key ≡ true → is_key value ≡ true
     → IsForm (put_form (Some kind) key value)
@@ -72,7 +81,7 @@ module _ (regions count : ℕ) (few : count ≤ 16) (objects : List Object)
   small = record { some = own.some; below = λ k d lt. let x = own.below k d lt in omega (arith, x, few) }
 
   pub has_some : (keys : List (List ℕ)) (key : List ℕ) → In key keys
-      → has_colours 1 (shard_set (object_colours (Some kind)) keys) ≡ true
+      → HasColours 1 (shard_set (object_colours (Some kind)) keys)
   has_some keys key i = shards_has count few (object_colours (Some kind)) own.some own.below keys key i
 
   pub are_low : (keys : List (List ℕ)) → AreBelow count (shard_set (object_colours (Some kind)) keys)
@@ -203,7 +212,7 @@ module _ (regions count : ℕ) (few : count ≤ 16) (objects : List Object)
   queue_low = each_below count (set_of (object_colours (kind_in objects object)))
       (λ c i. low c (subst (λ (l : List ℕ). In c l) of_queue i))
 
-  pub queue_some : has_colours 1 (set_of (object_colours (kind_in objects object))) ≡ true
+  pub queue_some : HasColours 1 (set_of (object_colours (kind_in objects object)))
   queue_some = set_has (object_colours (kind_in objects object))
       (λ c i. let lt = low c i in omega (arith, lt, few))
       (subst (λ (l : List ℕ). 1 ≤ length l) (sym of_queue)

@@ -20,7 +20,7 @@ use Rattle.script_meaning.specs.Dequeues.{object_at}
 use Rattle.script_meaning.specs.Stamped.{keys_read}
 use Rattle.script_meaning.specs.Transactions.{verdict_in}
 use Rattle.script_meaning.proofs.CallerLemmas.{keys_stand}
-use Rattle.script_in_order.specs.Transacting.{AreOfLines}
+use Rattle.script_in_order.specs.Transacting.{AreOfLines, AreOthers}
 use Rattle.script_in_order.proofs.RunReplies.{any_default}
 
 -- the keys that a read has stand in lines
@@ -44,10 +44,6 @@ one_more w keys i key low is =
     ap (λ (k : Key). map (object_at w) (take i keys) ++ object_at w k ∷ []) is
     ∙ (sym (map-append (object_at w) (take i keys) (get_or keys i key ∷ []))
     ∙ ap (map (object_at w)) (sym (take_more keys i key low)))
-
--- none of the keys is this one
-abbrev pub AreOthers : Key → List Key → Type 0
-AreOthers own keys = All (λ (key : Key). same_key key own ≡ false) keys
 
 pub no_others : (own : Key) → AreOthers own []
 no_others own k d low = absurd (let f : ⊥ = omega (arith, low) in f)

@@ -2,7 +2,7 @@
 use Rattle.std.proofs.Common.{◌≡◌, inl, inr, ℕ, zero, suc, ◌+◌, ◌-◌, ◌<◌, ◌≤◌, Bool, true, cond, List, [], ◌∷◌, ◌++◌}
 use Rattle.std.proofs.Common.{length, map, take, drop, get_or, set, refl, ap, sym, subst, ◌∙◌, arith, zero-add}
 use Rattle.std.proofs.Common.{length-set, get_or-set_same, get_or-set_other}
-use Rattle.std.specs.Prelude.{◌==◌, IsTrue, None}
+use Rattle.std.specs.Prelude.{◌==◌, None}
 use Rattle.std.specs.List.{All, range_with_len}
 use mathlib.Core.Path.{fun_ext}
 use Rattle.std.proofs.lemmas.Bool.Decides.{eqb_tells}
@@ -17,7 +17,7 @@ use Rattle.script_text.specs.declared.script.Command.{Command}
 use Rattle.script_text.specs.declared.script.Script.{Script}
 use Rattle.script_text.specs.Fitting.{IsFitting, IsWithin, IsKindWithin, UsesObject}
 use Rattle.report_text.specs.declared.report.ReplyLine.{ReplyLine}
-use Rattle.script_meaning.specs.States.{State, Reads, no_reads, is_built, StopsAreLast}
+use Rattle.script_meaning.specs.States.{State, Reads, no_reads, StopsAreLast}
 use Rattle.script_meaning.specs.Meaning.{LeadTo, nothing, next}
 use Rattle.object_form.specs.Laws.{ReadsBack}
 use Rattle.script_meaning.proofs.CallerLemmas.{lead_shape, reads_fit}
@@ -69,9 +69,8 @@ module _ (script : Script) (fits : IsFitting script) (place : ℕ) (code : RunVi
   pub next_reads : length (replies_at code.replies command.client).reads ≡ length script.objects
   next_reads = run.reads command.client caller
 
-  pub next_rests : ReadsBack → All (λ (c : Command). IsTrue (is_built script.objects c.what)) script.commands
-      → StopsAreLast script → AreFit (read_at (replies_at code.replies command.client).reads)
-  next_rests back built last = reads_fit back script fits built last run.leads (drop place script.commands)
+  pub next_rests : ReadsBack → StopsAreLast script → AreFit (read_at (replies_at code.replies command.client).reads)
+  next_rests back last = reads_fit back script fits last run.leads (drop place script.commands)
       (sym (take-append-drop place script.commands)) command.client
 
   -- the run after the command

@@ -1,5 +1,5 @@
 -- Reads of transactional maps, and the reads behind commits, by what their calls did.
-use Rattle.std.proofs.Common.{◌≡◌, ◌≢◌, ℕ, zero, suc, Bool, true, false, List, [], ◌∷◌, ◌++◌, length, map, set, get_or, ◌<◌, ◌≤◌, Option, Some, None, Ok, length-set, refl, ap, sym, subst, ◌∙◌}
+use Rattle.std.proofs.Common.{◌≡◌, ◌≢◌, ℕ, zero, suc, Bool, true, false, List, [], ◌∷◌, ◌++◌, length, map, set, get_or, ◌<◌, ◌≤◌, Option, Some, None, option_map, Ok, length-set, refl, ap, sym, subst, ◌∙◌}
 use Rattle.std.specs.Prelude.{IfSome, if◌then◌else◌}
 use Rattle.std.specs.List.{All}
 use Rattle.log_node.specs.declared.ids.Counts.{Counts}
@@ -7,8 +7,10 @@ use Rattle.log_node.specs.declared.ids.Colours.{Colours}
 use Rattle.log_node.specs.Sets.{members}
 use Rattle.col_core.proofs.CallerLemmas.{In}
 use Rattle.script_text.specs.declared.script.Kind.{Kind}
+use Rattle.script_text.specs.declared.script.Kind.TheVariants as kinds
+use Rattle.script_in_order.specs.Folds.{IsTxAt}
 use Rattle.script_text.specs.Items.{set_of}
-use Rattle.script_text.specs.Fitting.{AreBelow, AreObjectColours, IsKindWithin, UsesObject, HasObject, is_tx}
+use Rattle.script_text.specs.Fitting.{AreBelow, HasColours, AreObjectColours, IsKindWithin, UsesObject, HasObject, is_tx}
 use Rattle.script_text.specs.Grammar.{are_pairs}
 use Rattle.lawful_run.specs.Asks.{object_colours, keys_of}
 use Rattle.lawful_run.proofs.CallerLemmas.{get_within}
@@ -37,7 +39,7 @@ use Rattle.report_text.specs.declared.report.KeyAnswer.{KeyAnswer}
 use Rattle.report_text.specs.declared.report.PointPiece.{PointPiece}
 use Rattle.report_text.specs.declared.report.RaisePiece.{RaisePiece}
 use Rattle.report_text.specs.declared.report.SyncPiece.{SyncPiece}
-use Rattle.script_meaning.specs.States.{State, Grants, Reads as Keeps, all_granted, answered, reads_left, kind_in, has_colours}
+use Rattle.script_meaning.specs.States.{State, Grants, Reads as Keeps, all_granted, answered, reads_left, kind_in}
 use Rattle.script_meaning.specs.Appends.{appended}
 use Rattle.script_meaning.specs.Objects.{caller_in, refusing_home, shard_set}
 use Rattle.script_meaning.specs.Dequeues.{object_at}
@@ -85,6 +87,20 @@ pub tx_is : (objects : List Object) (object : ℕ) (other : Object) → HasObjec
     → is_tx (get_or objects object other).kind ≡ true
 tx_is objects object other has =
     ap (λ (o : Object). is_tx o.kind) (at_or objects object has.found other has.there) ∙ has.kind
+
+its_kinds : (kind : Kind) → is_tx kind ≡ true → (home : ℕ) × (colours : List ℕ) × (kind ≡ kinds.Tx home colours)
+its_kinds (kinds.Map home of) is = absurd (let f : ⊥ = cc in f)
+its_kinds (kinds.Tx home of) is = (home, of, refl)
+its_kinds (kinds.Causal colour) is = absurd (let f : ⊥ = cc in f)
+its_kinds (kinds.Queue home colour) is = absurd (let f : ⊥ = cc in f)
+
+pub tx_at : (objects : List Object) (object : ℕ) → HasObject objects object is_tx → IsTxAt objects object
+tx_at objects object has =
+    let kind = its_kinds has.found.kind has.kind in (
+      kind.0,
+      kind.1,
+      ap (option_map (λ (o : Object). o.kind)) has.there ∙ ap (λ (k : Kind). Some k) kind.2,
+    )
 
 -- a read, as its end is told
 pub read_as : (old new : World) (client : ℕ) (colours : List ℕ) (s t : Stamped) → s ≡ t
@@ -387,10 +403,10 @@ module _ (objects : List Object) (command : Command) (object : ℕ) (pairs : Lis
         (sym (kind_is objects object other has))
 
     -- it has a colour, and all its colours are among the world's
-    pub its_some : are_pairs 2 pairs ≡ true → has_colours 1 set ≡ true
+    pub its_some : are_pairs 2 pairs ≡ true → HasColours 1 set
     its_some some =
         let key = some_of (keys_of pairs) (key_some 2 pairs some) in
-        subst (λ (s : Colours). has_colours 1 s ≡ true) (sym as_kind)
+        subst (HasColours 1) (sym as_kind)
         (has_some regions count few objects all object is_tx has its_kind (kind_is objects object other has)
         (version_keys reads ++ keys_of pairs) key.0 (in_right key.0 (version_keys reads) (keys_of pairs) key.1))
 
@@ -404,11 +420,13 @@ module _ (objects : List Object) (command : Command) (object : ℕ) (pairs : Lis
       (same : form ≡ forms.Transaction reads pairs)
       (d : DoneBy (λ grants state. appended grants state command set (form_text form) (members set)) command w v given [])
     where
+      pub appended_to : RunsTo w v
+      appended_to = subst (RunsTo w) (ap (λ (s : State). s.world) (d.is (unanswered w)))
+          (append_to d.grants (with_replies w (unanswered w)) command set (form_text form) (members set))
+
       shape_after : v.shape ≡ w.shape
       shape_after =
-          let to = subst (RunsTo w) (ap (λ (s : State). s.world) (d.is (unanswered w)))
-          (append_to d.grants (with_replies w (unanswered w)) command set (form_text form) (members set)) in
-          ap (λ (x : World). x.shape) (sym to.run) ∙ (run_grows w to.steps).shape
+          ap (λ (x : World). x.shape) (sym appended_to.run) ∙ (run_grows w appended_to.steps).shape
 
       its_append : DoneBy (λ grants state. appended grants state command (its_set objects object reads pairs)
           (form_text (forms.Transaction reads pairs)) (members (its_set objects object reads pairs))) command w v given []

@@ -1,17 +1,19 @@
 -- What of each object is folded, and when that is right.
-use Rattle.std.specs.Prelude.{◌≡◌, ℕ, ◌≤◌, ◌<◌, List, length, map, take, Some, slice_get}
-use Rattle.std.specs.List.{Contains}
+use Rattle.std.specs.Prelude.{◌≡◌, ℕ, ◌≤◌, ◌<◌, List, [], length, map, take, drop, Some, slice_get}
+use Rattle.std.specs.List.{Contains, fold}
 use Rattle.log_node.specs.declared.ids.Key.{Key}
 use Rattle.object_fold.specs.Nodes.{ObjectNode}
-use Rattle.object_fold.specs.States.{IsShardMap, IsQueue}
+use Rattle.object_fold.specs.States.{IsShardMap, IsQueue, IsTxState}
 use Rattle.col_core.specs.History.{line}
-use Rattle.world_laws.specs.Worlds.{World, home_of}
+use Rattle.playback.specs.Merging.{merged, up_to}
+use Rattle.world_laws.specs.Worlds.{World, home_of, home_history}
 use Rattle.script_text.specs.declared.script.Kind.{Kind}
 use Rattle.script_text.specs.declared.script.Kind.TheVariants as kinds
 use Rattle.script_text.specs.declared.script.Object.{Object}
 use Rattle.script_meaning.specs.States.{kind_in}
 use Rattle.script_meaning.specs.Dequeues.{object_at}
 use Rattle.script_in_order.specs.CausalFolds.{AreCausalFolds}
+use Rattle.script_in_order.specs.declared.tx_folds.TxFold.{TxFold}
 use Rattle.script_in_order.specs.declared.folds.FirstNodes.{FirstNodes}
 use Rattle.script_in_order.specs.declared.folds.ShardFold.{ShardFold}
 use Rattle.script_in_order.specs.declared.folds.QueueFold.{QueueFold}
@@ -51,6 +53,28 @@ pub record IsQueueFold (w : World) (home colour : ℕ) (fold : QueueFold) : Type
   pub within : fold.count ≤ length (line (w.histories home colour))
   pub folded : IsQueue fold.queue (nodes_at w (record { region = home; colour = colour; count = fold.count }))
 
+-- the keys of the first nodes of some lines, in rising key, each once
+abbrev pub first_keys : World → List FirstNodes → List Key
+first_keys w firsts = fold (λ keys first. merged keys (take first.count (line_of w first))) [] firsts
+
+-- the keys of the nodes behind these first ones up to a stamp
+abbrev pub keys_behind : World → ℕ → List FirstNodes → List Key
+keys_behind w stamp firsts =
+    fold (λ keys first. merged keys (up_to stamp (drop first.count (line_of w first)))) [] firsts
+
+-- the lines are those of a client's region of these colours, and the first nodes of each are all up to the stamp
+pub record AreRead (w : World) (client stamp : ℕ) (colours : List ℕ) (firsts : List FirstNodes) : Type 0 where
+  pub lines : map (line_of w) firsts ≡ map (λ colour. line (home_history w client colour)) colours
+  pub there : (first : FirstNodes) → Contains firsts first → AreThere w first
+  pub cut : (first : FirstNodes) → Contains firsts first
+      → take first.count (line_of w first) ≡ up_to stamp (line_of w first)
+
+-- a transactional map is folded from the first nodes of some lines, whose stamps are up to the fold's
+pub record IsTxFold (w : World) (fold : TxFold) : Type 0 where
+  pub there : (first : FirstNodes) → Contains fold.firsts.items first → AreThere w first
+  pub low : (key : Key) → Contains (first_keys w fold.firsts.items) key → key.stamp ≤ fold.stamp
+  pub folded : IsTxState fold.state (map (object_at w) (first_keys w fold.firsts.items))
+
 -- the fold is of an object of this kind, and right
 abbrev pub IsFoldOf : World → Kind → Fold → Type 0
 IsFoldOf w kind (folds.Map shards) =
@@ -59,10 +83,7 @@ IsFoldOf w kind (folds.Queue queue) =
     (home : ℕ) × (colour : ℕ) × (kind ≡ kinds.Queue home colour) × IsQueueFold w home colour queue
 IsFoldOf w kind (folds.Causal regions) =
     (colour : ℕ) × (kind ≡ kinds.Causal colour) × AreCausalFolds w colour regions.items
-IsFoldOf w kind folds.Nothing =
-    ((home : ℕ) (colours : List ℕ) → kind ≡ kinds.Map home colours → ⊥)
-    × ((home colour : ℕ) → kind ≡ kinds.Queue home colour → ⊥)
-    × ((colour : ℕ) → kind ≡ kinds.Causal colour → ⊥)
+IsFoldOf w kind (folds.Tx fold) = (home : ℕ) × (colours : List ℕ) × (kind ≡ kinds.Tx home colours) × IsTxFold w fold
 
 -- there is a right one for each of the objects
 pub record AreFolded (w : World) (objects : List Object) (all : List Fold) : Type 0 where
@@ -96,3 +117,7 @@ IsMapAt w client objects object colours = kind_in objects object ≡ Some (kinds
 -- the object is a queue on the colour, at home in the client's region
 abbrev pub IsQueueAt : World → ℕ → List Object → ℕ → ℕ → Type 0
 IsQueueAt w client objects object colour = kind_in objects object ≡ Some (kinds.Queue (home_of w client) colour)
+
+-- the object is a transactional map
+abbrev pub IsTxAt : List Object → ℕ → Type 0
+IsTxAt objects object = (home : ℕ) × (colours : List ℕ) × (kind_in objects object ≡ Some (kinds.Tx home colours))

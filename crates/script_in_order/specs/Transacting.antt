@@ -1,9 +1,12 @@
 -- What a read or a commit of an object does to a world, what it is answered, and what its client keeps of the object.
-use Rattle.std.specs.Prelude.{◌≡◌, ℕ, Bool, true, List, [], Option, Some}
-use Rattle.std.specs.List.{Contains}
+use Rattle.std.specs.Prelude.{◌≡◌, ℕ, Bool, true, false, List, [], Option, Some, None, unwrap_or, if◌then◌else◌}
+use Rattle.std.specs.List.{All, Contains}
+use Rattle.log_node.specs.Order.{same_key}
 use Rattle.log_node.specs.declared.ids.Key.{Key}
 use Rattle.log_node.specs.declared.forms.Version.{Version}
 use Rattle.object_form.specs.Forms.{AreVersions}
+use Rattle.object_fold.specs.declared.verdict.Verdict.{Verdict}
+use Rattle.object_fold.specs.declared.verdict.Verdict.TheVariants.{Committed}
 use Rattle.col_core.specs.History.{line}
 use Rattle.col_core.specs.Keeping.{updated}
 use Rattle.world_laws.specs.Worlds.{World}
@@ -23,6 +26,16 @@ abbrev pub AreOfLines : World → List Key → Type 0
 AreOfLines w keys =
     (key : Key) → Contains keys key
     → (region : ℕ) × (colour : ℕ) × Contains (line (w.histories region colour)) key
+
+-- none of the keys is this one
+abbrev pub AreOthers : Key → List Key → Type 0
+AreOthers own keys = All (λ (key : Key). same_key key own ≡ false) keys
+
+-- the verdict on a node, where it was found before, or now that the one with this key was given its own
+abbrev pub found_with : Option Verdict → Option Verdict → Key → Key → Option Verdict
+found_with (Some verdict) given key own = Some verdict
+found_with None given key own =
+    if same_key key own then Some (unwrap_or given (Committed own.stamp)) else None
 
 -- what each read found is such as the text of a transaction may name
 abbrev pub AreFit : Reads → Type 0

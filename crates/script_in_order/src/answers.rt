@@ -1,8 +1,7 @@
 // The answer to one command, and the reply line that shows it.
-ghost use Rattle.std.specs.Prelude.{◌≡◌, [], false, IsTrue, IfOk, OnErr, MatchResult};
+ghost use Rattle.std.specs.Prelude.{◌≡◌, [], false, IfOk, OnErr, MatchResult};
 ghost use Rattle.report_text.specs.declared.report.Answer.TheVariants.{NoMemory};
 ghost use Rattle.world_code.specs.WorldView.{world_of};
-ghost use Rattle.script_meaning.specs.States.{is_built};
 ghost use Rattle.script_meaning.specs.Appends.{appended, stopped};
 ghost use Rattle.script_meaning.specs.Moves.{synced};
 ghost use Rattle.script_in_order.specs.Doing.{IsFit, DoesAtHome, DoneBy, folds_nodes};
@@ -28,7 +27,6 @@ pub fn answer(
     command: &Command,
     world: &mut World,
 ) -> Result<(Answer, Items), AllocError>
-    requires built { IsTrue (is_built objects.now command.now.what) }
     requires other { folds_nodes command.now.what ≡ false }
     requires fits { IsFit (world_of world.old) objects.now command.now.client command.now.what }
     ensures ok { IfOk result (λ g. DoesAtHome objects.now command.now (world_of world.old) (world_of world.new) g.0 g.1) }

@@ -1,12 +1,11 @@
 // Appends.
-ghost use Rattle.std.specs.Prelude.{◌≡◌, ◌≢◌, ◌<◌, [], IsTrue, IfOk, OnErr, true, ◌&&◌, length, map};
+ghost use Rattle.std.specs.Prelude.{◌≡◌, ◌≢◌, ◌<◌, [], IfOk, OnErr, true, ◌&&◌, length, map};
 ghost use Rattle.report_text.specs.declared.report.PointPiece.{PointPiece};
 ghost use Rattle.log_node.specs.Sets.{has, members};
-ghost use Rattle.script_text.specs.Fitting.{AreBelow};
+ghost use Rattle.script_text.specs.Fitting.{AreBelow, HasColours};
 ghost use Rattle.world_code.specs.WorldView.{world_of};
 ghost use Rattle.log_node.specs.Outcomes.{is_stamp_end_fence};
 ghost use Rattle.world_laws.specs.Worlds.{is_begun, next_id, row_of};
-ghost use Rattle.script_meaning.specs.States.{has_colours};
 ghost use Rattle.script_meaning.specs.Appends.{appended, appended_one, appended_several, ended_colour};
 ghost use Rattle.script_in_order.specs.Doing.{DoneBy};
 ghost use Rattle.script_in_order.specs.Points.{AreFinal, EndsAs};
@@ -28,7 +27,7 @@ pub fn append(
     text: &Text,
     world: &mut World,
 ) -> Result<Answer, AllocError>
-    requires many { IsTrue (has_colours 1 colours) }
+    requires many { HasColours 1 colours }
     requires caller { command.now.client < length world.old.shape.homes }
     requires within { AreBelow world.old.shape.colours colours }
     ensures ok { IfOk result (λ answer. DoneBy

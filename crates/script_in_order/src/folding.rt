@@ -1,7 +1,6 @@
 // Commands of objects that fold nodes for their answers.
 ghost use Rattle.std.specs.Prelude.{◌≡◌, [], IsTrue, IfOk, OnErr, None};
 ghost use Rattle.world_code.specs.WorldView.{world_of};
-ghost use Rattle.script_meaning.specs.States.{is_built};
 ghost use Rattle.script_meaning.specs.Objects.{caller_in, refusing_home};
 ghost use Rattle.script_in_order.specs.Doing.{IsFit, DoesAtHome, folds_nodes, transaction_of};
 ghost use Rattle.script_in_order.specs.Folds.{AreFolded};
@@ -46,7 +45,6 @@ pub fn answer_by_fold(
     world: &mut World,
     folds: &mut Folds,
 ) -> Result<Answer, AllocError>
-    requires built { IsTrue (is_built objects.now command.now.what) }
     requires kind { transaction_of command.now.what ≡ None }
     requires one { IsTrue (folds_nodes command.now.what) }
     requires fits { IsFit (world_of world.old) objects.now command.now.client command.now.what }

@@ -1,23 +1,30 @@
 // Folds that are kept: what of each object's nodes is folded already, so that a command folds only what is new. All
 // clients of an object with a home are of one region, and each command of it takes at least the whole line that stood
 // before it, so one fold serves them all.
-ghost use Rattle.std.specs.Prelude.{◌≡◌, ◌<◌, ◌≤◌, ◌∷◌, [], ℕ, List, Some, IfOk, OnOk};
+ghost use Rattle.std.specs.Prelude.{◌≡◌, ◌<◌, ◌≤◌, ◌∷◌, [], ℕ, List, Some, IfOk, OnOk, length, map};
 ghost use Rattle.std.specs.List.{Contains};
+ghost use Rattle.log_node.specs.Sets.{members};
+ghost use Rattle.object_fold.specs.Transactions.{value_of, writes_after, versions_after};
 ghost use Rattle.object_fold.specs.Maps.{shard_value};
 ghost use Rattle.object_fold.specs.Queues.{front_after};
 ghost use Rattle.col_core.specs.History.{line};
 ghost use Rattle.world_laws.specs.Worlds.{World as Meant};
-ghost use Rattle.script_text.specs.Fitting.{IsKindWithin, IsFitting};
+ghost use Rattle.script_text.specs.Fitting.{AreBelow, IsKindWithin, IsFitting};
 ghost use Rattle.world_code.specs.WorldView.{world_of};
 ghost use Rattle.script_meaning.specs.States.{kind_in};
 ghost use Rattle.script_meaning.specs.CausalGets.{causal_values};
 ghost use Rattle.script_meaning.specs.Dequeues.{object_at};
+ghost use Rattle.script_meaning.specs.Gets.{key_answers};
+ghost use Rattle.script_meaning.specs.Stamped.{keys_read};
+ghost use Rattle.script_meaning.specs.Transactions.{verdict_in};
 ghost use Rattle.script_in_order.specs.CausalFolds.{held_nodes, cut_of, AreCausalFolds};
-ghost use Rattle.script_in_order.specs.Folds.{nodes_at, AreThere, IsShardFold, AreShardFolds, IsQueueFold, IsFoldOf, AreFolded, ShardsWithin, QueueWithin, MayFold};
+ghost use Rattle.script_in_order.specs.Folds.{nodes_at, AreThere, IsShardFold, AreShardFolds, IsQueueFold, IsFoldOf, AreFolded, ShardsWithin, QueueWithin, MayFold, IsTxAt};
 
 use crate::causal::CausalFold;
-use log_node::{ColourList, Key, ListOf, Names, Shape, Text};
-use object_fold::{ShardMap, ValueQueue};
+use crate::tx_folds::{LinesRead, TxFold};
+use log_node::{ColourList, Key, Keys, ListOf, Names, Shape, Text, Versions};
+use object_fold::{ShardMap, ValueQueue, Verdict};
+use report_text::KeyAnswer;
 use script_text::{Kind, Object, Script};
 use std::alloc::{AllocError, Global};
 use std::marker::Model;
@@ -46,8 +53,8 @@ pub enum Fold {
     Queue(QueueFold),
     /// Of a causal map: what each region's column lets play, by region.
     Causal(Vec<CausalFold>),
-    /// Of an object that is not folded yet.
-    Nothing,
+    /// Of a transactional map.
+    Tx(TxFold),
 }
 
 /// What is folded of each object, by the object's number.
@@ -232,7 +239,7 @@ fn open_fold(alloc: Global, kind: &Kind, shape: &Shape) -> Result<Fold, AllocErr
         Kind::Tx {
             home: _home,
             colours: _colours,
-        } => Ok(Fold::Nothing),
+        } => Ok(Fold::Tx(TxFold::open(alloc))),
         Kind::Causal { colour: _colour } => Ok(Fold::Causal(open_causal(alloc, shape.regions)?)),
     }
 }
@@ -326,6 +333,55 @@ impl Folds {
             Fold::Causal(folds) => {
                 folds[region as usize].values(alloc, world, region, colour, key)
             }
+            _ => unreachable!(),
+        }
+    }
+
+    /// What the nodes that are read of a transactional map leave under keys, and who wrote these last. The fold goes on from
+    /// where it is; without memory it may begin anew.
+    pub fn found(
+        &mut self,
+        alloc: Global,
+        world: &World,
+        object: u8,
+        read: LinesRead,
+        keys: &Keys,
+    ) -> Result<(ListOf<KeyAnswer>, Versions), AllocError>
+        requires client { read.client < length world.now.shape.homes }
+        requires within { AreBelow world.now.shape.colours read.colours }
+        requires may { (objects : List Object) × IsTxAt objects object × AreFolded (world_of world.now) objects self.old }
+        ensures found { IfOk result (λ found. let nodes = map (object_at (world_of world.now))
+            (keys_read (world_of world.now) read.client read.stamp (members read.colours)) in
+            (found.0 ≡ key_answers (value_of (writes_after nodes)) keys.now) × (found.1 ≡ versions_after nodes keys.now)) }
+        ensures folded { (objects : List Object) → IsTxAt objects object → AreFolded (world_of world.now) objects self.old
+            → AreFolded (world_of world.now) objects self.new }
+    {
+        match &mut self.of[object as usize] {
+            Fold::Tx(fold) => fold.found(alloc, world, read, keys),
+            _ => unreachable!(),
+        }
+    }
+
+    /// The verdict on the node with a key among the nodes that are read of a transactional map. The fold goes on from where
+    /// it is; without memory it may begin anew.
+    pub fn verdict(
+        &mut self,
+        alloc: Global,
+        world: &World,
+        object: u8,
+        read: LinesRead,
+        own: Key,
+    ) -> Result<Verdict, AllocError>
+        requires client { read.client < length world.now.shape.homes }
+        requires within { AreBelow world.now.shape.colours read.colours }
+        requires may { (objects : List Object) × IsTxAt objects object × AreFolded (world_of world.now) objects self.old }
+        ensures verdict { IfOk result (λ verdict. verdict ≡ verdict_in (world_of world.now)
+            (keys_read (world_of world.now) read.client read.stamp (members read.colours)) own) }
+        ensures folded { (objects : List Object) → IsTxAt objects object → AreFolded (world_of world.now) objects self.old
+            → AreFolded (world_of world.now) objects self.new }
+    {
+        match &mut self.of[object as usize] {
+            Fold::Tx(fold) => fold.verdict(alloc, world, read, own),
             _ => unreachable!(),
         }
     }

@@ -1,5 +1,5 @@
 // Gets of maps: what they answer for keys, after a sync or a stamped read.
-ghost use Rattle.std.specs.Prelude.{◌≡◌, ◌<◌, ◌≤◌, ℕ, List, [], IsTrue, IfOk, OnErr, None, length, take};
+ghost use Rattle.std.specs.Prelude.{◌≡◌, ◌<◌, ◌≤◌, ℕ, List, [], IfOk, OnErr, None, length, take};
 ghost use Rattle.std.specs.List.{All};
 ghost use Rattle.col_core.specs.History.{line};
 ghost use Rattle.playback.specs.Merging.{up_to};
@@ -7,7 +7,7 @@ ghost use Rattle.world_laws.specs.Worlds.{home_of, home_history};
 ghost use Rattle.script_text.specs.Fitting.{IsKindWithin, UsesObject};
 ghost use Rattle.lawful_run.specs.Asks.{colours_of, shards};
 ghost use Rattle.world_code.specs.WorldView.{world_of};
-ghost use Rattle.script_meaning.specs.States.{kind_in, is_get_built};
+ghost use Rattle.script_meaning.specs.States.{kind_in};
 ghost use Rattle.script_meaning.specs.Objects.{caller_in, refusing_home};
 ghost use Rattle.script_meaning.specs.Gets.{got, got_value, got_keys, key_answers, value_up_to};
 ghost use Rattle.script_in_order.specs.Doing.{DoneBy};
@@ -38,7 +38,6 @@ pub fn get(
     world: &mut World,
     folds: &mut Folds,
 ) -> Result<Answer, AllocError>
-    requires built { IsTrue (is_get_built (kind_in objects.now object)) }
     requires caller { command.now.client < length world.old.shape.homes }
     requires kinds { All (λ (o : Object). IsKindWithin world.old.shape.regions world.old.shape.colours o.kind) objects.now }
     requires uses { UsesObject objects.now (What.Get object key.now) }
@@ -100,8 +99,8 @@ fn get_value(
     Ok(Answer::Got { value, sync })
 }
 
-// The nodes of the own line of a colour's column of a client's region up to a stamp.
-fn nodes_up_to(world: &World, client: u8, colour: u8, stamp: u64) -> FirstNodes
+/// The nodes of the own line of a colour's column of a client's region up to a stamp.
+pub fn nodes_up_to(world: &World, client: u8, colour: u8, stamp: u64) -> FirstNodes
     requires client { client < length world.now.shape.homes }
     requires colour { colour < world.now.shape.colours }
     ensures there { AreThere (world_of world.now) result }

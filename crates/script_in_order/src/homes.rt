@@ -1,10 +1,9 @@
 // The homes of objects: a client of another region is refused there.
-ghost use Rattle.std.specs.Prelude.{◌≡◌, ◌<◌, IsTrue, IfOk, OnErr, None, length, slice_get};
+ghost use Rattle.std.specs.Prelude.{◌≡◌, ◌<◌, IfOk, OnErr, None, length, slice_get};
 ghost use Rattle.std.specs.Option.{option_map};
 ghost use Rattle.lawful_run.specs.Asks.{object_home, home_asked};
 ghost use Rattle.lawful_run.specs.Callers.{Caller};
 ghost use Rattle.world_code.specs.WorldView.{world_of};
-ghost use Rattle.script_meaning.specs.States.{is_built};
 ghost use Rattle.script_meaning.specs.Objects.{caller_in, refusing_home};
 ghost use Rattle.script_in_order.specs.Doing.{IsFit, Does, transaction_of};
 ghost use Rattle.script_in_order.specs.Folds.{AreFolded};
@@ -81,7 +80,6 @@ pub fn answer_at_home(
     world: &mut World,
     folds: &mut Folds,
 ) -> Result<(Answer, Items), AllocError>
-    requires built { IsTrue (is_built objects.now command.now.what) }
     requires kind { transaction_of command.now.what ≡ None }
     requires fits { IsFit (world_of world.old) objects.now command.now.client command.now.what }
     requires folded { AreFolded (world_of world.old) objects.now folds.old }

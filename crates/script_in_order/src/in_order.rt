@@ -1,10 +1,8 @@
 // The run of a script in the order of the file.
-ghost use Rattle.std.specs.Prelude.{◌≡◌, ◌≤◌, IsTrue, IfOk};
-ghost use Rattle.std.specs.List.{All};
-ghost use Rattle.script_text.specs.declared.script.Command.{Command};
+ghost use Rattle.std.specs.Prelude.{◌≡◌, ◌≤◌, IfOk};
 ghost use Rattle.script_text.specs.Fitting.{IsFitting};
 ghost use Rattle.lawful_run.specs.Lawful.{LawfulRun};
-ghost use Rattle.script_meaning.specs.States.{is_built, StopsAreLast};
+ghost use Rattle.script_meaning.specs.States.{StopsAreLast};
 ghost use Rattle.script_meaning.specs.Meaning.{IsStepReport, FindsMemory, step_report};
 
 use crate::folds::Folds;
@@ -22,7 +20,6 @@ use std::alloc::{AllocError, Global};
 pub fn run_in_order(alloc: Global, script: &Script) -> Result<Report, AllocError>
     requires fits { IsFitting script.now }
     requires rows { script.now.shape.rows ≤ MAX_ROWS }
-    requires built { All (λ (c : Command). IsTrue (is_built script.now.objects c.what)) script.now.commands }
     requires stops { StopsAreLast script.now }
     ensures ok { IfOk result (IsStepReport script.now) }
     ensures lawful { IfOk result (LawfulRun script.now) }

@@ -3,7 +3,6 @@
 
 mod answers;
 mod appends;
-mod built;
 mod causal;
 mod clears;
 mod folding;
@@ -24,6 +23,6 @@ mod stamped;
 mod stops;
 mod syncs;
 mod transactions;
+mod tx_folds;
 
-pub use built::is_built;
 pub use in_order::run_in_order;

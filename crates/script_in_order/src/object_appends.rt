@@ -5,10 +5,9 @@ ghost use Rattle.log_node.specs.Sets.{members};
 ghost use Rattle.object_form.specs.Forms.{IsForm, form_text};
 ghost use Rattle.object_fold.specs.Nodes.{shard_of};
 ghost use Rattle.script_text.specs.Items.{set_of};
-ghost use Rattle.script_text.specs.Fitting.{AreBelow, AreObjectColours, IsKindWithin, UsesObject, is_queue};
+ghost use Rattle.script_text.specs.Fitting.{AreBelow, AreObjectColours, HasColours, IsKindWithin, UsesObject, is_queue};
 ghost use Rattle.lawful_run.specs.Asks.{object_colours, keys_of, put_form};
 ghost use Rattle.world_code.specs.WorldView.{world_of};
-ghost use Rattle.script_meaning.specs.States.{has_colours};
 ghost use Rattle.script_meaning.specs.Appends.{appended};
 ghost use Rattle.script_meaning.specs.Objects.{shard_set, put_into, deleted_from, put_all_into, enqueued_in};
 ghost use Rattle.script_in_order.specs.Doing.{DoneBy};
@@ -120,7 +119,7 @@ pub fn append_form(
     world: &mut World,
 ) -> Result<Answer, AllocError>
     requires form { IsForm form }
-    requires many { IsTrue (has_colours 1 colours) }
+    requires many { HasColours 1 colours }
     requires caller { command.now.client < length world.old.shape.homes }
     requires within { AreBelow world.old.shape.colours colours }
     ensures ok { IfOk result (λ answer. DoneBy

@@ -1,11 +1,10 @@
 // A run in the order of the file.
-ghost use Rattle.std.specs.Prelude.{◌≡◌, ◌+◌, ◌<◌, ◌≤◌, IsTrue, IfOk, Some, length, map};
-ghost use Rattle.std.specs.List.{All, range_with_len};
-ghost use Rattle.script_text.specs.declared.script.Command.{Command};
+ghost use Rattle.std.specs.Prelude.{◌≡◌, ◌+◌, ◌<◌, ◌≤◌, IfOk, Some, length, map};
+ghost use Rattle.std.specs.List.{range_with_len};
 ghost use Rattle.script_text.specs.Fitting.{IsFitting};
 ghost use Rattle.world_code.specs.WorldView.{world_of};
 ghost use Rattle.world_laws.specs.Worlds.{opened};
-ghost use Rattle.script_meaning.specs.States.{is_built, StopsAreLast};
+ghost use Rattle.script_meaning.specs.States.{StopsAreLast};
 ghost use Rattle.script_in_order.specs.Doing.{IsFit, transaction_of};
 ghost use Rattle.script_in_order.specs.Folds.{AreFolded};
 ghost use Rattle.script_in_order.specs.Runs.{no_replies, replies_at, read_at, asks, IsDone, IsRunAt};
@@ -76,6 +75,7 @@ fn do_transaction(
     command: &Command,
     object: u8,
     world: &mut World,
+    folds: &mut Folds,
     mine: &mut Replies,
 )
     requires kind { transaction_of command.now.what ≡ Some object }
@@ -83,10 +83,12 @@ fn do_transaction(
     requires reads { length mine.old.reads ≡ length objects.now }
     requires rests { AreFit (read_at mine.old.reads) }
     requires room { 0 < mine.old.room }
-    ensures { Transacts objects.now command.now object (world_of world.old) (world_of world.new) mine.old mine.new }
+    requires folded { AreFolded (world_of world.old) objects.now folds.old }
+    ensures done { Transacts objects.now command.now object (world_of world.old) (world_of world.new) mine.old mine.new }
+    ensures folded { AreFolded (world_of world.new) objects.now folds.new }
 {
     let taken = mine.take_read(object);
-    match transact(alloc, objects, command, object, taken, world) {
+    match transact(alloc, objects, command, object, taken, world, folds) {
         Ok((answer, kept)) => {
             mine.keep_read(object, kept);
             mine.add(reply_of(alloc, command, Ok((answer, ListOf::new(alloc)))));
@@ -104,7 +106,6 @@ fn do_command(
     folds: &mut Folds,
     replies: &mut Vec<Replies>,
 )
-    requires built { IsTrue (is_built objects.now command.now.what) }
     requires fits { IsFit (world_of world.old) objects.now command.now.client command.now.what }
     requires folded { AreFolded (world_of world.old) objects.now folds.old }
     requires client { command.now.client < length replies.old.items }
@@ -123,7 +124,7 @@ fn do_command(
         }
         Some(object) => {
             let mine = &mut replies[command.client as usize];
-            do_transaction(alloc, objects, command, object, world, mine);
+            do_transaction(alloc, objects, command, object, world, folds, mine);
         }
     }
 }
@@ -138,7 +139,6 @@ pub fn do_next(
     replies: &mut Vec<Replies>,
 )
     requires fits { IsFitting script.now }
-    requires built { All (λ (c : Command). IsTrue (is_built script.now.objects c.what)) script.now.commands }
     requires stops { StopsAreLast script.now }
     requires place { place < length script.now.commands }
     requires run { IsRunAt script.now place (record { world = world.old; replies = replies.old.items }) }

@@ -1,8 +1,7 @@
 // Stops of appends to several colours.
-ghost use Rattle.std.specs.Prelude.{◌≡◌, ◌<◌, [], IsTrue, IfOk, OnErr, length};
-ghost use Rattle.script_text.specs.Fitting.{AreBelow};
+ghost use Rattle.std.specs.Prelude.{◌≡◌, ◌<◌, [], IfOk, OnErr, length};
+ghost use Rattle.script_text.specs.Fitting.{AreBelow, HasColours};
 ghost use Rattle.world_code.specs.WorldView.{world_of};
-ghost use Rattle.script_meaning.specs.States.{has_colours};
 ghost use Rattle.script_meaning.specs.Appends.{stopped};
 ghost use Rattle.script_in_order.specs.Doing.{DoneBy};
 
@@ -22,7 +21,7 @@ pub fn stop(
     text: &Text,
     world: &mut World,
 ) -> Result<Answer, AllocError>
-    requires many { IsTrue (has_colours 2 colours) }
+    requires many { HasColours 2 colours }
     requires caller { command.now.client < length world.old.shape.homes }
     requires within { AreBelow world.old.shape.colours colours }
     ensures ok { IfOk result (λ answer. DoneBy

@@ -20,18 +20,20 @@ ghost use Rattle.script_meaning.specs.Transactions.{version_keys, ruled, verdict
 ghost use Rattle.script_meaning.specs.Meaning.{done};
 ghost use Rattle.script_in_order.specs.Doing.{IsFit, DoneBy, transaction_of};
 ghost use Rattle.script_in_order.specs.Stamped.{Reads, end_in};
-ghost use Rattle.script_in_order.specs.Transacting.{AreOfLines, Leaves, Rules};
+ghost use Rattle.script_in_order.specs.Folds.{AreFolded, IsTxAt};
+ghost use Rattle.script_in_order.specs.Transacting.{Leaves, Rules};
 
 use crate::appends::next_id;
-use crate::folds::text_of;
+use crate::folds::Folds;
 use crate::homes::refusing_home;
 use crate::object_appends::{append_form, copied_pairs, shard};
-use crate::stamped::{Stamped, keys_read, stamped_read};
+use crate::stamped::{Stamped, stamped_read};
+use crate::tx_folds::LinesRead;
 use log_node::{
     Colours, Form, Key, Keys, ListOf, MAX_COLOURS, Pair, Pairs, Text, Version, Versions,
 };
-use object_fold::{TxState, Verdict};
-use report_text::{Answer, KeyAnswer, PointPiece, Points, RaisePiece, SyncPiece};
+use object_fold::Verdict;
+use report_text::{Answer, PointPiece, Points, RaisePiece, SyncPiece};
 use script_text::{Command, Kind, Object, What};
 use std::alloc::{AllocError, Global};
 use world_code::World;
@@ -101,85 +103,6 @@ fn shards_of(kind: &Kind, versions: &[Version], pairs: &[Pair]) -> Colours
     set
 }
 
-// A transactional map after the nodes with these keys.
-fn folded(alloc: Global, world: &World, keys: &[Key]) -> Result<TxState, AllocError>
-    requires stand { AreOfLines (world_of world.now) keys.now }
-    ensures { IfOk result (λ state. IsTxState state (map (object_at (world_of world.now)) keys.now)) }
-{
-    let mut state = TxState::new(alloc);
-    for key in keys {
-        let _verdict = state.feed(alloc, *key, text_of(world, *key))?;
-    }
-    Ok(state)
-}
-
-// The verdict on the node with a key among those with these keys.
-fn verdict_in(alloc: Global, world: &World, keys: &[Key], own: Key) -> Result<Verdict, AllocError>
-    requires stand { AreOfLines (world_of world.now) keys.now }
-    ensures { IfOk result (λ verdict. verdict ≡ verdict_in (world_of world.now) keys.now own) }
-{
-    let mut state = TxState::new(alloc);
-    for key in keys {
-        let verdict = state.feed(alloc, *key, text_of(world, *key))?;
-        if key.is_same(own) {
-            return Ok(verdict.unwrap_or(Verdict::Committed { stamp: own.stamp }));
-        }
-    }
-    Ok(Verdict::Committed { stamp: own.stamp })
-}
-
-// A key's value in a transactional map.
-fn value(alloc: Global, state: &TxState, key: &[u8]) -> Result<Option<Text>, AllocError>
-    ensures { (nodes : List ObjectNode) → IsTxState state.now nodes
-        → IfOk result (λ value. value ≡ value_of (writes_after nodes) key.now) }
-{
-    match state.value(key) {
-        None => Ok(None),
-        Some(value) => Ok(Some(Text::copied(alloc, value.as_bytes())?)),
-    }
-}
-
-// Keys with their values in a transactional map.
-fn key_answers(
-    alloc: Global,
-    state: &TxState,
-    keys: &[Text],
-) -> Result<ListOf<KeyAnswer>, AllocError>
-    ensures { (nodes : List ObjectNode) → IsTxState state.now nodes
-        → IfOk result (λ answers. answers ≡ key_answers (value_of (writes_after nodes)) keys.now) }
-{
-    let mut answers = ListOf::new(alloc);
-    for key in keys {
-        let value = value(alloc, state, key.as_bytes())?;
-        let key = Text::copied(alloc, key.as_bytes())?;
-        answers.push(KeyAnswer { key, value })?;
-    }
-    Ok(answers)
-}
-
-// What the nodes up to a stamp leave under keys, and who wrote these last.
-fn found(
-    alloc: Global,
-    world: &World,
-    client: u8,
-    stamp: u64,
-    colours: Colours,
-    keys: &Keys,
-) -> Result<(ListOf<KeyAnswer>, Versions), AllocError>
-    requires client { client < length world.now.shape.homes }
-    requires within { AreBelow world.now.shape.colours colours }
-    ensures { IfOk result (λ found.
-        let nodes = map (object_at (world_of world.now)) (keys_read (world_of world.now) client stamp (members colours)) in
-        (found.0 ≡ key_answers (value_of (writes_after nodes)) keys.now) × (found.1 ≡ versions_after nodes keys.now)) }
-{
-    world.agrees();
-    let read = keys_read(alloc, world, client, stamp, colours)?;
-    let state = folded(alloc, world, read.as_slice())?;
-    let answers = key_answers(alloc, &state, keys.as_slice())?;
-    let versions = state.versions(alloc, keys)?;
-    Ok((answers, versions))
-}
-
 // A read of keys: a stamped read of all colours of the map, and what the nodes that were read leave under the keys. Beside
 // the answer stands who wrote these last, unless the read was refused or found no memory.
 fn read(
@@ -189,15 +112,18 @@ fn read(
     object: u8,
     keys: &Keys,
     world: &mut World,
+    folds: &mut Folds,
 ) -> Result<(Answer, Option<Versions>), AllocError>
     requires asks { command.now.what ≡ What.Read object keys.now }
     requires caller { command.now.client < length world.old.shape.homes }
     requires kinds { All (λ (o : Object). IsKindWithin world.old.shape.regions world.old.shape.colours o.kind) objects.now }
     requires uses { UsesObject objects.now (What.Read object keys.now) }
+    requires folded { AreFolded (world_of world.old) objects.now folds.old }
     ensures ok { IfOk result (λ g. (taken : Option (List Version))
         → Leaves (λ grants state. read_in objects.now grants state command.now object keys.now) command.now object taken
         (world_of world.old) (world_of world.new) g.0 g.1) }
     ensures err { OnErr result (world_of world.new ≡ world_of world.old) }
+    ensures folded { AreFolded (world_of world.new) objects.now folds.new }
 {
     world.is_whole();
     let colours = all_colours(&objects[object as usize].kind);
@@ -208,18 +134,25 @@ fn read(
             stamp,
             raises,
             syncs,
-        } => match found(alloc, world, command.client, stamp, colours, keys) {
-            Ok((keys, versions)) => {
-                let answer = Answer::GotKeys {
-                    stamp,
-                    keys,
-                    raises,
-                    syncs,
-                };
-                Ok((answer, Some(versions)))
+        } => {
+            let lines = LinesRead {
+                client: command.client,
+                colours,
+                stamp,
+            };
+            match folds.found(alloc, world, object, lines, keys) {
+                Ok((keys, versions)) => {
+                    let answer = Answer::GotKeys {
+                        stamp,
+                        keys,
+                        raises,
+                        syncs,
+                    };
+                    Ok((answer, Some(versions)))
+                }
+                Err(_) => Ok((Answer::NoMemory, None)),
             }
-            Err(_) => Ok((Answer::NoMemory, None)),
-        },
+        }
     }
 }
 
@@ -256,25 +189,25 @@ fn ruled(
     }
 }
 
-// The verdict on the own node among the nodes up to a stamp, and its points as a list.
+// The verdict on the own node among the nodes that are read, and its points as a list.
 fn verdict_at(
     alloc: Global,
     world: &World,
-    client: u8,
-    stamp: u64,
-    colours: Colours,
+    object: u8,
+    lines: LinesRead,
     own: Key,
     points: Points,
+    folds: &mut Folds,
 ) -> Result<(Verdict, ListOf<PointPiece>), AllocError>
-    requires client { client < length world.now.shape.homes }
-    requires within { AreBelow world.now.shape.colours colours }
-    ensures { IfOk result (λ r.
-        (r.0 ≡ verdict_in (world_of world.now) (keys_read (world_of world.now) client stamp (members colours)) own)
-        × (r.1 ≡ points)) }
+    requires client { lines.client < length world.now.shape.homes }
+    requires within { AreBelow world.now.shape.colours lines.colours }
+    requires may { (objects : List Object) × IsTxAt objects object × AreFolded (world_of world.now) objects folds.old }
+    ensures ok { IfOk result (λ r. (r.0 ≡ verdict_in (world_of world.now)
+        (keys_read (world_of world.now) lines.client lines.stamp (members lines.colours)) own) × (r.1 ≡ points)) }
+    ensures folded { (objects : List Object) → IsTxAt objects object → AreFolded (world_of world.now) objects folds.old
+        → AreFolded (world_of world.now) objects folds.new }
 {
-    world.agrees();
-    let read = keys_read(alloc, world, client, stamp, colours)?;
-    let verdict = verdict_in(alloc, world, read.as_slice(), own)?;
+    let verdict = folds.verdict(alloc, world, object, lines, own)?;
     let points = Vec::from_slice(alloc, points.as_slice())?;
     Ok((verdict, ListOf::from(points)))
 }
@@ -284,18 +217,23 @@ fn verdict_at(
 fn rule_by(
     alloc: Global,
     client: u8,
+    object: u8,
     colours: Colours,
     own: Key,
     row: Option<u32>,
     points: Points,
     read: Stamped,
     world: &World,
+    folds: &mut Folds,
 ) -> Answer
     requires caller { client < length world.now.shape.homes }
     requires within { AreBelow world.now.shape.colours colours }
-    ensures { (old : Meant) → Reads old (world_of world.now) client (members colours)
+    requires may { (objects : List Object) × IsTxAt objects object × AreFolded (world_of world.now) objects folds.old }
+    ensures is_ruled { (old : Meant) → Reads old (world_of world.now) client (members colours)
         (end_in (world_of world.now) client (members colours) read)
         → Rules client (members colours) own row points old (world_of world.now) result }
+    ensures folded { (objects : List Object) → IsTxAt objects object → AreFolded (world_of world.now) objects folds.old
+        → AreFolded (world_of world.now) objects folds.new }
 {
     match read {
         Stamped::Unraised => Answer::UnreadNoMemory { stamp: own.stamp },
@@ -308,10 +246,17 @@ fn rule_by(
             stamp,
             raises,
             syncs,
-        } => match verdict_at(alloc, world, client, stamp, colours, own, points) {
-            Ok((verdict, points)) => ruled(verdict, row, points, stamp, raises, syncs),
-            Err(_) => Answer::UnreadNoMemory { stamp: own.stamp },
-        },
+        } => {
+            let lines = LinesRead {
+                client,
+                colours,
+                stamp,
+            };
+            match verdict_at(alloc, world, object, lines, own, points, folds) {
+                Ok((verdict, points)) => ruled(verdict, row, points, stamp, raises, syncs),
+                Err(_) => Answer::UnreadNoMemory { stamp: own.stamp },
+            }
+        }
     }
 }
 
@@ -319,20 +264,28 @@ fn rule_by(
 fn rule(
     alloc: Global,
     client: u8,
+    object: u8,
     colours: Colours,
     own: Key,
     row: Option<u32>,
     points: Points,
     world: &mut World,
+    folds: &mut Folds,
 ) -> Answer
     requires caller { client < length world.old.shape.homes }
     requires within { AreBelow world.old.shape.colours colours }
     requires some { members colours ≢ [] }
-    ensures { Rules client (members colours) own row points (world_of world.old) (world_of world.new) result }
+    requires may { (objects : List Object) × IsTxAt objects object × AreFolded (world_of world.old) objects folds.old }
+    ensures is_ruled { Rules client (members colours) own row points (world_of world.old) (world_of world.new) result }
+    ensures folded { (objects : List Object) → IsTxAt objects object → AreFolded (world_of world.old) objects folds.old
+        → AreFolded (world_of world.new) objects folds.new }
 {
+    world.agrees();
     match stamped_read(alloc, world, client, colours) {
         Err(_) => Answer::UnreadNoMemory { stamp: own.stamp },
-        Ok(read) => rule_by(alloc, client, colours, own, row, points, read, world),
+        Ok(read) => rule_by(
+            alloc, client, object, colours, own, row, points, read, world, folds,
+        ),
     }
 }
 
@@ -346,15 +299,18 @@ fn commit_on(
     pairs: &Pairs,
     reads: Versions,
     world: &mut World,
+    folds: &mut Folds,
 ) -> Result<Answer, AllocError>
     requires caller { command.now.client < length world.old.shape.homes }
     requires kinds { All (λ (o : Object). IsKindWithin world.old.shape.regions world.old.shape.colours o.kind) objects.now }
     requires uses { UsesObject objects.now (What.Commit object pairs.now) }
     requires rests { AreVersions reads }
+    requires folded { AreFolded (world_of world.old) objects.now folds.old }
     ensures ok { IfOk result (λ answer. DoneBy
         (λ grants state. committed_by objects.now grants state command.now object pairs.now (Some reads)) command.now
         (world_of world.old) (world_of world.new) answer []) }
     ensures err { OnErr result (world_of world.new ≡ world_of world.old) }
+    ensures folded { AreFolded (world_of world.new) objects.now folds.new }
 {
     world.is_whole();
     let kind = &objects[object as usize].kind;
@@ -366,7 +322,17 @@ fn commit_on(
     match append_form(alloc, command, set, form, world)? {
         Answer::Stood { stamp, row, points } => {
             let own = Key { stamp, id };
-            Ok(rule(alloc, command.client, colours, own, row, points, world))
+            Ok(rule(
+                alloc,
+                command.client,
+                object,
+                colours,
+                own,
+                row,
+                points,
+                world,
+                folds,
+            ))
         }
         other => Ok(other),
     }
@@ -381,19 +347,22 @@ fn commit(
     pairs: &Pairs,
     taken: Option<Versions>,
     world: &mut World,
+    folds: &mut Folds,
 ) -> Result<Answer, AllocError>
     requires caller { command.now.client < length world.old.shape.homes }
     requires kinds { All (λ (o : Object). IsKindWithin world.old.shape.regions world.old.shape.colours o.kind) objects.now }
     requires uses { UsesObject objects.now (What.Commit object pairs.now) }
     requires rests { IfSome taken AreVersions }
+    requires folded { AreFolded (world_of world.old) objects.now folds.old }
     ensures ok { IfOk result (λ answer. DoneBy
         (λ grants state. committed_by objects.now grants state command.now object pairs.now taken) command.now
         (world_of world.old) (world_of world.new) answer []) }
     ensures err { OnErr result (world_of world.new ≡ world_of world.old) }
+    ensures folded { AreFolded (world_of world.new) objects.now folds.new }
 {
     match taken {
         None => Ok(Answer::NoTx),
-        Some(reads) => commit_on(alloc, objects, command, object, pairs, reads, world),
+        Some(reads) => commit_on(alloc, objects, command, object, pairs, reads, world, folds),
     }
 }
 
@@ -406,13 +375,16 @@ pub fn transact(
     object: u8,
     taken: Option<Versions>,
     world: &mut World,
+    folds: &mut Folds,
 ) -> Result<(Answer, Option<Versions>), AllocError>
     requires kind { transaction_of command.now.what ≡ Some object }
     requires fits { IsFit (world_of world.old) objects.now command.now.client command.now.what }
     requires rests { IfSome taken AreVersions }
+    requires folded { AreFolded (world_of world.old) objects.now folds.old }
     ensures ok { IfOk result (λ g. Leaves (λ grants state. done objects.now grants state command.now) command.now object
         taken (world_of world.old) (world_of world.new) g.0 g.1) }
     ensures err { OnErr result (world_of world.new ≡ world_of world.old) }
+    ensures folded { AreFolded (world_of world.new) objects.now folds.new }
 {
     match refusing_home(objects, command, world) {
         Some(home) => Ok((Answer::NotHome { home }, None)),
@@ -420,12 +392,12 @@ pub fn transact(
             What::Read {
                 object: _object,
                 keys,
-            } => read(alloc, objects, command, object, keys, world),
+            } => read(alloc, objects, command, object, keys, world, folds),
             What::Commit {
                 object: _object,
                 pairs,
             } => {
-                let answer = commit(alloc, objects, command, object, pairs, taken, world)?;
+                let answer = commit(alloc, objects, command, object, pairs, taken, world, folds)?;
                 Ok((answer, None))
             }
             _ => unreachable!(),

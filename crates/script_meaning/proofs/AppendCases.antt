@@ -1,8 +1,7 @@
 -- How an append ends: it stands, or it is refused. What follows from either, follows from the append.
-use Rattle.std.proofs.Common.{◌≡◌, ◌⊎◌, inl, inr, ℕ, suc, ◌+◌, ◌^◌, ◌<◌, ◌≤◌, List, [], ◌∷◌, length, map, Option, Some, None, Bool, true, false, refl, ap, sym, subst, ◌∙◌, arith}
+use Rattle.std.proofs.Common.{◌≡◌, inl, ℕ, suc, ◌+◌, ◌<◌, List, [], ◌∷◌, length, map, Option, Some, None, Bool, true, false, refl, ap, sym, subst, ◌∙◌, arith}
 use Rattle.std.specs.Prelude.{not, nat_lt}
-use Rattle.std.specs.List.{list_all}
-use Rattle.std.proofs.lemmas.Bool.{and_from, ltb-true, lt-ltb, cases_lt}
+use Rattle.std.proofs.lemmas.Bool.{and_from, lt-ltb}
 use Rattle.log_node.specs.declared.ids.Row.{Row}
 use Rattle.log_node.specs.declared.ids.Colours.{Colours}
 use Rattle.log_node.specs.Sets.{members}
@@ -10,17 +9,18 @@ use Rattle.log_node.specs.declared.marks.Why.TheVariants.{Memory, StampEnd}
 use Rattle.log_node.specs.declared.marks.Outcome.{Outcome}
 use Rattle.log_node.specs.declared.marks.Outcome.TheVariants.{Open, Gone, Final}
 use Rattle.col_core.specs.History.{entry_key}
-use Rattle.col_core.proofs.CallerLemmas.{choice, both, apart, not_true, if_true, In}
+use Rattle.col_core.proofs.CallerLemmas.{choice, if_true, In}
 use Rattle.world_laws.specs.declared.steps.Step.TheVariants.{Seen}
 use Rattle.world_laws.specs.Worlds.{World, home_of, after, run_steps, row_of, next_row, is_client, is_column, may_begin, may_single, after_begin, single_stamp, next_id}
 use Rattle.world_laws.specs.Completing.{complete_steps}
 use Rattle.script_text.specs.declared.script.What.TheVariants as whats
 use Rattle.script_text.specs.declared.script.Command.{Command}
 use Rattle.script_text.specs.declared.script.Script.{Script}
+use Rattle.script_text.specs.Fitting.{HasColours}
 use Rattle.report_text.specs.declared.report.Answer.{Answer}
 use Rattle.report_text.specs.declared.report.Answer.TheVariants as answers
 use Rattle.report_text.specs.declared.report.PointPiece.{PointPiece}
-use Rattle.script_meaning.specs.States.{State, Grants, has_colours, answered}
+use Rattle.script_meaning.specs.States.{State, Grants, answered}
 use Rattle.script_meaning.specs.Helping.{all_cleared}
 use Rattle.script_meaning.specs.Appends.{Follows, appended_one_so, appended_by_so, appended_several_so, appended_so, is_full, append_steps, with_single, point_in, ended_colour}
 use Rattle.script_meaning.proofs.AppendOne as one
@@ -30,6 +30,7 @@ use Rattle.script_meaning.proofs.Clearing.{Finished}
 use Rattle.script_meaning.proofs.FitCommands as fits
 use Rattle.script_meaning.proofs.Invariant.{IsStopped, Runs, IsFitWhere, free}
 use Rattle.script_meaning.proofs.Kept.{Does}
+use Rattle.script_meaning.proofs.Lists.{each_true}
 use Rattle.script_meaning.proofs.Refusing.{did_end_one, did_full}
 use Rattle.script_meaning.proofs.Sets.{one_is_power}
 
@@ -38,21 +39,6 @@ pub data IsRefusal : Answer → Type 0 where
   no_memory : IsRefusal answers.NoMemory
   no_stamp : (colour : ℕ) → IsRefusal (answers.StampEnd colour)
   no_row : (used : ℕ) → IsRefusal (answers.Full used)
-
-each_true : (test : ℕ → Bool) (xs : List ℕ) → ((x : ℕ) → In x xs → test x ≡ true) → list_all test xs ≡ true
-each_true test [] h = refl
-each_true test (x ∷ xs) h = and_from (test x) _ (h x (inl refl)) (each_true test xs (λ y i. h y (inr i)))
-
-pub has_low : (count : ℕ) (colours : Colours) → has_colours count colours ≡ true
-    → (count ≤ length (members colours)) × (colours.0 < 2 ^ 64)
-unfolding has_colours
-has_low count colours e =
-    let p = both (not (nat_lt (length (members colours)) count)) _ e in
-    (enough (cases_lt (length (members colours)) count) (not_true _ p.0), ltb-true colours.0 (2 ^ 64) p.1) where
-      enough : (length (members colours) < count) ⊎ (count ≤ length (members colours))
-          → nat_lt (length (members colours)) count ≡ false → count ≤ length (members colours)
-      enough (inl lt) f = absurd (apart _ (lt-ltb _ _ lt) f)
-      enough (inr le) f = le
 
 -- the row of an append to several colours may begin
 module _ (script : Script) (commands : List Command) (state : State) (command : Command)
@@ -74,7 +60,7 @@ module _ (script : Script) (commands : List Command) (state : State) (command : 
 
 module _ (script : Script) (commands : List Command) (state : State) (command : Command) (grants : Grants)
     (runs : Runs script commands state) {Away Read : Type 0} (fit : IsFitWhere script commands command Away Read)
-    (colours : Colours) (text : List ℕ) (has : has_colours 1 colours ≡ true)
+    (colours : Colours) (text : List ℕ) (has : HasColours 1 colours)
     (below : (c : ℕ) → In c (members colours) → c < script.shape.colours) (follows : Follows)
     (Goal : State → Type 0)
     (refused : (w' : World) (answer : Answer) → IsRefusal answer
@@ -103,7 +89,7 @@ module _ (script : Script) (commands : List Command) (state : State) (command : 
       (answered state command w (answers.StampEnd c) [])
       (λ ok. stood v (single_stamp w u c) None points
       (one.does script.objects S grants w runs.reached runs.finished u c text going ok colours only
-      (one_is_power colours c only (has_low 1 colours has).1))
+      (one_is_power colours c only has.bits))
       (subst (Finished S) (sym (one.after_is script.objects S grants w runs.reached runs.finished u c text going ok))
       (one.finished2 script.objects S grants w runs.reached runs.finished u c text going ok)))
       (λ none. refused w (answers.StampEnd c) (no_stamp c)
@@ -157,7 +143,7 @@ module _ (script : Script) (commands : List Command) (state : State) (command : 
 
   by_members : (ms : List ℕ) → members colours ≡ ms → Goal (appended_so grants state command colours text ms follows)
   by_members [] is =
-      let n = (has_low 1 colours has).0 in
+      let n = has.many in
       let z : length (members colours) ≡ 0 = ap length is in
       absurd (let f : ⊥ = omega (arith, n, z) in f)
   by_members (c ∷ []) is = by_one c is

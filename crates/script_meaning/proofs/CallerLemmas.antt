@@ -1,8 +1,6 @@
 -- For those who do the commands: each state to which commands lead has a world of the script's shape that steps have
 -- made.
 use Rattle.std.proofs.Common.{◌≡◌, ℕ, List, [], ◌++◌, Some, refl, subst, ◌∙◌, ap, sym}
-use Rattle.std.specs.Prelude.{IsTrue}
-use Rattle.std.specs.List.{All}
 use Rattle.log_node.specs.declared.forms.Version.{Version}
 use Rattle.log_node.specs.declared.ids.Colours.{Colours}
 use Rattle.object_form.specs.Forms.{AreVersions}
@@ -14,7 +12,7 @@ use Rattle.script_text.specs.declared.script.Command.{Command}
 use Rattle.script_text.specs.declared.script.Script.{Script}
 use Rattle.script_text.specs.declared.script.Object.{Object}
 use Rattle.script_text.specs.Fitting.{IsFitting}
-use Rattle.script_meaning.specs.States.{State, Grants, no_reads, is_built, StopsAreLast}
+use Rattle.script_meaning.specs.States.{State, Grants, no_reads, StopsAreLast}
 use Rattle.script_meaning.specs.Meaning.{LeadTo, nothing, next, done}
 use Rattle.script_meaning.specs.Appends.{with_single, appended}
 use Rattle.script_meaning.proofs.GrantedCommands.{done_extends, append_extends, single_runs}
@@ -51,13 +49,12 @@ lead_shape script (next {commands} {state} command grants leads) =
     ∙ ((run_grows state.world more.steps).shape ∙ lead_shape script leads)
 
 -- what a kept read found is such as the text of a transaction may name
-pub reads_fit : ReadsBack → (script : Script) → IsFitting script
-    → All (λ (c : Command). IsTrue (is_built script.objects c.what)) script.commands → StopsAreLast script
+pub reads_fit : ReadsBack → (script : Script) → IsFitting script → StopsAreLast script
     → {commands : List Command} {state : State} → LeadTo script commands state → (rest : List Command)
     → script.commands ≡ commands ++ rest → (client object : ℕ) (versions : List Version)
     → state.reads client object ≡ Some versions → AreVersions versions
-reads_fit back script fits built last leads rest is client object versions found =
-    (runs_lead back script fits built last leads rest is).versions client object versions found
+reads_fit back script fits last leads rest is client object versions found =
+    (runs_lead back script fits last leads rest is).versions client object versions found
 
 -- what an append to one colour leads to, and that it leaves the shape
 pub single_to : (grants : Grants) (w : World) (command : Command) (text : List ℕ) (c : ℕ)

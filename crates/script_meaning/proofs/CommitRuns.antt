@@ -25,7 +25,7 @@ use Rattle.script_text.specs.declared.script.Command.{Command}
 use Rattle.script_text.specs.declared.script.Script.{Script}
 use Rattle.script_text.specs.declared.script.What.{What}
 use Rattle.script_text.specs.declared.script.What.TheVariants as whats
-use Rattle.script_text.specs.Fitting.{AreObjectColours, is_tx, HasObject, UsesObject}
+use Rattle.script_text.specs.Fitting.{AreObjectColours, HasColours, is_tx, HasObject, UsesObject}
 use Rattle.report_text.specs.declared.report.Answer.{Answer}
 use Rattle.report_text.specs.declared.report.Answer.TheVariants as answers
 use Rattle.report_text.specs.declared.report.PointPiece.{PointPiece}
@@ -35,7 +35,7 @@ use Rattle.lawful_run.specs.Callers.{Caller, caller_of}
 use Rattle.lawful_run.specs.Explains.{Explains}
 use Rattle.lawful_run.specs.Refusals.{IsAway}
 use Rattle.lawful_run.proofs.CallerLemmas.{explains_no_read}
-use Rattle.script_meaning.specs.States.{State, Grants, has_colours, answered}
+use Rattle.script_meaning.specs.States.{State, Grants, answered}
 use Rattle.script_meaning.specs.Objects.{caller_in, shard_set}
 use Rattle.script_meaning.specs.Stamped.{read_stamp}
 use Rattle.script_meaning.specs.Transactions.{all_colours, version_keys, read_behind, committed_by, committed}
@@ -189,7 +189,7 @@ module _ (back : ReadsBack) (script : Script) (commands : List Command) (state :
     abbrev a_key : (key : List ℕ) × In key (keys_of pairs)
     a_key = some_of (keys_of pairs) (key_some 2 pairs uses.1)
 
-    has : has_colours 1 set ≡ true
+    has : HasColours 1 set
     has = shards_has script.shape.colours fit.few_colours its_colours own.some own.below keys a_key.0
         (in_right a_key.0 (version_keys versions) (keys_of pairs) a_key.1)
 

@@ -111,6 +111,6 @@ module _ (script : Script) (fits : IsFitting script) where
 
 -- where no reply and no mark tells of want of memory, the report is the one that is meant
 pub runs_are_exact : ReadsBack → RunsAreExact
-runs_are_exact back script fits built last state leads finds =
+runs_are_exact back script fits last state leads finds =
     ap (report_of script) (exact_leads script fits leads [] (sym (append-nil script.commands))
-    (is_clean script fits state (runs_all back script fits built last leads) finds) (tells_none script fits state finds))
+    (is_clean script fits state (runs_all back script fits last leads) finds) (tells_none script fits state finds))

@@ -33,7 +33,7 @@ use Rattle.lawful_run.specs.Refusals.{IsAway, IsHomeRefusal, kept_before, kept_b
 use Rattle.lawful_run.specs.Explains.{Explains, Answers, Explained, start, next}
 use Rattle.lawful_run.specs.Lawful.{IsHelp}
 use Rattle.lawful_run.proofs.CallerLemmas.{explained_later, explained_ids}
-use Rattle.script_meaning.specs.States.{State, Reads, reads_left, opening, is_built, answered}
+use Rattle.script_meaning.specs.States.{State, Reads, reads_left, opening, answered}
 use Rattle.script_meaning.proofs.Additions.{adds_map}
 use Rattle.script_meaning.proofs.Reached.{held_of}
 use Rattle.script_meaning.proofs.Rows.{IsDone}
@@ -118,7 +118,6 @@ pub record IsFitWhere (script : Script) (commands : List Command) (command : Com
   pub home : slice_index script.shape.homes command.client < script.shape.regions
   pub few : script.shape.regions ≤ 4
   pub within : IsWithin script.shape.regions script.shape.colours command.what
-  pub built : is_built script.objects command.what ≡ true
   pub going : (c : Command) → In c commands → c.client ≡ command.client → IsTrue (is_stop c.what) → ⊥
   pub uses : UsesObject script.objects command.what
   pub kinds : All (λ (o : Object). IsKindWithin script.shape.regions script.shape.colours o.kind) script.objects

@@ -2,6 +2,7 @@
 use Rattle.std.proofs.Common.{◌≡◌, ◌⊎◌, inl, inr, ℕ, zero, suc, ◌+◌, ◌^◌, ◌<◌, ◌≤◌, List, [], ◌∷◌, ◌++◌, length, take, Option, Some, None, Bool, true, false, refl, ap, sym, subst, ◌∙◌, arith, append-nil, append_assoc, length-append, map}
 use Rattle.std.specs.Prelude.{IsTrue, not, nat_lt, slice_get, slice_index, slice_index_or}
 use Rattle.std.specs.List.{All, list_all}
+use Rattle.std.specs.Option.{option_map}
 use Rattle.std.proofs.lemmas.Bool.{and_from, leb-true, ltb-true, lt-ltb, cases_lt}
 use Rattle.log_node.specs.declared.ids.Row.{Row}
 use Rattle.log_node.specs.declared.ids.Colours.{Colours}
@@ -19,12 +20,13 @@ use Rattle.world_laws.specs.Completing.{complete_steps}
 use Rattle.world_laws.proofs.CallerLemmas.{contains_in, in_slice, in_left, in_right}
 use Rattle.script_text.specs.declared.script.Kind.{Kind}
 use Rattle.script_text.specs.declared.script.Kind.TheVariants as kinds
+use Rattle.script_text.specs.declared.script.Object.{Object}
 use Rattle.script_text.specs.declared.script.What.{What}
 use Rattle.script_text.specs.declared.script.What.TheVariants as whats
 use Rattle.script_text.specs.declared.script.Command.{Command}
 use Rattle.script_text.specs.declared.script.Script.{Script}
 use Rattle.script_text.specs.Items.{is_stop, set_of}
-use Rattle.script_text.specs.Fitting.{IsFitting, IsWithin, is_queue, HasObject, UsesObject, is_any_map}
+use Rattle.script_text.specs.Fitting.{IsFitting, HasColours, IsWithin, is_queue, HasObject, UsesObject, is_any_map}
 use Rattle.report_text.specs.declared.report.Answer.{Answer}
 use Rattle.report_text.specs.declared.report.Answer.TheVariants as answers
 use Rattle.col_core.specs.History.{entry_key}
@@ -32,7 +34,7 @@ use Rattle.lawful_run.specs.Callers.{Caller, caller_of}
 use Rattle.lawful_run.specs.Asks.{kind_of, colours_of, home_asked, shards, keys_of, put_form, AsksToAppend, Appending, manner_of}
 use Rattle.lawful_run.specs.Refusals.{IsAway}
 use Rattle.lawful_run.proofs.CallerLemmas.{get_within, get-append}
-use Rattle.script_meaning.specs.States.{State, Grants, has_colours, kind_in, is_get_built, is_built, StopsAreLast, answered}
+use Rattle.script_meaning.specs.States.{State, Grants, kind_in, StopsAreLast, answered}
 use Rattle.script_meaning.specs.Gets.{got}
 use Rattle.script_meaning.specs.Helping.{all_cleared}
 use Rattle.script_meaning.specs.Appends.{answered_stood, appended, stopped, is_full, append_steps, with_single, point_in, ended_colour}
@@ -132,7 +134,7 @@ module _ (back : ReadsBack) (script : Script) (commands : List Command) (state :
         (λ room. stop_done n (cases.begins script commands state command runs fit colours many below room) asked)
 
   -- the command, by what it asks
-  runs_append : (colours : Colours) (text : List ℕ) → IsAppend colours text → has_colours 1 colours ≡ true
+  runs_append : (colours : Colours) (text : List ℕ) → IsAppend colours text → HasColours 1 colours
       → ((c : ℕ) → In c (members colours) → c < script.shape.colours)
       → Runs script commands' (appended grants state command colours text (members colours))
   runs_append colours text asked has below =
@@ -147,7 +149,7 @@ module _ (back : ReadsBack) (script : Script) (commands : List Command) (state :
 
   -- an append of an object's command
   runs_form : (set : Colours) (colours : List ℕ) (text : List ℕ) → manner_of command.what ≡ Appending
-      → AsksIn script.objects u command.what set text → has_colours 1 set ≡ true
+      → AsksIn script.objects u command.what set text → HasColours 1 set
       → members set ≡ colours → ((c : ℕ) → In c colours → c < script.shape.colours)
       → Runs script commands' (appended grants state command set text (members set))
   runs_form set colours text appending asks has is below =
@@ -199,65 +201,68 @@ module _ (back : ReadsBack) (script : Script) (commands : List Command) (state :
 
   -- a get, by the kind of its object
   runs_get : (object : ℕ) (key : List ℕ) → command.what ≡ whats.Get object key
-      → HasObject script.objects object is_any_map → (kind : Option Kind) → kind_in script.objects object ≡ kind
-      → is_get_built kind ≡ true → Runs script commands' (got grants state command kind key)
-  runs_get object key asked has None is b = absurd (let f : ⊥ = cc in f)
-  runs_get object key asked has (Some (kinds.Map home colours)) is b =
+      → HasObject script.objects object is_any_map → (kind : Kind) → kind_in script.objects object ≡ Some kind
+      → is_any_map kind ≡ true → Runs script commands' (got grants state command (Some kind) key)
+  runs_get object key asked has (kinds.Map home colours) is map =
       gets.runs_get_value script commands state command grants runs fit object home colours key asked is has
-  runs_get object key asked has (Some (kinds.Tx home colours)) is b = absurd (let f : ⊥ = cc in f)
-  runs_get object key asked has (Some (kinds.Causal colour)) is b =
+  runs_get object key asked has (kinds.Tx home colours) is map = absurd (let f : ⊥ = cc in f)
+  runs_get object key asked has (kinds.Causal colour) is map =
       causal.runs_got_values script commands state command grants runs fit object colour key asked is
       (causal_colour script.objects script.shape.regions script.shape.colours fit.kinds object has colour is)
-  runs_get object key asked has (Some (kinds.Queue home colour)) is b = absurd (let f : ⊥ = cc in f)
+  runs_get object key asked has (kinds.Queue home colour) is map = absurd (let f : ⊥ = cc in f)
 
-  runs_what : (what : What) → command.what ≡ what → is_built script.objects what ≡ true
+  runs_what : (what : What) → command.what ≡ what
       → IsWithin script.shape.regions script.shape.colours what → UsesObject script.objects what
       → Runs script commands' (done_one script.objects grants state command what)
-  runs_what (whats.Append colours text) asked b within uses =
+  runs_what (whats.Append colours text) asked within uses =
       runs_append colours text
-      (λ w' answer d. subst (λ (what : What). Does script.objects u what w w' answer []) (sym asked) d) b
-      (λ c i. all_at (λ d. d < script.shape.colours) (members colours) within c i)
-  runs_what (whats.Stop steps colours text) asked b within uses =
-      runs_stop colours text (let n = (cases.has_low 2 colours b).0 in omega (arith, n))
-      (λ x i. all_at (λ y. y < script.shape.colours) (members colours) within x i) steps asked
-  runs_what (whats.Sync colour) asked b within uses =
+      (λ w' answer d. subst (λ (what : What). Does script.objects u what w w' answer []) (sym asked) d)
+      within.0 (λ c i. all_at (λ d. d < script.shape.colours) (members colours) within.1 c i)
+  runs_what (whats.Stop steps colours text) asked within uses =
+      runs_stop colours text (let n = within.0.many in omega (arith, n))
+      (λ x i. all_at (λ y. y < script.shape.colours) (members colours) within.1 x i) steps asked
+  runs_what (whats.Sync colour) asked within uses =
       moving.runs_sync script commands state command runs fit colour asked within
-  runs_what (whats.Scan colours) asked b within uses = runs_scan_of colours asked (cases.has_low 1 colours b).0 within
-  runs_what (whats.Pull region colour) asked b within uses =
+  runs_what (whats.Scan colours) asked within uses = runs_scan_of colours asked within.0.many within.1
+  runs_what (whats.Pull region colour) asked within uses =
       moving.runs_pull script commands state command runs fit grants region colour asked within.0 within.1
-  runs_what (whats.Trim colour) asked b within uses =
+  runs_what (whats.Trim colour) asked within uses =
       moving.runs_trim script commands state command runs fit colour asked within
-  runs_what (whats.Put object key value) asked b within uses =
+  runs_what (whats.Put object key value) asked within uses =
       runs_shards object (key ∷ []) key (inl refl) (form_text (put_form (kind_of caller object) key value))
       uses.0 (ap manner_of asked)
       (λ w' kept. subst (λ (what : What). AsksToAppend (caller_in w' script.objects u) kept what
       (shard_set (colours_of caller object) (key ∷ []))
       (form_text (put_form (kind_of caller object) key value))) (sym asked)
       (shard_members (colours_of caller object) (key ∷ []), refl))
-  runs_what (whats.Get object key) asked b within uses =
-      runs_get object key asked uses.0 (kind_in script.objects object) refl b
-  runs_what (whats.Del object key) asked b within uses =
+  runs_what (whats.Get object key) asked within uses =
+      let has = uses.0 in
+      let is : kind_in script.objects object ≡ Some has.found.kind =
+      ap (option_map (λ (o : Object). o.kind)) has.there in
+      subst (λ (k : Option Kind). Runs script commands' (got grants state command k key)) (sym is)
+      (runs_get object key asked has has.found.kind is has.kind)
+  runs_what (whats.Del object key) asked within uses =
       runs_shards object (key ∷ []) key (inl refl) (form_text (forms.Delete key)) uses.0 (ap manner_of asked)
       (λ w' kept. subst (λ (what : What). AsksToAppend (caller_in w' script.objects u) kept what
       (shard_set (colours_of caller object) (key ∷ [])) (form_text (forms.Delete key))) (sym asked)
       (shard_members (colours_of caller object) (key ∷ []), refl))
-  runs_what (whats.PutAll object pairs) asked b within uses =
+  runs_what (whats.PutAll object pairs) asked within uses =
       let key = some_of (keys_of pairs) (leb-true 1 _ (both _ _ (both _ _ (both _ _ uses.1).0).0).0) in
       runs_shards object (keys_of pairs) key.0 key.1 (form_text (forms.PutAll pairs)) uses.0 (ap manner_of asked)
       (λ w' kept. subst (λ (what : What). AsksToAppend (caller_in w' script.objects u) kept what
       (shard_set (colours_of caller object) (keys_of pairs)) (form_text (forms.PutAll pairs))) (sym asked)
       (shard_members (colours_of caller object) (keys_of pairs), refl))
-  runs_what (whats.GetAll object keys) asked b within uses =
+  runs_what (whats.GetAll object keys) asked within uses =
       let key = some_of keys (leb-true 1 _ (both _ _ (both _ _ uses.1).0).0) in
       gets.runs_get_keys script commands state command grants runs fit object keys key.0 key.1 asked uses.0
-  runs_what (whats.Read object keys) asked b within uses = absurd (fit.read object keys asked)
-  runs_what (whats.Commit object pairs) asked b within uses =
+  runs_what (whats.Read object keys) asked within uses = absurd (fit.read object keys asked)
+  runs_what (whats.Commit object pairs) asked within uses =
       commits.runs_commit back script commands state command grants runs fit object pairs asked
-  runs_what (whats.Enq object value) asked b within uses =
+  runs_what (whats.Enq object value) asked within uses =
       runs_queue object (form_text (forms.Enqueue value)) uses.0 (ap manner_of asked)
       (λ is w' kept. subst (λ (what : What). AsksToAppend (caller_in w' script.objects u) kept what
       (set_of (colours_of caller object)) (form_text (forms.Enqueue value))) (sym asked) (is, refl))
-  runs_what (whats.Deq object) asked b within uses =
+  runs_what (whats.Deq object) asked within uses =
       dequeues.runs_dequeue script commands state command grants runs fit object asked uses
 
 -- whether a command is a read of an object
@@ -289,7 +294,6 @@ module _ (script : Script) (commands : List Command) (command : Command)
     home = fit.home;
     few = fit.few;
     within = fit.within;
-    built = fit.built;
     going = fit.going;
     uses = fit.uses;
     kinds = fit.kinds;
@@ -319,8 +323,7 @@ module _ (back : ReadsBack) (script : Script) (commands : List Command) (state :
             (done_one script.objects grants state command what)) (sym r.2)
             (reading.runs_read script commands state command grants runs near r.0 r.1 r.2)
         | inr other ↦ let fits = no_read script commands command near other in
-            runs_what back script commands state command grants runs fits command.what refl near.built near.within
-            near.uses
+            runs_what back script commands state command grants runs fits command.what refl near.within near.uses
       ]
   runs_from any (Some home) is fit =
       let away = is_away caller_now (home_asked caller_now command.what) home is in
@@ -344,8 +347,7 @@ module _ (back : ReadsBack) (script : Script) (commands : List Command) (state :
 
 -- The commands of a script
 
-module _ (back : ReadsBack) (script : Script) (fits : IsFitting script)
-    (built : All (λ (c : Command). IsTrue (is_built script.objects c.what)) script.commands) (last : StopsAreLast script) where
+module _ (back : ReadsBack) (script : Script) (fits : IsFitting script) (last : StopsAreLast script) where
   fit_at : (commands : List Command) (command : Command) (rest : List Command)
       → script.commands ≡ commands ++ command ∷ rest → (Away : Type 0)
       → (IsAway (caller_of script command.client) (home_asked (caller_of script command.client) command.what) → Away)
@@ -361,7 +363,6 @@ module _ (back : ReadsBack) (script : Script) (fits : IsFitting script)
         few = fits.shape.few_regions;
         within = all_at (λ (c : Command). IsWithin script.shape.regions script.shape.colours c.what) script.commands
             fits.commands command there;
-        built = all_at (λ (c : Command). IsTrue (is_built script.objects c.what)) script.commands built command there;
         going = λ c i same stop.
             let x = in_slice commands c i in
             let lt = get_within commands x.0 c x.1 in

@@ -335,4 +335,4 @@ module _ (script : Script) (fits : IsFitting script) (state : State) (is : Runs 
 
 -- what the commands of a script lead to is reported as a lawful run
 pub runs_are_lawful : ReadsBack → RunsAreLawful
-runs_are_lawful back script fits built last state leads = lawful script fits state (runs_all back script fits built last leads)
+runs_are_lawful back script fits last state leads = lawful script fits state (runs_all back script fits last leads)

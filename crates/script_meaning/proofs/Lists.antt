@@ -2,7 +2,7 @@
 use Rattle.std.proofs.Common.{◌≡◌, ◌≢◌, ℕ, zero, suc, ◌+◌, ◌<◌, ◌≤◌, List, [], ◌∷◌, ◌++◌, length, Bool, true, cond, refl, ap, sym, ◌∙◌, inl, inr, ◌⊎◌, arith, eq-eqb, ne_eqb, append-nil}
 use Rattle.std.specs.Prelude.{◌==◌, map}
 use Rattle.std.specs.List.{filter, list_all, range_with_len}
-use Rattle.std.proofs.lemmas.Bool.{cases_lt}
+use Rattle.std.proofs.lemmas.Bool.{and_from, cases_lt}
 use Rattle.std.proofs.lemmas.List.Elements.{filter-append}
 use Rattle.col_core.proofs.CallerLemmas.{both, In}
 use Rattle.script_text.specs.declared.script.Command.{Command}
@@ -34,6 +34,10 @@ pub each_of : (test : ℕ → Bool) (xs : List ℕ) → list_all test xs ≡ tru
 each_of test [] e x i = absurd i
 each_of test (y ∷ xs) e x (inl is) = ap test (sym is) ∙ (both (test y) _ e).0
 each_of test (y ∷ xs) e x (inr i) = each_of test xs (both (test y) _ e).1 x i
+
+pub each_true : (test : ℕ → Bool) (xs : List ℕ) → ((x : ℕ) → In x xs → test x ≡ true) → list_all test xs ≡ true
+each_true test [] h = refl
+each_true test (x ∷ xs) h = and_from (test x) _ (h x (inl refl)) (each_true test xs (λ y i. h y (inr i)))
 
 pub map_same : (f : ℕ → ℕ) (xs : List ℕ) → ((x : ℕ) → f x ≡ x) → map f xs ≡ xs
 map_same f [] h = refl

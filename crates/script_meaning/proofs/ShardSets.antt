@@ -1,23 +1,20 @@
 -- The sets of the colours of shards.
-use Rattle.std.proofs.Common.{◌≡◌, ◌≢◌, ◌⊎◌, inl, inr, ℕ, zero, suc, ◌+◌, ◌<◌, ◌≤◌, ◌^◌, Bool, true, false, cond, List, [], ◌∷◌, length, map, refl, ap, sym, subst, ◌∙◌, arith, bit_or, eq-eqb}
-use Rattle.std.specs.Prelude.{◌==◌, ◌||◌, ◌%◌, not, nat_lt, sum, slice_index_or}
-use Rattle.std.specs.List.{All, filter, fold, list_any, range_with_len}
+use Rattle.std.proofs.Common.{◌≡◌, ◌≢◌, ◌⊎◌, inl, inr, ℕ, zero, suc, ◌+◌, ◌<◌, ◌≤◌, ◌^◌, Bool, true, false, cond, List, [], ◌∷◌, length, map, refl, ap, sym, subst, ◌∙◌, arith, eq-eqb}
+use Rattle.std.specs.Prelude.{◌==◌, ◌||◌, ◌%◌, nat_lt, sum, slice_index_or}
+use Rattle.std.specs.List.{All, filter, list_any, range_with_len}
 use Rattle.std.proofs.Math.Nat.{mod-lt}
-use Rattle.std.proofs.Math.Pow.{pow-lt}
-use Rattle.std.proofs.lemmas.Bool.{and_from, or_cases, eqb-true, ltb-true, lt-ltb, cases_lt}
-use Rattle.std.proofs.lemmas.Nat.{or_lt, pow_pos}
+use Rattle.std.proofs.lemmas.Bool.{or_cases, eqb-true, lt-ltb, cases_lt}
 use Rattle.std.proofs.lemmas.Nat.Bits.{same_from_bits_below, bit_at-lt}
 use Rattle.std.specs.Int.{bit_at}
 use Rattle.log_node.specs.Sets.{has, members}
 use Rattle.object_fold.specs.Nodes.{shard_of}
 use Rattle.col_core.proofs.CallerLemmas.{by_test, apart, if_true, if_false, contains_in, In, in_filter, in_filter-back}
 use Rattle.script_text.specs.Items.{set_of}
-use Rattle.script_text.specs.Fitting.{AreObjectColours}
-use Rattle.script_text.proofs.CallerLemmas.{has_set}
+use Rattle.script_text.specs.Fitting.{AreObjectColours, HasColours}
+use Rattle.script_text.proofs.CallerLemmas.{has_set, bits_few}
 use Rattle.lawful_run.specs.Asks.{colours_where, shards, rising}
-use Rattle.script_meaning.specs.States.{has_colours}
 use Rattle.script_meaning.specs.Objects.{shard_set}
-use Rattle.script_meaning.proofs.Lists.{range_in}
+use Rattle.script_meaning.proofs.Lists.{each_true, range_in}
 
 -- Lists
 
@@ -108,26 +105,13 @@ set_one c low =
       or_no false = refl
 
 -- the bits of small colours are few
-few_bits : (order : List ℕ) → ((c : ℕ) → In c order → c < 64) → (bits : ℕ) → bits < 2 ^ 64
-    → fold (λ set c. bit_or set (2 ^ c)) bits order < 2 ^ 64
-few_bits [] low bits lt = lt
-few_bits (c ∷ order) low bits lt =
-    few_bits order (λ d i. low d (inr i)) (bit_or bits (2 ^ c)) (or_lt 64 bits (2 ^ c) lt (pow-lt (low c (inl refl))))
-
 pub set_few : (order : List ℕ) → ((c : ℕ) → In c order → c < 64) → (set_of order).0 < 2 ^ 64
-set_few order low = few_bits order low 0 (pow_pos 64)
+set_few order low = bits_few order 64 (omega arith) (each_true (λ c. nat_lt c 64) order (λ c i. lt-ltb c 64 (low c i)))
 
 -- such a set has a colour
 pub set_has : (order : List ℕ) → ((c : ℕ) → In c order → c < 64) → 1 ≤ length (members (set_of order))
-    → has_colours 1 (set_of order) ≡ true
-unfolding has_colours
-set_has order low some =
-    and_from (not (nat_lt (length (members (set_of order))) 1)) _ (enough (length (members (set_of order))) some)
-    (lt-ltb (set_of order).0 (2 ^ 64) (set_few order low)) where
-      enough : (n : ℕ) → 1 ≤ n → not (nat_lt n 1) ≡ true
-      enough n le =
-          by_test _ (nat_lt n 1) (λ t. let x = ltb-true n 1 t in absurd (let f : ⊥ = omega (arith, le, x) in f))
-          (λ f. ap not f)
+    → HasColours 1 (set_of order)
+set_has order low some = record { many = some; bits = set_few order low }
 
 -- Shards
 
@@ -180,7 +164,7 @@ module _ (count : ℕ) (few : count ≤ 16) (colours : List ℕ) (some : 1 ≤ l
       let r = of_key colours keys c i in
       subst (λ (x : ℕ). x < count) r.2 (shard_below count colours some below r.0)
 
-  pub shards_has : (key : List ℕ) → In key keys → has_colours 1 (shard_set colours keys) ≡ true
+  pub shards_has : (key : List ℕ) → In key keys → HasColours 1 (shard_set colours keys)
   unfolding shard_set
   shards_has key i =
       let low = shard_below count colours some below key in

@@ -31,7 +31,7 @@ use Rattle.script_meaning.specs.Dequeues.{dequeued}
 use Rattle.script_meaning.specs.Gets.{got, got_keys}
 use Rattle.script_meaning.specs.Transactions.{read_in, committed}
 
--- the state after a command that is built and was granted memory before it did anything; another changes nothing
+-- the state after a command that was granted memory before it did anything
 abbrev pub done_one : List Object → Grants → State → Command → What → State
 done_one objects grants state command (whats.Append colours text) =
     appended grants state command colours text (members colours)

@@ -1,21 +1,17 @@
 -- The state of a run in the order of the file, where a command finds memory, and how it is answered.
-use Rattle.std.specs.Prelude.{◌≢◌, Bool, true, false, IsTrue, ℕ, ◌+◌, ◌^◌, nat_lt, ◌&&◌, not, List, [], ◌∷◌, ◌++◌, length, Option, Some, None, slice_get, if◌then◌else◌}
+use Rattle.std.specs.Prelude.{◌≢◌, Bool, true, IsTrue, ℕ, ◌+◌, List, [], ◌∷◌, ◌++◌, Option, None, slice_get, if◌then◌else◌}
 use Rattle.std.specs.List.{AllPairs}
 use Rattle.std.specs.Option.{option_map}
 use Rattle.log_node.specs.declared.ids.Id.{Id}
 use Rattle.log_node.specs.declared.ids.Key.{Key}
-use Rattle.log_node.specs.declared.ids.Colours.{Colours}
 use Rattle.log_node.specs.declared.forms.Version.{Version}
 use Rattle.log_node.specs.Order.{same_id}
 use Rattle.log_node.specs.Seen.{PlacedNode}
-use Rattle.log_node.specs.Sets.{members}
 use Rattle.col_core.specs.Keeping.{nothing_kept, updated}
 use Rattle.world_laws.specs.Worlds.{World, opened}
 use Rattle.script_text.specs.declared.script.Kind.{Kind}
-use Rattle.script_text.specs.declared.script.Kind.TheVariants as kinds
 use Rattle.script_text.specs.declared.script.Object.{Object}
 use Rattle.script_text.specs.declared.script.What.{What}
-use Rattle.script_text.specs.declared.script.What.TheVariants as whats
 use Rattle.script_text.specs.declared.script.Command.{Command}
 use Rattle.script_text.specs.declared.script.Script.{Script}
 use Rattle.script_text.specs.Items.{is_stop}
@@ -24,41 +20,9 @@ use Rattle.report_text.specs.declared.report.Answer.{Answer}
 use Rattle.report_text.specs.declared.report.ReplyLine.{ReplyLine}
 use Rattle.lawful_run.specs.Refusals.{kept_before, kept_behind}
 
--- a set with so many colours at least, of the 64 that a set may have
-unfoldable pub has_colours : ℕ → Colours → Bool
-has_colours count colours = not (nat_lt (length (members colours)) count) && nat_lt colours.0 (2 ^ 64)
-
 -- the kind of the object with a number
 abbrev pub kind_in : List Object → ℕ → Option Kind
 kind_in objects object = option_map (λ (o : Object). o.kind) (slice_get objects object)
-
--- whether a get is done of an object of this kind
-abbrev pub is_get_built : Option Kind → Bool
-is_get_built None = false
-is_get_built (Some (kinds.Map home colours)) = true
-is_get_built (Some (kinds.Tx home colours)) = false
-is_get_built (Some (kinds.Causal colour)) = true
-is_get_built (Some (kinds.Queue home colour)) = false
-
--- The commands that are done: an append to any number of colours, a stop of an append to several, a sync, a scan, a pull, a
--- trim, and those of objects: what puts, deletes, enqueues and dequeues, gets of a map or a causal map, gets of several keys,
--- and reads with commits.
-abbrev pub is_built : List Object → What → Bool
-is_built objects (whats.Append colours text) = has_colours 1 colours
-is_built objects (whats.Stop steps colours text) = has_colours 2 colours
-is_built objects (whats.Sync colour) = true
-is_built objects (whats.Scan colours) = has_colours 1 colours
-is_built objects (whats.Pull region colour) = true
-is_built objects (whats.Trim colour) = true
-is_built objects (whats.Put object key value) = true
-is_built objects (whats.Get object key) = is_get_built (kind_in objects object)
-is_built objects (whats.Del object key) = true
-is_built objects (whats.PutAll object pairs) = true
-is_built objects (whats.GetAll object keys) = true
-is_built objects (whats.Read object keys) = true
-is_built objects (whats.Commit object pairs) = true
-is_built objects (whats.Enq object value) = true
-is_built objects (whats.Deq object) = true
 
 -- no command of a client comes after its stop
 abbrev pub StopsAreLast : Script → Type 0

@@ -1,13 +1,14 @@
 -- The numbers in a script name what there is.
-use Rattle.std.proofs.Common.{◌≡◌, inl, inr, ℕ, zero, suc, ◌^◌, ◌<◌, ◌≤◌, cond, Bool, true, false, List, [], ◌∷◌, ◌++◌, length, map, Option, Some, None, refl, ap, sym, subst, ◌∙◌, arith, length-append, eqb-true, leb-true, ltb-true}
-use Rattle.std.specs.Prelude.{IsTrue, ◌&&◌, nat_lt, codes, bit_or}
+use Rattle.std.proofs.Common.{◌≡◌, inl, inr, ℕ, zero, suc, ◌+◌, ◌*◌, ◌^◌, ◌<◌, ◌≤◌, cond, Bool, true, false, List, [], ◌∷◌, ◌++◌, length, map, Option, Some, None, refl, ap, sym, subst, ◌∙◌, arith, length-append, eqb-true, leb-true, ltb-true}
+use Rattle.std.specs.Prelude.{IsTrue, ◌&&◌, nat_le, nat_lt, codes, bit_or}
 use Rattle.std.specs.Int.{bit_at}
 use Rattle.std.specs.List.{All, cons_option, filter, filter_map, fold, last_or, list_all, range_with_len}
 use Rattle.std.proofs.lemmas.List.{map-append, length-map}
 use Rattle.std.proofs.lemmas.List.Elements.{All-nil, All-append}
 use Rattle.std.proofs.lemmas.Nat.Bits.{bit_at_or, bit_at-zero, bit_at-pow_other}
 use Rattle.std.proofs.lemmas.Bool.Decides.{eqb_tells}
-use Rattle.log_node.specs.Sets.{has}
+use Rattle.log_node.specs.declared.ids.Colours.{Colours}
+use Rattle.log_node.specs.Sets.{has, members}
 use Rattle.script_text.specs.declared.script.Kind.{Kind}
 use Rattle.script_text.specs.declared.script.Kind.TheVariants as kinds
 use Rattle.script_text.specs.declared.script.What.{What}
@@ -16,7 +17,7 @@ use Rattle.script_text.specs.declared.script.Word.TheVariants as words
 use Rattle.script_text.specs.declared.table.Field.{Field}
 use Rattle.script_text.specs.declared.table.Field.TheVariants as fields
 use Rattle.script_text.specs.declared.given.Given.{Given}
-use Rattle.script_text.specs.Table.{row_fields, own_fields, later_fields, nothing, what_of, sort_text, sort_of}
+use Rattle.script_text.specs.Table.{row_fields, last_of, own_fields, later_fields, nothing, what_of, sort_text, sort_of}
 use Rattle.script_text.specs.Words.{word_of}
 use Rattle.script_text.specs.declared.script.Command.{Command}
 use Rattle.script_text.specs.declared.item.Item.{Item}
@@ -25,8 +26,9 @@ use Rattle.script_text.specs.declared.item.Stage.{Stage}
 use Rattle.script_text.specs.declared.item.Stage.TheVariants as stages
 use Rattle.script_text.specs.Pieces.{is_among, is_between}
 use Rattle.script_text.specs.Items.{stage_after, stage_of, header_words, may_come, is_begun, has_begun, regions_in, colours_in, clients_in, commands_in, last_said, region_names, colour_names, client_names, client_homes, commands, set_of}
-use Rattle.script_text.specs.Grammar.{may_follow, is_region, Spells, SpellAll, SpellsWhat, Says}
-use Rattle.script_text.specs.Fitting.{AreBelow, IsWithin}
+use Rattle.script_text.specs.Grammar.{may_follow, is_colour, is_region, are_colours, are_new_numbers, ends_well, Spells, SpellAll, SpellsWhat, Says}
+use Rattle.script_text.specs.Fitting.{AreBelow, HasColours, IsWithin}
+use Rattle.script_text.proofs.SetLaws.{many_members, bits_few}
 
 pub and-left : (a b : Bool) → (a && b) ≡ true → a ≡ true
 and-left true b e = refl
@@ -242,57 +244,103 @@ at_commands stages.Objects r c h k e f = no e
 at_commands stages.Commands r c h k e f = f
 
 -- WHAT A COMMAND NAMES
+-- a set of so many colours at least, all of them below a number
+record AreGiven (below count : ℕ) (set : Colours) : Type 0 where
+  low : AreBelow below set
+  many : count ≤ length (members set)
+  bits : set.0 < 2 ^ 64
+
 -- what is given names what there is
 record IsGivenWithin (regions colours : ℕ) (given : Given) : Type 0 where
-  set : AreBelow colours given.colours
+  set : AreGiven colours given.count given.colours
   colour : given.colour < colours
   region : given.region < regions
 
-kind_within : (before : List Item) (field : Field) (own : List (List ℕ)) (given next : Given) → Spells before field own given next
-    → IsGivenWithin (length (region_names before)) (length (colour_names before)) given → IsGivenWithin (length (region_names before)) (length (colour_names before)) next
-kind_within before fields.Steps own given next s w = rw s.3 (record { set = w.set; colour = w.colour; region = w.region })
-kind_within before fields.Cols own given next s w =
+-- the colours that a line names, each once
+are_given : (before : List Item) (order : List ℕ) → length (colour_names before) ≤ 16 → IsTrue (are_colours before order)
+    → AreGiven (length (colour_names before)) (length order) (set_of order)
+are_given before order few lawful =
+    let all = and-right (nat_le 1 (length order) && are_new_numbers [] order) (list_all (is_colour before) order) lawful in
+    let first = and-left (nat_le 1 (length order) && are_new_numbers [] order) (list_all (is_colour before) order) lawful in
+    let most : length (colour_names before) ≤ 64 = omega (arith, few) in
+    record {
+      low = set-below (length (colour_names before)) order all;
+      many = many_members order (length (colour_names before)) most
+          (and-right (nat_le 1 (length order)) (are_new_numbers [] order) first) all;
+      bits = bits_few order (length (colour_names before)) most all;
+    }
+
+-- a line that names colours names one at least
+some_given : (before : List Item) (own : List (List ℕ)) (given next : Given) → Spells before fields.Cols own given next → 1 ≤ next.count
+some_given before own given next s =
     let o = s.2 in
-    rw o.next_is (record { set = set-below (length (colour_names before)) o.order (and-right _ _ o.lawful); colour = w.colour; region = w.region })
-kind_within before fields.Colour own given next s w = rw s.3 (record { set = w.set; colour = ltb-true _ _ s.2; region = w.region })
-kind_within before fields.Region own given next s w = rw s.3 (record { set = w.set; colour = w.colour; region = ltb-true _ _ s.2 })
-kind_within before fields.Text own given next s w = rw s.3 (record { set = w.set; colour = w.colour; region = w.region })
-kind_within before (fields.Object of) own given next s w = rw s.3 (record { set = w.set; colour = w.colour; region = w.region })
-kind_within before fields.Key own given next s w = rw s.3 (record { set = w.set; colour = w.colour; region = w.region })
-kind_within before fields.Value own given next s w = rw s.3 (record { set = w.set; colour = w.colour; region = w.region })
-kind_within before (fields.Keys most) own given next s w = rw s.1 (record { set = w.set; colour = w.colour; region = w.region })
-kind_within before (fields.Pairs most) own given next s w = rw s.2 (record { set = w.set; colour = w.colour; region = w.region })
-kind_within before (fields.Colours most) own given next s w = rw s.4 (record { set = w.set; colour = w.colour; region = w.region })
+    let first = and-left (nat_le 1 (length o.order) && are_new_numbers [] o.order) (list_all (is_colour before) o.order) o.lawful in
+    subst (λ (g : Given). 1 ≤ g.count) (sym o.next_is)
+    (leb-true 1 (length o.order) (and-left (nat_le 1 (length o.order)) (are_new_numbers [] o.order) first))
 
-all_within : (before : List Item) (row : List Field) (args : List (List ℕ)) (given last : Given) → SpellAll before row args given last
+kind_within : (before : List Item) → length (colour_names before) ≤ 16 → (field : Field) (own : List (List ℕ)) (given next : Given) → Spells before field own given next
+    → IsGivenWithin (length (region_names before)) (length (colour_names before)) given → IsGivenWithin (length (region_names before)) (length (colour_names before)) next
+kind_within before few fields.Steps own given next s w = rw s.3 (record { set = w.set; colour = w.colour; region = w.region })
+kind_within before few fields.Cols own given next s w =
+    let o = s.2 in
+    rw o.next_is (record { set = are_given before o.order few o.lawful; colour = w.colour; region = w.region })
+kind_within before few fields.Colour own given next s w = rw s.3 (record { set = w.set; colour = ltb-true _ _ s.2; region = w.region })
+kind_within before few fields.Region own given next s w = rw s.3 (record { set = w.set; colour = w.colour; region = ltb-true _ _ s.2 })
+kind_within before few fields.Text own given next s w = rw s.3 (record { set = w.set; colour = w.colour; region = w.region })
+kind_within before few (fields.Object of) own given next s w = rw s.3 (record { set = w.set; colour = w.colour; region = w.region })
+kind_within before few fields.Key own given next s w = rw s.3 (record { set = w.set; colour = w.colour; region = w.region })
+kind_within before few fields.Value own given next s w = rw s.3 (record { set = w.set; colour = w.colour; region = w.region })
+kind_within before few (fields.Keys most) own given next s w = rw s.1 (record { set = w.set; colour = w.colour; region = w.region })
+kind_within before few (fields.Pairs most) own given next s w = rw s.2 (record { set = w.set; colour = w.colour; region = w.region })
+kind_within before few (fields.Colours most) own given next s w = rw s.4 (record { set = w.set; colour = w.colour; region = w.region })
+
+all_within : (before : List Item) → length (colour_names before) ≤ 16 → (row : List Field) (args : List (List ℕ)) (given last : Given) → SpellAll before row args given last
     → IsGivenWithin (length (region_names before)) (length (colour_names before)) given → IsGivenWithin (length (region_names before)) (length (colour_names before)) last
-all_within before [] args given last s w = rw s.1 w
-all_within before (field ∷ row) args given last s w =
-    all_within before row (later_fields field args) s.0 last s.2 (kind_within before field (own_fields field args) given s.0 s.1 w)
+all_within before few [] args given last s w = rw s.1 w
+all_within before few (field ∷ row) args given last s w =
+    all_within before few row (later_fields field args) s.0 last s.2 (kind_within before few field (own_fields field args) given s.0 s.1 w)
 
-what_within : (regions colours : ℕ) (word : Word) (given : Given) → IsGivenWithin regions colours given → IsWithin regions colours (what_of word given)
-what_within regions colours words.Append given w = w.set
-what_within regions colours words.Stop given w = w.set
-what_within regions colours words.Sync given w = w.colour
-what_within regions colours words.Scan given w = w.set
-what_within regions colours words.Pull given w = (w.region, w.colour)
-what_within regions colours words.Trim given w = w.colour
-what_within regions colours words.Put given w = tt
-what_within regions colours words.Get given w = tt
-what_within regions colours words.Del given w = tt
-what_within regions colours words.PutAll given w = tt
-what_within regions colours words.GetAll given w = tt
-what_within regions colours words.Read given w = tt
-what_within regions colours words.Commit given w = tt
-what_within regions colours words.Enq given w = tt
-what_within regions colours words.Deq given w = tt
+-- what is given has as many colours as are counted
+has_given : (least regions colours : ℕ) (given : Given) → least ≤ given.count → IsGivenWithin regions colours given → HasColours least given.colours
+has_given least regions colours given le w = let many = w.set.many in record { many = omega (arith, le, many); bits = w.set.bits }
 
-is_within : (before : List Item) (client : ℕ) (args : List (List ℕ)) (what : What) → 0 < length (region_names before) → 0 < length (colour_names before) → SpellsWhat before client args what
-    → IsWithin (length (region_names before)) (length (colour_names before)) what
-is_within before client args what r c s =
+what_within : (before : List Item) (client : ℕ) (word : Word) (args : List (List ℕ)) (given : Given) → SpellAll before (row_fields word) args nothing given
+    → IsTrue (ends_well before client (last_of word) given) → IsGivenWithin (length (region_names before)) (length (colour_names before)) given
+    → IsWithin (length (region_names before)) (length (colour_names before)) (what_of word given)
+what_within before client words.Append args given s e w =
+    let same : given.count ≡ s.0.count = ap (λ (g : Given). g.count) (s.2.2.1 ∙ s.2.1.3) in
+    let some = some_given before (own_fields fields.Cols args) nothing s.0 s.1 in
+    (has_given 1 (length (region_names before)) (length (colour_names before)) given (omega (arith, same, some)) w, w.set.low)
+what_within before client words.Stop args given s e w =
+    let two = leb-true 2 given.count (and-left (nat_le 2 given.count) (nat_le given.number (2 * given.count + 2)) e) in
+    let steps = leb-true given.number (2 * given.count + 2) (and-right (nat_le 2 given.count) (nat_le given.number (2 * given.count + 2)) e) in
+    let many = w.set.many in
+    (has_given 2 (length (region_names before)) (length (colour_names before)) given two w, w.set.low, omega (arith, steps, many))
+what_within before client words.Sync args given s e w = w.colour
+what_within before client words.Scan args given s e w =
+    let same : given.count ≡ s.0.count = ap (λ (g : Given). g.count) s.2.1 in
+    let some = some_given before (own_fields fields.Cols args) nothing s.0 s.1 in
+    (has_given 1 (length (region_names before)) (length (colour_names before)) given (omega (arith, same, some)) w, w.set.low)
+what_within before client words.Pull args given s e w = (w.region, w.colour)
+what_within before client words.Trim args given s e w = w.colour
+what_within before client words.Put args given s e w = tt
+what_within before client words.Get args given s e w = tt
+what_within before client words.Del args given s e w = tt
+what_within before client words.PutAll args given s e w = tt
+what_within before client words.GetAll args given s e w = tt
+what_within before client words.Read args given s e w = tt
+what_within before client words.Commit args given s e w = tt
+what_within before client words.Enq args given s e w = tt
+what_within before client words.Deq args given s e w = tt
+
+is_within : (before : List Item) (client : ℕ) (args : List (List ℕ)) (what : What) → 0 < length (region_names before) → 0 < length (colour_names before) → length (colour_names before) ≤ 16
+    → SpellsWhat before client args what → IsWithin (length (region_names before)) (length (colour_names before)) what
+is_within before client args what r c few s =
     subst (λ (w : What). IsWithin (length (region_names before)) (length (colour_names before)) w) (sym s.same)
-    (what_within (length (region_names before)) (length (colour_names before)) (word_of what) s.given
-    (all_within before (row_fields (word_of what)) args nothing s.given s.spelled (record { set = set-below (length (colour_names before)) [] refl; colour = c; region = r })))
+    (what_within before client (word_of what) args s.given s.spelled s.ends
+    (all_within before few (row_fields (word_of what)) args nothing s.given s.spelled (record { set = none_given; colour = c; region = r }))) where
+      none_given : AreGiven (length (colour_names before)) 0 (set_of [])
+      none_given = record { low = set-below (length (colour_names before)) [] refl; many = omega arith; bits = omega arith }
 
 -- ONE MORE ITEM
 module _ (before : List Item) (fit : Fits (length (region_names before)) (length (colour_names before)) (client_homes before) (commands before) (stage_of before)) where
@@ -408,7 +456,7 @@ module _ (before : List Item) (fit : Fits (length (region_names before)) (length
         few_clients = fit.few_clients;
         are_homes = fit.are_homes;
         callers = one-more (λ (c : Command). c.client < length homes) asked command fit.callers (omega arith);
-        within = one-more (λ (c : Command). IsWithin regions colours c.what) asked command fit.within (is_within before command.client args command.what early.0 early.1 spelled);
+        within = one-more (λ (c : Command). IsWithin regions colours c.what) asked command fit.within (is_within before command.client args command.what early.0 early.1 fit.few_colours spelled);
         early = early;
       })
 

@@ -207,13 +207,6 @@ pub any_named : {X : Type 0} (name : X → List ℕ) (field : List ℕ) (xs : Li
 any_named name field [] = refl
 any_named name field (x ∷ xs) = rw (any_named name field xs) refl
 
-turned : (n : ℕ) (ns : List ℕ) → list_any (λ m. eqb m n) ns ≡ false → list_any (eqb n) ns ≡ false
-turned n [] h = refl
-turned n (m ∷ ns) h =
-    let p = or_parts (eqb m n) (list_any (λ m. eqb m n) ns) h in
-    let a : eqb n m ≡ false = ne_eqb n m (λ e. eqb-false m n p.0 (sym e)) in
-    rw (a, turned n ns p.1) refl
-
 eqb_turn : (a b : ℕ) → eqb a b ≡ eqb b a
 eqb_turn a b =
     elim (cases_Bool (eqb a b)) [
@@ -221,25 +214,30 @@ eqb_turn a b =
       | inr e ↦ e ∙ sym (ne_eqb b a (λ k. eqb-false a b e (sym k)))
     ]
 
-eqb_equivalence : IsEquivalence eqb
+pub any_turned : (n : ℕ) (ns : List ℕ) → list_any (λ m. eqb m n) ns ≡ list_any (eqb n) ns
+any_turned n [] = refl
+any_turned n (m ∷ ns) = rw (eqb_turn m n, any_turned n ns) refl
+
+pub eqb_equivalence : IsEquivalence eqb
 eqb_equivalence = record {
   refl = λ x. eq-eqb x x refl;
   symm = eqb_turn;
   congr = λ x y z e. rw (eqb-true x y e) refl;
 }
 
-nothing : IsDistinct eqb []
+pub nothing : IsDistinct eqb []
 unfolding IsDistinct
 nothing = tt
 
-distinct : (before ns : List ℕ) → IsDistinct eqb before → are_new_numbers before ns ≡ true → IsDistinct eqb (before ++ ns)
+pub distinct : (before ns : List ℕ) → IsDistinct eqb before → are_new_numbers before ns ≡ true → IsDistinct eqb (before ++ ns)
 distinct before [] d h = rw append-nil d
 distinct before (n ∷ ns) d h =
     let f = and_parts (not (list_any (λ m. eqb m n) before)) (are_new_numbers (before ++ n ∷ []) ns) h in
-    let one = IsDistinct-push eqb_equivalence before n d (turned n before (not-true (list_any (λ m. eqb m n) before) f.0)) in
+    let one = IsDistinct-push eqb_equivalence before n d (sym (any_turned n before) ∙ not-true (list_any (λ m. eqb m n) before) f.0) in
     subst (IsDistinct eqb) (append_assoc before (n ∷ []) ns) (distinct (before ++ n ∷ []) ns one f.1)
 
-below_all : (ns : List ℕ) (most q : ℕ) → list_all (λ n. ltb n most) ns ≡ true → list_any (eqb q) ns ≡ true → q < most
+-- a number among those that are all below another is below it
+pub below_all : (ns : List ℕ) (most q : ℕ) → list_all (λ n. ltb n most) ns ≡ true → list_any (eqb q) ns ≡ true → q < most
 below_all [] most q h e = absurd cc
 below_all (n ∷ ns) most q h e =
     let b = and_parts (ltb n most) (list_all (λ n. ltb n most) ns) h in

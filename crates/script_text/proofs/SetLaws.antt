@@ -1,22 +1,29 @@
 -- The set of the colours that a line names, made name by name.
-use Rattle.std.proofs.Common.{◌≡◌, ℕ, ◌^◌, ◌≢◌, inl, inr, Bool, true, false, ◌||◌, eqb, ◌+◌, ◌≤◌, List, [], ◌∷◌, ◌++◌, length, length-append, Option, Some, None, Ok, bit_or, refl, sym, ap, ◌∙◌, arith}
-use Rattle.std.specs.List.{list_any, fold}
+use Rattle.std.proofs.Common.{◌≡◌, ℕ, ◌^◌, ◌<◌, ◌≢◌, inl, inr, Bool, true, false, ◌||◌, eqb, ltb, ◌+◌, ◌≤◌, List, [], ◌∷◌, ◌++◌, length, length-append, Option, Some, None, Ok, bit_or, get_or, refl, sym, ap, subst, ◌∙◌, arith}
+use Rattle.std.specs.List.{list_any, list_all, fold, range_with_len}
 use Rattle.std.specs.Int.{bit_at}
 use Rattle.std.specs.Str.{bytes_eq}
-use Rattle.std.proofs.lemmas.Bool.{cases_Bool, eqb-true, eqb-false, eq-eqb, ne_eqb, both_ways}
+use Rattle.std.proofs.Math.Pow.{pow-lt}
+use Rattle.std.proofs.lemmas.Bool.{cases_Bool, and_parts, eqb-true, eqb-false, eq-eqb, ltb-true, ne_eqb, both_ways}
+use Rattle.std.proofs.lemmas.Nat.{or_lt, pow_pos}
 use Rattle.std.proofs.lemmas.Nat.Bits.{bit_at_or, bit_at-zero, bit_at-lt, bit_at-pow_same, bit_at-pow_other}
+use Rattle.std.proofs.lemmas.List.Folds.{list_any_at}
+use Rattle.std.proofs.lemmas.List.FromFn.{length-range_with_len, get_or-range_with_len}
 use Rattle.std.proofs.lemmas.List.Sums.{fold_push}
+use Rattle.std.proofs.lemmas.Map.Made.{length-le_from_is_member}
+use Rattle.std.proofs.lemmas.Map.Views.{any-filter_same}
 use Rattle.std.proofs.lemmas.Slice.Eq.{bytes_eq-Decides}
 use Rattle.log_node.specs.declared.ids.Colours.{Colours}
-use Rattle.log_node.specs.Sets.{has}
+use Rattle.log_node.specs.Sets.{has, members}
 use Rattle.script_text.specs.declared.fault.Fault.{Fault}
 use Rattle.script_text.specs.declared.fault.Fault.TheVariants as faults
 use Rattle.script_text.specs.declared.script.Reason.TheVariants as reasons
 use Rattle.script_text.specs.Pieces.{names_in, is_among, number_of}
 use Rattle.script_text.specs.Items.{set_of}
+use Rattle.script_text.specs.Grammar.{are_new_numbers}
 use Rattle.script_text.specs.Readings.{Fails, number_at, each_at, colour_at, fresh_colour_at, colours_at, colours_set_at}
 use Rattle.script_text.proofs.EachLemmas.{with_front, each_step, fails_on, done_on}
-use Rattle.script_text.proofs.NameLemmas.{number_found, found_ok, colour_ok, few_colours}
+use Rattle.script_text.proofs.NameLemmas.{number_found, found_ok, colour_ok, any_turned, eqb_equivalence, nothing, distinct, below_all, few_colours}
 
 abbrev pub put : ℕ → ℕ → ℕ
 put set c = bit_or set (2 ^ c)
@@ -56,6 +63,42 @@ all_more (m ∷ order) a c =
 
 pub has_set : (order : List ℕ) (c : ℕ) → has (set_of order) c ≡ list_any (λ m. eqb m c) order
 has_set order c = all_more order 0 c ∙ rw (bit_at-zero c) refl
+
+-- what a set of small numbers has is among its members
+among_members : (set : Colours) (q : ℕ) → q < 64 → has set q ≡ true → list_any (eqb q) (members set) ≡ true
+among_members set q few is =
+    let same : (k : ℕ) → eqb q k ≡ true → has set k ≡ true =
+    λ k e. subst (λ (n : ℕ). has set n ≡ true) (eqb-true q k e) is in
+    let at : get_or (range_with_len 0 64) q 0 ≡ q = get_or-range_with_len 0 64 q 0 few ∙ from_zero q in
+    let here = list_any_at (eqb q) (range_with_len 0 64) q 0 (length_is q few) (eq-eqb q _ (sym at)) in
+    any-filter_same (eqb q) (has set) true same (range_with_len 0 64) ∙ here where
+      length_is : (q : ℕ) → q < 64 → q < length (range_with_len 0 64)
+      length_is q few = let all = length-range_with_len 0 64 in omega (arith, all, few)
+
+      from_zero : (q : ℕ) → 0 + q ≡ q
+      from_zero q = omega arith
+
+-- distinct colours below 64 are no more than the members of their set
+pub many_members : (order : List ℕ) (most : ℕ) → most ≤ 64 → are_new_numbers [] order ≡ true
+    → list_all (λ n. ltb n most) order ≡ true → length order ≤ length (members (set_of order))
+many_members order most few new below =
+    length-le_from_is_member eqb_equivalence order (members (set_of order)) (distinct [] order nothing new)
+    (λ q e. let lt = below_all order most q below e in
+    among_members (set_of order) q (omega (arith, lt, few)) (has_set order q ∙ any_turned q order ∙ e))
+
+-- and the bits of their set are few
+few_bits : (order : List ℕ) (most : ℕ) → most ≤ 64 → (bits : ℕ) → bits < 2 ^ 64
+    → list_all (λ n. ltb n most) order ≡ true → fold put bits order < 2 ^ 64
+few_bits [] most few bits lt below = lt
+few_bits (c ∷ order) most few bits lt below =
+    let p = and_parts (ltb c most) (list_all (λ n. ltb n most) order) below in
+    let low = ltb-true c most p.0 in
+    let small : c < 64 = omega (arith, low, few) in
+    few_bits order most few (put bits c) (or_lt 64 bits (2 ^ c) lt (pow-lt small)) p.1
+
+pub bits_few : (order : List ℕ) (most : ℕ) → most ≤ 64 → list_all (λ n. ltb n most) order ≡ true
+    → (set_of order).0 < 2 ^ 64
+bits_few order most few below = few_bits order most few 0 (pow_pos 64) below
 
 -- ---- names and their numbers
 

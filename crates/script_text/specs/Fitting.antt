@@ -1,5 +1,5 @@
 -- What holds of the numbers in a script: each names something, and the shape keeps its limits.
-use Rattle.std.specs.Prelude.{◌≡◌, Bool, true, false, IsTrue, ℕ, ◌<◌, ◌≤◌, ◌^◌, List, length, Some, slice_get}
+use Rattle.std.specs.Prelude.{◌≡◌, Bool, true, false, IsTrue, ℕ, ◌+◌, ◌*◌, ◌<◌, ◌≤◌, ◌^◌, List, length, Some, slice_get}
 use Rattle.std.specs.List.{All}
 use Rattle.log_node.specs.declared.node.Shape.{Shape}
 use Rattle.log_node.specs.declared.ids.Colours.{Colours}
@@ -29,12 +29,19 @@ pub record IsShape (shape : Shape) : Type 0 where
 abbrev pub AreBelow : ℕ → Colours → Type 0
 AreBelow count colours = All (λ c. c < count) (members colours)
 
--- the colours and regions that a command names are among so many
+-- a set with so many colours at least, of the 64 that a set may have
+pub record HasColours (least : ℕ) (set : Colours) : Type 0 where
+  pub many : least ≤ length (members set)
+  pub bits : set.0 < 2 ^ 64
+
+-- The colours and regions that a command names are among so many. An append and a scan name a colour at least; a stop
+-- names two, and no more steps than its append has.
 abbrev pub IsWithin : ℕ → ℕ → What → Type 0
-IsWithin regions colours (whats.Append set text) = AreBelow colours set
-IsWithin regions colours (whats.Stop steps set text) = AreBelow colours set
+IsWithin regions colours (whats.Append set text) = HasColours 1 set × AreBelow colours set
+IsWithin regions colours (whats.Stop steps set text) =
+    HasColours 2 set × AreBelow colours set × (steps ≤ 2 * length (members set) + 2)
 IsWithin regions colours (whats.Sync colour) = colour < colours
-IsWithin regions colours (whats.Scan set) = AreBelow colours set
+IsWithin regions colours (whats.Scan set) = HasColours 1 set × AreBelow colours set
 IsWithin regions colours (whats.Pull region colour) = (region < regions) × (colour < colours)
 IsWithin regions colours (whats.Trim colour) = colour < colours
 IsWithin regions colours (whats.Put object key value) = Unit {0}

@@ -1,13 +1,11 @@
-use Rattle.std.proofs.Common.{◌≡◌, List, subst, true}
+use Rattle.std.proofs.Common.{List, subst}
 use Rattle.std.proofs.lemmas.Result.{IfOk-weaker}
 use Rattle.log_node.specs.Seen.{PlacedNode}
 use Rattle.log_node.specs.Sets.{members}
 use Rattle.report_text.specs.declared.report.Answer.{Answer}
-use Rattle.script_text.specs.declared.script.What.{What}
 use Rattle.script_text.specs.declared.script.What.TheVariants as whats
 use Rattle.script_text.specs.Fitting.{IsWithin, UsesObject}
 use Rattle.world_code.specs.WorldView.{world_of}
-use Rattle.script_meaning.specs.States.{is_built}
 use Rattle.script_meaning.specs.Appends.{appended, stopped}
 use Rattle.script_meaning.specs.Moves.{synced, pulled, trimmed}
 use Rattle.script_meaning.specs.Stamped.{scanned}
@@ -17,20 +15,22 @@ use Rattle.script_in_order.proofs.CommandKinds.{does_what, with_nodes, other_kin
 use Rattle.script_in_order.proofs.answers.answer.Goals as goal
 
 pub append-requires : goal.append-requires
-append-requires c = record {
-  many = subst (λ (w : What). is_built c.args.objects.now w ≡ true) c.in-Append.is c.requires.built;
-  caller = c.requires.fits.caller;
-  within = subst (IsWithin c.args.world.now.shape.regions c.args.world.now.shape.colours) c.in-Append.is
-      c.requires.fits.within;
-}
+append-requires c =
+    let within = subst (IsWithin c.args.world.now.shape.regions c.args.world.now.shape.colours) c.in-Append.is
+    c.requires.fits.within in record {
+      many = within.0;
+      caller = c.requires.fits.caller;
+      within = within.1;
+    }
 
 pub stop-requires : goal.stop-requires
-stop-requires c = record {
-  many = subst (λ (w : What). is_built c.args.objects.now w ≡ true) c.in-Stop.is c.requires.built;
-  caller = c.requires.fits.caller;
-  within = subst (IsWithin c.args.world.now.shape.regions c.args.world.now.shape.colours) c.in-Stop.is
-      c.requires.fits.within;
-}
+stop-requires c =
+    let within = subst (IsWithin c.args.world.now.shape.regions c.args.world.now.shape.colours) c.in-Stop.is
+    c.requires.fits.within in record {
+      many = within.0;
+      caller = c.requires.fits.caller;
+      within = within.1;
+    }
 
 pub sync-requires : goal.sync-requires
 sync-requires c = record {
@@ -42,8 +42,8 @@ sync-requires c = record {
 pub scan-requires : goal.scan-requires
 scan-requires c = record {
   caller = c.requires.fits.caller;
-  within = subst (IsWithin c.args.world.now.shape.regions c.args.world.now.shape.colours) c.in-Scan.is
-      c.requires.fits.within;
+  within = (subst (IsWithin c.args.world.now.shape.regions c.args.world.now.shape.colours) c.in-Scan.is
+      c.requires.fits.within).1;
 }
 
 pub pull-requires : goal.pull-requires

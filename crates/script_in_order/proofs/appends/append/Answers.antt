@@ -9,7 +9,6 @@ use Rattle.script_text.specs.declared.script.Command.{Command}
 use Rattle.report_text.specs.declared.report.Answer.{Answer}
 use Rattle.script_meaning.specs.Appends.{appended, appended_one, appended_several}
 use Rattle.script_in_order.specs.Doing.{DoneBy}
-use Rattle.script_in_order.proofs.FirstSteps.{at_least}
 use Rattle.script_in_order.proofs.appends.append.Goals as goal
 
 one : (command : Command) (colours : Colours) (text : List ℕ) (colour : ℕ) (w new : World) (answer : Answer)
@@ -35,7 +34,7 @@ append_one-requires-clause-within c =
     all 0 0 (omega arith)
 
 pub append_several-requires-clause-many : goal.append_several-requires-clause-many
-append_several-requires-clause-many c = omega (arith, at_least 1 c.args.colours c.requires.many)
+append_several-requires-clause-many c = let many = c.requires.many.many in omega (arith, many)
 
 pub returns-then-count-eq1-clause-ok : goal.returns-then-count-eq1-clause-ok
 returns-then-count-eq1-clause-ok c =
@@ -61,5 +60,5 @@ returns-else-count-eq1-clause-ok c =
     (λ answer. DoneBy (λ grants state. appended grants state command c.args.colours c.args.text.now
     (members c.args.colours)) command w new answer [])
     (λ answer d. several command c.args.colours c.args.text.now w new answer (members c.args.colours)
-    (omega (arith, at_least 1 c.args.colours c.requires.many)) d)
+    (let many = c.requires.many.many in omega (arith, many)) d)
     c.append_several.ensures.ok

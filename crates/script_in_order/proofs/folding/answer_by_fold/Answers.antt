@@ -1,11 +1,11 @@
-use Rattle.std.proofs.Common.{◌≡◌, [], subst, true, None}
+use Rattle.std.proofs.Common.{◌≡◌, [], subst, None}
 use Rattle.std.proofs.lemmas.Result.{IfOk-weaker}
 use Rattle.report_text.specs.declared.report.Answer.{Answer}
 use Rattle.script_text.specs.declared.script.What.{What}
 use Rattle.script_text.specs.declared.script.What.TheVariants as whats
 use Rattle.script_text.specs.Fitting.{UsesObject}
 use Rattle.world_code.specs.WorldView.{world_of}
-use Rattle.script_meaning.specs.States.{kind_in, is_built}
+use Rattle.script_meaning.specs.States.{kind_in}
 use Rattle.script_meaning.specs.Objects.{caller_in, refusing_home}
 use Rattle.script_meaning.specs.Gets.{got, got_keys}
 use Rattle.script_meaning.specs.Dequeues.{dequeued}
@@ -15,7 +15,6 @@ use Rattle.script_in_order.proofs.folding.answer_by_fold.Goals as goal
 
 pub get-requires : goal.get-requires
 get-requires c = record {
-  built = subst (λ (x : What). is_built c.args.objects.now x ≡ true) c.in-Get.is c.requires.built;
   caller = c.requires.fits.caller;
   kinds = c.requires.fits.kinds;
   uses = subst (UsesObject c.args.objects.now) c.in-Get.is c.requires.fits.uses;
@@ -46,8 +45,8 @@ dequeue-requires c = record {
 
 pub unreachable-requires : goal.unreachable-requires
 unreachable-requires c =
-    fold_kinds c.args.objects.now c.args.command.now.what c.requires.built c.requires.kind c.requires.one c.in_default.not-Get
-    c.in_default.not-GetAll c.in_default.not-Deq
+    fold_kinds c.args.command.now.what c.requires.kind c.requires.one c.in_default.not-Get c.in_default.not-GetAll
+    c.in_default.not-Deq
 
 pub returns-in-Get-clause-ok : goal.returns-in-Get-clause-ok
 returns-in-Get-clause-ok c =

@@ -20,3 +20,6 @@ returns-in_ok-open_causal-in-Causal c = λ w same. (
       subst (IsKindWithin c.args.shape.now.regions c.args.shape.now.colours) c.in-Causal.is c.requires.within in
       let few = c.requires.few in omega (arith, within, few)),
 )
+
+pub returns-in-Tx : goal.returns-in-Tx
+returns-in-Tx c = λ w same. (c.in-Tx._home, c.in-Tx._colours, c.in-Tx.is, c.open-in-Tx.ensures.folded w)

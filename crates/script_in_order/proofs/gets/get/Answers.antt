@@ -1,4 +1,4 @@
-use Rattle.std.proofs.Common.{◌≡◌, ℕ, [], Option, Some, sym, subst}
+use Rattle.std.proofs.Common.{◌≡◌, ℕ, [], Option, Some, get_or, sym, subst}
 use Rattle.std.specs.Prelude.{IfOk}
 use Rattle.report_text.specs.declared.report.Answer.{Answer}
 use Rattle.script_text.specs.declared.script.Kind.{Kind}
@@ -11,7 +11,15 @@ use Rattle.script_meaning.specs.Gets.{got}
 use Rattle.script_in_order.specs.Doing.{DoneBy}
 use Rattle.script_in_order.proofs.CausalKept.{kind_at}
 use Rattle.script_in_order.proofs.ObjectHomes.{map_home}
+use Rattle.script_in_order.proofs.ObjectSteps.{has_kind, map_kinds}
 use Rattle.script_in_order.proofs.gets.get.Goals as goal
+
+-- a get is of a map or a causal map
+pub unreachable-requires : goal.unreachable-requires
+unreachable-requires c =
+    map_kinds (get_or c.args.objects.now c.args.object c.index-objects-object.result).kind
+    (has_kind c.args.objects.now c.args.object c.index-objects-object.result c.requires.uses.0)
+    c.in_default.not-Map c.in_default.not-Causal
 
 pub returns-in-Map-clause-ok : goal.returns-in-Map-clause-ok
 returns-in-Map-clause-ok c =

@@ -37,11 +37,11 @@ returns c =
           (λ r e. record { state = state_of code; leads = leads; shown = e }) shown;
       lawful = IfOk-weaker c.report.result (λ (r : Report). r ≡ report_of script (state_of code)) (LawfulRun script)
           (λ r e. subst (LawfulRun script) (sym e)
-          (c.runs_are_lawful.ensures script c.requires.fits c.requires.built c.requires.stops (state_of code) leads))
+          (c.runs_are_lawful.ensures script c.requires.fits c.requires.stops (state_of code) leads))
           shown;
       exact = IfOk-weaker c.report.result (λ (r : Report). r ≡ report_of script (state_of code))
           (λ (r : Report). FindsMemory r → r ≡ step_report script)
-          (λ r e grants. e ∙ c.runs_are_exact.ensures script c.requires.fits c.requires.built c.requires.stops
+          (λ r e grants. e ∙ c.runs_are_exact.ensures script c.requires.fits c.requires.stops
           (state_of code) leads
           (subst FindsMemory e grants)) shown;
     }

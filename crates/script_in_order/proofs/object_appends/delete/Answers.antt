@@ -1,12 +1,11 @@
-use Rattle.std.proofs.Common.{◌≡◌, ◌∙◌, ℕ, true, [], ◌∷◌, List, Option, Some, get_or, inl, refl, ap, sym, subst}
-use Rattle.script_text.specs.Fitting.{AreBelow, is_map}
+use Rattle.std.proofs.Common.{◌∙◌, ℕ, [], ◌∷◌, List, Option, Some, get_or, inl, refl, ap, sym, subst}
+use Rattle.script_text.specs.Fitting.{AreBelow, HasColours, is_map}
 use Rattle.script_text.specs.declared.script.Kind.{Kind}
-use Rattle.log_node.specs.declared.ids.Colours.{Colours}
 use Rattle.lawful_run.specs.Asks.{object_colours}
 use Rattle.object_form.specs.Forms.{IsForm}
 use Rattle.log_node.specs.declared.forms.Form.TheVariants as forms
 use Rattle.world_code.specs.WorldView.{world_of}
-use Rattle.script_meaning.specs.States.{has_colours, kind_in}
+use Rattle.script_meaning.specs.States.{kind_in}
 use Rattle.script_meaning.specs.Objects.{shard_set}
 use Rattle.script_meaning.proofs.CallerLemmas.{key_is_word}
 use Rattle.script_in_order.proofs.ObjectSteps.{kind_is, small, has_some, are_low, form_done}
@@ -28,7 +27,7 @@ append_form-requires-clause-form c =
 pub append_form-requires-clause-many : goal.append_form-requires-clause-many
 append_form-requires-clause-many c =
     let kind = (get_or c.args.objects.now c.args.object c.index-objects-object.result).kind in
-    subst (λ (s : Colours). has_colours 1 s ≡ true) (sym (c.key_shard.ensures
+    subst (HasColours 1) (sym (c.key_shard.ensures
     ∙ ap (λ (k : List ℕ). shard_set (object_colours (Some kind)) (k ∷ [])) c.as_bytes-2.ensures))
     (has_some c.args.world.now.shape.regions c.args.world.now.shape.colours c.is_whole.ensures.few_colours
     c.args.objects.now c.requires.kinds c.args.object is_map c.requires.uses.0 kind

@@ -1,15 +1,14 @@
-use Rattle.std.proofs.Common.{◌≡◌, ◌∙◌, true, Option, get_or, ap, sym, subst}
-use Rattle.script_text.specs.Fitting.{AreBelow, is_queue}
+use Rattle.std.proofs.Common.{◌∙◌, Option, get_or, ap, sym, subst}
+use Rattle.script_text.specs.Fitting.{AreBelow, HasColours, is_queue}
 use Rattle.script_text.specs.declared.script.Kind.{Kind}
-use Rattle.log_node.specs.declared.ids.Colours.{Colours}
 use Rattle.script_text.specs.Items.{set_of}
 use Rattle.lawful_run.specs.Asks.{object_colours}
 use Rattle.object_form.specs.Forms.{IsForm}
 use Rattle.log_node.specs.declared.forms.Form.TheVariants as forms
 use Rattle.world_code.specs.WorldView.{world_of}
-use Rattle.script_meaning.specs.States.{has_colours, kind_in}
+use Rattle.script_meaning.specs.States.{kind_in}
 use Rattle.script_meaning.proofs.CallerLemmas.{key_is_word}
-use Rattle.script_in_order.proofs.ObjectSteps.{kind_is, small, queue_is, queue_some, queue_low, form_done}
+use Rattle.script_in_order.proofs.ObjectSteps.{kind_is, has_kind, small, queue_some, queue_low, form_done}
 use Rattle.script_in_order.proofs.object_appends.enqueue.Goals as goal
 
 -- the object's kind, where its facts are found
@@ -23,14 +22,14 @@ queue_colours-set-requires c =
     let kind = (get_or c.args.objects.now c.args.object c.index-objects-object.result).kind in
     let is = kind_is c.args.objects.now c.args.object c.index-objects-object.result c.requires.uses.0 in
     record {
-      queue = queue_is c.args.objects.now c.args.object c.index-objects-object.result c.requires.uses.0;
+      queue = has_kind c.args.objects.now c.args.object c.index-objects-object.result c.requires.uses.0;
       colours = small c.args.world.now.shape.regions c.args.world.now.shape.colours c.is_whole.ensures.few_colours
           c.args.objects.now c.requires.kinds c.args.object is_queue c.requires.uses.0 kind is;
     }
 
 pub append_form-requires-clause-many : goal.append_form-requires-clause-many
 append_form-requires-clause-many c =
-    subst (λ (s : Colours). has_colours 1 s ≡ true)
+    subst (HasColours 1)
     (sym (c.queue_colours-set.ensures ∙ ap (λ (k : Option Kind). set_of (object_colours k))
     (kind_is c.args.objects.now c.args.object c.index-objects-object.result c.requires.uses.0)))
     (queue_some c.args.world.now.shape.regions c.args.world.now.shape.colours c.is_whole.ensures.few_colours

@@ -1,13 +1,12 @@
-use Rattle.std.proofs.Common.{◌≡◌, ◌∙◌, true, List, Option, Some, get_or, ap, sym, subst}
-use Rattle.script_text.specs.Fitting.{AreBelow, is_map}
+use Rattle.std.proofs.Common.{◌∙◌, List, Option, Some, get_or, ap, sym, subst}
+use Rattle.script_text.specs.Fitting.{AreBelow, HasColours, is_map}
 use Rattle.script_text.specs.declared.script.Kind.{Kind}
-use Rattle.log_node.specs.declared.ids.Colours.{Colours}
 use Rattle.log_node.specs.declared.forms.Pair.{Pair}
 use Rattle.lawful_run.specs.Asks.{object_colours, keys_of}
 use Rattle.object_form.specs.Forms.{IsForm}
 use Rattle.log_node.specs.declared.forms.Form.TheVariants as forms
 use Rattle.world_code.specs.WorldView.{world_of}
-use Rattle.script_meaning.specs.States.{has_colours, kind_in}
+use Rattle.script_meaning.specs.States.{kind_in}
 use Rattle.script_meaning.specs.Objects.{shard_set}
 use Rattle.script_meaning.proofs.CallerLemmas.{key_some, pairs_are, some_of}
 use Rattle.script_in_order.proofs.ObjectSteps.{kind_is, small, has_some, are_low, form_done}
@@ -30,7 +29,7 @@ pub append_form-requires-clause-many : goal.append_form-requires-clause-many
 append_form-requires-clause-many c =
     let kind = (get_or c.args.objects.now c.args.object c.index-objects-object.result).kind in
     let key = some_of (keys_of c.args.pairs.now) (key_some 4 c.args.pairs.now c.requires.uses.1) in
-    subst (λ (s : Colours). has_colours 1 s ≡ true) (sym (c.pair_shards-set.ensures
+    subst (HasColours 1) (sym (c.pair_shards-set.ensures
     ∙ ap (λ (ps : List Pair). shard_set (object_colours (Some kind)) (keys_of ps)) c.as_slice.ensures))
     (has_some c.args.world.now.shape.regions c.args.world.now.shape.colours c.is_whole.ensures.few_colours
     c.args.objects.now c.requires.kinds c.args.object is_map c.requires.uses.0 kind

@@ -38,6 +38,7 @@ do_transaction-requires c =
       reads = ap (λ (r : RepliesView). length r.reads) is ∙ c.requires.reads;
       rests = subst (λ (r : RepliesView). AreFit (read_at r.reads)) (sym is) c.requires.rests;
       room = subst (λ (r : RepliesView). 0 < r.room) (sym is) c.requires.room;
+      folded = c.requires.folded;
     }
 
 pub returns-in-Some-clause-done : goal.returns-in-Some-clause-done
@@ -53,12 +54,4 @@ returns-in-Some-clause-done c =
     (sym c.transaction_of.ensures ∙ c.in-Some.is) c.requires.fits.uses))
     (subst (λ (r : RepliesView). Transacts c.args.objects.now c.args.command.now c.in-Some.object
     (world_of c.args.world.now) (world_of c.do_transaction.new.world) r c.do_transaction.new.mine) is
-    c.do_transaction.ensures)
-
-pub returns-in-Some-clause-folded : goal.returns-in-Some-clause-folded
-returns-in-Some-clause-folded c =
-    folds_stay (world_of c.args.world.now) (world_of c.do_transaction.new.world) c.agrees.ensures
-    (transacted_to c.args.objects.now c.args.command.now c.in-Some.object (world_of c.args.world.now)
-    (world_of c.do_transaction.new.world) c.index_mut-mine.result.now c.do_transaction.new.mine
-    c.do_transaction.ensures)
-    c.args.objects.now c.args.folds.now c.requires.folded
+    c.do_transaction.ensures.done)

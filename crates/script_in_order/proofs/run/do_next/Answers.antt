@@ -1,7 +1,5 @@
 use Rattle.std.proofs.Common.{◌≡◌, ◌∙◌, sym, subst, ap, get_or, length, List}
-use Rattle.std.specs.Prelude.{IsTrue}
 use Rattle.script_text.specs.declared.script.Command.{Command}
-use Rattle.script_meaning.specs.States.{is_built}
 use Rattle.script_text.specs.declared.script.Object.{Object}
 use Rattle.world_code.specs.WorldView.{world_of}
 use Rattle.script_in_order.specs.Doing.{IsFit}
@@ -17,9 +15,6 @@ do_command-requires c =
     let command = c.index-as_slice-place.result in
     let is = c.index-as_slice-place.is ∙ ap (λ (l : List Command). get_or l c.args.place command) c.as_slice.ensures in
     record {
-      built = subst (λ (os : List Object). IsTrue (is_built os command.what)) (sym c.as_slice-2.ensures)
-          (subst (λ (x : Command). IsTrue (is_built script.objects x.what)) (sym is) (c.requires.built c.args.place command
-          c.requires.place));
       fits = subst (λ (os : List Object). IsFit (world_of c.args.world.now) os command.client command.what)
           (sym c.as_slice-2.ensures) (next_fits script c.requires.fits c.args.place code c.requires.place c.requires.run command is);
       folded = subst (λ (os : List Object). AreFolded (world_of c.args.world.now) os c.args.folds.now)
@@ -30,7 +25,7 @@ do_command-requires c =
           (sym c.as_slice-2.ensures)
           (next_reads script c.requires.fits c.args.place code c.requires.place c.requires.run command is);
       rests = next_rests script c.requires.fits c.args.place code c.requires.place c.requires.run command is
-          c.reads_back.ensures c.requires.built c.requires.stops;
+          c.reads_back.ensures c.requires.stops;
     }
 
 pub returns : goal.returns

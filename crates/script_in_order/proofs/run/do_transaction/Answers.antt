@@ -31,8 +31,8 @@ pub add-requires-in-Err : goal.add-requires-in-Err
 add-requires-in-Err c =
     subst (λ (r : RepliesView). 0 < r.room) (sym c.take_read-taken.ensures.reads) c.requires.room
 
-pub returns-in-Ok : goal.returns-in-Ok
-returns-in-Ok c =
+pub returns-in-Ok-clause-done : goal.returns-in-Ok-clause-done
+returns-in-Ok-clause-done c =
     transacts c.args.objects.now c.args.command.now c.args.object c.args.mine.now c.add.new.self
     (world_of c.args.world.now) (world_of c.transact.new.world) c.in-Ok.answer c.in-Ok.kept c.take_read-taken.result
     c.reply_of.result c.take_read-taken.ensures.value c.in-Ok.ensures.ok
@@ -41,8 +41,8 @@ returns-in-Ok c =
     (c.keep_read.ensures
     ∙ ap (λ (r : RepliesView). with_read r c.args.object c.in-Ok.kept) c.take_read-taken.ensures.reads))
 
-pub returns-in-Err : goal.returns-in-Err
-returns-in-Err c =
+pub returns-in-Err-clause-done : goal.returns-in-Err-clause-done
+returns-in-Err-clause-done c =
     transacts_none c.args.objects.now c.args.command.now c.args.object c.args.mine.now c.add-in-Err.new.self
     (world_of c.args.world.now) (world_of c.transact.new.world) c.reply_of-in-Err.result c.requires.kind
     c.in-Err.ensures.err c.reply_of-in-Err.ensures

@@ -8,7 +8,7 @@ use Rattle.world_code.specs.WorldView.{world_of}
 use Rattle.report_text.specs.declared.report.Answer.TheVariants as answers
 use Rattle.script_meaning.specs.Appends.{stopped}
 use Rattle.script_in_order.specs.Doing.{DoneBy}
-use Rattle.script_in_order.proofs.FirstSteps.{begins, fills, nothing_begun, at_least}
+use Rattle.script_in_order.proofs.FirstSteps.{begins, fills, nothing_begun}
 use Rattle.script_in_order.proofs.AppendsAndStops.{stops_at_once, stops_full, stops_within}
 use Rattle.script_in_order.proofs.stops.stop.Goals as goal
 
@@ -47,7 +47,7 @@ returns-in-None-clause-ok c =
     c.in_ok-new.ensures.ok in
     let full = fills w client c.args.colours c.in_ok-text.text c.requires.caller
     (whole.homes client 0 c.requires.caller)
-    (at_least 2 c.args.colours c.requires.many) c.requires.within
+    c.requires.many.many c.requires.within
     (of_reached IsBounded c.is_lawful.ensures.bounds w whole.reached) answer in
     subst (λ (x : World). DoneBy
     (λ grants state. stopped grants state c.args.command.now c.args.colours c.args.text.now c.args.steps)

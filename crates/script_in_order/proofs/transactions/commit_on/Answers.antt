@@ -5,8 +5,11 @@ use Rattle.object_form.specs.Forms.{IsForm}
 use Rattle.script_text.specs.Fitting.{is_tx}
 use Rattle.world_code.specs.WorldView.{world_of}
 use Rattle.script_meaning.proofs.CallerLemmas.{pairs_are}
+use Rattle.world_laws.specs.Worlds.{World}
+use Rattle.script_in_order.specs.Folds.{AreFolded}
+use Rattle.script_in_order.proofs.FoldsKept.{folds_stay}
 use Rattle.script_in_order.proofs.ObjectSteps.{kind_is, small}
-use Rattle.script_in_order.proofs.TransactionSteps.{tx_is, tx_members, tx_low, tx_some, set_made, its_some, its_low, client_after, below_after, stood_ruled, not_stood}
+use Rattle.script_in_order.proofs.TransactionSteps.{tx_is, tx_members, tx_low, tx_some, set_made, its_some, its_low, tx_at, appended_to, client_after, below_after, stood_ruled, not_stood}
 use Rattle.script_in_order.proofs.transactions.commit_on.Goals as goal
 
 pub all_colours-colours-requires-clause-tx : goal.all_colours-colours-requires-clause-tx
@@ -70,7 +73,48 @@ rule-requires c =
       some = tx_some c.args.world.now.shape.regions c.args.world.now.shape.colours c.is_whole.ensures.few_colours
           c.args.objects.now c.requires.kinds c.args.object c.requires.uses.0 c.index-objects-object.result
           c.all_colours-colours.result c.all_colours-colours.ensures;
+      may = (
+        c.args.objects.now,
+        tx_at c.args.objects.now c.args.object c.requires.uses.0,
+        folds_stay (world_of c.args.world.now) (world_of c.append_form.new.world) c.is_whole.ensures.reached
+            (appended_to c.args.objects.now c.args.command.now c.args.object c.args.pairs.now c.args.reads
+            (world_of c.args.world.now) (world_of c.append_form.new.world) c.in_ok-other.other
+            c.shards_of-set.result (forms.Transaction c.args.reads c.in_ok-writes.writes) set_is form_is
+            c.in_ok-other.ensures.ok) c.args.objects.now c.args.folds.now c.requires.folded,
+      );
     }
+
+-- the append led on
+pub returns-in_default-clause-folded : goal.returns-in_default-clause-folded
+returns-in_default-clause-folded c =
+    folds_stay (world_of c.args.world.now) (world_of c.append_form.new.world) c.is_whole.ensures.reached
+    (appended_to c.args.objects.now c.args.command.now c.args.object c.args.pairs.now c.args.reads
+    (world_of c.args.world.now) (world_of c.append_form.new.world) c.in_ok-other.other
+    c.shards_of-set.result (forms.Transaction c.args.reads c.in_ok-writes.writes)
+    (set_made c.args.objects.now c.args.command.now c.args.object c.args.pairs.now c.args.reads
+    c.index-objects-object.result c.requires.uses.0 c.shards_of-set.result c.as_slice.result.now c.as_slice-2.result.now
+    c.shards_of-set.ensures c.as_slice.ensures c.as_slice-2.ensures)
+    (ap (forms.Transaction c.args.reads) (c.in_ok-writes.ensures ∙ c.as_slice-3.ensures))
+    c.in_ok-other.ensures.ok) c.args.objects.now c.args.folds.now c.requires.folded
+
+pub returns-in-Stood-clause-folded : goal.returns-in-Stood-clause-folded
+returns-in-Stood-clause-folded c =
+    c.rule.ensures.folded c.args.objects.now (tx_at c.args.objects.now c.args.object c.requires.uses.0)
+    (folds_stay (world_of c.args.world.now) (world_of c.append_form.new.world) c.is_whole.ensures.reached
+    (appended_to c.args.objects.now c.args.command.now c.args.object c.args.pairs.now c.args.reads
+    (world_of c.args.world.now) (world_of c.append_form.new.world) c.in_ok-other.other
+    c.shards_of-set.result (forms.Transaction c.args.reads c.in_ok-writes.writes)
+    (set_made c.args.objects.now c.args.command.now c.args.object c.args.pairs.now c.args.reads
+    c.index-objects-object.result c.requires.uses.0 c.shards_of-set.result c.as_slice.result.now c.as_slice-2.result.now
+    c.shards_of-set.ensures c.as_slice.ensures c.as_slice-2.ensures)
+    (ap (forms.Transaction c.args.reads) (c.in_ok-writes.ensures ∙ c.as_slice-3.ensures))
+    c.in_ok-other.ensures.ok) c.args.objects.now c.args.folds.now c.requires.folded)
+
+-- no memory, and nothing done
+pub returns-in_err-other-clause-folded : goal.returns-in_err-other-clause-folded
+returns-in_err-other-clause-folded c =
+    subst (λ (x : World). AreFolded x c.args.objects.now c.args.folds.now) (sym c.in_err-other.ensures.err)
+    c.requires.folded
 
 pub returns-in-Stood-clause-ok : goal.returns-in-Stood-clause-ok
 returns-in-Stood-clause-ok c =
@@ -86,7 +130,7 @@ returns-in-Stood-clause-ok c =
     (tx_members c.args.world.now.shape.regions c.args.world.now.shape.colours c.is_whole.ensures.few_colours
     c.args.objects.now c.requires.kinds c.args.object c.requires.uses.0 c.index-objects-object.result
     c.all_colours-colours.result c.all_colours-colours.ensures)
-    c.next_id-id.ensures c.rule.ensures
+    c.next_id-id.ensures c.rule.ensures.is_ruled
 
 pub returns-in_default-clause-ok : goal.returns-in_default-clause-ok
 returns-in_default-clause-ok c =

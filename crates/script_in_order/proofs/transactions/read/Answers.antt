@@ -1,4 +1,4 @@
-use Rattle.std.proofs.Common.{◌≡◌, List, ℕ, sym, subst, get_or, map}
+use Rattle.std.proofs.Common.{◌≡◌, List, ℕ, ap, sym, subst, get_or, map}
 use Rattle.log_node.specs.Sets.{members}
 use Rattle.object_fold.specs.Transactions.{value_of, writes_after, versions_after}
 use Rattle.script_meaning.specs.Dequeues.{object_at}
@@ -10,9 +10,15 @@ use Rattle.world_code.specs.WorldView.{world_of}
 use Rattle.script_meaning.specs.Stamped.{keys_read}
 use Rattle.script_in_order.specs.declared.stamped.Stamped.{Stamped}
 use Rattle.script_in_order.specs.Stamped.{Reads, end_in}
+use Rattle.world_laws.specs.Laws.{IsReached}
+use Rattle.script_text.specs.declared.script.Object.{Object}
+use Rattle.script_in_order.specs.declared.folds.Fold.{Fold}
+use Rattle.script_in_order.specs.Folds.{AreFolded}
+use Rattle.script_in_order.proofs.FoldsKept.{folds_stay}
+use Rattle.script_in_order.proofs.GetSteps.{read_to}
 use Rattle.script_in_order.proofs.Committing.{its_colours}
 use Rattle.script_in_order.proofs.ObjectSteps.{kind_is, small}
-use Rattle.script_in_order.proofs.TransactionSteps.{tx_is, tx_members, tx_low, left_unraised, left_refused, left_without, left_found}
+use Rattle.script_in_order.proofs.TransactionSteps.{tx_at, tx_is, tx_members, tx_low, left_unraised, left_refused, left_without, left_found}
 use Rattle.script_in_order.proofs.transactions.read.Goals as goal
 
 pub all_colours-colours-requires-clause-tx : goal.all_colours-colours-requires-clause-tx
@@ -45,6 +51,53 @@ its_read : (old new : World) (client : ℕ) (colours cs : List ℕ) (s t : Stamp
 its_read old new client colours cs s t is same r =
     subst (λ (x : Stamped). Reads old new client cs (end_in new client cs x)) same
     (subst (λ (l : List ℕ). Reads old new client l (end_in new client l s)) is r)
+
+-- what is folded, after the read
+read_folds : (w v : World) (client : ℕ) (colours : List ℕ) (objects : List Object) (folds : List Fold) (s t : Stamped)
+    → s ≡ t → IsReached w → Reads w v client colours (end_in v client colours s) → AreFolded w objects folds
+    → AreFolded v objects folds
+read_folds w v client colours objects folds s t same reached reads f =
+    folds_stay w v reached (read_to w v client colours (end_in v client colours s) reads) objects folds f
+
+pub found-requires-clause-may : goal.found-requires-clause-may
+found-requires-clause-may c = (
+  c.args.objects.now,
+  tx_at c.args.objects.now c.args.object c.requires.uses.0,
+  read_folds (world_of c.args.world.now) (world_of c.stamped_read.new.world) c.args.command.now.client
+      (members c.all_colours-colours.result) c.args.objects.now c.args.folds.now _ _ c.in-Whole.is
+      c.is_whole.ensures.reached c.in_ok-stamped_read.ensures.ok c.requires.folded,
+)
+
+pub returns-in-Ok-clause-folded : goal.returns-in-Ok-clause-folded
+returns-in-Ok-clause-folded c =
+    c.found.ensures.folded c.args.objects.now (tx_at c.args.objects.now c.args.object c.requires.uses.0)
+    (read_folds (world_of c.args.world.now) (world_of c.stamped_read.new.world) c.args.command.now.client
+    (members c.all_colours-colours.result) c.args.objects.now c.args.folds.now _ _ c.in-Whole.is
+    c.is_whole.ensures.reached c.in_ok-stamped_read.ensures.ok c.requires.folded)
+
+pub returns-in-Err-clause-folded : goal.returns-in-Err-clause-folded
+returns-in-Err-clause-folded c =
+    c.found.ensures.folded c.args.objects.now (tx_at c.args.objects.now c.args.object c.requires.uses.0)
+    (read_folds (world_of c.args.world.now) (world_of c.stamped_read.new.world) c.args.command.now.client
+    (members c.all_colours-colours.result) c.args.objects.now c.args.folds.now _ _ c.in-Whole.is
+    c.is_whole.ensures.reached c.in_ok-stamped_read.ensures.ok c.requires.folded)
+
+pub returns-in-Unraised-clause-folded : goal.returns-in-Unraised-clause-folded
+returns-in-Unraised-clause-folded c =
+    read_folds (world_of c.args.world.now) (world_of c.stamped_read.new.world) c.args.command.now.client
+    (members c.all_colours-colours.result) c.args.objects.now c.args.folds.now _ _ c.in-Unraised.is
+    c.is_whole.ensures.reached c.in_ok-stamped_read.ensures.ok c.requires.folded
+
+pub returns-in-Refused-clause-folded : goal.returns-in-Refused-clause-folded
+returns-in-Refused-clause-folded c =
+    read_folds (world_of c.args.world.now) (world_of c.stamped_read.new.world) c.args.command.now.client
+    (members c.all_colours-colours.result) c.args.objects.now c.args.folds.now _ _ c.in-Refused.is
+    c.is_whole.ensures.reached c.in_ok-stamped_read.ensures.ok c.requires.folded
+
+pub returns-in_err-stamped_read-clause-folded : goal.returns-in_err-stamped_read-clause-folded
+returns-in_err-stamped_read-clause-folded c =
+    subst (λ (x : World). AreFolded x c.args.objects.now c.args.folds.now)
+    (sym (ap world_of c.in_err-stamped_read.ensures.err)) c.requires.folded
 
 pub returns-in-Unraised-clause-ok : goal.returns-in-Unraised-clause-ok
 returns-in-Unraised-clause-ok c = λ taken.
@@ -94,7 +147,7 @@ returns-in-Ok-clause-ok c = λ taken.
     (c.in-Ok.keys ≡ key_answers (value_of (writes_after (map (object_at new)
     (keys_read new c.args.command.now.client c.in-Whole.stamp l)))) c.args.keys.now)
     × (c.in-Ok.versions ≡ versions_after (map (object_at new)
-    (keys_read new c.args.command.now.client c.in-Whole.stamp l)) c.args.keys.now)) members_are c.in-Ok.ensures in
+    (keys_read new c.args.command.now.client c.in-Whole.stamp l)) c.args.keys.now)) members_are c.in-Ok.ensures.found in
     left_found c.args.objects.now old new c.args.command.now c.args.object c.args.keys.now c.requires.asks taken
     c.in-Whole.stamp c.in-Whole.raises c.in-Whole.syncs (keys_read new c.args.command.now.client c.in-Whole.stamp cs)
     (its_read old new c.args.command.now.client (members c.all_colours-colours.result) cs _ _ members_are c.in-Whole.is

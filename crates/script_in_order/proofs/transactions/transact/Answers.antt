@@ -18,6 +18,7 @@ read-requires c =
       caller = c.requires.fits.caller;
       kinds = c.requires.fits.kinds;
       uses = subst (UsesObject c.args.objects.now) asks c.requires.fits.uses;
+      folded = c.requires.folded;
     }
 
 pub commit-requires : goal.commit-requires
@@ -28,6 +29,7 @@ commit-requires c = record {
       (commit_asks c.args.command.now.what c.args.object c.in-Commit._object c.in-Commit.pairs c.requires.kind
       c.in-Commit.is) c.requires.fits.uses;
   rests = c.requires.rests;
+  folded = c.requires.folded;
 }
 
 pub returns-in-Some-clause-ok : goal.returns-in-Some-clause-ok
