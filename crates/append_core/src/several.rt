@@ -20,16 +20,21 @@ use fuzzy_io::Gate;
 use log_node::{Begun, Key, MAX_COLOURS, MAX_STAMP, Node, Outcome, Row, Why};
 use std::alloc::Global;
 use std::sync::{Arc, Wait};
+use thiserror::Error;
 
 /// Why an append to several colours does not stand.
-#[derive(Clone, Copy, Debug, PartialEq, Eq)]
+#[derive(Clone, Copy, Debug, PartialEq, Eq, Error)]
 pub enum MultiFault {
     /// The client has begun so many rows, and has no more. `multi` never gives it, since it asks for a row that is left.
+    #[error("all {used} rows are used")]
     Full { used: u32 },
     /// No stamp was left in this colour, the least such one.
+    #[error("no stamp is left in colour {colour}")]
     StampEnd { colour: u8 },
     /// The append stopped after so many steps, as was asked.
+    #[error("stopped after {steps} steps")]
     Stopped { steps: u8 },
+    #[error("out of memory")]
     NoMemory,
 }
 

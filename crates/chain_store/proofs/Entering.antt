@@ -11,7 +11,7 @@ use Rattle.log_node.specs.Seen.{PlacedNode}
 use Rattle.skeen_core.specs.declared.waiting.Waiting.{Waiting}
 use Rattle.col_core.specs.declared.Entry.{Entry}
 use Rattle.col_core.specs.declared.Event.{Event}
-use Rattle.col_core.specs.declared.Event.TheVariants.{Single, Propose}
+use Rattle.col_core.specs.declared.Event.TheVariants.{Single, Propose, Settle, Raise, Give, Carry, Trim}
 use Rattle.col_core.specs.Cuts.{Dated}
 use Rattle.col_core.specs.Computed.{cut, dated}
 use Rattle.col_core.specs.Legal.{IsLawfulEvent, IsColumnHistory}
@@ -144,6 +144,29 @@ entered_named log id node h = record {
   of_id = h.of_id;
 }
 
+-- and is of the region whose column has the history
+brought_region : (region colour : ℕ) (e : Event) (nodes : List Node) (id : Id) (x : Node) → Brings region colour e nodes
+    → nodes ≡ x ∷ [] → enters id e ≡ true → x.region ≡ region
+brought_region region colour (Single i floor wants) nodes id x b is entered =
+    let e : b.0 ∷ [] ≡ x ∷ [] = sym b.1 ∙ is in
+    let same : b.0 ≡ x = cc (e) in
+    ap (λ (n : Node). n.region) (sym same) ∙ b.4.in_region
+brought_region region colour (Propose i floor wants) nodes id x b is entered =
+    let e : b.0 ∷ [] ≡ x ∷ [] = sym b.1 ∙ is in
+    let same : b.0 ≡ x = cc (e) in
+    ap (λ (n : Node). n.region) (sym same) ∙ b.4.in_region
+brought_region region colour (Settle i outcome) nodes id x b is entered = absurd (let f : ⊥ = cc (entered) in f)
+brought_region region colour (Raise to) nodes id x b is entered = absurd (let f : ⊥ = cc (entered) in f)
+brought_region region colour (Give other from) nodes id x b is entered = absurd (let f : ⊥ = cc (entered) in f)
+brought_region region colour (Carry other start heads) nodes id x b is entered = absurd (let f : ⊥ = cc (entered) in f)
+brought_region region colour (Trim counts) nodes id x b is entered = absurd (let f : ⊥ = cc (entered) in f)
+
+pub entered_region : (region colour : ℕ) (log : List Told)
+    → ((n : ℕ) (t : Told) → slice_get log n ≡ Some t → Brings region colour t.entry.event t.nodes)
+    → (id : Id) (x : Node) → EntersAs log id x → x.region ≡ region
+entered_region region colour log brings id x h =
+    brought_region region colour h.told.entry.event h.told.nodes id x (brings h.place h.told h.there) h.brought h.entered
+
 -- the column has entered the node by this entry
 pub record HasEntered (column new : ColumnState) (e : Entry) (node : Node) : Type 0 where
   pub journal : new.journal ≡ column.journal ++ e ∷ []
@@ -238,6 +261,11 @@ module _ (column new : ColumnState) (t : Told) (node : Node) (brought : t.nodes 
         ));
     stamped = λ region item has.
         g.stamped region item (
+          has.0,
+          ap (λ (cs : List (List PlacedNode)). slice_get (slice_index_or cs region []) has.0) (sym h.copies) ∙ has.1,
+        );
+    regions = λ region item has.
+        g.regions region item (
           has.0,
           ap (λ (cs : List (List PlacedNode)). slice_get (slice_index_or cs region []) has.0) (sym h.copies) ∙ has.1,
         );

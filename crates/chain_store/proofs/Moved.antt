@@ -26,7 +26,7 @@ use Rattle.chain_store.specs.Histories.{entries_in, maker}
 use Rattle.chain_store.specs.Columns.{Stands, Gains, Stays, newest_of, tag_of, told_event, told_carry}
 use Rattle.chain_store.specs.Passes.{ColumnCell, ColumnPass, HasTurnOf, SeesMore, MakesOne, dated_in}
 use Rattle.chain_store.specs.Moves.{held_in, base_in, LooksAt, RaisesAt, ShowsGiven, GivesAt, new_after, CarriesAt}
-use Rattle.chain_store.proofs.Entering.{map_with}
+use Rattle.chain_store.proofs.Entering.{entered_region, map_with}
 use Rattle.chain_store.proofs.Turning.{stood, adds, saw, makes_at}
 
 pub looks_at : (n : ℕ) (p q r : ColumnPass) (at : At) → SeesMore n (seen p) (seen q) → IsLook q r at → LooksAt n (seen p) (seen r) at
@@ -111,6 +111,9 @@ shows_given x t log from given stands is g =
           ∙ ap (λ (l : List Entry). take (length (line l) - given.start)
           (drop given.start (chain x.column.region (dated x.column.region l) x.column.region))) stands.0.same;
       nodes = λ n i e. stands.0.stored i.head.key i.node (g.items.nodes refl n i e);
+      regions = λ n i e.
+          entered_region x.column.region x.column.colour log stands.0.brings i.head.key.id i.node
+          (stands.0.stored i.head.key i.node (g.items.nodes refl n i e));
     })
 
 pub gives_at : (t : Tag) (x : Seated) (n region from : ℕ) (p q r : ColumnPass) (at : At) (given : Given)

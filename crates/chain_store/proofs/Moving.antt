@@ -81,7 +81,8 @@ pub record HasMoved (column new : ColumnState) (t : Told) : Type 0 where
   pub stored : (key : Key) (node : Node) → HasStored new key node → HasStored column key node
   pub carried : (region : ℕ) (item : PlacedNode) → HasCarried new region item
       → HasCarried column region item
-      ⊎ (Contains t.nodes item.node × (item.node.id ≡ item.head.key.id) × (item.head.key.stamp ≤ MAX_STAMP))
+      ⊎ (Contains t.nodes item.node × (item.node.id ≡ item.head.key.id) × (item.head.key.stamp ≤ MAX_STAMP)
+      × (item.node.region ≡ region))
 
 module _ (column new : ColumnState) (t : Told) (h : HasMoved column new t) where
   pub moved_newest : newest_in new ≡ Some t
@@ -125,6 +126,10 @@ module _ (column new : ColumnState) (t : Told) (h : HasMoved column new t) where
     stamped = λ region item has. elim (h.carried region item has) [
       | inl old ↦ g.stamped region item old
       | inr new ↦ new.2
+    ];
+    regions = λ region item has. elim (h.carried region item has) [
+      | inl old ↦ g.regions region item old
+      | inr new ↦ new.3
     ];
   } where
     brought_there : (e : Event) (nodes : List Node) → Brings column.region column.colour e nodes
@@ -197,7 +202,7 @@ trimmed column new by counts is = record {
 -- nodes of another region's chain were added
 pub carries : (column new : ColumnState) (by region : ℕ) (items : List PlacedNode)
     → new ≡ with_items column by region items → 0 < length items → region < length column.copies
-    → OfTheirHeads items → HasMoved column new (told_carry by region (held_of column region) items)
+    → OfTheirHeads region items → HasMoved column new (told_carry by region (held_of column region) items)
 carries column new by region [] is some within heads = absurd (let f : ⊥ = omega (arith, some) in f)
 carries column new by region (first ∷ rest) is some within heads = record {
   journal = ap (λ (c : ColumnState). c.journal) is;
@@ -223,6 +228,7 @@ carries column new by region (first ∷ rest) is some within heads = record {
                     contained (λ (i : PlacedNode). i.node) items new.0 item new.1,
                     (heads new.0 item new.1).0,
                     (heads new.0 item new.1).1,
+                    (heads new.0 item new.1).2 ∙ sym same,
                   )
             ]
         | inr differ ↦
@@ -247,13 +253,13 @@ carries column new by region (first ∷ rest) is some within heads = record {
   length_map (x ∷ xs) = ap (λ (n : ℕ). suc n) (length_map xs)
 
 -- the nodes that were told have the ids of the heads
-pub ids_of_heads : (items : List PlacedNode) → OfTheirHeads items
+pub ids_of_heads : (region : ℕ) (items : List PlacedNode) → OfTheirHeads region items
     → map (λ (n : Node). n.id) (map (λ (i : PlacedNode). i.node) items)
     ≡ map (λ (h : Head). h.key.id) (map (λ (i : PlacedNode). i.head) items)
-ids_of_heads [] heads = refl
-ids_of_heads (i ∷ is) heads =
+ids_of_heads region [] heads = refl
+ids_of_heads region (i ∷ is) heads =
     ap (λ (x : Id). x ∷ map (λ (n : Node). n.id) (map (λ (j : PlacedNode). j.node) is)) (heads 0 i refl).0
-    ∙ ap (λ (l : List Id). i.head.key.id ∷ l) (ids_of_heads is (λ n j at. heads (suc n) j at))
+    ∙ ap (λ (l : List Id). i.head.key.id ∷ l) (ids_of_heads region is (λ n j at. heads (suc n) j at))
 
 -- What a column beside its seat gains, or that it stays, by its parts.
 
@@ -314,7 +320,7 @@ module _ (column new : ColumnState) (seat : ColumnSeat) (by : ℕ) (short : leng
 
   -- carried where there was something new
   pub carry_gains : (region : ℕ) (items : List PlacedNode) (count : ℕ) → count ≡ length items
-      → new ≡ with_items column by region items → region < length column.copies → OfTheirHeads items
+      → new ≡ with_items column by region items → region < length column.copies → OfTheirHeads region items
       → (nat_lt 0 count ≡ true → GainsIn column new seat (told_carry by region (held_of column region) items))
       × (nat_lt 0 count ≡ false → StaysIn column new seat)
   carry_gains region [] count is same within heads = (
@@ -325,7 +331,7 @@ module _ (column new : ColumnState) (seat : ColumnSeat) (by : ℕ) (short : leng
     (λ yes.
         gains_in column new seat (told_carry by region (held_of column region) (first ∷ rest))
         (carries column new by region (first ∷ rest) same (omega arith) within heads) short few tt
-        (ids_of_heads (first ∷ rest) heads) (λ row. refl) (omega arith) tt),
+        (ids_of_heads region (first ∷ rest) heads) (λ row. refl) (omega arith) tt),
     λ none. absurd (let le = ltb-false 0 count none in let f : ⊥ = omega (arith, le, is) in f),
   )
 
@@ -349,13 +355,13 @@ carried_below (Err e) column new by region items numbers ok err below = (
 )
 
 -- what is new of a part has its heads' ids as the part does
-pub new_heads : (column : ColumnState) (region : ℕ) (given : Given) → OfTheirHeads given.items
-    → OfTheirHeads (new_items column region given)
+pub new_heads : (column : ColumnState) (region : ℕ) (given : Given) → OfTheirHeads region given.items
+    → OfTheirHeads region (new_items column region given)
 new_heads column region given heads =
-    by_test (OfTheirHeads (new_items column region given)) (nat_lt (held_of column region) given.start)
-    (λ yes. subst OfTheirHeads
+    by_test (OfTheirHeads region (new_items column region given)) (nat_lt (held_of column region) given.start)
+    (λ yes. subst (OfTheirHeads region)
     (sym (if_true (nat_lt (held_of column region) given.start) [] (drop (held_of column region - given.start) given.items) yes))
     (λ n i at. absurd (let f : ⊥ = cc (at) in f)))
-    (λ no. subst OfTheirHeads
+    (λ no. subst (OfTheirHeads region)
     (sym (if_false (nat_lt (held_of column region) given.start) [] (drop (held_of column region - given.start) given.items) no))
     (λ n i at. let r = get_dropped (held_of column region - given.start) given.items n i at in heads r.0 i r.1))

@@ -19,7 +19,7 @@ use Rattle.chain_store.specs.declared.told.Told.{Told}
 use Rattle.chain_store.specs.declared.seated.Seated.{Seated}
 use Rattle.chain_store.specs.Histories.{entries_in, maker}
 use Rattle.chain_store.specs.Columns.{Stands, tag_of}
-use Rattle.chain_store.proofs.Entering.{entered_named}
+use Rattle.chain_store.proofs.Entering.{entered_named, entered_region}
 use Rattle.chain_store.specs.Passes.{ColumnCell, ColumnPass, IsHolder, ShowsHistory, dated_in, tag_in}
 
 pub ok_as : {T E : Type 0} (r : Result T E) (P Q : T → Type 0) → ((x : T) → P x → Q x) → IfOk r P → IfOk r Q
@@ -98,6 +98,13 @@ shows_history s t log from view stands is v =
             stands.0.carried region i ((v.items region lt).carried other n i e)
       ];
       stamped = λ region n i lt other e. stands.0.stamped region i ((v.items region lt).carried other n i e);
+      regions = λ region n i lt e. elim (cases_eq region s.column.region) [
+        | inl own ↦
+            let h = (v.items region lt).nodes own n i e in
+            entered_region s.column.region s.column.colour log stands.0.brings i.head.key.id i.node
+            (stands.0.stored i.head.key i.node h) ∙ sym own
+        | inr other ↦ stands.0.regions region i ((v.items region lt).carried other n i e)
+      ];
     }) where
       map_long : (l : List Told) → length (entries_in l) ≡ length l
       map_long [] = refl

@@ -186,6 +186,11 @@ module _ (column new : ColumnState) (by : ℕ) (id : Id) (outcome : Outcome) (is
           has.0,
           ap (λ (c : ColumnState). slice_get (slice_index_or c.copies region []) has.0) (sym is) ∙ has.1,
         );
+    regions = λ region item has.
+        g.regions region item (
+          has.0,
+          ap (λ (c : ColumnState). slice_get (slice_index_or c.copies region []) has.0) (sym is) ∙ has.1,
+        );
   } where
     there : (u : Told) → Brings column.region column.colour u.entry.event u.nodes
         → Brings new.region new.colour u.entry.event u.nodes

@@ -80,7 +80,7 @@ lawful_front t log whole p lawful =
 
 -- what is given of the line that some beginning of a lawful history has
 pub given_stamped : (t : Tag) (log whole : List Told) (from : ℕ) (given : Given) → IsPrefix log whole
-    → IsLawfulTold t whole → ShowsGiven t log from given → OfTheirHeads given.items
+    → IsLawfulTold t whole → ShowsGiven t log from given → OfTheirHeads t.region given.items
 given_stamped t log whole from given p lawful shows n i at = (
   (shows.nodes n i at).of_id,
   (let history = entries_in log in
@@ -90,11 +90,12 @@ given_stamped t log whole from given p lawful shows n i at = (
       let dropped = get_taken (length (line history) - given.start) (drop given.start line_of) n i.head there in
       let r = get_dropped given.start line_of n i.head dropped in
       own_stamped t.region t.regions history (lawful_front t log whole p lawful) r.0 i.head r.1),
+  shows.regions n i at,
 )
 
 -- what a hold at rest has given
 pub gives_stamped : (r : Region) (k : ℕ) (g h : Hold) (region from : ℕ) (at : At) (given : Given) → IsHold r h
-    → k < r.board.size.colours → GivesIn k g h (tag_at r k) region from at given → OfTheirHeads given.items
+    → k < r.board.size.colours → GivesIn k g h (tag_at r k) region from at given → OfTheirHeads r.number given.items
 gives_stamped r k g h region from at given is lt gives =
     given_stamped (tag_at r k) gives.made.before (seen_in h k) from given
     (gives.told ∷ [], sym gives.made.adds) (lawful_seen r h k is lt) gives.shows

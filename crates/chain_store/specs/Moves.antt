@@ -34,13 +34,14 @@ pub record RaisesAt (n to : ℕ) (old new : List Told) (at : At) : Type 0 where
       ⊎ ((m : MakesOne n (told_event n (Raise to)) old new at) × (clock (entries_in m.before) < to))
 
 -- What is given of the own line after a history from a number on, which counts as the line's length where it is above:
--- the nodes from there on, or from the base on where that is greater, each as it entered.
+-- the nodes from there on, or from the base on where that is greater, each as it entered, and of the history's region.
 pub record ShowsGiven (t : Tag) (log : List Told) (from : ℕ) (given : Given) : Type 0 where
   pub start : given.start ≡ max (min from (length (line (entries_in log)))) (at (base_in t log) t.region)
   pub heads : map (λ (i : PlacedNode). i.head) given.items
       ≡ take (length (line (entries_in log)) - given.start)
       (drop given.start (chain t.region (dated_in t log) t.region))
   pub nodes : (n : ℕ) (i : PlacedNode) → slice_get given.items n ≡ Some i → EntersAs log i.head.key.id i.node
+  pub regions : (n : ℕ) (i : PlacedNode) → slice_get given.items n ≡ Some i → i.node.region ≡ t.region
 
 -- the own line is given to a region, which has then asked past the number
 pub record GivesAt (t : Tag) (n region from : ℕ) (old new : List Told) (at : At) (given : Given) : Type 0 where

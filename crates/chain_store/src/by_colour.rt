@@ -215,7 +215,7 @@ impl Region {
         requires hold { IsHold self.now hold.old }
         requires colour { colour < self.now.board.size.colours }
         requires other { (region ≢ self.now.number) × (region < self.now.regions) }
-        requires heads { OfTheirHeads given.now.items }
+        requires heads { OfTheirHeads region given.now.items }
         ensures hold { IsHold self.now hold.new }
         ensures others { SameBut colour hold.old hold.new }
         ensures same { (hold.new.seat ≡ hold.old.seat) × (hold.new.next ≡ hold.old.next) }

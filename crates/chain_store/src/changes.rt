@@ -80,7 +80,7 @@ pub fn carry_in<R: Wait>(
     requires maker { by < (tag_in cell.now).size.clients }
     requires other { region ≢ (tag_in cell.now).region }
     requires region { region < (tag_in cell.now).regions }
-    requires heads { OfTheirHeads given.now.items }
+    requires heads { OfTheirHeads region given.now.items }
     ensures pass { IsHolder cell.now by pass.new }
     ensures ok { IfOk result (λ r.
         CarriesAt (tag_in cell.now) by region given.now (seen pass.old) (seen pass.new) r.0 r.1) }

@@ -71,7 +71,7 @@ impl Seated {
         requires maker { by < (column_seen self.old.seat).size.clients }
         requires other { region ≢ self.old.column.region }
         requires region { region < self.old.column.regions }
-        requires heads { OfTheirHeads given.now.items }
+        requires heads { OfTheirHeads region given.now.items }
         ensures tag { tag_of self.new ≡ tag_of self.old }
         ensures count { IfOk result (λ count. count ≡ length (new_items self.old.column region given.now)) }
         ensures carried { let items = new_items self.old.column region given.now in

@@ -1,5 +1,6 @@
 // What a pull answers.
 use log_node::At;
+use thiserror::Error;
 
 /// What a pull did: how many nodes it carried, its last give, and its carry, which is a look where nothing was new.
 #[derive(Clone, Copy, Debug, PartialEq, Eq)]
@@ -10,8 +11,10 @@ pub struct Pulled {
 }
 
 /// Why nothing was carried: both regions are one, or memory was refused. Gives that were made before stand.
-#[derive(Clone, Copy, Debug, PartialEq, Eq)]
+#[derive(Clone, Copy, Debug, PartialEq, Eq, Error)]
 pub enum PullFault {
+    #[error("a pull from its own region")]
     SameRegion,
+    #[error("out of memory")]
     NoMemory,
 }

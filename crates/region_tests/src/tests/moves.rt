@@ -37,7 +37,7 @@ fn give<R: Wait>(
     requires region { IsSmall 1 region.now }
     requires hold { IsHold region.now hold.old }
     ensures hold { IsHold region.now hold.new }
-    ensures heads { IfOk result (λ r. OfTheirHeads r.1.items) }
+    ensures heads { IfOk result (λ r. OfTheirHeads 1 r.1.items) }
 {
     region.give(rt, alloc, hold, 0, 0, from)
 }
@@ -78,7 +78,7 @@ fn a_region_trims_what_the_other_has_asked_past(rt: HostRuntime) -> Result<(), F
 
 // What the second region gives from 0 on.
 fn whole_line<R: Wait>(rt: &R, alloc: Global) -> Result<Given, AllocError>
-    ensures { IfOk result (λ g. OfTheirHeads g.items) }
+    ensures { IfOk result (λ g. OfTheirHeads 1 g.items) }
 {
     let (region, mut hold) = two_singles(rt, alloc, 1)?;
     let (_, given) = give(rt, alloc, &region, &mut hold, 0)?;

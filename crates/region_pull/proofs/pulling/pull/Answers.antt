@@ -1,4 +1,5 @@
-use Rattle.std.proofs.Common.{ℕ, [], ◌∷◌, ◌++◌, refl, subst}
+use Rattle.std.proofs.Common.{ℕ, [], ◌∷◌, ◌++◌, refl, sym, subst}
+use Rattle.chain_store.specs.Givens.{OfTheirHeads}
 use Rattle.chain_store.specs.Regions.{tag_at}
 use Rattle.chain_store.specs.Holds.{CarriesIn, seen_in}
 use Rattle.chain_store.proofs.CallerLemmas.{given_stamped, lawful_seen}
@@ -13,9 +14,10 @@ carry-requires-clause-heads g c =
     let from = c.args.from.now in
     let h = c.ask.new.from_hold in
     let log = seen_in h c.args.colour in
-    given_stamped (tag_at from c.args.colour) (before_gave log e.ok.last) log e.ok.asked c.in-Ok.given
+    subst (λ (r : ℕ). OfTheirHeads r c.in-Ok.given.items) (sym c.number-in-Ok.ensures)
+    (given_stamped (tag_at from c.args.colour) (before_gave log e.ok.last) log e.ok.asked c.in-Ok.given
     (taken_prefix e.ok.last.place log) (lawful_seen from h c.args.colour e.from_hold.rests c.requires.store.from_colour)
-    e.ok.shows
+    e.ok.shows)
 
 pub returns-in-Ok-carry-clause-to_hold : goal.returns-in-Ok-carry-clause-to_hold
 returns-in-Ok-carry-clause-to_hold g c =
