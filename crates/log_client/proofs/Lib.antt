@@ -67,4 +67,16 @@ mod LineParts
 mod ItemsRead
 mod ReadLater
 mod ReadCalls
+mod ObjectNodes
+mod ObjectFolds
+mod ObjectCalls
+mod ObjectColours
+mod ObjectAppends
+mod ObjectShards
+mod ObjectReads
+mod ColourSets
+mod UnshownAppends
+mod PlayedOrders
+mod PlayedPlaces
+mod ObjectPlaces
 pub mod CallerLemmas

@@ -61,9 +61,9 @@ module _ (r : Region) (h : Hold) (old new : Track) (y : Synced) (stamp events : 
   pub plays_on : ((chains : Chains) → ShowsChains view chains → Reachable chains view.cut
       → ArePlayed view chains old.snapshot.counts played.items)
       → played.snapshot ≡ record { region = view.region; colour = view.colour; counts = view.cut }
-      → IsWithin view.base old.snapshot.counts → events ≡ view.events → line ≡ items_of view view.region → Extends old new events played line y stamp
+      → IsWithin old.snapshot.counts view.cut → IsWithin view.base old.snapshot.counts → events ≡ view.events → line ≡ items_of view view.region → Extends old new events played line y stamp
       → PlaysOn r h old new y stamp
-  plays_on items snapshot trimmed looked shown extends =
+  plays_on items snapshot within trimmed looked shown extends =
       let all = items (chains_in t log) (shows_its_chains t log old.snapshot.counts view shows)
       (its_cut_reached t log old.snapshot.counts view shows) in
       let answered : y.snapshot ≡ record { region = view.region; colour = view.colour; counts = view.cut } =
@@ -78,7 +78,7 @@ module _ (r : Region) (h : Hold) (old new : Track) (y : Synced) (stamp events : 
         named = λ n item at. own_named t log old.snapshot.counts view shows few n item
             (ap (λ (l : List PlacedNode). slice_get l n) (sym own) ∙ at);
         plays = subst (λ (v : Counts). Plays r.number log old.snapshot.counts v played.items) (sym counts)
-            (plays_shown t log old.snapshot.counts view shows old.snapshot.counts played.items all);
+            (plays_shown t log old.snapshot.counts view shows old.snapshot.counts played.items all within);
         looked = ap (λ (z : Synced). z.events) extends.answer ∙ (looked ∙ shows.events);
         is_cut = counts ∙ shows.cut;
         not_trimmed = subst (λ (v : Counts). IsWithin v old.snapshot.counts) shows.base trimmed;

@@ -1,7 +1,7 @@
 -- A stamped read as the client's call leaves it.
 use Rattle.std.proofs.Common.{◌≡◌, ℕ, zero, suc, ◌<◌, ◌≤◌, max, List, [], ◌∷◌, ◌++◌, length, map, take, drop, Option, Some, None, refl, ap, sym, subst, ◌∙◌, inl, inr, arith, true, append-nil, length-append, take-append-drop}
 use Rattle.std.specs.Prelude.{slice_get, slice_index_or}
-use Rattle.std.specs.List.{All, AllZip}
+use Rattle.std.specs.List.{All, AllZip, filter}
 use Rattle.std.proofs.lemmas.List.Elements.{All-contains}
 use Rattle.std.proofs.lemmas.List.{length-map}
 use mathlib.Core.List.{IsPrefix}
@@ -42,7 +42,7 @@ use Rattle.log_client.specs.Fits.{Fits}
 use Rattle.log_client.specs.Clients.{holds_of, seen_of, tracks_of, starts_of, counts_in, line_in, line_of, caller_of, IsClient, Keeps}
 use Rattle.log_client.specs.Calls.{IsExplained}
 use Rattle.log_client.specs.Items.{are_parts, AreItems}
-use Rattle.log_client.specs.StampedReads.{IsAppended, ShowsItem, raise_piece, sync_piece, HasRead, ReadsAs, ReadsOn, ReadsAll, ReadRefused}
+use Rattle.log_client.specs.StampedReads.{IsAppended, ShowsItem, raise_piece, sync_piece, HasRead, ReadsAs, ReadsOn, ReadsAll, ReadRefused, ShowsItems, is_behind}
 use Rattle.log_client.specs.Reading.{RestsOn, KeepsAll, IsChosen, RaisesAll, RaisesFirst, raised_colours, IsCleared, AreCleared, HoldsLine, SyncsAll, SyncsEach, SyncsFirst, SyncsKeep, syncs_of, synced_colours, home_seen, keys_of, kept_raised, kept_synced}
 use Rattle.log_client.proofs.Lists.{got}
 use Rattle.log_client.proofs.Lines.{keys_prefix}
@@ -384,6 +384,20 @@ module _ (s : Store) (c b : Client) (set : Colours) (colours : List ℕ) (member
           order = whole_order law;
         }
 
+        items_shown : (rest : Rest) → Fits (holds_of p) rest
+            → AllZip (ShowsItem (log_of (seen_of p) rest)) (filter (is_behind last) keys) items
+        items_shown rest fits =
+            read_items.items_shown (tracks_of p) last stamp colours items (λ k i. line_rises s p on4.client k) are
+            (log_of (seen_of p) rest)
+            (λ i j. let y = read_items.item_there (tracks_of p) last stamp colours items
+            (λ k i. line_rises s p on4.client k) are i j in as_appended s p on4.client rest fits y.0 i y.2)
+
+        shows : ShowsItems d (filter (is_behind last) keys) items
+        shows = (
+          read_items.items_are (tracks_of p) last stamp colours items (λ k i. line_rises s p on4.client k) are,
+          items_shown,
+        )
+
         answered : IsExplained s c d (ReadsAs colours last (answer raises syncs) keys)
         answered objects kept finished keeps =
             let x = reply.keeps_all s c b r q p colours stamp raises each.0 on1 k1 chosen low above on2 all2 on3 k3 on4
@@ -399,10 +413,7 @@ module _ (s : Store) (c b : Client) (set : Colours) (colours : List ℕ) (member
                     (reply.reads_at s c b r q p colours stamp raises each.0 on1 k1 chosen low above on2 all2 on3 k3 on4
                     all4.keeps [] all_raised [] all_synced objects kept keeps rest refl refl z.0.0.1 z.1),
                 shown_lines rest objects,
-                read_items.items_shown (tracks_of p) last stamp colours items (λ k i. line_rises s p on4.client k) are
-                    (log_of (seen_of p) rest)
-                    (λ i j. let y = read_items.item_there (tracks_of p) last stamp colours items
-                    (λ k i. line_rises s p on4.client k) are i j in as_appended s p on4.client rest fits y.0 i y.2),
+                items_shown rest fits,
               ),
             )
 
@@ -412,6 +423,7 @@ module _ (s : Store) (c b : Client) (set : Colours) (colours : List ℕ) (member
         read_answered law rs ys same_raises same_syncs = (
           keys,
           has_read law,
+          shows,
           subst (λ (l : List Raised). IsExplained s c d (ReadsAs colours last (answer l ys) keys)) (sym same_raises)
               (subst (λ (l : List Synced). IsExplained s c d (ReadsAs colours last (answer raises l) keys)) (sym same_syncs)
               answered),
@@ -424,7 +436,7 @@ all_answered s c d colours read is = (
   is.0,
   is.1,
   λ objects kept finished keeps.
-      let x = is.2 objects kept finished keeps in (
+      let x = is.3 objects kept finished keeps in (
         x.0,
         x.1,
         λ rest fits. let y = x.2 rest fits in (

@@ -168,7 +168,7 @@ last_above k (y ∷ keys) r x (inl e) =
 last_above k (y ∷ keys) r x (inr i) = last_above y keys (rising_tail k (y ∷ keys) r) x i
 
 -- what comes behind the last comes behind all
-behind_all : (keys : List Key) → AreRising keys → (x y : Key) → In x keys → is_behind (last_of keys) y ≡ true
+pub behind_all : (keys : List Key) → AreRising keys → (x y : Key) → In x keys → is_behind (last_of keys) y ≡ true
     → key_below x y ≡ true
 behind_all [] r x y i b = absurd i
 behind_all (k ∷ keys) r x y i b = elim (last_above k keys r x i) [
@@ -177,7 +177,7 @@ behind_all (k ∷ keys) r x y i b = elim (last_above k keys r x i) [
 ]
 
 -- what comes behind all comes behind the last
-behind_last : (keys : List Key) (y : Key) → ((x : Key) → In x keys → key_below x y ≡ true)
+pub behind_last : (keys : List Key) (y : Key) → ((x : Key) → In x keys → key_below x y ≡ true)
     → is_behind (last_of keys) y ≡ true
 behind_last [] y low = refl
 behind_last (k ∷ keys) y low = low (fold (λ last next. next) k keys) (last_in k keys)

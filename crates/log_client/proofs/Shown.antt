@@ -92,6 +92,22 @@ module _ (t : Tag) (log : List Told) (from : Counts) (view : View) (shows : Show
       let heads : map (λ (j : PlacedNode). Some j.head) is ≡ map (head_at (chains_in t log)) ps = cc (h) in
       ((sym head, named_at p i (sym shown)), all_named ps is rest heads)
 
+  region_at : (place : Place) (item : PlacedNode) → item_at view place ≡ Some item → item.node.region ≡ place.region
+  region_at place item e =
+      let lt = found_in view.items place.region (place.position - at view.from place.region) item e in
+      let few = shows.chains in
+      shows.regions place.region (place.position - at view.from place.region) item (omega (arith, lt, few)) e
+
+  all_of_regions : (order : List Place) (items : List PlacedNode) → map Some items ≡ map (item_at view) order
+      → AllZip (λ place (item : PlacedNode). item.node.region ≡ place.region) order items
+  all_of_regions [] [] e = tt
+  all_of_regions [] (i ∷ is) e = absurd (let f : ⊥ = cc (e) in f)
+  all_of_regions (p ∷ ps) [] e = absurd (let f : ⊥ = cc (e) in f)
+  all_of_regions (p ∷ ps) (i ∷ is) e =
+      let shown : Some i ≡ item_at view p = cc (e) in
+      let rest : map Some is ≡ map (item_at view) ps = cc (e) in
+      (region_at p i (sym shown), all_of_regions ps is rest)
+
   all_stamped : IsLawfulTold t log → (order : List Place) (items : List PlacedNode)
       → map Some items ≡ map (item_at view) order
       → map (λ (i : PlacedNode). Some i.head) items ≡ map (head_at (chains_in t log)) order
@@ -110,11 +126,14 @@ module _ (t : Tag) (log : List Told) (from : Counts) (view : View) (shows : Show
 
   module _ (counts : Counts) (items : List PlacedNode)
       (played : ArePlayed view (chains_in t log) counts items) where
-    pub plays_shown : Plays t.region log counts view.cut items
-    plays_shown = record {
+    pub plays_shown : IsWithin counts view.cut → Plays t.region log counts view.cut items
+    plays_shown within = record {
       order = play_order (chains_in t log) counts view.cut;
       in_order = played.in_order;
       shown = all_named (play_order (chains_in t log) counts view.cut) items played.items_shown played.heads;
+      regions = all_of_regions (play_order (chains_in t log) counts view.cut) items played.items_shown;
+      within = within;
+      reached = its_cut_reached;
     }
 
     pub plays_stamped : IsLawfulTold t log → greatest_stamp items ≤ MAX_STAMP

@@ -7,7 +7,7 @@ use Rattle.log_node.specs.declared.limits.TheConstants.{MAX_STAMP}
 use Rattle.log_node.specs.declared.node.Node.{Node}
 use Rattle.log_node.specs.Seen.{PlacedNode}
 use Rattle.log_node.specs.Sets.{has}
-use Rattle.log_node.specs.Vectors.{at, zeros}
+use Rattle.log_node.specs.Vectors.{at, zeros, IsWithin}
 use Rattle.log_node.specs.Reach.{Reachable}
 use Rattle.log_node.specs.Standings.{open_entry}
 use Rattle.log_node.specs.declared.marks.Why.{Why}
@@ -87,13 +87,16 @@ caller_of s c objects = record {
 
 -- WHAT WAS PLAYED
 
--- They are, in the order of play, the nodes of a column with this history from the first counts to the second, each with
--- its needs and as a node that the history names.
+-- They are, in the order of play, the nodes of a column with this history from the first counts to the second, which can be
+-- reached, each with its needs, as a node that the history names, and of the region in whose chain it stands.
 pub record Plays (own : ℕ) (log : List Told) (from to : Counts) (nodes : List PlacedNode) : Type 0 where
   pub order : List Place
   pub in_order : IsPlayOrder (chain own (dated own (entries_in log))) from to order
   pub shown : AllZip (λ place (item : PlacedNode). Stands (chain own (dated own (entries_in log))) place item.head
       × Names log item.head.key.id item.node) order nodes
+  pub regions : AllZip (λ place (item : PlacedNode). item.node.region ≡ place.region) order nodes
+  pub within : IsWithin from to
+  pub reached : Reachable (chain own (dated own (entries_in log))) to
 
 -- The nodes were played up to the counts by plays one after another, each of what had then been seen of the column.
 pub data HasPlayed (own : ℕ) (seen : List Told) : Counts → List PlacedNode → Type 0 where

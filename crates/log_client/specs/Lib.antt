@@ -15,3 +15,4 @@ pub mod Notes
 pub mod Opening
 pub mod Leaving
 pub mod Closes
+pub mod Objects

@@ -19,7 +19,8 @@ use Rattle.log_client.specs.declared.answers.Synced.{Synced}
 use Rattle.log_client.specs.declared.answers.StampedRead.{StampedRead}
 use Rattle.log_client.specs.declared.faults.SyncFault.{SyncFault}
 use Rattle.log_client.specs.declared.faults.SyncFault.TheVariants as sync_faults
-use Rattle.log_client.specs.Fits.{HaveGoneOn}
+use Rattle.client_law.specs.Knowing.{Rest, log_of}
+use Rattle.log_client.specs.Fits.{Fits, HaveGoneOn}
 use Rattle.log_client.specs.Clients.{holds_of, seen_of, IsClient}
 use Rattle.log_client.specs.Calls.{IsExplained, IsSame}
 
@@ -63,10 +64,17 @@ ReadsAs colours last read keys log caller kept after =
     × AreRead log caller read.stamp (map sync_piece read.syncs) keys
     × AllZip (ShowsItem log) (filter (is_behind last) keys) read.items
 
+-- the items have these keys, and show their nodes beside whatever nodes and rows fit what the client knows
+abbrev pub ShowsItems : Client → List Key → List PlacedNode → Type 0
+ShowsItems c keys items =
+    (map (λ (item : PlacedNode). item.head.key) items ≡ keys)
+    × ((rest : Rest) → Fits (holds_of c) rest → AllZip (ShowsItem (log_of (seen_of c) rest)) keys items)
+
 -- From c to d the client read these colours, and its answer has the nodes behind the last key.
 abbrev pub ReadsOn : Store → Client → Client → List ℕ → Option Key → StampedRead → Type 0
 ReadsOn s c d colours last read =
-    (keys : List Key) × HasRead d colours read.stamp keys × IsExplained s c d (ReadsAs colours last read keys)
+    (keys : List Key) × HasRead d colours read.stamp keys × ShowsItems d (filter (is_behind last) keys) read.items
+    × IsExplained s c d (ReadsAs colours last read keys)
 
 -- the same, with the nodes of all keys
 abbrev pub ReadsAll : Store → Client → Client → List ℕ → StampedRead → Type 0
@@ -95,6 +103,10 @@ ReadsGoOn =
     → HasRead d colours stamp keys
     × ((later : ℕ) (all : List Key) → stamp ≤ later → HasRead d colours later all → GoOnFrom stamp keys all)
 
+-- A read of these colours may have been made, of which no answer tells.
+abbrev pub ReadHidden : Store → Client → Client → List ℕ → Type 0
+ReadHidden s c d colours = IsExplained s c d (λ log caller kept after. HidesRead log caller kept colours after)
+
 -- Why a stamped read was refused: a node of one of its colours that was not played is trimmed, as the base shows; or memory
 -- was refused. What it did before stands.
 abbrev pub ReadRefused : Store → Client → Client → List ℕ → SyncFault → Type 0
@@ -102,5 +114,4 @@ ReadRefused s c d colours (sync_faults.Trimmed colour base) =
     Contains colours colour
     × IsExplained s c d (λ log caller kept after.
     IsTrimmed log caller kept colour base × HidesRead log caller kept colours after)
-ReadRefused s c d colours sync_faults.NoMemory =
-    IsExplained s c d (λ log caller kept after. HidesRead log caller kept colours after)
+ReadRefused s c d colours sync_faults.NoMemory = ReadHidden s c d colours

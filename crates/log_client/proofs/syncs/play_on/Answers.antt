@@ -15,9 +15,12 @@ pub returns-in-Ok-extend-clause-ok : goal.returns-in-Ok-extend-clause-ok
 returns-in-Ok-extend-clause-ok g c =
     let e = c.in-Ok.ensures in
     let p = c.in-Ok-play.ensures in
+    let track = c.args.track.now in
     plays_on c.args.region.now c.look.new.hold c.args.track.now c.extend.new.track c.in-Ok-extend.answer.0
     c.in-Ok-extend.answer.1 c.in-Ok.view.events c.in-Ok.view c.in-Ok-play.played c.in-Ok-own_line.line c.requires.few e.hold
-    c.requires.colour e.view p.items p.snapshot p.trimmed refl c.in-Ok-own_line.ensures c.in-Ok-extend.ensures.ok
+    c.requires.colour e.view p.items p.snapshot
+    (within_view c.args.region.now track.snapshot.colour c.args.hold.now c.look.new.hold track.snapshot.counts c.in-Ok.view
+    e.hold c.requires.colour e.sees.more e.view c.requires.track.reached) p.trimmed refl c.in-Ok-own_line.ensures c.in-Ok-extend.ensures.ok
 
 pub returns-in-Ok-extend-clause-nodes : goal.returns-in-Ok-extend-clause-nodes
 returns-in-Ok-extend-clause-nodes g c shown =

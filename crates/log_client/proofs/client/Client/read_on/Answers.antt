@@ -34,6 +34,7 @@ returns-in_default g c =
       syncs = tt;
       above = tt;
       ok = tt;
+      hidden = tt;
       err = unraised s x b c.args.colours (members c.args.colours) refl stamp e.rests e.keeps e.chosen e.floor e.above
           c.raise_all.new.self c.raise_all.ensures.rests c.in_default.ensures.err;
     }
@@ -63,6 +64,7 @@ returns-in_err-syncs g c =
       syncs = tt;
       above = tt;
       ok = tt;
+      hidden = tt;
       err = unsynced s x b c.args.colours (members c.args.colours) refl stamp e.rests e.keeps e.chosen e.floor e.above
           r q c.in-Ok.raises.items c.raise_all.ensures.rests up.ok up.colours k.rests k.keeps k.clear
           c.sync_all.new.self c.in_err-syncs.field-0.0 c.sync_all.ensures.rests c.in_err-syncs.ensures.err;
@@ -104,6 +106,7 @@ returns-in_default-items_read g c =
       syncs = tt;
       above = tt;
       ok = tt;
+      hidden = tt;
       err = unanswered s x b c.args.colours (members c.args.colours) refl stamp e.rests e.keeps e.chosen e.floor e.above
           r q c.in-Ok.raises.items c.raise_all.ensures.rests up.ok up.colours k.rests k.keeps k.clear
           c.sync_all.new.self c.sync_all.ensures.rests c.in_ok-syncs.syncs.items c.in_ok-syncs.ensures.ok c.max-self.result
@@ -142,5 +145,9 @@ returns g c =
           (subst (λ (ts : List Track). AreItems (are_parts ts c.args.last stamp (members c.args.colours))
           c.in-Ok-items_read.items) c.as_slice.ensures.value c.in-Ok-items_read.ensures)
           c.read_items_last.ensures c.into.result c.into-2.result c.into.ensures c.into-2.ensures;
+      hidden = unanswered s x b c.args.colours (members c.args.colours) refl stamp e.rests e.keeps e.chosen e.floor e.above
+          r q c.in-Ok.raises.items c.raise_all.ensures.rests up.ok up.colours k.rests k.keeps k.clear
+          c.sync_all.new.self c.sync_all.ensures.rests c.in_ok-syncs.syncs.items c.in_ok-syncs.ensures.ok c.max-self.result
+          c.max-self.ensures e.in_range;
       err = tt;
     }

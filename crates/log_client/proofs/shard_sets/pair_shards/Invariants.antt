@@ -1,0 +1,9 @@
+use Rattle.std.proofs.Common.{◌≡◌, List, ℕ, map, take}
+use Rattle.log_node.specs.declared.forms.Pair.{Pair}
+use Rattle.script_text.specs.Items.{set_of}
+use Rattle.object_fold.specs.Nodes.{shard_of}
+use Rattle.log_client.proofs.shard_sets.pair_shards.Given as goal
+
+-- the shards of the keys so far
+abbrev pub invariant-loop-pair : goal.invariant-loop-pair
+invariant-loop-pair l = l.set ≡ set_of (map (λ (x : Pair). shard_of l.colours x.key) (take l.pair-index l.pairs))
