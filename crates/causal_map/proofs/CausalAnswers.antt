@@ -1,0 +1,37 @@
+-- The answer of a causal map is the same in whatever order its nodes are listed.
+use Rattle.std.proofs.Common.{ℕ, List, [], map}
+use Rattle.std.specs.Prelude.{unwrap_or}
+use Rattle.std.specs.List.{filter}
+use Rattle.std.proofs.lemmas.List.Sorted.{IsPermutation-trans, IsPermutation-map, Contains-permutation}
+use Rattle.object_fold.specs.Causal.{ChainNode, Follows, IsLatestWrite, IsCausalAnswer, written_value}
+use Rattle.object_fold.specs.Causal.Follows.{at_once, through}
+use Rattle.causal_map.proofs.Shuffles.{Shuffled, filtered, permuted, turned}
+
+follows_in : (ns ms : List ChainNode) → Shuffled ns ms → {a b : ChainNode} → Follows ns a b → Follows ms a b
+follows_in ns ms s (at_once h) = at_once h
+follows_in ns ms s (through {between = b} inside h f) =
+    through (Contains-permutation ns ms b (permuted s) inside) h (follows_in ns ms s f)
+
+latest_in : (ns ms : List ChainNode) (key : List ℕ) (node : ChainNode) → Shuffled ns ms → IsLatestWrite ns key node
+    → IsLatestWrite ms key node
+latest_in ns ms key node s l = record {
+  writes = l.writes;
+  latest = λ later inside wrote f.
+      l.latest later (Contains-permutation ms ns later (permuted (turned ns ms s)) inside) wrote
+      (follows_in ms ns (turned ns ms s) f);
+}
+
+pub answer_in : (ns ms : List ChainNode) (key : List ℕ) (values : List (List ℕ)) → Shuffled ns ms
+    → IsCausalAnswer ns key values → IsCausalAnswer ms key values
+answer_in ns ms key values s a =
+    let value : ChainNode → List ℕ = λ (node : ChainNode). unwrap_or (written_value key node) [] in record {
+      is_latest = a.is_latest;
+      exactly = λ node inside.
+          let e = a.exactly node (Contains-permutation ms ns node (permuted (turned ns ms s)) inside) in (
+            λ t. latest_in ns ms key node s (e.0 t),
+            λ l. e.1 (latest_in ms ns key node (turned ns ms s) l),
+          );
+      each_value = IsPermutation-trans values (map value (filter a.is_latest ns)) (map value (filter a.is_latest ms))
+          a.each_value (IsPermutation-map value (filter a.is_latest ns) (filter a.is_latest ms) (filtered a.is_latest s));
+      sorted = a.sorted;
+    }

@@ -1,0 +1,2 @@
+mod MapAnswers
+pub mod CallerLemmas

@@ -1,0 +1,17 @@
+use Rattle.std.proofs.Common.{ℕ, ◌+◌, List, length, get_or, ap, subst, sym, ◌∙◌, refl, arith}
+use Rattle.log_map.specs.Maps.{AreFresh}
+use Rattle.log_map.proofs.MapAnswers.{fresh_more}
+use Rattle.log_map.proofs.map.LogMap.open.Goals as goal
+
+pub loop-colour-preserved : goal.loop-colour-preserved
+loop-colour-preserved c =
+    let n = c.loop-colour.colour-index in
+    let items = c.as_slice-colour-items.ensures in
+    let long = ap length items in
+    let less = c.loop-colour-test.true in
+    subst (AreFresh c.args.colours (n + 1)) (sym c.in_ok-push.ensures.items)
+    (fresh_more c.args.colours n (get_or c.args.colours n 0) 0 c.loop-colour.shards.items c.open.result
+    (omega (arith, less, long)) refl
+    (c.open.ensures.shard.0 ∙ (c.from.ensures ∙ (c.in_ok-copy.ensures.items ∙ c.as_slice.ensures)))
+    (c.open.ensures.shard.1 ∙ ap (λ (l : List ℕ). get_or l n 0) items) c.open.ensures.count c.open.ensures.empty
+    c.loop-colour.invariant)

@@ -1,0 +1,188 @@
+// The map.
+ghost use Rattle.std.specs.Prelude.{◌≡◌, ◌≢◌, ◌<◌, IsTrue, ◌∷◌, [], length, Some, Err, IfOk, IfErr, slice_get};
+ghost use Rattle.std.specs.List.{Contains};
+ghost use Rattle.object_form.specs.Forms.{is_word, form_text};
+ghost use Rattle.object_fold.specs.Nodes.{shard_of};
+ghost use Rattle.object_fold.specs.Maps.{shard_value};
+ghost use Rattle.log_client.specs.Clients.{IsClient, Helps, line_of};
+ghost use Rattle.log_client.specs.Reading.{RestsOn};
+ghost use Rattle.log_client.specs.Objects.{AreColours, StandsIn, PutRefused, GetRefused, object_nodes};
+ghost use Rattle.log_map.specs.Maps.{IsMapOf, IsSameMap, Gets};
+
+use crate::kept_shard::KeptShard;
+use fuzzy_io::Gate;
+use log_client::{Appended, Client, ObjectFault, Store, Synced};
+use log_node::{ColourList, Form, ListOf, Text};
+use object_fold::shard_of;
+use std::alloc::{AllocError, Global};
+use std::sync::Wait;
+
+/// A map at a home region, for one client, with which all its calls are made. A key's nodes are in the colour of its shard; what
+/// is folded of each shard is kept.
+#[derive(Drop)]
+pub struct LogMap {
+    pub(crate) home: u8,
+    pub(crate) colours: ColourList,
+    pub(crate) shards: Vec<KeptShard>,
+}
+
+// Where a colour stands among colours.
+fn place_of(colours: &[u8], colour: u8) -> usize
+    requires { Contains colours.now colour }
+    ensures { slice_get colours.now result ≡ Some colour }
+{
+    match colours.iter().position(|other| *other == colour) {
+        Some(place) => place,
+        None => unreachable!(),
+    }
+}
+
+impl LogMap {
+    /// The map of these colours at a home, of which nothing is folded.
+    pub fn open(alloc: Global, home: u8, colours: ColourList) -> Result<LogMap, AllocError>
+        ensures of { IfOk result (λ map. (map.home ≡ home) × (map.colours ≡ colours)) }
+        ensures map { (client : Client) → AreColours client colours → IfOk result (IsMapOf client) }
+    {
+        let mut shards = Vec::with_capacity(alloc, colours.len())?;
+        for colour in colours.as_slice() {
+            let copy = Vec::from_slice(alloc, colours.as_slice())?;
+            shards.push(KeptShard::open(alloc, ListOf::from(copy), *colour))?;
+        }
+        Ok(LogMap {
+            home,
+            colours,
+            shards,
+        })
+    }
+
+    /// Puts a value under a key: its node stands in the colour of the key's shard. Waits as an append does.
+    pub fn put<R: Wait, G: Gate>(
+        &mut self,
+        rt: &R,
+        alloc: Global,
+        client: &mut Client,
+        store: &Store,
+        gate: &G,
+        key: &Text,
+        value: &Text,
+    ) -> Result<Appended, ObjectFault>
+        requires client { IsClient store.now client.old }
+        requires map { IsMapOf client.old self.old }
+        requires key { IsTrue (is_word key.now) }
+        requires value { IsTrue (is_word value.now) }
+        ensures client { RestsOn store.now client.old client.new }
+        ensures map { IsMapOf client.new self.new }
+        ensures same { self.new ≡ self.old }
+        ensures ok { IfOk result (StandsIn store.now client.old client.new (shard_of self.old.colours key.now ∷ [])
+            (form_text (Form.Put key.now value.now))) }
+        ensures away { client.old.region ≢ self.old.home → result ≡ Err (ObjectFault.NotHome self.old.home) }
+        ensures err { IfErr result (PutRefused (Some self.old.home) store.now client.old client.new
+            (shard_of self.old.colours key.now ∷ []) (form_text (Form.Put key.now value.now))) }
+    {
+        if client.region() != self.home {
+            return Err(ObjectFault::NotHome { home: self.home });
+        }
+        let (Ok(copy), Ok(value)) = (
+            Text::copied(alloc, key.as_bytes()),
+            Text::copied(alloc, value.as_bytes()),
+        ) else {
+            return Err(ObjectFault::NoMemory);
+        };
+        let colour = shard_of(self.colours.as_slice(), key.as_bytes());
+        client.append_form_to(
+            rt,
+            alloc,
+            store,
+            gate,
+            colour,
+            Form::Put { key: copy, value },
+        )
+    }
+
+    /// Deletes a key: its node stands in the colour of the key's shard. Waits as an append does.
+    pub fn del<R: Wait, G: Gate>(
+        &mut self,
+        rt: &R,
+        alloc: Global,
+        client: &mut Client,
+        store: &Store,
+        gate: &G,
+        key: &Text,
+    ) -> Result<Appended, ObjectFault>
+        requires client { IsClient store.now client.old }
+        requires map { IsMapOf client.old self.old }
+        requires key { IsTrue (is_word key.now) }
+        ensures client { RestsOn store.now client.old client.new }
+        ensures map { IsMapOf client.new self.new }
+        ensures same { self.new ≡ self.old }
+        ensures ok { IfOk result (StandsIn store.now client.old client.new (shard_of self.old.colours key.now ∷ [])
+            (form_text (Form.Delete key.now))) }
+        ensures away { client.old.region ≢ self.old.home → result ≡ Err (ObjectFault.NotHome self.old.home) }
+        ensures err { IfErr result (PutRefused (Some self.old.home) store.now client.old client.new
+            (shard_of self.old.colours key.now ∷ []) (form_text (Form.Delete key.now))) }
+    {
+        if client.region() != self.home {
+            return Err(ObjectFault::NotHome { home: self.home });
+        }
+        let Ok(copy) = Text::copied(alloc, key.as_bytes()) else {
+            return Err(ObjectFault::NoMemory);
+        };
+        let colour = shard_of(self.colours.as_slice(), key.as_bytes());
+        client.append_form_to(rt, alloc, store, gate, colour, Form::Delete { key: copy })
+    }
+
+    // The value of a key, whose shard has this colour, after the own nodes that the client has played of it.
+    fn value(
+        &mut self,
+        alloc: Global,
+        client: &Client,
+        colour: u8,
+        key: &[u8],
+    ) -> Result<Option<Text>, AllocError>
+        requires map { IsMapOf client.now self.old }
+        requires colour { Contains self.old.colours colour }
+        ensures map { IsMapOf client.now self.new }
+        ensures same { IsSameMap self.old self.new }
+        ensures value { IfOk result (λ value.
+            value ≡ shard_value self.old.colours colour (object_nodes (line_of client.now colour)) key.now) }
+    {
+        let place = place_of(self.colours.as_slice(), colour);
+        self.shards[place].value(alloc, client.line(colour), key)
+    }
+
+    /// The value of a key after what the client then plays of its shard, or none. Waits as a sync does; the gate is for appends
+    /// alone.
+    pub fn get<R: Wait, G: Gate>(
+        &mut self,
+        rt: &R,
+        alloc: Global,
+        client: &mut Client,
+        store: &Store,
+        _gate: &G,
+        key: &Text,
+    ) -> Result<(Option<Text>, Synced), ObjectFault>
+        requires client { IsClient store.now client.old }
+        requires map { IsMapOf client.old self.old }
+        ensures client { RestsOn store.now client.old client.new }
+        ensures idle { Helps client.new → Helps client.old }
+        ensures map { IsMapOf client.new self.new }
+        ensures same { IsSameMap self.old self.new }
+        ensures ok { IfOk result (λ r. Gets store.now client.old client.new self.old.colours
+            (shard_of self.old.colours key.now) key.now r.0 r.1) }
+        ensures away { client.old.region ≢ self.old.home → result ≡ Err (ObjectFault.NotHome self.old.home) }
+        ensures err { IfErr result (GetRefused (Some self.old.home) store.now client.old client.new
+            (shard_of self.old.colours key.now)) }
+    {
+        if client.region() != self.home {
+            return Err(ObjectFault::NotHome { home: self.home });
+        }
+        let colour = shard_of(self.colours.as_slice(), key.as_bytes());
+        match client.sync(rt, alloc, store, colour) {
+            Ok(synced) => match self.value(alloc, client, colour, key.as_bytes()) {
+                Ok(value) => Ok((value, synced)),
+                Err(_) => Err(ObjectFault::NoMemory),
+            },
+            Err(fault) => Err(ObjectFault::Sync(fault)),
+        }
+    }
+}

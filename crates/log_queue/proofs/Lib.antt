@@ -1,0 +1,2 @@
+mod QueueAnswers
+pub mod CallerLemmas

@@ -1,0 +1,67 @@
+-- What a queue keeps beside its client, and what its dequeues answer.
+use Rattle.std.specs.Prelude.{◌≡◌, ℕ, ◌<◌, List, [], ◌∷◌, length, Some, None}
+use Rattle.log_node.specs.declared.ids.Colours.{Colours}
+use Rattle.log_node.specs.declared.forms.Form.TheVariants as forms
+use Rattle.log_node.specs.declared.limits.TheConstants.{MAX_COLOURS}
+use Rattle.log_node.specs.Sets.{members}
+use Rattle.object_form.specs.Forms.{form_text}
+use Rattle.object_fold.specs.Maps.{Value}
+use Rattle.object_fold.specs.States.{IsQueue}
+use Rattle.col_core.specs.Log.{Log}
+use Rattle.col_core.specs.Keeping.{Kept}
+use Rattle.append_core.specs.declared.stood.Point.{Point}
+use Rattle.lawful_run.specs.Callers.{Caller, node_of}
+use Rattle.lawful_run.specs.Appends.{Appends}
+use Rattle.lawful_run.specs.Reads.{Syncs, kept_after_piece}
+use Rattle.lawful_run.specs.Objects.{Takes}
+use Rattle.log_client.specs.declared.store.Store.{Store}
+use Rattle.log_client.specs.declared.client.Client.{Client}
+use Rattle.log_client.specs.declared.answers.Appended.{Appended}
+use Rattle.log_client.specs.declared.answers.Synced.{Synced}
+use Rattle.log_client.specs.declared.object_fault.ObjectFault.{ObjectFault}
+use Rattle.log_client.specs.declared.object_fault.ObjectFault.TheVariants as faults
+use Rattle.log_client.specs.Clients.{tracks_of}
+use Rattle.log_client.specs.Calls.{IsExplained}
+use Rattle.log_client.specs.Appends.{piece_of}
+use Rattle.log_client.specs.StampedReads.{sync_piece}
+use Rattle.log_client.specs.Objects.{Follows, IsAwayFrom, StandsNot, UnreadLeaves}
+use Rattle.log_queue.specs.declared.queue.LogQueue.{LogQueue}
+
+-- The queue is kept beside the client: its colour is one of the client's, and what is folded are the first nodes of the own
+-- line that the client has played of it.
+pub record IsQueueOf (c : Client) (q : LogQueue) : Type 0 where
+  pub colour : q.colour < length (tracks_of c)
+  pub few : q.colour < MAX_COLOURS
+  pub folds : Follows c q.colour q.kept.count (IsQueue q.kept.queue)
+
+-- the text of a dequeue's node
+abbrev pub dequeue_text : List ℕ
+dequeue_text = form_text forms.Dequeue
+
+-- The own node stands at the point; behind it the colour was synced; and the node takes the value, by those before it.
+abbrev pub TakesAs : Colours → ℕ → Point → Synced → Value → Log → Caller → Kept → Kept → Type 0
+TakesAs set stamp point y value log caller kept after =
+    (stood : Kept)
+    × Appends log caller kept (node_of caller kept set dequeue_text) stamp None (piece_of point ∷ []) stood
+    × Syncs log caller stood y.snapshot.colour y.events y.snapshot.counts
+    × Takes log caller (piece_of point) value
+    × (after ≡ kept_after_piece log caller stood (sync_piece y))
+
+-- a dequeue of a queue on this colour answered with this
+pub record Dequeues (s : Store) (c d : Client) (colour : ℕ) (value : Value) (a : Appended) (y : Synced) : Type 0 where
+  pub set : Colours
+  pub members_are : members set ≡ colour ∷ []
+  pub point : Point
+  pub point_is : a.stood.points ≡ point ∷ []
+  pub point_there : point.colour ≡ colour
+  pub synced : y.snapshot.colour ≡ colour
+  pub explained : IsExplained s c d (TakesAs set a.stood.key.stamp point y value)
+
+-- why a dequeue of a queue at this home on this colour was refused
+abbrev pub DeqRefused : ℕ → Store → Client → Client → ℕ → ObjectFault → Type 0
+DeqRefused home s c d colour (faults.NotHome shown) = IsAwayFrom (Some home) c d shown
+DeqRefused home s c d colour (faults.Append fault) = StandsNot s c d (colour ∷ []) dequeue_text (faults.Append fault)
+DeqRefused home s c d colour (faults.Sync fault) = ⊥
+DeqRefused home s c d colour (faults.Unread stamp why) = UnreadLeaves s c d colour dequeue_text stamp why
+DeqRefused home s c d colour faults.NoTx = ⊥
+DeqRefused home s c d colour faults.NoMemory = d ≡ c

@@ -1,0 +1,3 @@
+mod maps;
+mod queues;
+mod shown;
