@@ -1,9 +1,9 @@
 -- What a client gives to appends, stops, pulls and trims, by what its calls left.
-use Rattle.std.proofs.Common.{◌≡◌, ◌≢◌, ◌⊎◌, ℕ, zero, suc, ◌+◌, ◌*◌, ◌^◌, ◌<◌, ◌≤◌, List, [], length, map, true, false, Some, None, Err, refl, ap, sym, subst, ◌∙◌, inl, inr, arith, append-nil, eqb-true}
-use Rattle.std.specs.Prelude.{IsTrue, Bool, Result, ◌-◌, ◌&&◌, not, nat_lt}
+use Rattle.std.proofs.Common.{◌≡◌, ◌≢◌, ◌⊎◌, ℕ, zero, suc, ◌+◌, ◌*◌, ◌^◌, ◌<◌, ◌≤◌, List, [], map, true, Some, None, Err, refl, ap, sym, subst, ◌∙◌, inl, inr, arith, append-nil, eqb-true}
+use Rattle.std.specs.Prelude.{IsTrue, Result, ◌-◌}
 use Rattle.std.specs.Int.{bit_at}
 use Rattle.std.specs.List.{range_with_len}
-use Rattle.std.proofs.lemmas.Bool.{cases_eq, cases_lt, ltb-false, ltb-true}
+use Rattle.std.proofs.lemmas.Bool.{cases_eq, cases_lt}
 use Rattle.std.proofs.lemmas.List.Elements.{All-contains}
 use Rattle.std.proofs.lemmas.Nat.Bits.{bit_at_cat_high, bit_at-zero}
 use Rattle.log_node.specs.declared.ids.Colours.{Colours}
@@ -13,7 +13,7 @@ use Rattle.log_node.specs.Sets.{has, members}
 use Rattle.col_core.specs.Keeping.{Kept}
 use Rattle.col_core.specs.Log.{Log}
 use Rattle.col_core.proofs.CallerLemmas.{In, in_filter-back, contains_in}
-use Rattle.script_text.specs.Fitting.{AreBelow}
+use Rattle.script_text.specs.Fitting.{AreBelow, HasColours}
 use Rattle.script_text.specs.Items.{is_stop}
 use Rattle.script_text.specs.declared.script.What.{What}
 use Rattle.script_text.specs.declared.script.What.TheVariants as whats
@@ -36,9 +36,7 @@ use Rattle.log_client.specs.declared.answers.Appended.{Appended}
 use Rattle.log_client.specs.Fits.{HasGoneOn, HaveGoneOn}
 use Rattle.log_client.specs.Clients.{IsClient, Finished, Helps, Keeps, caller_of, holds_of, seen_of, starts_of}
 use Rattle.log_client.specs.Calls.{IsExplained, IsSame, PullsAs, PullRefused, GaveAlone, TrimsAs}
-use Rattle.log_client.specs.Appends.{AppendsAs, AppendRefused, AreColoursOf, FindsNoMemory, HasStopped, IsStopWithin, piece_of}
-use Rattle.script_meaning.specs.States.{has_colours}
-use Rattle.fuzzy_run.specs.Built.{is_served}
+use Rattle.log_client.specs.Appends.{AppendsAs, AppendRefused, AreColoursOf, FindsNoMemory, HasStopped, piece_of}
 use Rattle.fuzzy_run.specs.Serving.{Gives, IsStopped}
 use Rattle.fuzzy_run.proofs.CommandAnswers as commands
 use Rattle.fuzzy_run.proofs.Giving.{gives}
@@ -77,37 +75,14 @@ has_below set n all few c is =
     (contains_in (members set) c (in_filter-back (has set) c (range_with_len 0 64)
     (in_range 0 64 c (omega arith) (omega (arith, low))) is))
 
-and_parts : (a b : Bool) → (a && b) ≡ true → (a ≡ true) × (b ≡ true)
-and_parts true b is = (refl, is)
-and_parts false b is = absurd (let f : ⊥ = cc (is) in f)
-
-not_less : (n k : ℕ) → not (nat_lt n k) ≡ true → k ≤ n
-not_less n k is = by (nat_lt n k) refl is where
-  by : (b : Bool) → nat_lt n k ≡ b → not b ≡ true → k ≤ n
-  by true e is = absurd (let f : ⊥ = cc (is) in f)
-  by false e is = ltb-false n k e
-
 -- a set of so many colours, all of the store
-pub colours_of : (s : Store) (colours : Colours) (n : ℕ) → 1 ≤ n → IsTrue (has_colours n colours)
-    → AreBelow s.size.colours colours → AreColoursOf s colours × (n ≤ length (members colours))
-unfolding has_colours
-colours_of s colours n some is below =
-    let parts = and_parts (not (nat_lt (length (members colours)) n)) (nat_lt colours.0 (2 ^ 64)) is in
-    let many = not_less (length (members colours)) n parts.0 in (
-      record {
-        some = omega (arith, some, many);
-        within = has_below colours s.size.colours below (ltb-true colours.0 (2 ^ 64) parts.1);
-      },
-      many,
-    )
-
--- a stop that is served is of several colours, and after a step that its append has
-pub stop_of : (s : Store) (steps : ℕ) (colours : Colours) (text : List ℕ)
-    → IsTrue (is_served (whats.Stop steps colours text)) → AreBelow s.size.colours colours
-    → steps ≤ 2 * length (members colours) + 2 → AreColoursOf s colours × IsStopWithin colours steps
-stop_of s steps colours text is below within =
-    let of = colours_of s colours 2 (omega arith) is below in
-    (of.0, (of.1, within))
+pub colours_of : (s : Store) (colours : Colours) (least : ℕ) → 1 ≤ least → HasColours least colours
+    → AreBelow s.size.colours colours → AreColoursOf s colours
+colours_of s colours least some has below =
+    let many = has.many in record {
+      some = omega (arith, some, many);
+      within = has_below colours s.size.colours below has.bits;
+    }
 
 -- APPENDS
 

@@ -11,6 +11,7 @@ mod Dealing
 mod EndsShown
 mod ClientsShown
 mod SomeRows
-mod StopsWithin
 mod RunningBeside
 mod RunsOf
+mod WordLemmas
+mod Loads

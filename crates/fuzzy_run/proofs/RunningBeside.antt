@@ -24,7 +24,7 @@ use Rattle.log_client.specs.Opening.{AreNewClients}
 use Rattle.fuzzy_run.specs.declared.serving.served.Served.{Served}
 use Rattle.fuzzy_run.specs.Built.{is_served}
 use Rattle.fuzzy_run.specs.Dealing.{AreDealt, IsDealt}
-use Rattle.fuzzy_run.specs.Served.{CanServe, IsServable, IsServed, StopsWithin}
+use Rattle.fuzzy_run.specs.Served.{CanServe, IsServable, IsServed}
 use Rattle.fuzzy_run.specs.Serving.{AreServed, Serves, StopsLast}
 use Rattle.fuzzy_run.proofs.ServedClients.{serves_none, stops_last_of}
 
@@ -34,7 +34,7 @@ mapped f xs n x at = slice_get-map f xs n ∙ ap (option_map f) at
 
 module _ (script : Script) (fits : IsFitting script)
     (built : All (λ (c : Command). IsTrue (is_served c.what)) script.commands)
-    (steps : All (λ (c : Command). StopsWithin c.what) script.commands) (stops : StopsAreLast script) (s : Store)
+    (stops : StopsAreLast script) (s : Store)
     (size : s.size ≡ size_of script.shape) (regions : length s.regions ≡ script.shape.regions) (clients : List Client)
     (new : AreNewClients script.shape s clients) (before : List Served)
     (dealt : AreDealt clients script.commands before) where
@@ -54,7 +54,6 @@ module _ (script : Script) (fits : IsFitting script)
     within = subst (λ (r : ℕ). IsWithin r s.size.colours (slice_index_or script.commands k d).what) (sym regions)
         (subst (λ (z : Size). IsWithin script.shape.regions z.colours (slice_index_or script.commands k d).what) (sym size)
         (fits.commands k d lt));
-    steps = steps k d lt;
   }
 
   pub can_serve : (n : ℕ) (x : Served) → slice_get before n ≡ Some x → CanServe s x
@@ -115,7 +114,7 @@ module _ (script : Script) (fits : IsFitting script)
 -- of the clients and replies that were taken out.
 pub were_served : (script : Script) → IsFitting script
     → All (λ (c : Command). IsTrue (is_served c.what)) script.commands
-    → All (λ (c : Command). StopsWithin c.what) script.commands → StopsAreLast script → (s : Store)
+    → StopsAreLast script → (s : Store)
     → s.size ≡ size_of script.shape → length s.regions ≡ script.shape.regions → (opened : List Client)
     → AreNewClients script.shape s opened → (commands : List Command) → commands ≡ script.commands
     → (before lent after : List Served) → lent ≡ before → AreDealt opened commands before → length after ≡ length lent
@@ -124,10 +123,10 @@ pub were_served : (script : Script) → IsFitting script
     → clients ≡ map (λ (x : Served). x.client) (take n (after ++ drop (length after) before))
     → replies ≡ map (λ (x : Served). x.replies.items) (take n (after ++ drop (length after) before))
     → AreServed script s clients replies
-were_served script fits built steps stops s size regions opened new commands moved before lent after same dealt long served n
+were_served script fits built stops s size regions opened new commands moved before lent after same dealt long served n
     many clients replies are given =
     let dealt' : AreDealt opened script.commands before = subst (λ (l : List Command). AreDealt opened l before) moved dealt in
-    let all = are_served script fits built steps stops s size regions opened new before dealt' after (long ∙ ap length same)
+    let all = are_served script fits built stops s size regions opened new before dealt' after (long ∙ ap length same)
     (λ n x y at later. served n x y (subst (λ (l : List Served). slice_get l n ≡ Some x) (sym same) at) later) in
     let whole : take n (after ++ drop (length after) before) ≡ after =
     front_of n after (drop (length after) before) (long ∙ (ap length same ∙ sym many)) in

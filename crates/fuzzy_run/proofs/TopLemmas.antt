@@ -8,14 +8,14 @@ use Rattle.std.specs.Io.KnownBytes.{Appends}
 use Rattle.std.proofs.lemmas.List.{take-append-drop, length-replicate}
 use Rattle.std.proofs.lemmas.List.Elements.{All-nil}
 use Rattle.fuzzy_io.specs.Causes.{AppendsFront}
-use Rattle.script_text.specs.declared.script.Object.{Object}
 use Rattle.script_text.specs.declared.script.Command.{Command}
 use Rattle.script_text.specs.declared.script.Script.{Script}
 use Rattle.script_text.specs.declared.script.Reason.TheVariants.{ScriptTooLong}
 use Rattle.script_text.specs.Grammar.{IsScript}
 use Rattle.report_text.specs.ReportText.{report_bytes, refusal_bytes}
 use Rattle.fuzzy_run.specs.declared.asked.Asked.{Asked}
-use Rattle.fuzzy_run.specs.Built.{is_done}
+use Rattle.fuzzy_run.specs.declared.asked.Asked.TheVariants.{Run}
+use Rattle.fuzzy_run.specs.Built.{is_served}
 use Rattle.fuzzy_run.specs.declared.refusal.Cause.{Cause}
 use Rattle.fuzzy_run.specs.declared.refusal.Cause.TheVariants.{Faulty, NotBuilt}
 use Rattle.fuzzy_run.specs.declared.status.Status.{Status}
@@ -23,15 +23,15 @@ use Rattle.fuzzy_run.specs.declared.status.Status.TheVariants.{Done, BadWords, R
 use Rattle.fuzzy_run.specs.Refusals.{cause_text, first_unbuilt, IsTheScript, IsRefusedFor, IsDoable}
 use Rattle.fuzzy_run.specs.TopCall.{IsRunText, IsRefusalText, Writes, WritesFront, Shows, ShowsFront}
 
--- where no command is first of those that are not done, all are done
-pub all_built : (asked : Asked) (objects : List Object) (commands : List Command) → first_unbuilt asked objects commands ≡ None
-    → All (λ (c : Command). IsTrue (is_done asked objects c.what)) commands
-all_built asked objects [] e = All-nil (λ (c : Command). IsTrue (is_done asked objects c.what))
-all_built asked objects (c ∷ cs) e = by (is_done asked objects c.what) refl e (all_built asked objects cs) where
-  by : (b : Bool) → is_done asked objects c.what ≡ b → option_map (λ (d : Command). d.line)
-      (cond (not b) (Some c) (find (λ (d : Command). not (is_done asked objects d.what)) cs)) ≡ None
-      → (first_unbuilt asked objects cs ≡ None → All (λ (d : Command). IsTrue (is_done asked objects d.what)) cs)
-      → All (λ (d : Command). IsTrue (is_done asked objects d.what)) (c ∷ cs)
+-- where no command is first of those that clients are not served, they are served all
+pub all_served : (commands : List Command) → first_unbuilt Run commands ≡ None
+    → All (λ (c : Command). IsTrue (is_served c.what)) commands
+all_served [] e = All-nil (λ (c : Command). IsTrue (is_served c.what))
+all_served (c ∷ cs) e = by (is_served c.what) refl e (all_served cs) where
+  by : (b : Bool) → is_served c.what ≡ b → option_map (λ (d : Command). d.line)
+      (cond (not b) (Some c) (find (λ (d : Command). not (is_served d.what)) cs)) ≡ None
+      → (first_unbuilt Run cs ≡ None → All (λ (d : Command). IsTrue (is_served d.what)) cs)
+      → All (λ (d : Command). IsTrue (is_served d.what)) (c ∷ cs)
   by true is f rest zero d lt = is
   by true is f rest (suc k) d lt = rest f k d (omega arith)
   by false is f rest k d lt = absurd (let g : ⊥ = cc in g)
@@ -136,10 +136,10 @@ too_long_begun asked left old new long out =
 
 -- a script of commands that are done is not refused
 not_refused : (asked : Asked) (line : ℕ) (cause : Cause) (bytes : List ℕ) (script : Script) → IsScript bytes script
-    → first_unbuilt asked script.objects script.commands ≡ None → IsRefusedFor asked bytes line cause → ⊥
+    → first_unbuilt asked script.commands ≡ None → IsRefusedFor asked bytes line cause → ⊥
 not_refused asked line (Faulty why) bytes script is built r = r.1 script is
 not_refused asked line NotBuilt bytes script is built (other, the, first) =
-    none_some (sym built ∙ (ap (λ (s : Script). first_unbuilt asked s.objects s.commands) (sym (the.only script is)) ∙ first)) where
+    none_some (sym built ∙ (ap (λ (s : Script). first_unbuilt asked s.commands) (sym (the.only script is)) ∙ first)) where
       none_some : {n : ℕ} → None ≡ Some n → ⊥
       none_some e = let g : ⊥ = cc in g
 

@@ -1,13 +1,9 @@
 -- A client before it is served its commands, and after.
-use Rattle.std.specs.Prelude.{◌≡◌, ◌≤◌, ◌+◌, ◌*◌, IsTrue, ℕ, List, [], length, vec_capacity}
+use Rattle.std.specs.Prelude.{◌≡◌, ◌≤◌, IsTrue, List, [], length, vec_capacity}
 use Rattle.std.specs.List.{All}
-use Rattle.log_node.specs.declared.ids.Colours.{Colours}
-use Rattle.log_node.specs.Sets.{members}
 use Rattle.script_text.specs.Fitting.{IsWithin}
 use Rattle.script_text.specs.declared.script.Object.{Object}
 use Rattle.script_text.specs.declared.script.Command.{Command}
-use Rattle.script_text.specs.declared.script.What.{What}
-use Rattle.script_text.specs.declared.script.What.TheVariants as whats
 use Rattle.log_client.specs.declared.store.Store.{Store}
 use Rattle.log_client.specs.Clients.{Finished}
 use Rattle.log_client.specs.Calls.{IsSame}
@@ -15,17 +11,10 @@ use Rattle.fuzzy_run.specs.declared.serving.served.Served.{Served}
 use Rattle.fuzzy_run.specs.Built.{is_served}
 use Rattle.fuzzy_run.specs.Serving.{Serves, StopsLast}
 
--- a stop is after no more steps than its append has
-abbrev pub StopsWithin : What → Type 0
-StopsWithin what =
-    (steps : ℕ) (colours : Colours) (text : List ℕ) → what ≡ whats.Stop steps colours text
-    → steps ≤ 2 * length (members colours) + 2
-
 -- a command that a client of the store can be served
 pub record IsServable (s : Store) (command : Command) : Type 0 where
   pub built : IsTrue (is_served command.what)
   pub within : IsWithin (length s.regions) s.size.colours command.what
-  pub steps : StopsWithin command.what
 
 -- The client has been served nothing, it can be served its commands, and there is room for the replies.
 pub record CanServe (s : Store) (x : Served) : Type 0 where

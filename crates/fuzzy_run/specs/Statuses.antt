@@ -14,7 +14,7 @@ code_of NoMemory = 5
 -- what is said on standard error; a run that is done or refused has said it to the sink
 abbrev pub complaint_of : Status → Option (List ℕ)
 complaint_of Done = None
-complaint_of BadWords = Some (codes "usage: fuzzy_run step or run")
+complaint_of BadWords = Some (codes "usage: fuzzy_run step, run or load N")
 complaint_of Refused = None
 complaint_of ReadFault = Some (codes "fuzzy_run: the input failed")
 complaint_of WriteFault = Some (codes "fuzzy_run: the output failed")

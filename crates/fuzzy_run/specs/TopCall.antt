@@ -7,6 +7,9 @@ use Rattle.report_text.specs.declared.report.Report.{Report}
 use Rattle.report_text.specs.ReportText.{report_bytes, refusal_bytes}
 use Rattle.lawful_run.specs.Lawful.{LawfulRun}
 use Rattle.script_meaning.specs.Meaning.{IsStepReport, FindsMemory, step_report}
+use Rattle.load_script.specs.Generated.{load_script}
+use Rattle.load_script.specs.Plain.{IsUnwanting}
+use Rattle.load_script.specs.Summing.{load_summary, shown_summary, summary_text}
 use Rattle.fuzzy_run.specs.declared.asked.Asked.{Asked}
 use Rattle.fuzzy_run.specs.declared.asked.Asked.TheVariants.{Step}
 use Rattle.fuzzy_run.specs.declared.refusal.Cause.{Cause}
@@ -59,5 +62,21 @@ Shows asked script old new = (report : Report) × IsRunOf asked script report ×
 abbrev pub ShowsFront : Asked → Script → Option (List ℕ) → Option (List ℕ) → Type 0
 ShowsFront asked script old new =
     ((report : Report) × IsRunOf asked script report × AppendsFront old new (report_bytes report))
-    ⊎ ((line : ℕ) × (first_unbuilt asked script.objects script.commands ≡ Some line)
+    ⊎ ((line : ℕ) × (first_unbuilt asked script.commands ≡ Some line)
     × AppendsFront old new (refusal_bytes line (cause_text NotBuilt)))
+
+-- There is a lawful run of the script of a load of so many rounds in which no command found want of memory, and its report
+-- shows the load's summary.
+pub record IsLoaded (count : ℕ) : Type 0 where
+  pub report : Report
+  pub lawful : LawfulRun (load_script count) report
+  pub unwanting : IsUnwanting report
+  pub shown : shown_summary count report ≡ load_summary count
+
+-- a load was done, and its summary was written whole
+abbrev pub WritesLoad : ℕ → Option (List ℕ) → Option (List ℕ) → Type 0
+WritesLoad count old new = IsLoaded count × Appends old new (summary_text (load_summary count))
+
+-- a load was done, and the beginning of its summary was written
+abbrev pub WritesLoadFront : ℕ → Option (List ℕ) → Option (List ℕ) → Type 0
+WritesLoadFront count old new = IsLoaded count × AppendsFront old new (summary_text (load_summary count))

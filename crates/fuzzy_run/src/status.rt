@@ -40,7 +40,7 @@ impl Status {
     {
         match self {
             Status::Done | Status::Refused => None,
-            Status::BadWords => Some("usage: fuzzy_run step or run"),
+            Status::BadWords => Some("usage: fuzzy_run step, run or load N"),
             Status::ReadFault => Some("fuzzy_run: the input failed"),
             Status::WriteFault => Some("fuzzy_run: the output failed"),
             Status::NoMemory => Some("fuzzy_run: out of memory"),

@@ -11,6 +11,7 @@ use std::thread::Threads;
 mod causal;
 mod edges;
 mod large;
+mod loads;
 mod maps;
 mod objects;
 mod ordinary;

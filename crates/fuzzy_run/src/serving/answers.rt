@@ -6,7 +6,7 @@ ghost use Rattle.log_client.specs.Clients.{IsClient};
 ghost use Rattle.fuzzy_run.specs.Built.{is_served};
 ghost use Rattle.fuzzy_run.specs.Serving.{IsAnswered};
 ghost use Rattle.fuzzy_run.specs.Serving.{Gives};
-ghost use Rattle.fuzzy_run.specs.Served.{IsServable, StopsWithin};
+ghost use Rattle.fuzzy_run.specs.Served.{IsServable};
 
 use crate::serving::appends::{append, stop};
 use crate::serving::moves::{pull, trim};
@@ -32,7 +32,6 @@ fn answer<R: Wait, G: Gate>(
     requires client { IsClient store.now client.old }
     requires built { IsTrue (is_served what) }
     requires within { IsWithin (length store.now.regions) store.now.size.colours what }
-    requires steps { StopsWithin what }
     ensures { Gives store.now client.old client.new what result.0 result.1 }
 {
     match what {

@@ -7,7 +7,6 @@ ghost use Rattle.lawful_run.specs.Lawful.{LawfulRun};
 ghost use Rattle.script_meaning.specs.States.{StopsAreLast};
 ghost use Rattle.fuzzy_run.specs.declared.serving.served.Served.{Served};
 ghost use Rattle.fuzzy_run.specs.Built.{is_served};
-ghost use Rattle.fuzzy_run.specs.Served.{StopsWithin};
 
 use crate::serving::beside::serve_beside;
 use crate::serving::dealing::deal;
@@ -53,7 +52,6 @@ pub fn run_beside<R: Threads + Wait + Sync, G: Gate>(
     requires rows { script.shape.rows ≤ MAX_ROWS }
     requires some_rows { 0 < script.shape.rows }
     requires built { All (λ (c : Command). IsTrue (is_served c.what)) script.commands }
-    requires steps { All (λ (c : Command). StopsWithin c.what) script.commands }
     requires stops { StopsAreLast script }
     ensures { IfOk result (LawfulRun script) }
 {

@@ -21,13 +21,3 @@ fn a_failing_write_leaves_the_beginning_of_the_report(rt: HostRuntime) -> Result
     assert_eq!(rt; sink.bytes(), b"report ".as_slice());
     Ok(())
 }
-
-#[test]
-fn other_words_read_and_write_nothing(rt: HostRuntime) -> Result<(), Fail> {
-    for word in ["fly", "runs", "load", "help", "--help", "steps"].iter() {
-        let (status, sink) = run_over(rt.alloc(), &rt, word, b"fuzzylog 1\n", &[], &[])?;
-        assert_eq!(rt; status, Status::BadWords, "{word}");
-        assert!(rt; sink.bytes().is_empty());
-    }
-    Ok(())
-}

@@ -1,7 +1,6 @@
 use Rattle.script_text.proofs.CallerLemmas.{script_fits}
 use Rattle.fuzzy_run.specs.declared.refusal.Cause.TheVariants.{Faulty, NotBuilt}
 use Rattle.fuzzy_run.proofs.SomeRows.{some_rows}
-use Rattle.fuzzy_run.proofs.StopsWithin.{stops_within}
 use Rattle.fuzzy_run.proofs.TopLemmas.{refusal_written, refusal_begun, run_written, front_begun}
 use Rattle.fuzzy_run.proofs.top.do_bytes.Goals as goal
 
@@ -13,9 +12,6 @@ do_script-requires-clause-rows g c κs within = c.rows_are_within_limits.ensures
 
 pub do_script-requires-clause-some_rows : goal.do_script-requires-clause-some_rows
 do_script-requires-clause-some_rows g c κs within = some_rows _ _ c.in-Ok.ensures.accepted
-
-pub do_script-requires-clause-steps : goal.do_script-requires-clause-steps
-do_script-requires-clause-steps g c κs within = stops_within _ _ c.in-Ok.ensures.accepted
 
 pub do_script-requires-clause-stops : goal.do_script-requires-clause-stops
 do_script-requires-clause-stops g c κs within = c.scripts_stop_last.ensures _ _ c.in-Ok.ensures.accepted

@@ -1,14 +1,10 @@
-use Rattle.std.proofs.Common.{List, ap, inl, sym, ◌∙◌}
-use Rattle.script_text.specs.declared.script.Object.{Object}
+use Rattle.std.proofs.Common.{ap, inl, sym, ◌∙◌}
 use Rattle.fuzzy_run.specs.Refusals.{first_unbuilt}
-use Rattle.fuzzy_run.proofs.TopLemmas.{all_built}
 use Rattle.fuzzy_run.proofs.top.do_script.Goals as goal
 
 pub report_of-requires-clause-built : goal.report_of-requires-clause-built
-report_of-requires-clause-built g c κs within = all_built c.args.asked _ _
-    (ap (λ (os : List Object). first_unbuilt c.args.asked os c.args.script.commands) (sym c.as_slice.ensures)
-    ∙ (ap (first_unbuilt c.args.asked c.as_slice.result.now) (sym c.as_slice-2.ensures) ∙ (sym c.first_unbuilt.ensures
-    ∙ c.in_default.is)))
+report_of-requires-clause-built g c κs within =
+    ap (first_unbuilt c.args.asked) (sym c.as_slice.ensures) ∙ (sym c.first_unbuilt.ensures ∙ c.in_default.is)
 
 -- where the sink failed, it got the beginning of the report's text
 pub returns-in-Err-printed-clause-front : goal.returns-in-Err-printed-clause-front

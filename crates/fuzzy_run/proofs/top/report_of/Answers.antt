@@ -3,10 +3,8 @@ use Rattle.std.specs.Prelude.{IfOk}
 use Rattle.fuzzy_run.specs.declared.asked.Asked.{Asked}
 use Rattle.fuzzy_run.specs.TopCall.{IsRunOf}
 use Rattle.fuzzy_run.proofs.RunsOf.{run_in_file, run_on_threads}
+use Rattle.fuzzy_run.proofs.TopLemmas.{all_served}
 use Rattle.fuzzy_run.proofs.top.report_of.Goals as goal
-
-pub run_in_order-report-requires-clause-built : goal.run_in_order-report-requires-clause-built
-run_in_order-report-requires-clause-built g c = rw c.in-Step.is at c.requires.built
 
 pub returns-in-Step : goal.returns-in-Step
 returns-in-Step g c =
@@ -15,7 +13,7 @@ returns-in-Step g c =
     (run_in_file c.args.script c.run_in_order-report.result e.ok e.lawful e.exact)
 
 pub run_beside-requires-clause-built : goal.run_beside-requires-clause-built
-run_beside-requires-clause-built g c κs within = rw c.in-Run.is at c.requires.built
+run_beside-requires-clause-built g c κs within = all_served c.args.script.commands (rw c.in-Run.is at c.requires.built)
 
 pub returns-in-Run : goal.returns-in-Run
 returns-in-Run g c =

@@ -24,7 +24,7 @@ open-requires-clause-size g c =
 pub serve_beside-requires-after_bounds : goal.serve_beside-requires-after_bounds
 serve_beside-requires-after_bounds g c κs within = λ n x at.
     let e = c.in_ok-store.ensures in
-    can_serve c.args.script c.requires.fits c.requires.built c.requires.steps c.requires.stops c.in_ok-store.store e.size e.regions
+    can_serve c.args.script c.requires.fits c.requires.built c.requires.stops c.in_ok-store.store e.size e.regions
     c.in_ok-store.clients e.clients c.in_ok-served.served.items
     (subst (λ (l : List Command). AreDealt c.in_ok-store.clients l c.in_ok-served.served.items)
     c.replace-commands.ensures.value c.in_ok-served.ensures) n x
@@ -33,7 +33,7 @@ serve_beside-requires-after_bounds g c κs within = λ n x at.
 pub close-requires : goal.close-requires
 close-requires g c =
     let e = c.in_ok-store.ensures in
-    let served = were_served c.args.script c.requires.fits c.requires.built c.requires.steps c.requires.stops c.in_ok-store.store e.size
+    let served = were_served c.args.script c.requires.fits c.requires.built c.requires.stops c.in_ok-store.store e.size
     e.regions c.in_ok-store.clients e.clients c.replace-commands.result c.replace-commands.ensures.value
     c.in_ok-served.served.items c.as_mut_slice.result.now c.serve_beside.new.served c.as_mut_slice.ensures.value
     c.in_ok-served.ensures c.serve_beside.ensures.len c.serve_beside.ensures.served
@@ -44,7 +44,7 @@ close-requires g c =
 pub end_report-requires-clause-regions : goal.end_report-requires-clause-regions
 end_report-requires-clause-regions g c =
     let e = c.in_ok-store.ensures in
-    let served = were_served c.args.script c.requires.fits c.requires.built c.requires.steps c.requires.stops c.in_ok-store.store e.size
+    let served = were_served c.args.script c.requires.fits c.requires.built c.requires.stops c.in_ok-store.store e.size
     e.regions c.in_ok-store.clients e.clients c.replace-commands.result c.replace-commands.ensures.value
     c.in_ok-served.served.items c.as_mut_slice.result.now c.serve_beside.new.served c.as_mut_slice.ensures.value
     c.in_ok-served.ensures c.serve_beside.ensures.len c.serve_beside.ensures.served
@@ -56,7 +56,7 @@ end_report-requires-clause-regions g c =
 pub returns : goal.returns
 returns g c =
     let e = c.in_ok-store.ensures in
-    let served = were_served c.args.script c.requires.fits c.requires.built c.requires.steps c.requires.stops c.in_ok-store.store e.size
+    let served = were_served c.args.script c.requires.fits c.requires.built c.requires.stops c.in_ok-store.store e.size
     e.regions c.in_ok-store.clients e.clients c.replace-commands.result c.replace-commands.ensures.value
     c.in_ok-served.served.items c.as_mut_slice.result.now c.serve_beside.new.served c.as_mut_slice.ensures.value
     c.in_ok-served.ensures c.serve_beside.ensures.len c.serve_beside.ensures.served

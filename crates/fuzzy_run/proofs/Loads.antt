@@ -1,0 +1,83 @@
+-- The script of a load can be run on threads, and what its run shows.
+use Rattle.std.proofs.Common.{◌≡◌, ℕ, ◌<◌, ◌≤◌, false, List, refl, ap, sym, subst, ◌∙◌, ◌⊎◌, inl, inr, arith}
+use Rattle.std.specs.Prelude.{IsTrue}
+use Rattle.std.specs.List.{All}
+use Rattle.log_node.specs.declared.limits.TheConstants.{MAX_ROWS}
+use Rattle.script_text.specs.declared.script.What.{What}
+use Rattle.script_text.specs.declared.script.What.TheVariants as whats
+use Rattle.script_text.specs.declared.script.Command.{Command}
+use Rattle.script_text.specs.declared.script.Script.{Script}
+use Rattle.script_text.specs.Items.{is_stop}
+use Rattle.script_text.specs.Fitting.{IsFitting}
+use Rattle.script_meaning.specs.States.{StopsAreLast}
+use Rattle.load_script.specs.declared.script.TheConstants.{MAX_LOAD}
+use Rattle.load_script.specs.Generated.{load_script}
+use Rattle.load_script.specs.Plain.{IsPlainWhat, IsUnwanting}
+use Rattle.load_script.specs.declared.summary.Summary.{Summary}
+use Rattle.load_script.specs.Summing.{summary_of, summary_text, load_summary}
+use Rattle.load_script.specs.Laws.{LoadsFit, LoadsComeToTheirSummary}
+use Rattle.report_text.specs.declared.report.Report.{Report}
+use Rattle.lawful_run.specs.Lawful.{LawfulRun}
+use Rattle.fuzzy_run.specs.declared.status.Status.{Status}
+use Rattle.fuzzy_run.specs.declared.status.Status.TheVariants.{Done, WriteFault, NoMemory}
+use Rattle.fuzzy_run.specs.TopCall.{IsLoaded}
+use Rattle.fuzzy_run.specs.Built.{is_served}
+
+-- a command of a load is served, and is no stop
+served : (what : What) → IsPlainWhat what → IsTrue (is_served what) × (is_stop what ≡ false)
+served (whats.Append colours text) p = (refl, refl)
+served (whats.Stop steps colours text) p = absurd p
+served (whats.Sync colour) p = (refl, refl)
+served (whats.Scan colours) p = absurd p
+served (whats.Pull region colour) p = (refl, refl)
+served (whats.Trim colour) p = absurd p
+served (whats.Put object key value) p = absurd p
+served (whats.Get object key) p = absurd p
+served (whats.Del object key) p = absurd p
+served (whats.PutAll object pairs) p = absurd p
+served (whats.GetAll object keys) p = absurd p
+served (whats.Read object keys) p = absurd p
+served (whats.Commit object pairs) p = absurd p
+served (whats.Enq object value) p = absurd p
+served (whats.Deq object) p = absurd p
+
+-- What a run on threads asks of a script.
+pub record CanRun (script : Script) : Type 0 where
+  pub fits : IsFitting script
+  pub rows : script.shape.rows ≤ MAX_ROWS
+  pub some_rows : 0 < script.shape.rows
+  pub built : All (λ (c : Command). IsTrue (is_served c.what)) script.commands
+  pub stops : StopsAreLast script
+
+pub load_can_run : LoadsFit → (count : ℕ) → count ≤ MAX_LOAD → (script : Script) → script ≡ load_script count → CanRun script
+load_can_run fit count le script same = subst CanRun (sym same) (record {
+  fits = (fit count le).0;
+  rows = omega arith;
+  some_rows = omega arith;
+  built = λ k d lt. (served _ (plain k d lt)).0;
+  stops = λ i j d lt within stop.
+      absurd (let f = (served _ (plain i d (omega (arith, lt, within)))).1 in let g : ⊥ = cc (f, stop) in g);
+}) where
+  plain : All (λ (c : Command). IsPlainWhat c.what) (let s : Script = load_script count in s.commands)
+  plain = (fit count le).1.plain
+
+-- what was counted from the commands of the script is the load's summary
+pub summed : (count : ℕ) (script : Script) → script ≡ load_script count → (commands : List Command) → commands ≡ script.commands
+    → (summary : Summary) → summary ≡ summary_of count commands → (text : List ℕ) → text ≡ summary_text summary
+    → text ≡ summary_text (load_summary count)
+summed count script same commands all summary is text shown =
+    shown ∙ ap summary_text (is ∙ ap (summary_of count) (all ∙ ap (λ (s : Script). s.commands) same))
+
+-- a run that found memory is one of the load
+pub loaded : LoadsComeToTheirSummary → (count : ℕ) → count ≤ MAX_LOAD → (script : Script) → script ≡ load_script count
+    → (report : Report) → LawfulRun script report → IsUnwanting report → IsLoaded count
+loaded come count le script same report lawful found =
+    let of : LawfulRun (load_script count) report = subst (λ (s : Script). LawfulRun s report) same lawful in
+    record { report = report; lawful = of; unwanting = found; shown = come count report le of found }
+
+-- with no fault of the sink a load is done, or memory was refused
+pub load_completes : (status : Status) (write_fault : Type 0) → (status ≡ Done) ⊎ (status ≡ WriteFault) ⊎ (status ≡ NoMemory)
+    → (status ≡ WriteFault → write_fault) → (write_fault → ⊥) → (status ≡ Done) ⊎ (status ≡ NoMemory)
+load_completes status write_fault (inl done) writing no_w = inl done
+load_completes status write_fault (inr (inl failed)) writing no_w = absurd (no_w (writing failed))
+load_completes status write_fault (inr (inr none)) writing no_w = inr none

@@ -1,0 +1,7 @@
+//! A report's text, whose parts are made on threads.
+#![tactic(auto)]
+
+mod made;
+mod printing;
+
+pub use printing::print_beside;
