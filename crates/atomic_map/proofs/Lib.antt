@@ -1,0 +1,6 @@
+mod ValueLemmas
+mod FeedLemmas
+mod NothingRead
+mod MapAnswers
+mod ReadAnswers
+pub mod CallerLemmas

@@ -1,0 +1,5 @@
+mod StateLemmas
+mod OwnNodes
+mod TxAnswers
+mod CommitAnswers
+pub mod CallerLemmas
