@@ -2,11 +2,10 @@
 use Rattle.std.proofs.Common.{◌≡◌, ◌⊎◌, ℕ, zero, suc, ◌+◌, ◌<◌, List, [], ◌∷◌, ◌++◌, length, map, Some, None, Bool, true, false, cond, slice_get, refl, ap, sym, subst, ◌∙◌, inl, inr, arith, eq-eqb, length-append}
 use Rattle.std.specs.Prelude.{IsTrue, ◌&&◌, not, slice_index, slice_index_or, unwrap_or}
 use Rattle.std.specs.List.{All, Contains, enumerate_from, filter, find, flat_map, range_with_len}
-use Rattle.std.specs.Option.{option_map}
 use Rattle.std.proofs.lemmas.List.{length-map}
 use Rattle.std.proofs.lemmas.List.FromFn.{length-enumerate_from}
 use Rattle.std.proofs.lemmas.List.Elements.{All-contains}
-use Rattle.std.proofs.lemmas.Option.{get_or_from_slice_get, slice_get-map, slice_get_within}
+use Rattle.std.proofs.lemmas.Option.{get_or_from_slice_get, slice_get_within}
 use Rattle.std.proofs.lemmas.Simd.{map-map}
 use Rattle.log_node.specs.declared.ids.Id.{Id}
 use Rattle.log_node.specs.declared.node.Node.{Node}
@@ -54,7 +53,7 @@ use Rattle.log_client.specs.Fits.{Fits}
 use Rattle.log_client.proofs.CallerLemmas.{open_row}
 use Rattle.fuzzy_run.specs.EndReports.{CanShow, HaveNodes, client_shown, columns_shown, end_report, id_of, node_at, nodes_in, nodes_of, row_shown, rows_shown}
 use Rattle.fuzzy_run.specs.Serving.{AreServed, HasStopped as Stopped, Serves}
-use Rattle.fuzzy_run.proofs.ByPlace.{all_flat, flat_numbered, map_flat, map_numbered, numbered_at, numbered_get, numbered_second}
+use Rattle.fuzzy_run.proofs.ByPlace.{all_flat, flat_numbered, map_flat, map_numbered, mapped, numbered_at, numbered_get, numbered_second, unmapped}
 
 -- what a search for one that is there finds
 finds : {A : Type 0} (test : A → Bool) (xs : List A) (x : A) → In x xs → test x ≡ true
@@ -76,17 +75,6 @@ range_is a (suc n) (suc i) x at = let e = range_is (a + 1) n i x at in omega (ar
 shown_back : (s : List Standing) → map (λ (q : QueueKey). record { key = q.key; settled = q.settled }) (map waiting_shown s) ≡ s
 shown_back [] = refl
 shown_back (e ∷ s) = ap (λ (l : List Standing). e ∷ l) (shown_back s)
-
--- an item of a mapped list
-mapped : {A B : Type 0} (f : A → B) (xs : List A) (n : ℕ) (x : A) → slice_get xs n ≡ Some x
-    → slice_get (map f xs) n ≡ Some (f x)
-mapped f xs n x at = slice_get-map f xs n ∙ ap (option_map f) at
-
-unmapped : {A B : Type 0} (f : A → B) (xs : List A) (n : ℕ) (y : B) → slice_get (map f xs) n ≡ Some y
-    → (x : A) × (slice_get xs n ≡ Some x) × (f x ≡ y)
-unmapped f [] n y at = absurd (let g : ⊥ = cc (at) in g)
-unmapped f (x ∷ xs) zero y at = (x, refl, cc (at))
-unmapped f (x ∷ xs) (suc n) y at = unmapped f xs n y at
 
 module _ (script : Script) (fits : IsFitting script) (s : Store) (clients : List Client) (replies : List (List ReplyLine))
     (served : AreServed script s clients replies) (closed : Closed) (closes : Closes s clients closed) where

@@ -11,30 +11,20 @@ use Rattle.log_node.specs.Sets.{members}
 use Rattle.col_core.specs.Keeping.{Kept, kept_after_event, kept_after_sync, with_made, with_row}
 use Rattle.col_core.specs.Log.{Log}
 use Rattle.col_core.proofs.CallerLemmas.{contains_in}
-use Rattle.script_text.specs.declared.script.Command.{Command}
-use Rattle.script_text.specs.declared.script.Object.{Object}
 use Rattle.script_text.specs.declared.script.What.{What}
 use Rattle.script_text.specs.declared.script.What.TheVariants as whats
-use Rattle.script_text.specs.Words.{word_of}
 use Rattle.report_text.specs.declared.report.Answer.TheVariants as answers
 use Rattle.report_text.specs.declared.report.PointPiece.{PointPiece}
 use Rattle.report_text.specs.declared.report.RaisePiece.{RaisePiece}
-use Rattle.report_text.specs.declared.report.ReplyLine.{ReplyLine}
 use Rattle.report_text.specs.declared.report.SyncPiece.{SyncPiece}
 use Rattle.lawful_run.specs.Appends.{Appends, HasNoStamp, IsFull, IsGoneForMemory}
 use Rattle.lawful_run.specs.Asks.{home_asked}
 use Rattle.lawful_run.specs.Callers.{Caller, node_of}
-use Rattle.lawful_run.specs.Explains.{Answers, Explains}
+use Rattle.lawful_run.specs.Explains.{Explains}
 use Rattle.lawful_run.specs.Moves.{GivesAt, GivesTooLow, Pulls, Trims, kept_after_pull, with_places}
 use Rattle.lawful_run.specs.Reads.{AreRead, HidesRead, IsTrimmed, ReadsAt, ShowsKey, ShowsPlayed, Syncs, greatest_stamp}
 use Rattle.lawful_run.specs.Refusals.{FindsNoMemory, IsAway, gave, gone, hidden, kept_before, kept_behind, nothing}
 use Rattle.lawful_run.specs.Stops.{Stops}
-use Rattle.client_law.specs.Knowing.{Rest, log_of}
-use Rattle.log_client.specs.declared.client.Client.{Client}
-use Rattle.log_client.specs.declared.store.Store.{Store}
-use Rattle.log_client.specs.Calls.{IsExplained}
-use Rattle.log_client.specs.Clients.{Finished, Keeps, caller_of, holds_of, seen_of}
-use Rattle.log_client.specs.Fits.{Fits}
 
 -- the command is answered by the log alone: it names no object
 abbrev pub IsOfLog : What → Type 0
@@ -55,7 +45,7 @@ IsOfLog (whats.Enq object value) = ⊥
 IsOfLog (whats.Deq object) = ⊥
 
 -- it lets no read go, and has no home
-of_log : (what : What) (kept : Kept) → IsOfLog what → (kept_before what kept ≡ kept) × (kept_behind what kept ≡ kept)
+pub of_log : (what : What) (kept : Kept) → IsOfLog what → (kept_before what kept ≡ kept) × (kept_behind what kept ≡ kept)
     × ((caller : Caller) → IsAway caller (home_asked caller what) → ⊥)
 of_log (whats.Append colours text) kept of = (refl, refl, λ caller away. away)
 of_log (whats.Stop steps colours text) kept of = (refl, refl, λ caller away. away)
@@ -72,37 +62,6 @@ of_log (whats.Read object keys) kept of = absurd of
 of_log (whats.Commit object pairs) kept of = absurd of
 of_log (whats.Enq object value) kept of = absurd of
 of_log (whats.Deq object) kept of = absurd of
-
--- a reply that stands for such a command
-pub answers_so : (log : Log) (caller : Caller) (kept after : Kept) (command : Command) (reply : ReplyLine)
-    → IsOfLog command.what → reply.line ≡ command.line → reply.word ≡ word_of command.what
-    → Explains log caller kept command.what reply.answer reply.nodes after → Answers log caller kept command reply after
-answers_so log caller kept after command reply of line word explained = record {
-  line = line;
-  word = word;
-  answered = after;
-  explained = subst (λ (k : Kept). Explains log caller k command.what reply.answer reply.nodes after)
-      (sym (of_log command.what kept of).0) explained;
-  after_is = sym (of_log command.what after of).1;
-  away = λ away. absurd ((of_log command.what kept of).2 caller away);
-}
-
--- a call that a record explains, and the reply that the record explains
-pub answered_by : (s : Store) (objects : List Object) (c d : Client) (command : Command) (reply : ReplyLine)
-    (Record : Log → Caller → Kept → Kept → Type 0) → IsOfLog command.what → reply.line ≡ command.line
-    → reply.word ≡ word_of command.what → IsExplained s c d Record
-    → ((log : Log) (caller : Caller) (kept after : Kept) → Record log caller kept after
-    → Explains log caller kept command.what reply.answer reply.nodes after)
-    → (kept : Kept) → Finished c → Keeps s c objects kept → (after : Kept) × Keeps s d objects after
-    × ((rest : Rest) → Fits (holds_of d) rest
-    → Answers (log_of (seen_of d) rest) (caller_of s d objects) kept command reply after)
-answered_by s objects c d command reply Record of line word is explains kept finished keeps =
-    let e = is objects kept finished keeps in (
-      e.0,
-      e.1,
-      λ rest fits. answers_so (log_of (seen_of d) rest) (caller_of s d objects) kept e.0 command reply of line word
-          (explains (log_of (seen_of d) rest) (caller_of s d objects) kept e.0 (e.2 rest fits)),
-    )
 
 module _ (log : Log) (caller : Caller) (kept after : Kept) where
   -- APPENDS

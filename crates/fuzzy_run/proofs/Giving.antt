@@ -1,18 +1,13 @@
 -- What a client gives to a command of the log, by what its call left.
 use Rattle.std.proofs.Common.{◌≡◌, ℕ, List, [], length, ap, sym, subst, ◌∙◌, inl}
-use Rattle.std.specs.Prelude.{IsTrue}
 use Rattle.log_node.specs.declared.ids.Counts.{Counts}
 use Rattle.log_node.specs.Seen.{PlacedNode}
 use Rattle.col_core.specs.Keeping.{Kept}
 use Rattle.col_core.specs.Log.{Log}
-use Rattle.script_text.specs.declared.script.Object.{Object}
 use Rattle.script_text.specs.declared.script.What.{What}
 use Rattle.script_text.specs.declared.script.What.TheVariants as whats
-use Rattle.script_text.specs.declared.script.Command.{Command}
-use Rattle.script_text.specs.Words.{word_of}
 use Rattle.report_text.specs.declared.report.Answer.{Answer}
 use Rattle.report_text.specs.declared.report.Answer.TheVariants as answers
-use Rattle.report_text.specs.declared.report.ReplyLine.{ReplyLine}
 use Rattle.lawful_run.specs.Callers.{Caller}
 use Rattle.lawful_run.specs.Explains.{Explains}
 use Rattle.lawful_run.specs.Reads.{IsTrimmed}
@@ -21,49 +16,16 @@ use Rattle.log_client.specs.declared.client.Client.{Client}
 use Rattle.log_client.specs.declared.answers.Synced.{Synced}
 use Rattle.log_client.specs.declared.faults.SyncFault.TheVariants as sync_faults
 use Rattle.log_client.specs.Fits.{HaveGoneOn}
+use Rattle.log_client.specs.Growing.{HasGrown}
 use Rattle.log_client.specs.Clients.{IsClient, Finished, Helps, holds_of}
 use Rattle.log_client.specs.Calls.{IsExplained, IsSame, SyncsAs, SyncRefused, nodes_played}
-use Rattle.fuzzy_run.specs.Built.{is_served}
-use Rattle.fuzzy_run.specs.Serving.{IsAnswered}
 use Rattle.fuzzy_run.specs.Serving.{Gives}
-use Rattle.fuzzy_run.proofs.CommandAnswers.{IsOfLog, answered_by, no_memory, synced, sync_trimmed}
-
--- a command that is served is of the log
-pub served_of_log : (what : What) → IsTrue (is_served what) → IsOfLog what
-served_of_log (whats.Append colours text) is = tt
-served_of_log (whats.Stop steps colours text) is = tt
-served_of_log (whats.Sync colour) is = tt
-served_of_log (whats.Scan colours) is = tt
-served_of_log (whats.Pull region colour) is = tt
-served_of_log (whats.Trim colour) is = tt
-served_of_log (whats.Put object key value) is = absurd (let f : ⊥ = cc (is) in f)
-served_of_log (whats.Get object key) is = absurd (let f : ⊥ = cc (is) in f)
-served_of_log (whats.Del object key) is = absurd (let f : ⊥ = cc (is) in f)
-served_of_log (whats.PutAll object pairs) is = absurd (let f : ⊥ = cc (is) in f)
-served_of_log (whats.GetAll object keys) is = absurd (let f : ⊥ = cc (is) in f)
-served_of_log (whats.Read object keys) is = absurd (let f : ⊥ = cc (is) in f)
-served_of_log (whats.Commit object pairs) is = absurd (let f : ⊥ = cc (is) in f)
-served_of_log (whats.Enq object value) is = absurd (let f : ⊥ = cc (is) in f)
-served_of_log (whats.Deq object) is = absurd (let f : ⊥ = cc (is) in f)
-
--- what is given to a command is its reply
-pub given_answers : (s : Store) (objects : List Object) (c d : Client) (command : Command) (reply : ReplyLine)
-    → IsTrue (is_served command.what) → reply.line ≡ command.line → reply.word ≡ word_of command.what
-    → Gives s c d command.what reply.answer reply.nodes → IsAnswered s objects c d command reply
-given_answers s objects c d command reply built line word v = record {
-  rests = v.rests;
-  same = v.same;
-  goes = v.goes;
-  explained = answered_by s objects c d command reply
-      (λ log caller kept after. Explains log caller kept command.what reply.answer reply.nodes after)
-      (served_of_log command.what built) line word v.explained (λ log caller kept after is. is);
-  finished = v.finished;
-  helps = v.helps;
-}
+use Rattle.fuzzy_run.proofs.CommandAnswers.{no_memory, synced, sync_trimmed}
 
 -- what a call left that helps nobody and begins nothing: who had finished has finished
 module _ (s : Store) (c d : Client) (rests : IsClient s d) (same : IsSame c d)
-    (goes : HaveGoneOn (holds_of c) (holds_of d)) (finished : Finished c → Finished d) (idle : Helps d → Helps c) where
+    (goes : HaveGoneOn (holds_of c) (holds_of d)) (grows : HasGrown c d) (finished : Finished c → Finished d)
+    (idle : Helps d → Helps c) where
   -- by a record that explains the answer
   pub gives : (what : What) (answer : Answer) (nodes : List PlacedNode) (Record : Log → Caller → Kept → Kept → Type 0)
       → IsExplained s c d Record
@@ -74,6 +36,7 @@ module _ (s : Store) (c d : Client) (rests : IsClient s d) (same : IsSame c d)
     rests = rests;
     same = same;
     goes = goes;
+    grows = grows;
     explained = λ objects kept done keeps.
         let e = is objects kept done keeps in (e.0, e.1, λ rest fits. explains _ _ kept e.0 (e.2 rest fits));
     finished = λ done. inl (finished done);

@@ -34,9 +34,11 @@ use Rattle.log_client.specs.declared.store.Store.{Store}
 use Rattle.log_client.specs.declared.client.Client.{Client}
 use Rattle.log_client.specs.declared.answers.Appended.{Appended}
 use Rattle.log_client.specs.Fits.{HasGoneOn, HaveGoneOn}
+use Rattle.log_client.specs.Growing.{HasGrown}
 use Rattle.log_client.specs.Clients.{IsClient, Finished, Helps, Keeps, caller_of, holds_of, seen_of, starts_of}
 use Rattle.log_client.specs.Calls.{IsExplained, IsSame, PullsAs, PullRefused, GaveAlone, TrimsAs}
 use Rattle.log_client.specs.Appends.{AppendsAs, AppendRefused, AreColoursOf, FindsNoMemory, HasStopped, piece_of}
+use Rattle.log_client.proofs.CallerLemmas.{grown_same}
 use Rattle.fuzzy_run.specs.Serving.{Gives, IsStopped}
 use Rattle.fuzzy_run.proofs.CommandAnswers as commands
 use Rattle.fuzzy_run.proofs.Giving.{gives}
@@ -106,6 +108,7 @@ gives_unasked s c what rests = record {
   rests = rests;
   same = (refl, refl);
   goes = gone_same (holds_of c);
+  grows = grown_same c c refl;
   explained = λ objects kept done keeps. (
     kept,
     keeps,
@@ -125,7 +128,7 @@ not_stopped c d result other finished done = elim (finished done) [
 ]
 
 module _ (s : Store) (c d : Client) (rests : IsClient s d) (same : IsSame c d)
-    (goes : HaveGoneOn (holds_of c) (holds_of d)) where
+    (goes : HaveGoneOn (holds_of c) (holds_of d)) (grows : HasGrown c d) where
   -- a call that may have helped
   pub gives_helping : (what : What) (answer : Answer) (Record : Log → Caller → Kept → Kept → Type 0)
       → IsTrue (may_help (manner_of what))
@@ -138,6 +141,7 @@ module _ (s : Store) (c d : Client) (rests : IsClient s d) (same : IsSame c d)
     rests = rests;
     same = same;
     goes = goes;
+    grows = grows;
     explained = λ objects kept done keeps.
         let e = is objects kept done keeps in (e.0, e.1, λ rest fits. explains _ _ kept e.0 (e.2 rest fits));
     finished = finished;
@@ -217,8 +221,8 @@ module _ (s : Store) (c d : Client) (rests : IsClient s d) (same : IsSame c d)
     pub gives_pulled : (region colour : ℕ) (p : Pulled) → IsExplained s c d (PullsAs region colour p)
         → Gives s c d (whats.Pull region colour) (answers.Pulled p.nodes p.give p.carry) []
     gives_pulled region colour p is =
-        gives s c d rests same goes finished idle (whats.Pull region colour) (answers.Pulled p.nodes p.give p.carry) []
-        (PullsAs region colour p) is
+        gives s c d rests same goes grows finished idle (whats.Pull region colour)
+        (answers.Pulled p.nodes p.give p.carry) [] (PullsAs region colour p) is
         (λ log caller kept after r.
         commands.pulled log caller kept after region colour p.nodes r.0 p.give p.carry r.1 r.2 r.3 r.4)
 
@@ -228,6 +232,7 @@ module _ (s : Store) (c d : Client) (rests : IsClient s d) (same : IsSame c d)
       rests = rests;
       same = same;
       goes = goes;
+      grows = grows;
       explained = λ objects kept done keeps. (
         kept,
         subst (λ (x : Client). Keeps s x objects kept) (sym is.1) keeps,
@@ -241,7 +246,8 @@ module _ (s : Store) (c d : Client) (rests : IsClient s d) (same : IsSame c d)
     pub gives_gave : (region colour : ℕ) → PullRefused s c d region colour pull_faults.NoMemory
         → Gives s c d (whats.Pull region colour) answers.NoMemory []
     gives_gave region colour is =
-        gives s c d rests same goes finished idle (whats.Pull region colour) answers.NoMemory [] (GaveAlone region colour) is.1
+        gives s c d rests same goes grows finished idle (whats.Pull region colour) answers.NoMemory []
+        (GaveAlone region colour) is.1
         (λ log caller kept after r.
         commands.pull_no_memory log caller kept after region colour r.0 r.1 r.2 r.3 r.4 r.5)
 
@@ -252,6 +258,7 @@ module _ (s : Store) (c d : Client) (rests : IsClient s d) (same : IsSame c d)
       rests = rests;
       same = same;
       goes = goes;
+      grows = grows;
       explained = λ objects kept done keeps.
           let e = is objects kept done keeps in (
             e.0,

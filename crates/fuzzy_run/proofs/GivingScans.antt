@@ -18,6 +18,7 @@ use Rattle.log_client.specs.declared.client.Client.{Client}
 use Rattle.log_client.specs.declared.answers.StampedRead.{StampedRead}
 use Rattle.log_client.specs.declared.faults.SyncFault.TheVariants as sync_faults
 use Rattle.log_client.specs.Fits.{HaveGoneOn}
+use Rattle.log_client.specs.Growing.{HasGrown}
 use Rattle.log_client.specs.Clients.{IsClient, Finished, holds_of}
 use Rattle.log_client.specs.Calls.{IsExplained, IsSame}
 use Rattle.log_client.specs.StampedReads.{ReadRefused, ReadsAll, ShowsItem, raise_piece, sync_piece}
@@ -26,7 +27,8 @@ use Rattle.fuzzy_run.specs.Serving.{Gives}
 use Rattle.fuzzy_run.proofs.CommandAnswers.{scanned, scan_no_memory, scan_trimmed}
 
 module _ (s : Store) (c d : Client) (rests : IsClient s d) (same : IsSame c d)
-    (goes : HaveGoneOn (holds_of c) (holds_of d)) (finished : Finished c → Finished d) (colours : Colours) where
+    (goes : HaveGoneOn (holds_of c) (holds_of d)) (grows : HasGrown c d) (finished : Finished c → Finished d)
+    (colours : Colours) where
   -- by a record that explains the answer; a scan may have helped
   given : (answer : Answer) (nodes : List PlacedNode) (Record : Log → Caller → Kept → Kept → Type 0)
       → IsExplained s c d Record
@@ -37,6 +39,7 @@ module _ (s : Store) (c d : Client) (rests : IsClient s d) (same : IsSame c d)
     rests = rests;
     same = same;
     goes = goes;
+    grows = grows;
     explained = λ objects kept done keeps.
         let e = is objects kept done keeps in (e.0, e.1, λ rest fits. explains _ _ kept e.0 (e.2 rest fits));
     finished = λ done. inl (finished done);

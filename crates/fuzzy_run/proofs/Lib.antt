@@ -6,6 +6,10 @@ mod ClosingRuns
 mod Giving
 mod GivingCommands
 mod GivingScans
+mod GivingObjects
+mod GivingPuts
+mod GivingGets
+mod ObjectFrames
 mod Yielding
 mod Dealing
 mod EndsShown

@@ -1,11 +1,11 @@
 -- Clients who were dealt their commands, before they are served and after.
 use Rattle.std.proofs.Common.{◌≡◌, ℕ, List, [], ◌∷◌, ◌++◌, length, map, take, drop, Some, slice_get, Ok, Err, refl, ap, sym, subst, ◌∙◌, arith}
-use Rattle.std.specs.Prelude.{IsTrue, IfOk, Result, ◌==◌, slice_index_or}
+use Rattle.std.specs.Prelude.{IsTrue, IfOk, Result, ◌==◌, ◌≤◌, slice_index_or}
 use Rattle.std.specs.List.{All}
-use Rattle.std.specs.Option.{option_map}
 use Rattle.std.proofs.lemmas.List.{length-map}
 use Rattle.std.proofs.lemmas.List.Elements.{All-filter}
-use Rattle.std.proofs.lemmas.Option.{get_or_from_slice_get, slice_get-map, slice_get_within}
+use Rattle.std.proofs.lemmas.Option.{get_or_from_slice_get, slice_get_within}
+use Rattle.log_node.specs.declared.limits.TheConstants.{MAX_COLOURS}
 use Rattle.stamp_board.specs.declared.view.Size.{Size}
 use Rattle.chain_store.specs.Opening.{size_of}
 use Rattle.chain_store.proofs.CallerLemmas.{got}
@@ -21,26 +21,26 @@ use Rattle.log_client.specs.declared.client.Client.{Client}
 use Rattle.log_client.specs.declared.store.Store.{Store}
 use Rattle.log_client.specs.Closes.{AreClients}
 use Rattle.log_client.specs.Opening.{AreNewClients}
+use Rattle.fuzzy_run.specs.declared.serving.opened.Opened.{Opened}
 use Rattle.fuzzy_run.specs.declared.serving.served.Served.{Served}
 use Rattle.fuzzy_run.specs.Built.{is_served}
 use Rattle.fuzzy_run.specs.Dealing.{AreDealt, IsDealt}
+use Rattle.fuzzy_run.specs.Opened.{AreOf}
 use Rattle.fuzzy_run.specs.Served.{CanServe, IsServable, IsServed}
 use Rattle.fuzzy_run.specs.Serving.{AreServed, Serves, StopsLast}
+use Rattle.fuzzy_run.proofs.ByPlace.{mapped}
+use Rattle.fuzzy_run.proofs.ObjectFrames.{kept_unfolded, of_one}
 use Rattle.fuzzy_run.proofs.ServedClients.{serves_none, stops_last_of}
-
-mapped : {A B : Type 0} (f : A → B) (xs : List A) (n : ℕ) (x : A) → slice_get xs n ≡ Some x
-    → slice_get (map f xs) n ≡ Some (f x)
-mapped f xs n x at = slice_get-map f xs n ∙ ap (option_map f) at
 
 module _ (script : Script) (fits : IsFitting script)
     (built : All (λ (c : Command). IsTrue (is_served c.what)) script.commands)
     (stops : StopsAreLast script) (s : Store)
     (size : s.size ≡ size_of script.shape) (regions : length s.regions ≡ script.shape.regions) (clients : List Client)
     (new : AreNewClients script.shape s clients) (before : List Served)
-    (dealt : AreDealt clients script.commands before) where
-  dealt_at : (n : ℕ) (x : Served) → slice_get before n ≡ Some x → IsDealt script.commands n x
+    (dealt : AreDealt clients script.objects script.commands before) where
+  dealt_at : (n : ℕ) (x : Served) → slice_get before n ≡ Some x → IsDealt script.objects script.commands n x
   dealt_at n x at =
-      subst (IsDealt script.commands n) (get_or_from_slice_get before n x x at)
+      subst (IsDealt script.objects script.commands n) (get_or_from_slice_get before n x x at)
       (dealt.each n x (slice_get_within before n x at))
 
   client_at : (n : ℕ) (x : Served) → slice_get before n ≡ Some x → slice_get clients n ≡ Some x.client
@@ -48,13 +48,17 @@ module _ (script : Script) (fits : IsFitting script)
       subst (λ (cs : List Client). slice_get cs n ≡ Some x.client) dealt.clients_are
       (mapped (λ (y : Served). y.client) before n x at)
 
-  servable : All (IsServable s) script.commands
-  servable k d lt = record {
+  servable : (xs : List Opened) → AreOf script.objects xs → All (IsServable s xs) script.commands
+  servable xs of k d lt = record {
     built = built k d lt;
     within = subst (λ (r : ℕ). IsWithin r s.size.colours (slice_index_or script.commands k d).what) (sym regions)
         (subst (λ (z : Size). IsWithin script.shape.regions z.colours (slice_index_or script.commands k d).what) (sym size)
         (fits.commands k d lt));
+    of_one = of_one script.objects xs (slice_index_or script.commands k d).what of (fits.uses k d lt);
   }
+
+  few : script.shape.colours ≤ MAX_COLOURS
+  few = let colours = fits.shape.few_colours in omega (arith, colours)
 
   pub can_serve : (n : ℕ) (x : Served) → slice_get before n ≡ Some x → CanServe s x
   can_serve n x at =
@@ -62,8 +66,11 @@ module _ (script : Script) (fits : IsFitting script)
       let c = new.1 n x.client (client_at n x at) in record {
         serves = λ objects. serves_none script.shape s objects n x.client c;
         finished = c.finished;
-        servable = subst (All (IsServable s)) (sym d.commands_are)
-            (All-filter (λ (k : Command). k.client == n) (IsServable s) script.commands servable);
+        kept = kept_unfolded x.client script.shape.regions script.shape.colours script.objects x.objects.items
+            (c.rests.colours ∙ ap (λ (z : Size). z.colours) size) few fits.objects d.opened d.unfolded;
+        servable = subst (All (IsServable s x.objects.items)) (sym d.commands_are)
+            (All-filter (λ (k : Command). k.client == n) (IsServable s x.objects.items) script.commands
+            (servable x.objects.items d.opened));
         stops = subst StopsLast (sym d.commands_are) (stops_last_of script stops n);
         replies = d.replies;
         room = d.room;
@@ -104,7 +111,7 @@ module _ (script : Script) (fits : IsFitting script)
             (k.home ∙ ap Some (sym v.same.1)),
             subst (λ (rs : List ReplyLine). Serves s script.objects y.0.client (commands_of script n) rs) (sym replied)
                 (subst (λ (cs : List Command). Serves s script.objects y.0.client cs y.0.replies.items)
-                (dealt_at n x.0 x.1).commands_are (v.serves script.objects)),
+                (dealt_at n x.0 x.1).commands_are (v.serves script.objects (dealt_at n x.0 x.1).opened)),
           );
     } where
       same_there : (a b : Client) → Some a ≡ Some b → a ≡ b
@@ -117,7 +124,7 @@ pub were_served : (script : Script) → IsFitting script
     → StopsAreLast script → (s : Store)
     → s.size ≡ size_of script.shape → length s.regions ≡ script.shape.regions → (opened : List Client)
     → AreNewClients script.shape s opened → (commands : List Command) → commands ≡ script.commands
-    → (before lent after : List Served) → lent ≡ before → AreDealt opened commands before → length after ≡ length lent
+    → (before lent after : List Served) → lent ≡ before → AreDealt opened script.objects commands before → length after ≡ length lent
     → ((n : ℕ) (x y : Served) → slice_get lent n ≡ Some x → slice_get after n ≡ Some y → IsServed s x y)
     → (n : ℕ) → n ≡ length before → (clients : List Client) (replies : List (List ReplyLine))
     → clients ≡ map (λ (x : Served). x.client) (take n (after ++ drop (length after) before))
@@ -125,7 +132,8 @@ pub were_served : (script : Script) → IsFitting script
     → AreServed script s clients replies
 were_served script fits built stops s size regions opened new commands moved before lent after same dealt long served n
     many clients replies are given =
-    let dealt' : AreDealt opened script.commands before = subst (λ (l : List Command). AreDealt opened l before) moved dealt in
+    let dealt' : AreDealt opened script.objects script.commands before =
+    subst (λ (l : List Command). AreDealt opened script.objects l before) moved dealt in
     let all = are_served script fits built stops s size regions opened new before dealt' after (long ∙ ap length same)
     (λ n x y at later. served n x y (subst (λ (l : List Served). slice_get l n ≡ Some x) (sym same) at) later) in
     let whole : take n (after ++ drop (length after) before) ≡ after =

@@ -4,6 +4,8 @@ pub mod Built
 pub mod Refusals
 pub mod TopCall
 pub mod Reading
+pub mod Opened
+pub mod Replying
 pub mod Serving
 pub mod Served
 pub mod Dealing

@@ -5,6 +5,7 @@ use Rattle.log_node.specs.Seen.{PlacedNode}
 use Rattle.col_core.specs.Keeping.{Kept}
 use Rattle.chain_store.specs.Opening.{size_of}
 use Rattle.script_text.specs.Items.{is_stop}
+use Rattle.script_text.specs.declared.script.Kind.{Kind}
 use Rattle.script_text.specs.declared.script.Object.{Object}
 use Rattle.script_text.specs.declared.script.What.{What}
 use Rattle.script_text.specs.declared.script.Command.{Command}
@@ -12,13 +13,16 @@ use Rattle.script_text.specs.declared.script.Script.{Script}
 use Rattle.report_text.specs.declared.report.Answer.{Answer}
 use Rattle.report_text.specs.declared.report.Answer.TheVariants as answers
 use Rattle.report_text.specs.declared.report.ReplyLine.{ReplyLine}
-use Rattle.lawful_run.specs.Asks.{manner_of, may_help}
+use Rattle.lawful_run.specs.Asks.{home_asked, manner_of, may_help}
 use Rattle.lawful_run.specs.Callers.{commands_of}
 use Rattle.lawful_run.specs.Explains.{Answers, Explains}
+use Rattle.lawful_run.specs.Refusals.{IsAway, IsHomeRefusal, kept_before, kept_behind}
 use Rattle.client_law.specs.Knowing.{Rest, log_of, IsExplainedBy}
+use Rattle.script_meaning.specs.States.{kind_in}
 use Rattle.log_client.specs.declared.store.Store.{Store}
 use Rattle.log_client.specs.declared.client.Client.{Client}
 use Rattle.log_client.specs.Fits.{Fits, HaveGoneOn}
+use Rattle.log_client.specs.Growing.{HasGrown}
 use Rattle.log_client.specs.Clients.{IsClient, Keeps, Finished, Helps, caller_of, holds_of, seen_of}
 use Rattle.log_client.specs.Calls.{IsExplained, IsSame}
 
@@ -58,9 +62,29 @@ pub record Gives (s : Store) (c d : Client) (what : What) (answer : Answer) (nod
   pub rests : IsClient s d
   pub same : IsSame c d
   pub goes : HaveGoneOn (holds_of c) (holds_of d)
+  pub grows : HasGrown c d
   pub explained : IsExplained s c d (λ log caller kept after. Explains log caller kept what answer nodes after)
   pub finished : Finished c → Finished d ⊎ (IsTrue (is_stop what) × IsStopped answer)
   pub helps : Helps d → Helps c ⊎ IsTrue (may_help (manner_of what))
+
+-- From c to d the client was asked this, of these objects or of none, and gave this answer with these nodes.
+pub record GivesOf (s : Store) (objects : List Object) (c d : Client) (what : What) (answer : Answer)
+    (nodes : List PlacedNode) : Type 0 where
+  pub rests : IsClient s d
+  pub same : IsSame c d
+  pub goes : HaveGoneOn (holds_of c) (holds_of d)
+  pub explained : (kept : Kept) → Finished c → Keeps s c objects kept → (answered : Kept)
+      × Keeps s d objects (kept_behind what answered)
+      × ((rest : Rest) → Fits (holds_of d) rest
+      → Explains (log_of (seen_of d) rest) (caller_of s d objects) (kept_before what kept) what answer nodes answered)
+  pub away : IsAway (caller_of s d objects) (home_asked (caller_of s d objects) what) → IsHomeRefusal answer
+  pub finished : Finished c → Finished d ⊎ (IsTrue (is_stop what) × IsStopped answer)
+  pub helps : Helps d → Helps c ⊎ IsTrue (may_help (manner_of what))
+
+-- The same of whatever object of this kind was asked, by its number among the objects of a script.
+abbrev pub GivesFor : Store → Client → Client → Kind → (ℕ → What) → Answer → Type 0
+GivesFor s c d kind asked answer =
+    (objects : List Object) (object : ℕ) → kind_in objects object ≡ Some kind → GivesOf s objects c d (asked object) answer []
 
 -- From c to d the client was served the command, and this is the reply.
 pub record IsAnswered (s : Store) (objects : List Object) (c d : Client) (command : Command)

@@ -4,7 +4,7 @@ ghost use Rattle.fuzzy_run.specs.Built.{is_served};
 
 use script_text::What;
 
-/// Whether clients are served such a command on threads: it is none of an object.
+/// Whether clients are served such a command on threads: it is none of several keys of an object.
 pub fn is_served(what: &What) -> bool
     ensures { result ≡ is_served what.now }
 {
@@ -15,14 +15,14 @@ pub fn is_served(what: &What) -> bool
         What::Scan { .. } => true,
         What::Pull { .. } => true,
         What::Trim { .. } => true,
-        What::Put { .. } => false,
-        What::Get { .. } => false,
-        What::Del { .. } => false,
+        What::Put { .. } => true,
+        What::Get { .. } => true,
+        What::Del { .. } => true,
         What::PutAll { .. } => false,
         What::GetAll { .. } => false,
         What::Read { .. } => false,
         What::Commit { .. } => false,
-        What::Enq { .. } => false,
-        What::Deq { .. } => false,
+        What::Enq { .. } => true,
+        What::Deq { .. } => true,
     }
 }

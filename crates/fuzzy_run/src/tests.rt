@@ -18,6 +18,7 @@ mod ordinary;
 mod refusals;
 mod regions;
 mod scans;
+mod served_objects;
 mod several;
 mod singles;
 mod stops;

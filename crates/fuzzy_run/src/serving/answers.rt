@@ -1,15 +1,17 @@
 // One command of a client, and its reply.
-ghost use Rattle.std.specs.Prelude.{IsTrue, List, length};
+ghost use Rattle.std.specs.Prelude.{◌≡◌, IsTrue, List, None, length, map};
 ghost use Rattle.script_text.specs.declared.script.Object.{Object};
 ghost use Rattle.script_text.specs.Fitting.{IsWithin};
-ghost use Rattle.log_client.specs.Clients.{IsClient};
+ghost use Rattle.log_client.specs.Clients.{Finished, IsClient};
 ghost use Rattle.fuzzy_run.specs.Built.{is_served};
-ghost use Rattle.fuzzy_run.specs.Serving.{IsAnswered};
-ghost use Rattle.fuzzy_run.specs.Serving.{Gives};
+ghost use Rattle.fuzzy_run.specs.Opened.{kind_opened, object_asked, AreKept, AreOf, IsOfOne};
+ghost use Rattle.fuzzy_run.specs.Serving.{Gives, GivesOf, IsAnswered};
 ghost use Rattle.fuzzy_run.specs.Served.{IsServable};
 
 use crate::serving::appends::{append, stop};
 use crate::serving::moves::{pull, trim};
+use crate::serving::object_answers::{object_answer, object_asked};
+use crate::serving::opened::Opened;
 use crate::serving::scans::scan;
 use crate::serving::syncs::sync;
 use fuzzy_io::Gate;
@@ -20,8 +22,8 @@ use script_text::{Command, What};
 use std::alloc::Global;
 use std::sync::Wait;
 
-// What the client answers to what is asked of it, and the nodes that it shows.
-fn answer<R: Wait, G: Gate>(
+// What the client answers to what is asked of it and of no object, and the nodes that it shows.
+fn log_answer<R: Wait, G: Gate>(
     rt: &R,
     alloc: Global,
     store: &Store,
@@ -30,7 +32,7 @@ fn answer<R: Wait, G: Gate>(
     what: What,
 ) -> (Answer, Items)
     requires client { IsClient store.now client.old }
-    requires built { IsTrue (is_served what) }
+    requires of_none { object_asked what ≡ None }
     requires within { IsWithin (length store.now.regions) store.now.size.colours what }
     ensures { Gives store.now client.old client.new what result.0 result.1 }
 {
@@ -69,6 +71,36 @@ fn answer<R: Wait, G: Gate>(
     }
 }
 
+// What the client answers to what is asked of it, and the nodes that it shows.
+fn answer<R: Wait, G: Gate>(
+    rt: &R,
+    alloc: Global,
+    store: &Store,
+    gate: &G,
+    client: &mut Client,
+    opened: &mut Vec<Opened>,
+    what: What,
+) -> (Answer, Items)
+    requires client { IsClient store.now client.old }
+    requires kept { AreKept client.old opened.old.items }
+    requires built { IsTrue (is_served what) }
+    requires within { IsWithin (length store.now.regions) store.now.size.colours what }
+    requires of_one { IsOfOne opened.old.items what }
+    ensures gives { (objects : List Object) → AreOf objects opened.old.items
+        → GivesOf store.now objects client.old client.new what result.0 result.1 }
+    ensures kept { Finished client.new → AreKept client.new opened.new.items }
+    ensures same { map kind_opened opened.new.items ≡ map kind_opened opened.old.items }
+{
+    match object_asked(&what) {
+        None => log_answer(rt, alloc, store, gate, client, what),
+        Some(object) => {
+            let one = &mut opened[object as usize];
+            let answer = object_answer(rt, alloc, store, gate, client, one, what);
+            (answer, ListOf::new(alloc))
+        }
+    }
+}
+
 /// Serves the client a command.
 pub fn serve<R: Wait, G: Gate>(
     rt: &R,
@@ -76,15 +108,20 @@ pub fn serve<R: Wait, G: Gate>(
     store: &Store,
     gate: &G,
     client: &mut Client,
+    opened: &mut Vec<Opened>,
     command: Command,
 ) -> ReplyLine
     requires client { IsClient store.now client.old }
-    requires command { IsServable store.now command }
-    ensures { (objects : List Object) → IsAnswered store.now objects client.old client.new command result }
+    requires kept { AreKept client.old opened.old.items }
+    requires command { IsServable store.now opened.old.items command }
+    ensures answered { (objects : List Object) → AreOf objects opened.old.items
+        → IsAnswered store.now objects client.old client.new command result }
+    ensures kept { Finished client.new → AreKept client.new opened.new.items }
+    ensures same { map kind_opened opened.new.items ≡ map kind_opened opened.old.items }
 {
     let line = command.line;
     let word = command.what.word();
-    let (answer, nodes) = answer(rt, alloc, store, gate, client, command.what);
+    let (answer, nodes) = answer(rt, alloc, store, gate, client, opened, command.what);
     ReplyLine {
         line,
         word,

@@ -14,8 +14,8 @@ use script_text::What;
 use std::alloc::Global;
 use std::sync::Wait;
 
-// Where a node stands, in the room that was taken for its points.
-fn shown(points: &[Point], mut pieces: Vec<PointPiece>) -> Points
+/// Where a node stands, in the room that was taken for its points.
+pub fn shown(points: &[Point], mut pieces: Vec<PointPiece>) -> Points
     requires empty { pieces.items ≡ [] }
     requires room { length points.now ≤ vec_capacity pieces }
     ensures { result ≡ map piece_of points.now }

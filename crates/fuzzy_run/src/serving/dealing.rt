@@ -4,20 +4,23 @@ ghost use Rattle.std.specs.List.{All};
 ghost use Rattle.script_text.specs.declared.script.Command.{Command};
 ghost use Rattle.fuzzy_run.specs.Dealing.{AreIdle, HaveOwn, HaveRoom, AreDealt};
 
+use crate::serving::opened::open_all;
 use crate::serving::served::Served;
 use log_client::{Client, Clients};
 use log_node::ListOf;
-use script_text::Command;
+use script_text::{Command, Object};
 use std::alloc::{AllocError, Global};
 
-// Clients who are to be served nothing.
-fn idle(alloc: Global, clients: Vec<Client>) -> Result<Vec<Served>, AllocError>
-    ensures { IfOk result (λ served. AreIdle clients.items served.items) }
+// Clients who have opened these objects, and are to be served nothing.
+fn idle(alloc: Global, objects: &[Object], clients: Vec<Client>) -> Result<Vec<Served>, AllocError>
+    ensures { IfOk result (λ served. AreIdle objects.now clients.items served.items) }
 {
     let mut served = Vec::new(alloc);
     for client in clients {
+        let objects = open_all(alloc, objects)?;
         served.push(Served {
             client,
+            objects,
             commands: Vec::new(alloc),
             replies: Vec::new(alloc),
         })?;
@@ -48,16 +51,17 @@ fn make_room(alloc: Global, served: &mut Vec<Served>) -> Result<(), AllocError>
     Ok(())
 }
 
-/// Each client with its commands, in their order, and with room for as many replies.
+/// Each client with the objects, opened, with its commands, in their order, and with room for as many replies.
 pub fn deal(
     alloc: Global,
     clients: Clients,
+    objects: &[Object],
     commands: ListOf<Command>,
 ) -> Result<Vec<Served>, AllocError>
     requires { All (λ (c : Command). c.client < length clients) commands }
-    ensures { IfOk result (λ served. AreDealt clients commands served.items) }
+    ensures { IfOk result (λ served. AreDealt clients objects.now commands served.items) }
 {
-    let mut served = idle(alloc, clients.into_vec())?;
+    let mut served = idle(alloc, objects, clients.into_vec())?;
     give(&mut served, commands.into_vec())?;
     make_room(alloc, &mut served)?;
     Ok(served)

@@ -57,7 +57,7 @@ pub fn run_beside<R: Threads + Wait + Sync, G: Gate>(
 {
     let (store, clients) = Store::open(alloc, &script.shape)?;
     let commands = mem::replace(&mut script.commands, ListOf::new(alloc));
-    let mut served = deal(alloc, clients, commands)?;
+    let mut served = deal(alloc, clients, script.objects.as_slice(), commands)?;
     serve_beside(rt, alloc, &store, gate, served.as_mut_slice());
     let (clients, replies) = parted(alloc, served)?;
     let closed = store.close(rt, alloc, clients.into())?;

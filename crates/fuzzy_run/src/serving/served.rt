@@ -2,6 +2,7 @@
 ghost use Rattle.fuzzy_run.specs.Served.{CanServe, IsServed};
 
 use crate::serving::answers::serve;
+use crate::serving::opened::Opened;
 use fuzzy_io::Gate;
 use log_client::{Client, Store};
 use report_text::ReplyLine;
@@ -10,10 +11,11 @@ use std::alloc::Global;
 use std::mem;
 use std::sync::Wait;
 
-/// A client, the commands that it is still to be served, in order, and the replies so far.
+/// A client, its objects by number, the commands that it is still to be served, in order, and the replies so far.
 #[derive(Drop)]
 pub struct Served {
     pub client: Client,
+    pub objects: Vec<Opened>,
     pub commands: Vec<Command>,
     pub replies: Vec<ReplyLine>,
 }
@@ -31,7 +33,15 @@ pub fn serve_all<R: Wait, G: Gate>(
 {
     let commands = mem::replace(&mut served.commands, Vec::new(alloc));
     for command in commands {
-        let reply = serve(rt, alloc, store, gate, &mut served.client, command);
+        let reply = serve(
+            rt,
+            alloc,
+            store,
+            gate,
+            &mut served.client,
+            &mut served.objects,
+            command,
+        );
         served.replies.push_reserved(reply);
     }
 }

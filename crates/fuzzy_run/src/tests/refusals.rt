@@ -24,7 +24,12 @@ const REFUSED: [(&str, u32, &str); 11] = [
 ];
 
 /// Commands on objects from line 12 on that clients on threads are not served today.
-const OBJECTS: [&str; 3] = ["a read t k", "a read t k\na commit t k=v", "a enq q v"];
+const OBJECTS: [&str; 4] = [
+    "a putall m k=v",
+    "a getall m k",
+    "a read t k",
+    "a read t k\na commit t k=v",
+];
 
 /// The script is refused at that line for that reason.
 fn refuses<R: Threads + Wait + Sync + Abort>(
@@ -48,7 +53,7 @@ fn a_line_that_is_not_done_is_refused_with_its_reason(rt: HostRuntime) -> Result
 }
 
 #[test]
-fn commands_on_objects_are_not_built_on_threads(rt: HostRuntime) -> Result<(), Fail> {
+fn commands_of_several_keys_are_not_built_on_threads(rt: HostRuntime) -> Result<(), Fail> {
     for lines in OBJECTS.iter() {
         let script = format!(in rt.alloc();
             "fuzzylog 1

@@ -96,7 +96,7 @@ column r y
 ];
 
 /// Does a script on threads, with what stands between the steps of appends.
-fn run_at<R: Threads + Wait + Sync, G: Gate>(
+pub fn run_at<R: Threads + Wait + Sync, G: Gate>(
     alloc: Global,
     rt: &R,
     script: &[u8],
@@ -152,7 +152,7 @@ column r y
 #[test]
 fn a_command_that_is_not_served_yet_is_refused(rt: HostRuntime) -> Result<(), Fail> {
     let script = b"fuzzylog 1\nregions r\ncolours x\nclient a r\nmap m r x\nbegin
-a append x p\na put m k v\n";
+a append x p\na putall m k=v\n";
     let (status, sink) = run_at(rt.alloc(), &rt, script, &OpenGate)?;
     assert_eq!(rt; status, Status::Refused);
     assert_eq!(rt; sink.bytes(), b"refused: line 8: not built\n".as_slice());

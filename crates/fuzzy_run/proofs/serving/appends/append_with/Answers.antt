@@ -24,13 +24,13 @@ returns-in-Ok g c =
     subst (λ (points : List PointPiece). Gives c.args.store.now c.args.client.now c.append.new.self
     (whats.Append c.args.colours c.args.text) (answers.Stood a.stood.key.stamp a.row points) [])
     (sym (c.shown.ensures ∙ ap (map piece_of) c.as_slice.ensures))
-    (gives_stood c.args.store.now c.args.client.now c.append.new.self e.client e.same e.goes c.args.colours c.args.text a
+    (gives_stood c.args.store.now c.args.client.now c.append.new.self e.client e.same e.goes e.grows c.args.colours c.args.text a
     (not_stopped c.args.client.now c.append.new.self _ (λ steps f. absurd (let no : ⊥ = cc (f) in no)) e.finished) e.ok)
 
 pub returns-in-Err-Full : goal.returns-in-Err-Full
 returns-in-Err-Full g c =
     let e = c.in-Err-Full.ensures in
-    gives_full c.args.store.now c.args.client.now c.append.new.self e.client e.same e.goes c.args.colours c.args.text
+    gives_full c.args.store.now c.args.client.now c.append.new.self e.client e.same e.goes e.grows c.args.colours c.args.text
     c.in-Err-Full.used
     (not_stopped c.args.client.now c.append.new.self _ (λ steps f. absurd (let fault = c.in-Err-Full.field-0-is in
     let no : ⊥ = cc (f, fault) in no)) e.finished)
@@ -39,7 +39,7 @@ returns-in-Err-Full g c =
 pub returns-in-Err-StampEnd : goal.returns-in-Err-StampEnd
 returns-in-Err-StampEnd g c =
     let e = c.in-Err-StampEnd.ensures in
-    gives_ended c.args.store.now c.args.client.now c.append.new.self e.client e.same e.goes c.args.colours c.args.text
+    gives_ended c.args.store.now c.args.client.now c.append.new.self e.client e.same e.goes e.grows c.args.colours c.args.text
     c.in-Err-StampEnd.colour
     (not_stopped c.args.client.now c.append.new.self _ (λ steps f. absurd (let fault = c.in-Err-StampEnd.field-0-is in
     let no : ⊥ = cc (f, fault) in no)) e.finished)
@@ -48,7 +48,7 @@ returns-in-Err-StampEnd g c =
 pub returns : goal.returns
 returns g c =
     let e = c.in-Err-NoMemory.ensures in
-    gives_gone c.args.store.now c.args.client.now c.append.new.self e.client e.same e.goes c.args.colours c.args.text
+    gives_gone c.args.store.now c.args.client.now c.append.new.self e.client e.same e.goes e.grows c.args.colours c.args.text
     (not_stopped c.args.client.now c.append.new.self _ (λ steps f. absurd (let fault = c.in-Err-NoMemory.field-0-is in
     let no : ⊥ = cc (f, fault) in no)) e.finished)
     (rw c.in-Err-NoMemory.field-0-is at e.err)

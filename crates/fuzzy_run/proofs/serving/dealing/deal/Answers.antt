@@ -9,7 +9,7 @@ pub returns : goal.returns
 returns c =
     let idle = c.in_ok-served.served.items in
     let given = c.give.new.served.items in
-    dealt c.args.clients c.args.commands idle given c.make_room.new.served.items
-    (subst (λ (l : List Client). AreIdle l idle) c.into_vec.ensures c.in_ok-served.ensures)
+    dealt c.args.objects.now c.args.clients c.args.commands idle given c.make_room.new.served.items
+    (subst (λ (l : List Client). AreIdle c.args.objects.now l idle) c.into_vec.ensures c.in_ok-served.ensures)
     (subst (λ (l : List Command). HaveOwn l idle given) c.into_vec-2.ensures c.in_ok-give.ensures)
     c.in_ok-make_room.ensures

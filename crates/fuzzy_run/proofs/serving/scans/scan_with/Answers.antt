@@ -24,7 +24,7 @@ read_shown-requires-clause-syncs_room g c =
 pub returns-in-Ok : goal.returns-in-Ok
 returns-in-Ok g c =
     let e = c.in-Ok.ensures in
-    gives_scan c.args.store.now c.args.client.now c.stamped_read.new.self e.client e.same e.goes e.finished c.args.colours
+    gives_scan c.args.store.now c.args.client.now c.stamped_read.new.self e.client e.same e.goes e.grows e.finished c.args.colours
     c.in-Ok.read c.read_shown.result.0 c.read_shown.result.1 c.read_shown.ensures.answer c.read_shown.ensures.items e.ok
 
 pub returns-in-Err-Trimmed : goal.returns-in-Err-Trimmed
@@ -32,7 +32,7 @@ returns-in-Err-Trimmed g c =
     let e = c.in-Err-Trimmed.ensures in
     subst (λ (nodes : List PlacedNode). Gives c.args.store.now c.args.client.now c.stamped_read.new.self
     (whats.Scan c.args.colours) (answers.Trimmed c.in-Err-Trimmed.colour c.in-Err-Trimmed.base) nodes) (sym c.new.ensures)
-    (gives_scan_trimmed c.args.store.now c.args.client.now c.stamped_read.new.self e.client e.same e.goes e.finished
+    (gives_scan_trimmed c.args.store.now c.args.client.now c.stamped_read.new.self e.client e.same e.goes e.grows e.finished
     c.args.colours c.in-Err-Trimmed.colour c.in-Err-Trimmed.base (rw c.in-Err-Trimmed.field-0-is at e.err))
 
 pub returns : goal.returns
@@ -40,5 +40,5 @@ returns g c =
     let e = c.in-Err-NoMemory.ensures in
     subst (λ (nodes : List PlacedNode). Gives c.args.store.now c.args.client.now c.stamped_read.new.self
     (whats.Scan c.args.colours) answers.NoMemory nodes) (sym c.new-in-Err-NoMemory.ensures)
-    (gives_scan_without c.args.store.now c.args.client.now c.stamped_read.new.self e.client e.same e.goes e.finished
+    (gives_scan_without c.args.store.now c.args.client.now c.stamped_read.new.self e.client e.same e.goes e.grows e.finished
     c.args.colours (rw c.in-Err-NoMemory.field-0-is at e.err))

@@ -1,17 +1,23 @@
-use Rattle.std.proofs.Common.{◌∙◌, refl, ap, sym, subst, arith, List, [], ◌∷◌, ◌++◌, length, take}
+use Rattle.std.proofs.Common.{◌≡◌, ◌∙◌, refl, ap, sym, subst, arith, ℕ, List, [], ◌∷◌, ◌++◌, length, take, Some, slice_get}
+use Rattle.std.specs.List.{All}
 use Rattle.std.proofs.lemmas.List.{length_push, map-id}
+use Rattle.std.proofs.lemmas.Option.{get_or_from_slice_get, slice_get_within}
 use Rattle.std.proofs.lemmas.Iterator.Adapters.{YieldsList-from_vec}
 use Rattle.std.proofs.lemmas.Iterator.Consumers.{YieldsList-turn, YieldsList-end, YieldsList-so_far}
 use Rattle.script_text.specs.declared.script.Command.{Command}
 use Rattle.report_text.specs.declared.report.ReplyLine.{ReplyLine}
+use Rattle.fuzzy_run.specs.Served.{IsServable}
 use Rattle.fuzzy_run.specs.Serving.{Serves}
+use Rattle.fuzzy_run.proofs.ObjectFrames.{of_one_on, some_objects}
 use Rattle.fuzzy_run.proofs.ServedClients.{serves_next}
 use Rattle.fuzzy_run.proofs.Yielding.{there, finished_before}
 use Rattle.fuzzy_run.proofs.serving.served.serve_all.Goals as goal
 
 pub loop-command-init : goal.loop-command-init
 loop-command-init g c = record {
-  serves = λ objects. subst (λ (rs : List ReplyLine). Serves c.args.store.now objects c.args.served.now.client [] rs)
+  kept = λ done. c.requires.kept;
+  kinds = refl;
+  serves = λ objects of. subst (λ (rs : List ReplyLine). Serves c.args.store.now objects c.args.served.now.client [] rs)
       (sym c.requires.replies) (c.requires.serves objects);
   same = (refl, refl);
   count = ap length c.requires.replies;
@@ -19,7 +25,50 @@ loop-command-init g c = record {
 }
 
 pub serve-reply-requires-clause-client : goal.serve-reply-requires-clause-client
-serve-reply-requires-clause-client g c κs within = (c.loop-command.invariant.serves []).rests
+serve-reply-requires-clause-client g c κs within =
+    let some = some_objects c.args.served.now.objects.items in
+    (c.loop-command.invariant.serves some.0 some.1).rests
+
+pub serve-reply-requires-clause-kept : goal.serve-reply-requires-clause-kept
+serve-reply-requires-clause-kept g c κs within =
+    let items = c.replace-commands.result in
+    let was = c.loop-command.invariant in
+    let yielded = c.loop-command.yielded in
+    let gives = c.into_iter-command-iterator.ensures.into_iter_gives in
+    let all = YieldsList-from_vec {s = c.into_iter-command-iterator.result} items.items gives.0 (gives.1 ∙ items.ok.0) in
+    let t = YieldsList-turn all yielded _
+    c.loop-command.yielded_by _ c.next.new.self c.in-Some.command c.in-Some.is c.next.ensures.steps in
+    let so_far = sym (map-id yielded) ∙ YieldsList-so_far all yielded _ c.loop-command.yielded_by in
+    let some = some_objects c.args.served.now.objects.items in
+    was.kept (finished_before c.args.store.now some.0 c.loop-command.served.client c.args.served.now.commands.items
+    (length yielded) c.in-Some.command yielded c.loop-command.served.replies.items c.requires.stops
+    (there c.args.served.now.commands.items (length yielded) c.in-Some.command
+    (rw (sym c.replace-commands.ensures.value) t)) (so_far ∙ ap (λ (v : _). take (length yielded) v.items) c.replace-commands.ensures.value)
+    (was.serves some.0 some.1))
+
+-- one of the commands that can be served
+servable : (P : Command → Type 0) (commands : List Command) (n : ℕ) (command : Command) → All P commands
+    → slice_get commands n ≡ Some command → P command
+servable P commands n command all at =
+    subst P (get_or_from_slice_get commands n command command at) (all n command (slice_get_within commands n command at))
+
+pub serve-reply-requires-clause-command : goal.serve-reply-requires-clause-command
+serve-reply-requires-clause-command g c κs within =
+    let items = c.replace-commands.result in
+    let yielded = c.loop-command.yielded in
+    let gives = c.into_iter-command-iterator.ensures.into_iter_gives in
+    let all = YieldsList-from_vec {s = c.into_iter-command-iterator.result} items.items gives.0 (gives.1 ∙ items.ok.0) in
+    let t = YieldsList-turn all yielded _
+    c.loop-command.yielded_by _ c.next.new.self c.in-Some.command c.in-Some.is c.next.ensures.steps in
+    let is = servable (IsServable c.args.store.now c.args.served.now.objects.items) c.args.served.now.commands.items
+    (length yielded) c.in-Some.command c.requires.servable
+    (there c.args.served.now.commands.items (length yielded) c.in-Some.command
+    (rw (sym c.replace-commands.ensures.value) t)) in record {
+      built = is.built;
+      within = is.within;
+      of_one = of_one_on c.args.served.now.objects.items c.loop-command.served.objects.items c.in-Some.command.what
+          c.loop-command.invariant.kinds is.of_one;
+    }
 
 pub loop-command-preserved : goal.loop-command-preserved
 loop-command-preserved g c =
@@ -35,19 +84,22 @@ loop-command-preserved g c =
     c.loop-command.yielded_by _ c.next.new.self c.in-Some.command c.in-Some.is c.next.ensures.steps in
     let so_far = sym (map-id yielded) ∙ YieldsList-so_far all yielded _ c.loop-command.yielded_by in
     let stops = c.requires.stops in
-    let finished = finished_before store [] client c.args.served.now.commands.items (length yielded) c.in-Some.command
+    let some = some_objects c.args.served.now.objects.items in
+    let finished = finished_before store some.0 client c.args.served.now.commands.items (length yielded) c.in-Some.command
     yielded replies stops (there c.args.served.now.commands.items (length yielded) c.in-Some.command
     (rw (sym c.replace-commands.ensures.value) t)) (so_far ∙ ap (λ (v : _). take (length yielded) v.items) c.replace-commands.ensures.value)
-    (was.serves []) in
-    let e = c.serve-reply.ensures [] in
+    (was.serves some.0 some.1) in
+    let e = c.serve-reply.ensures.answered some.0 (some.1 ∙ sym was.kinds) in
     let items_are = ap length c.push_reserved.ensures.items in
     let long = length_push yielded c.in-Some.command in
     let longer = length_push replies c.serve-reply.result in
     record {
-      serves = λ objects. subst (Serves store objects c.serve-reply.new.client (yielded ++ c.in-Some.command ∷ []))
+      kept = c.serve-reply.ensures.kept;
+      kinds = c.serve-reply.ensures.same ∙ was.kinds;
+      serves = λ objects of. subst (Serves store objects c.serve-reply.new.client (yielded ++ c.in-Some.command ∷ []))
           (sym c.push_reserved.ensures.items)
           (serves_next store objects client c.serve-reply.new.client yielded replies c.in-Some.command c.serve-reply.result
-          (was.serves objects) finished (c.serve-reply.ensures objects));
+          (was.serves objects of) finished (c.serve-reply.ensures.answered objects (of ∙ sym was.kinds)));
       same = (e.same.0 ∙ was.same.0, e.same.1 ∙ was.same.1);
       count = omega (arith, items_are, long, longer, was.count);
       room = c.push_reserved.ensures.capacity ∙ was.room;
@@ -62,7 +114,7 @@ returns g c =
     let whole = sym (map-id c.loop-command.yielded) ∙ (t.0 ∙ ap (λ (v : _). v.items) c.replace-commands.ensures.value) in
     record {
       same = c.loop-command.invariant.same;
-      serves = λ objects. subst (λ (l : List Command).
+      serves = λ objects of. subst (λ (l : List Command).
           Serves c.args.store.now objects c.loop-command.served.client l c.loop-command.served.replies.items)
-          whole (c.loop-command.invariant.serves objects);
+          whole (c.loop-command.invariant.serves objects of);
     }

@@ -1,0 +1,46 @@
+use Rattle.std.proofs.Common.{refl, ap, sym, subst, ◌∙◌, arith, ◌∷◌, []}
+use Rattle.object_form.specs.Forms.{form_text}
+use Rattle.log_node.specs.declared.forms.Form.TheVariants as forms
+use Rattle.object_fold.specs.Nodes.{shard_of}
+use Rattle.script_text.specs.declared.script.Kind.TheVariants as kinds
+use Rattle.script_text.specs.declared.script.What.TheVariants as whats
+use Rattle.log_client.proofs.CallerLemmas.{rests_same}
+use Rattle.log_map.specs.declared.map.LogMap.{LogMap}
+use Rattle.fuzzy_run.specs.declared.serving.opened.Opened.{Opened}
+use Rattle.fuzzy_run.specs.Opened.{IsKept, kind_opened}
+use Rattle.fuzzy_run.specs.Serving.{GivesFor}
+use Rattle.fuzzy_run.proofs.GivingObjects.{gives_unasked_of}
+use Rattle.fuzzy_run.proofs.GivingPuts.{gives_map_del, points_fit}
+use Rattle.fuzzy_run.proofs.serving.puts.del.Goals as goal
+
+pub returns-in_default-clause-rests : goal.returns-in_default-clause-rests
+returns-in_default-clause-rests g c = rests_same c.args.store.now c.args.client.now c.requires.client
+
+pub returns-in_default-clause-gives : goal.returns-in_default-clause-gives
+returns-in_default-clause-gives g c = λ objects object at.
+    gives_unasked_of c.args.store.now c.args.client.now objects (whats.Del object c.args.key) c.requires.client
+    (λ kept. (refl, refl))
+
+pub del-del-requires-clause-map : goal.del-del-requires-clause-map
+del-del-requires-clause-map g c κs within = subst (IsKept c.args.client.now) c.in-Map.is c.requires.kept
+
+pub appended-requires-clause-room : goal.appended-requires-clause-room
+appended-requires-clause-room g c =
+    let room = c.in-Ok.ensures.capacity in
+    points_fit c.args.store.now c.args.client.now c.del-del.new.client (shard_of c.in-Map.map.colours c.args.key ∷ [])
+    (form_text (forms.Delete c.args.key)) c.del-del.result _ c.del-del.ensures.ok (omega (arith, room))
+
+pub returns-clause-stays : goal.returns-clause-stays
+returns-clause-stays g c = (
+  ap (λ (m : LogMap). kinds.Map m.home m.colours) c.del-del.ensures.same ∙ ap kind_opened (sym c.in-Map.is),
+  c.del-del.ensures.map,
+)
+
+pub returns-clause-gives : goal.returns-clause-gives
+returns-clause-gives g c =
+    let e = c.del-del.ensures in
+    let is = subst (IsKept c.args.client.now) c.in-Map.is c.requires.kept in
+    subst (λ (x : Opened). GivesFor c.args.store.now c.args.client.now c.del-del.new.client (kind_opened x)
+    (λ object. whats.Del object c.args.key) c.appended.result) (sym c.in-Map.is)
+    (gives_map_del c.args.store.now c.args.client.now c.del-del.new.client e.client c.del-del.result c.appended.result
+    c.appended.ensures c.in-Map.map.home c.in-Map.map.colours is.colours e.away c.args.key e.ok e.err)
