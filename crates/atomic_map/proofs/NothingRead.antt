@@ -51,17 +51,17 @@ module _ (log : Log) (caller : Caller) (kept : Kept) where
     by_order : Greatest colours → Greatest (k ∷ colours)
     by_order g = elim (cases_lt g.stamp (clock_seen k)) [
       | inl lt ↦ record {
-          stamp = clock_seen k;
-          above_floor = let low = g.above_floor in omega (arith, low, lt);
-          above = above_both (clock_seen k) (omega arith) (λ c i. let low = g.above c i in omega (arith, low, lt));
-          chosen = inr (k, inl refl, refl);
-        }
+        stamp = clock_seen k;
+        above_floor = let low = g.above_floor in omega (arith, low, lt);
+        above = above_both (clock_seen k) (omega arith) (λ c i. let low = g.above c i in omega (arith, low, lt));
+        chosen = inr (k, inl refl, refl);
+      }
       | inr le ↦ record {
-          stamp = g.stamp;
-          above_floor = g.above_floor;
-          above = above_both g.stamp le g.above;
-          chosen = later g g.chosen;
-        }
+        stamp = g.stamp;
+        above_floor = g.above_floor;
+        above = above_both g.stamp le g.above;
+        chosen = later g g.chosen;
+      }
     ]
 
   -- with no events made

@@ -16,13 +16,13 @@ filter_push : (p : ObjectNode → Bool) (xs : List ObjectNode) (x : ObjectNode)
 filter_push p [] x = refl
 filter_push p (y ∷ xs) x =
     ap (λ (l : List ObjectNode). cond (p y) (y ∷ l) l) (filter_push p xs x) ∙ turned (p y) (p x) (filter p xs) where
-  turned : (b c : Bool) (l : List ObjectNode)
-      → cond b (y ∷ cond c (l ++ x ∷ []) l) (cond c (l ++ x ∷ []) l)
-      ≡ cond c (cond b (y ∷ l) l ++ x ∷ []) (cond b (y ∷ l) l)
-  turned true true l = refl
-  turned true false l = refl
-  turned false true l = refl
-  turned false false l = refl
+      turned : (b c : Bool) (l : List ObjectNode)
+          → cond b (y ∷ cond c (l ++ x ∷ []) l) (cond c (l ++ x ∷ []) l)
+          ≡ cond c (cond b (y ∷ l) l ++ x ∷ []) (cond b (y ∷ l) l)
+      turned true true l = refl
+      turned true false l = refl
+      turned false true l = refl
+      turned false false l = refl
 
 pub among_more : (colours : List ℕ) (nodes : List ObjectNode) (node : ObjectNode) (key : List ℕ)
     → value_among colours (nodes ++ node ∷ []) key
@@ -31,13 +31,13 @@ pub among_more : (colours : List ℕ) (nodes : List ObjectNode) (node : ObjectNo
 among_more colours nodes node key =
     ap (value_after key) (filter_push (λ n. has n.colours (shard_of colours key)) nodes node)
     ∙ by_test (has node.colours (shard_of colours key)) where
-  by_test : (b : Bool)
-      → value_after key (cond b (nodes_of (shard_of colours key) nodes ++ node ∷ []) (nodes_of (shard_of colours key) nodes))
-      ≡ cond b (value_with key (value_among colours nodes key) (form_of node.text)) (value_among colours nodes key)
-  by_test true =
-      fold_push (λ (value : Value) (n : ObjectNode). value_with key value (form_of n.text)) None
-      (nodes_of (shard_of colours key) nodes) node
-  by_test false = refl
+      by_test : (b : Bool)
+          → value_after key (cond b (nodes_of (shard_of colours key) nodes ++ node ∷ []) (nodes_of (shard_of colours key) nodes))
+          ≡ cond b (value_with key (value_among colours nodes key) (form_of node.text)) (value_among colours nodes key)
+      by_test true =
+          fold_push (λ (value : Value) (n : ObjectNode). value_with key value (form_of n.text)) None
+          (nodes_of (shard_of colours key) nodes) node
+      by_test false = refl
 
 -- values that stand for nodes, after one more
 pub one_more : (old new : KeyValues) (nodes : List ObjectNode) (node : ObjectNode) → new.colours ≡ old.colours
