@@ -14,13 +14,19 @@ use Rattle.log_client.specs.Clients.{tracks_of}
 use Rattle.log_map.specs.Maps.{IsMapOf}
 use Rattle.log_queue.specs.Queues.{IsQueueOf}
 use Rattle.causal_map.specs.CausalMaps.{IsCausalMapOf}
+use Rattle.atomic_map.specs.Several.{IsAtomicMapOf}
+use Rattle.tx_map.specs.Transactions.{IsTxMapOf}
+use Rattle.tx_map.specs.declared.transactions.Tx.{Tx}
+use Rattle.col_core.specs.Keeping.{Kept}
+use Rattle.log_node.specs.declared.forms.Version.{Version}
+use Rattle.std.specs.Option.{option_map}
 use Rattle.fuzzy_run.specs.declared.serving.opened.Opened.{Opened}
 use Rattle.fuzzy_run.specs.declared.serving.opened.Opened.TheVariants as opened
 
 -- what was opened
 abbrev pub kind_opened : Opened → Kind
-kind_opened (opened.Map of) = kinds.Map of.home of.colours
-kind_opened (opened.Tx home colours) = kinds.Tx home colours
+kind_opened (opened.Map single several) = kinds.Map single.home single.colours
+kind_opened (opened.Tx map found) = kinds.Tx map.home map.colours
 kind_opened (opened.Causal of) = kinds.Causal of.colour
 kind_opened (opened.Queue of) = kinds.Queue of.home of.colour
 
@@ -30,8 +36,9 @@ AreOf objects xs = map (λ (o : Object). o.kind) objects ≡ map kind_opened xs
 
 -- what is folded of an object is of what the client has played
 abbrev pub IsKept : Client → Opened → Type 0
-IsKept c (opened.Map of) = IsMapOf c of
-IsKept c (opened.Tx home colours) = Unit {0}
+IsKept c (opened.Map single several) =
+    IsMapOf c single × IsAtomicMapOf c several × (several.home ≡ single.home) × (several.colours ≡ single.colours)
+IsKept c (opened.Tx map found) = IsTxMapOf c map
 IsKept c (opened.Causal of) = IsCausalMapOf c of
 IsKept c (opened.Queue of) = IsQueueOf c of
 
@@ -47,6 +54,23 @@ IsUnfolded x =
 -- the client has gone on, and so has what is folded of the same object
 abbrev pub StaysOpen : Client → Opened → Opened → Type 0
 StaysOpen c x y = (kind_opened y ≡ kind_opened x) × IsKept c y
+
+-- WHAT READS FOUND
+
+-- what the last read of it found, and no commit has used up
+abbrev pub versions_in : Opened → Option (List Version)
+versions_in (opened.Map single several) = None
+versions_in (opened.Tx map found) = option_map (λ (t : Tx). t.versions) found
+versions_in (opened.Causal of) = None
+versions_in (opened.Queue of) = None
+
+abbrev pub found_in : Option Opened → Option (List Version)
+found_in None = None
+found_in (Some x) = versions_in x
+
+-- just these reads are kept, by number
+abbrev pub HaveReads : List Opened → Kept → Type 0
+HaveReads xs kept = (n : ℕ) → kept.reads n ≡ found_in (slice_get xs n)
 
 -- WHICH OBJECT IS ASKED
 

@@ -46,12 +46,13 @@ abbrev pub MayHelp : List Command → Type 0
 MayHelp commands = (command : Command) × Contains commands command × IsTrue (may_help (manner_of command.what))
 
 -- A client of the store rests after these commands, to which these are the replies: what it has seen explains them.
-pub record Serves (s : Store) (objects : List Object) (c : Client) (commands : List Command)
+pub record Serves (s : Store) (objects : List Object) (c : Client) (xs : List Opened) (commands : List Command)
     (replies : List ReplyLine) : Type 0 where
   pub rests : IsClient s c
   pub kept : Kept
   pub keeps : Keeps s c objects kept
   pub explained : IsExplainedBy (seen_of c) (Fits (holds_of c)) (caller_of s c objects) commands replies kept
+  pub reads : (rest : Rest) → Fits (holds_of c) rest → HaveReads xs kept
   pub finished : Finished c ⊎ HasStopped commands replies
   pub helps : Helps c → MayHelp commands
 

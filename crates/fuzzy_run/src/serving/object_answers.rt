@@ -10,7 +10,8 @@ ghost use Rattle.fuzzy_run.specs.Serving.{GivesOf};
 
 use crate::serving::gets::{deq, get};
 use crate::serving::opened::Opened;
-use crate::serving::puts::{del, enq, put};
+use crate::serving::puts::{del, enq, put, put_all};
+use crate::serving::reads::{commit, get_all, read};
 use fuzzy_io::Gate;
 use log_client::{Client, Store};
 use report_text::Answer;
@@ -79,16 +80,28 @@ pub fn object_answer<R: Wait, G: Gate>(
             object: _object,
             value,
         } => enq(rt, alloc, store, gate, client, opened, value),
+        What::PutAll {
+            object: _object,
+            pairs,
+        } => put_all(rt, alloc, store, gate, client, opened, pairs),
+        What::GetAll {
+            object: _object,
+            keys,
+        } => get_all(rt, alloc, store, gate, client, opened, keys),
+        What::Read {
+            object: _object,
+            keys,
+        } => read(rt, alloc, store, gate, client, opened, keys),
+        What::Commit {
+            object: _object,
+            pairs,
+        } => commit(rt, alloc, store, gate, client, opened, pairs),
         What::Deq { object: _object } => deq(rt, alloc, store, gate, client, opened),
         What::Append { .. }
         | What::Stop { .. }
         | What::Sync { .. }
         | What::Scan { .. }
         | What::Pull { .. }
-        | What::Trim { .. }
-        | What::PutAll { .. }
-        | What::GetAll { .. }
-        | What::Read { .. }
-        | What::Commit { .. } => unreachable!(),
+        | What::Trim { .. } => unreachable!(),
     }
 }
