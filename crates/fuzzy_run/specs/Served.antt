@@ -21,7 +21,7 @@ pub record IsServable (s : Store) (xs : List Opened) (command : Command) : Type 
 
 -- The client has been served nothing, it can be served its commands, and there is room for the replies.
 pub record CanServe (s : Store) (x : Served) : Type 0 where
-  pub serves : (objects : List Object) → Serves s objects x.client [] []
+  pub serves : (objects : List Object) → Serves s objects x.client x.objects.items [] []
   pub finished : Finished x.client
   pub kept : AreKept x.client x.objects.items
   pub servable : All (IsServable s x.objects.items) x.commands.items
@@ -33,4 +33,4 @@ pub record CanServe (s : Store) (x : Served) : Type 0 where
 pub record IsServed (s : Store) (x y : Served) : Type 0 where
   pub same : IsSame x.client y.client
   pub serves : (objects : List Object) → AreOf objects x.objects.items
-      → Serves s objects y.client x.commands.items y.replies.items
+      → Serves s objects y.client y.objects.items x.commands.items y.replies.items

@@ -5,7 +5,7 @@ ghost use Rattle.script_text.specs.Fitting.{IsWithin};
 ghost use Rattle.log_client.specs.Clients.{Finished, IsClient};
 ghost use Rattle.fuzzy_run.specs.Built.{is_served};
 ghost use Rattle.fuzzy_run.specs.Opened.{kind_opened, object_asked, AreKept, AreOf, IsOfOne};
-ghost use Rattle.fuzzy_run.specs.Serving.{Gives, GivesOf, IsAnswered};
+ghost use Rattle.fuzzy_run.specs.Serving.{Gives, GivesAll, IsAnswered};
 ghost use Rattle.fuzzy_run.specs.Served.{IsServable};
 
 use crate::serving::appends::{append, stop};
@@ -87,7 +87,7 @@ fn answer<R: Wait, G: Gate>(
     requires within { IsWithin (length store.now.regions) store.now.size.colours what }
     requires of_one { IsOfOne opened.old.items what }
     ensures gives { (objects : List Object) → AreOf objects opened.old.items
-        → GivesOf store.now objects client.old client.new what result.0 result.1 }
+        → GivesAll store.now objects client.old client.new opened.old.items opened.new.items what result.0 result.1 }
     ensures kept { Finished client.new → AreKept client.new opened.new.items }
     ensures same { map kind_opened opened.new.items ≡ map kind_opened opened.old.items }
 {
@@ -115,7 +115,7 @@ pub fn serve<R: Wait, G: Gate>(
     requires kept { AreKept client.old opened.old.items }
     requires command { IsServable store.now opened.old.items command }
     ensures answered { (objects : List Object) → AreOf objects opened.old.items
-        → IsAnswered store.now objects client.old client.new command result }
+        → IsAnswered store.now objects client.old client.new opened.old.items opened.new.items command result }
     ensures kept { Finished client.new → AreKept client.new opened.new.items }
     ensures same { map kind_opened opened.new.items ≡ map kind_opened opened.old.items }
 {

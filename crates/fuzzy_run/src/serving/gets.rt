@@ -35,8 +35,8 @@ pub fn get<R: Wait, G: Gate>(
         (λ object. What.Get object key) result }
 {
     match opened {
-        Opened::Map(map) => {
-            let get = map.get(rt, alloc, client, store, gate, &key);
+        Opened::Map { single, .. } => {
+            let get = single.get(rt, alloc, client, store, gate, &key);
             got(get)
         }
         Opened::Causal(map) => {
@@ -68,6 +68,6 @@ pub fn deq<R: Wait, G: Gate>(
             let deq = queue.deq(rt, alloc, client, store, gate);
             took(deq)
         }
-        Opened::Map(_) | Opened::Causal(_) | Opened::Tx { .. } => unreachable!(),
+        Opened::Map { .. } | Opened::Causal(_) | Opened::Tx { .. } => unreachable!(),
     }
 }
