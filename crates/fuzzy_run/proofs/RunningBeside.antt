@@ -23,7 +23,6 @@ use Rattle.log_client.specs.Closes.{AreClients}
 use Rattle.log_client.specs.Opening.{AreNewClients}
 use Rattle.fuzzy_run.specs.declared.serving.opened.Opened.{Opened}
 use Rattle.fuzzy_run.specs.declared.serving.served.Served.{Served}
-use Rattle.fuzzy_run.specs.Built.{is_served}
 use Rattle.fuzzy_run.specs.Dealing.{AreDealt, IsDealt}
 use Rattle.fuzzy_run.specs.Opened.{AreOf}
 use Rattle.fuzzy_run.specs.Served.{CanServe, IsServable, IsServed}
@@ -33,7 +32,6 @@ use Rattle.fuzzy_run.proofs.ObjectFrames.{kept_unfolded, of_one}
 use Rattle.fuzzy_run.proofs.ServedClients.{serves_none, stops_last_of}
 
 module _ (script : Script) (fits : IsFitting script)
-    (built : All (λ (c : Command). IsTrue (is_served c.what)) script.commands)
     (stops : StopsAreLast script) (s : Store)
     (size : s.size ≡ size_of script.shape) (regions : length s.regions ≡ script.shape.regions) (clients : List Client)
     (new : AreNewClients script.shape s clients) (before : List Served)
@@ -50,7 +48,6 @@ module _ (script : Script) (fits : IsFitting script)
 
   servable : (xs : List Opened) → AreOf script.objects xs → All (IsServable s xs) script.commands
   servable xs of k d lt = record {
-    built = built k d lt;
     within = subst (λ (r : ℕ). IsWithin r s.size.colours (slice_index_or script.commands k d).what) (sym regions)
         (subst (λ (z : Size). IsWithin script.shape.regions z.colours (slice_index_or script.commands k d).what) (sym size)
         (fits.commands k d lt));
@@ -120,7 +117,6 @@ module _ (script : Script) (fits : IsFitting script)
 -- The same as the run has it: of the commands that were moved to the clients, of the slice of clients that was served, and
 -- of the clients and replies that were taken out.
 pub were_served : (script : Script) → IsFitting script
-    → All (λ (c : Command). IsTrue (is_served c.what)) script.commands
     → StopsAreLast script → (s : Store)
     → s.size ≡ size_of script.shape → length s.regions ≡ script.shape.regions → (opened : List Client)
     → AreNewClients script.shape s opened → (commands : List Command) → commands ≡ script.commands
@@ -130,11 +126,11 @@ pub were_served : (script : Script) → IsFitting script
     → clients ≡ map (λ (x : Served). x.client) (take n (after ++ drop (length after) before))
     → replies ≡ map (λ (x : Served). x.replies.items) (take n (after ++ drop (length after) before))
     → AreServed script s clients replies
-were_served script fits built stops s size regions opened new commands moved before lent after same dealt long served n
+were_served script fits stops s size regions opened new commands moved before lent after same dealt long served n
     many clients replies are given =
     let dealt' : AreDealt opened script.objects script.commands before =
     subst (λ (l : List Command). AreDealt opened script.objects l before) moved dealt in
-    let all = are_served script fits built stops s size regions opened new before dealt' after (long ∙ ap length same)
+    let all = are_served script fits stops s size regions opened new before dealt' after (long ∙ ap length same)
     (λ n x y at later. served n x y (subst (λ (l : List Served). slice_get l n ≡ Some x) (sym same) at) later) in
     let whole : take n (after ++ drop (length after) before) ≡ after =
     front_of n after (drop (length after) before) (long ∙ (ap length same ∙ sym many)) in

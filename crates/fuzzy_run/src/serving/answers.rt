@@ -1,9 +1,8 @@
 // One command of a client, and its reply.
-ghost use Rattle.std.specs.Prelude.{◌≡◌, IsTrue, List, None, length, map};
+ghost use Rattle.std.specs.Prelude.{◌≡◌, List, None, length, map};
 ghost use Rattle.script_text.specs.declared.script.Object.{Object};
 ghost use Rattle.script_text.specs.Fitting.{IsWithin};
 ghost use Rattle.log_client.specs.Clients.{Finished, IsClient};
-ghost use Rattle.fuzzy_run.specs.Built.{is_served};
 ghost use Rattle.fuzzy_run.specs.Opened.{kind_opened, object_asked, AreKept, AreOf, IsOfOne};
 ghost use Rattle.fuzzy_run.specs.Serving.{Gives, GivesAll, IsAnswered};
 ghost use Rattle.fuzzy_run.specs.Served.{IsServable};
@@ -83,7 +82,6 @@ fn answer<R: Wait, G: Gate>(
 ) -> (Answer, Items)
     requires client { IsClient store.now client.old }
     requires kept { AreKept client.old opened.old.items }
-    requires built { IsTrue (is_served what) }
     requires within { IsWithin (length store.now.regions) store.now.size.colours what }
     requires of_one { IsOfOne opened.old.items what }
     ensures gives { (objects : List Object) → AreOf objects opened.old.items

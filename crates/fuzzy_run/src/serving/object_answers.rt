@@ -1,10 +1,9 @@
 // One command of an object.
-ghost use Rattle.std.specs.Prelude.{◌≡◌, ℕ, IsTrue, List, Some};
+ghost use Rattle.std.specs.Prelude.{◌≡◌, ℕ, List, Some};
 ghost use Rattle.script_text.specs.declared.script.Object.{Object};
 ghost use Rattle.script_meaning.specs.States.{kind_in};
 ghost use Rattle.log_client.specs.Clients.{IsClient};
 ghost use Rattle.log_client.specs.Reading.{RestsOn};
-ghost use Rattle.fuzzy_run.specs.Built.{is_served};
 ghost use Rattle.fuzzy_run.specs.Opened.{kind_opened, object_asked, HasCommand, IsKept, StaysOpen};
 ghost use Rattle.fuzzy_run.specs.Serving.{GivesAt};
 
@@ -54,7 +53,6 @@ pub fn object_answer<R: Wait, G: Gate>(
 ) -> Answer
     requires client { IsClient store.now client.old }
     requires kept { IsKept client.old opened.old }
-    requires built { IsTrue (is_served what) }
     requires has { HasCommand (kind_opened opened.old) what }
     ensures rests { RestsOn store.now client.old client.new }
     ensures stays { StaysOpen client.new opened.old opened.new }

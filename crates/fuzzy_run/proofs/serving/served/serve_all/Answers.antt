@@ -64,7 +64,6 @@ serve-reply-requires-clause-command g c κs within =
     (length yielded) c.in-Some.command c.requires.servable
     (there c.args.served.now.commands.items (length yielded) c.in-Some.command
     (rw (sym c.replace-commands.ensures.value) t)) in record {
-      built = is.built;
       within = is.within;
       of_one = of_one_on c.args.served.now.objects.items c.loop-command.served.objects.items c.in-Some.command.what
           c.loop-command.invariant.kinds is.of_one;
