@@ -8,7 +8,9 @@ mod GivingCommands
 mod GivingScans
 mod GivingObjects
 mod GivingPuts
+mod ReplyRoom
 mod GivingGets
+mod ReadsFound
 mod ObjectFrames
 mod Yielding
 mod Dealing

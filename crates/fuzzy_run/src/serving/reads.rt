@@ -8,7 +8,7 @@ ghost use Rattle.log_client.specs.Clients.{IsClient};
 ghost use Rattle.log_client.specs.Reading.{RestsOn};
 ghost use Rattle.log_client.specs.StampedReads.{raise_piece, sync_piece};
 ghost use Rattle.fuzzy_run.specs.Opened.{kind_opened, IsKept, StaysOpen};
-ghost use Rattle.fuzzy_run.specs.Serving.{GivesFor};
+ghost use Rattle.fuzzy_run.specs.Serving.{GivesFor, GivesTo};
 
 use crate::serving::appends::pieces_of;
 use crate::serving::opened::Opened;
@@ -131,6 +131,8 @@ pub fn read<R: Wait, G: Gate>(
     requires keys { IsTrue (are_keys 2 keys) }
     ensures rests { RestsOn store.now client.old client.new }
     ensures stays { StaysOpen client.new opened.old opened.new }
+    ensures gives { GivesTo store.now client.old client.new opened.old opened.new
+        (λ object. What.Read object keys) result }
 {
     let Opened::Tx { map, found } = opened else {
         unreachable!()
@@ -167,6 +169,8 @@ pub fn commit<R: Wait, G: Gate>(
     requires pairs { ArePairs 2 pairs }
     ensures rests { RestsOn store.now client.old client.new }
     ensures stays { StaysOpen client.new opened.old opened.new }
+    ensures gives { GivesTo store.now client.old client.new opened.old opened.new
+        (λ object. What.Commit object pairs) result }
 {
     let Opened::Tx { map, found } = opened else {
         unreachable!()
