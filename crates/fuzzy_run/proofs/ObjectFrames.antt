@@ -194,7 +194,7 @@ some_objects xs = (
 )
 
 -- a command of no object is of the log
-of_none : (what : What) → object_asked what ≡ None → IsOfLog what
+pub of_none : (what : What) → object_asked what ≡ None → IsOfLog what
 of_none (whats.Append colours text) none = tt
 of_none (whats.Stop steps colours text) none = tt
 of_none (whats.Sync colour) none = tt
