@@ -9,6 +9,9 @@ mod GivingScans
 mod GivingObjects
 mod GivingPuts
 mod GivingGets
+mod FewShown
+mod GivingReads
+mod KeysShown
 mod ObjectFrames
 mod Yielding
 mod Dealing

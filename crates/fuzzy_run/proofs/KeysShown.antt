@@ -1,0 +1,1 @@
+-- Keys with their values, one after another, as a reply shows them.
