@@ -427,22 +427,19 @@ module _ (s : Store) (c d : Client) (on : RestsOn s c d) (answer : Answer) where
       → IfOk call (λ r. GetsAll s c d colours keys r.0 r.1) → IfErr call (GetAllRefused home s c d (shards colours keys))
       → GivesFor s c d (kinds.Map home colours) (λ object. whats.GetAll object keys) answer
   gives_map_get_all home colours keys call shows tells ok err objects object at = by call shows tells ok err where
-    abbrev what : What
-    what = whats.GetAll object keys
-
-    synced_are : colours_synced (caller_of s d objects) what ≡ shards colours keys
+    synced_are : colours_synced (caller_of s d objects) (whats.GetAll object keys) ≡ shards colours keys
     synced_are = ap (λ (k : Option Kind). shards (object_colours k) keys) at
 
     by : (call : Result (List Value × StampedRead) ObjectFault) → ShowsKeys keys call answer
         → (c.region ≢ home → call ≡ Err (faults.NotHome home))
         → IfOk call (λ r. GetsAll s c d colours keys r.0 r.1) → IfErr call (GetAllRefused home s c d (shards colours keys))
-        → GivesOf s objects c d what answer []
+        → GivesOf s objects c d (whats.GetAll object keys) answer []
     by (Ok r) shows tells ok err =
         let raises = map raise_piece r.1.raises in
         let syncs = map sync_piece r.1.syncs in
-        subst (λ (a : Answer). GivesOf s objects c d what a []) (sym shows.2)
+        subst (λ (a : Answer). GivesOf s objects c d (whats.GetAll object keys) a []) (sym shows.2)
         (given_all s c d on objects object keys (answers.GotKeys r.1.stamp shows.0 raises syncs)
-        (told s c d on objects what (answers.GotKeys r.1.stamp shows.0 raises syncs) (GetsAllAs colours keys r.0 r.1) ok
+        (told s c d on objects (whats.GetAll object keys) (answers.GotKeys r.1.stamp shows.0 raises syncs) (GetsAllAs colours keys r.0 r.1) ok
         (λ log kept after x. (
           refl,
           after,
@@ -461,13 +458,13 @@ module _ (s : Store) (c d : Client) (on : RestsOn s c d) (answer : Answer) where
             refl,
           ),
         )))
-        (λ far. absurd (let e = away_told s c d on objects what home _ (ap object_home at) tells far in
+        (λ far. absurd (let e = away_told s c d on objects (whats.GetAll object keys) home _ (ap object_home at) tells far in
         let f : ⊥ = cc (e) in f)))
     by (Err fault) shows tells ok err =
-        subst (λ (a : Answer). GivesOf s objects c d what a []) (sym shows)
+        subst (λ (a : Answer). GivesOf s objects c d (whats.GetAll object keys) a []) (sym shows)
         (given_all s c d on objects object keys (fault_answer fault)
-        (told_refused s c d on objects what refl (shards colours keys) synced_are home (ap object_home at) fault err)
-        (away_by_fault s c d on objects what home fault (ap object_home at) tells))
+        (told_refused s c d on objects (whats.GetAll object keys) refl (shards colours keys) synced_are home (ap object_home at) fault err)
+        (away_by_fault s c d on objects (whats.GetAll object keys) home fault (ap object_home at) tells))
 
   pub gives_read : (m n : TxMap) (found now : Option Tx) (keys : List (List ℕ))
       (call : Result (List Value × Tx × StampedRead) ObjectFault) → now ≡ tx_found call
@@ -476,24 +473,18 @@ module _ (s : Store) (c d : Client) (on : RestsOn s c d) (answer : Answer) where
       → IfErr call (KeysRefused m.home s c d (rising m.colours))
       → GivesTo s c d (opened.Tx m found) (opened.Tx n now) (λ object. whats.Read object keys) answer
   gives_read m n found now keys call is shows tells ok err objects object at = by call is shows tells ok err where
-    abbrev what : What
-    what = whats.Read object keys
-
-    abbrev log : Rest → Log
-    log rest = log_of (seen_of d) rest
-
-    synced_are : colours_synced (caller_of s d objects) what ≡ rising m.colours
+    synced_are : colours_synced (caller_of s d objects) (whats.Read object keys) ≡ rising m.colours
     synced_are = ap (λ (k : Option Kind). rising (object_colours k)) at
 
     by : (call : Result (List Value × Tx × StampedRead) ObjectFault) → now ≡ tx_found call
         → ShowsKeys keys (keys_found call) answer → (c.region ≢ m.home → call ≡ Err (faults.NotHome m.home))
         → IfOk call (λ r. ReadsKeys s c d m.colours keys r.0 r.1 r.2)
         → IfErr call (KeysRefused m.home s c d (rising m.colours))
-        → GivesAt s objects c d object (opened.Tx m found) (opened.Tx n now) what answer
+        → GivesAt s objects c d object (opened.Tx m found) (opened.Tx n now) (whats.Read object keys) answer
     by (Ok r) is shows tells ok err =
         let raises = map raise_piece r.2.raises in
         let syncs = map sync_piece r.2.syncs in
-        subst (λ (a : Answer). GivesAt s objects c d object (opened.Tx m found) (opened.Tx n now) what a) (sym shows.2)
+        subst (λ (a : Answer). GivesAt s objects c d object (opened.Tx m found) (opened.Tx n now) (whats.Read object keys) a) (sym shows.2)
         (record {
           rests = on.client;
           same = on.same;
@@ -504,33 +495,33 @@ module _ (s : Store) (c d : Client) (on : RestsOn s c d) (answer : Answer) where
                 keeps_read s d objects e.0 object (Some r.1.versions) e.1,
                 λ rest fits.
                     let x = e.2 rest fits in (
-                      subst (λ (v : List Version). Explains (log rest) (caller_of s d objects) (with_read kept object None) what
+                      subst (λ (v : List Version). Explains (log_of (seen_of d) rest) (caller_of s d objects) (with_read kept object None) (whats.Read object keys)
                           (answers.GotKeys r.2.stamp shows.0 raises syncs) [] (with_read e.0 object (Some v)))
                           (sym x.5.1)
-                          (explains_read (log rest) (caller_of s d objects) (with_read kept object None) object keys r.2.stamp
+                          (explains_read (log_of (seen_of d) rest) (caller_of s d objects) (with_read kept object None) object keys r.2.stamp
                           shows.0 raises syncs e.0 x.1 x.3
-                          (subst (λ (l : List ℕ). ReadsAt (log rest) (caller_of s d objects) (with_read kept object None) l
+                          (subst (λ (l : List ℕ). ReadsAt (log_of (seen_of d) rest) (caller_of s d objects) (with_read kept object None) l
                           r.2.stamp raises syncs e.0) (sym synced_are) x.0) x.2 x.4
                           (subst (λ (v : List Value). AreAnswers keys v shows.0) x.5.0 shows.1)),
                       λ k. ap (λ (reads : ℕ → Option (List Version)). updated reads object (Some r.1.versions) k)
-                          (reads_keep (log rest) (caller_of s d objects) (with_read kept object None) (rising m.colours)
+                          (reads_keep (log_of (seen_of d) rest) (caller_of s d objects) (with_read kept object None) (rising m.colours)
                           r.2.stamp raises syncs e.0 x.0)
                           ∙ (updated_twice kept.reads object None (Some r.1.versions) k
                           ∙ ap (λ (o : Option Tx). updated kept.reads object (versions_in (opened.Tx n o)) k) (sym is)),
                     ),
               );
-          away = λ far. absurd (let e = away_told s c d on objects what m.home _ (ap object_home at) tells far in
+          away = λ far. absurd (let e = away_told s c d on objects (whats.Read object keys) m.home _ (ap object_home at) tells far in
               let f : ⊥ = cc (e) in f);
           finished = λ done. inl (on.finished done);
           helps = λ helps. inr refl;
         })
     by (Err fault) is shows tells ok err =
-        subst (λ (a : Answer). GivesAt s objects c d object (opened.Tx m found) (opened.Tx n now) what a) (sym shows)
+        subst (λ (a : Answer). GivesAt s objects c d object (opened.Tx m found) (opened.Tx n now) (whats.Read object keys) a) (sym shows)
         (given_none s c d on objects object keys (opened.Tx m found) (opened.Tx n now) (fault_answer fault)
-        (told_refused s c d on objects what refl (rising m.colours) synced_are m.home (ap object_home at) fault
+        (told_refused s c d on objects (whats.Read object keys) refl (rising m.colours) synced_are m.home (ap object_home at) fault
         (as_several m.home s c d (rising m.colours) fault err))
         (ap (λ (o : Option Tx). versions_in (opened.Tx n o)) is) (no_keys fault)
-        (away_by_fault s c d on objects what m.home fault (ap object_home at) tells))
+        (away_by_fault s c d on objects (whats.Read object keys) m.home fault (ap object_home at) tells))
 
   pub gives_commit : (m n : TxMap) (found : Option Tx) (pairs : List Pair)
       (call : Result (Verdict × Appended × StampedRead) ObjectFault) → answer ≡ commit_answer call
@@ -539,26 +530,23 @@ module _ (s : Store) (c d : Client) (on : RestsOn s c d) (answer : Answer) where
       → IfErr call (CommitRefused m.home s c d m.colours (option_map (λ (t : Tx). t.versions) found) pairs)
       → GivesTo s c d (opened.Tx m found) (opened.Tx n None) (λ object. whats.Commit object pairs) answer
   gives_commit m n found pairs call shown tells ok err objects object at =
-      subst (λ (a : Answer). GivesAt s objects c d object (opened.Tx m found) (opened.Tx n None) what a) (sym shown)
+      subst (λ (a : Answer). GivesAt s objects c d object (opened.Tx m found) (opened.Tx n None) (whats.Commit object pairs) a) (sym shown)
       (by call tells ok err) where
-        abbrev what : What
-        what = whats.Commit object pairs
-
         by : (call : Result (Verdict × Appended × StampedRead) ObjectFault)
             → (c.region ≢ m.home → call ≡ Err (faults.NotHome m.home))
             → IfOk call (λ r. (rests : Tx) × (found ≡ Some rests) × Commits s c d m.colours rests.versions pairs r.0 r.1 r.2)
             → IfErr call (CommitRefused m.home s c d m.colours (option_map (λ (t : Tx). t.versions) found) pairs)
-            → GivesAt s objects c d object (opened.Tx m found) (opened.Tx n None) what (commit_answer call)
+            → GivesAt s objects c d object (opened.Tx m found) (opened.Tx n None) (whats.Commit object pairs) (commit_answer call)
         by (Ok r) tells ok err =
             given_commit s c d on objects object pairs (opened.Tx m found) (opened.Tx n None) (commit_answer (Ok r))
             (subst (λ (o : Option Tx). IsRuled s c d on objects object pairs (versions_in (opened.Tx m o)) (commit_answer (Ok r)))
             (sym ok.1) (committed s c d on objects object pairs m.home m.colours at ok.0.versions r.0 r.1 r.2 ok.2)) refl
-            (λ far. absurd (let e = away_told s c d on objects what m.home _ (ap object_home at) tells far in
+            (λ far. absurd (let e = away_told s c d on objects (whats.Commit object pairs) m.home _ (ap object_home at) tells far in
             let f : ⊥ = cc (e) in f))
         by (Err fault) tells ok err =
             given_commit s c d on objects object pairs (opened.Tx m found) (opened.Tx n None) (fault_answer fault)
             (unruled s c d on objects object pairs m.home m.colours at (versions_in (opened.Tx m found)) fault err) refl
-            (away_by_fault s c d on objects what m.home fault (ap object_home at) tells)
+            (away_by_fault s c d on objects (whats.Commit object pairs) m.home fault (ap object_home at) tells)
 
 -- MEMORY WAS REFUSED BEFORE ANYTHING WAS ASKED
 

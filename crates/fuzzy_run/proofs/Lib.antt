@@ -11,7 +11,6 @@ mod GivingPuts
 mod GivingGets
 mod FewShown
 mod GivingReads
-mod KeysShown
 mod ObjectFrames
 mod Yielding
 mod Dealing

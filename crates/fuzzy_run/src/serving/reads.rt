@@ -45,11 +45,7 @@ fn room_for(alloc: Global) -> Result<ReadRoom, AllocError>
 }
 
 // Keys with their values, in the room that was taken for them.
-fn answers_shown(
-    keys: Keys,
-    values: Values,
-    mut answers: Vec<KeyAnswer>,
-) -> ListOf<KeyAnswer>
+fn answers_shown(keys: Keys, values: Values, mut answers: Vec<KeyAnswer>) -> ListOf<KeyAnswer>
     requires empty { answers.items ≡ [] }
     requires room { length keys ≤ vec_capacity answers }
     requires many { length values ≡ length keys }

@@ -1,1 +1,0 @@
--- Keys with their values, one after another, as a reply shows them.
