@@ -10,6 +10,7 @@ mod GivingObjects
 mod GivingPuts
 mod GivingGets
 mod FewShown
+mod ReadKeys
 mod GivingReads
 mod ObjectFrames
 mod Yielding
