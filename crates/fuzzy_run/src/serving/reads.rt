@@ -211,12 +211,12 @@ fn ruled(
     ensures { result ≡ commit_answer call }
 {
     match call {
-        Ok((Verdict::Committed { stamp }, own, read)) => {
-            verdict_shown(None, stamp, own, read, pieces, room)
-        }
-        Ok((Verdict::Conflict { key, stamp }, own, read)) => {
-            verdict_shown(Some(key), stamp, own, read, pieces, room)
-        }
+        Ok((verdict, own, read)) => match verdict {
+            Verdict::Committed { stamp } => verdict_shown(None, stamp, own, read, pieces, room),
+            Verdict::Conflict { key, stamp } => {
+                verdict_shown(Some(key), stamp, own, read, pieces, room)
+            }
+        },
         Err(fault) => refused(fault),
     }
 }
