@@ -61,7 +61,7 @@ module _ (script : Script) (fits : IsFitting script)
   can_serve n x at =
       let d = dealt_at n x at in
       let c = new.1 n x.client (client_at n x at) in record {
-        serves = λ objects. serves_none script.shape s objects n x.client c;
+        serves = λ objects. serves_none script.shape s objects n x.client x.objects.items c d.unfolded;
         finished = c.finished;
         kept = kept_unfolded x.client script.shape.regions script.shape.colours script.objects x.objects.items
             (c.rests.colours ∙ ap (λ (z : Size). z.colours) size) few fits.objects d.opened d.unfolded;
@@ -103,11 +103,13 @@ module _ (script : Script) (fits : IsFitting script)
           get_or_from_slice_get replies_after n y.0.replies.items []
           (mapped (λ (z : Served). z.replies.items) after n y.0 y.1) in
           subst (λ (z : Client). (z.number ≡ n) × (slice_get script.shape.homes n ≡ Some z.region)
-          × Serves s script.objects z (commands_of script n) (slice_index_or replies_after n [])) is (
+          × (xs : List Opened) × Serves s script.objects z xs (commands_of script n) (slice_index_or replies_after n [])) is (
             v.same.0 ∙ k.number,
             (k.home ∙ ap Some (sym v.same.1)),
-            subst (λ (rs : List ReplyLine). Serves s script.objects y.0.client (commands_of script n) rs) (sym replied)
-                (subst (λ (cs : List Command). Serves s script.objects y.0.client cs y.0.replies.items)
+            y.0.objects.items,
+            subst (λ (rs : List ReplyLine). Serves s script.objects y.0.client y.0.objects.items (commands_of script n) rs)
+                (sym replied)
+                (subst (λ (cs : List Command). Serves s script.objects y.0.client y.0.objects.items cs y.0.replies.items)
                 (dealt_at n x.0 x.1).commands_are (v.serves script.objects (dealt_at n x.0 x.1).opened)),
           );
     } where
@@ -148,7 +150,7 @@ pub are_clients : (script : Script) (s : Store) (clients : List Client) (replies
     → AreServed script s clients replies → AreClients s clients
 are_clients script s clients replies served = (
   served.many ∙ ap (λ (z : Size). z.clients) (sym served.size),
-  λ n c at. ((served.each n c at).2.rests, (served.each n c at).0),
+  λ n c at. ((served.each n c at).3.rests, (served.each n c at).0),
 )
 
 -- a report that is this one is lawful where this one is

@@ -130,7 +130,7 @@ pub completes : (status : Status) (left old new : Option (List ℕ)) (read_fault
     → (read_fault → ⊥) → (write_fault → ⊥) → IsAScript left → (status ≡ Done) ⊎ (status ≡ NoMemory)
 completes Done left old new r w no_words refused reading writing no_r no_w script = inl refl
 completes BadWords left old new r w no_words refused reading writing no_r no_w script = absurd (no_words refl)
-completes Refused left old new r w no_words refused reading writing no_r no_w doable =
+completes Refused left old new r w no_words refused reading writing no_r no_w script =
     absurd (script_not_refused left old new script (refused refl))
 completes ReadFault left old new r w no_words refused reading writing no_r no_w script = absurd (no_r (reading refl))
 completes WriteFault left old new r w no_words refused reading writing no_r no_w script = absurd (no_w (writing refl))

@@ -14,7 +14,7 @@ use crate::serving::opened::Opened;
 use crate::serving::scans::scan;
 use crate::serving::syncs::sync;
 use fuzzy_io::Gate;
-use log_client::{Client, Store};
+use log_client::{Client, Store, reads_go_on};
 use log_node::{Items, ListOf};
 use report_text::{Answer, ReplyLine};
 use script_text::{Command, What};
@@ -89,6 +89,7 @@ fn answer<R: Wait, G: Gate>(
     ensures kept { Finished client.new → AreKept client.new opened.new.items }
     ensures same { map kind_opened opened.new.items ≡ map kind_opened opened.old.items }
 {
+    reads_go_on();
     match object_asked(&what) {
         None => log_answer(rt, alloc, store, gate, client, what),
         Some(object) => {

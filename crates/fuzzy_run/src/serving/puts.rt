@@ -10,8 +10,8 @@ ghost use Rattle.fuzzy_run.specs.Serving.{GivesFor};
 use crate::serving::opened::Opened;
 use crate::serving::replies::appended;
 use fuzzy_io::Gate;
-use log_client::{Client, Store};
-use log_node::{Pairs, Text};
+use log_client::{Client, Store, reads_go_on};
+use log_node::{MAX_COLOURS, Pairs, Text};
 use report_text::Answer;
 use script_text::What;
 use std::alloc::Global;
@@ -39,6 +39,7 @@ pub fn put<R: Wait, G: Gate>(
     ensures gives { GivesFor store.now client.old client.new (kind_opened opened.old)
         (λ object. What.Put object key value) result }
 {
+    reads_go_on();
     let Ok(pieces) = Vec::with_capacity(alloc, 1) else {
         return Answer::NoMemory;
     };
@@ -55,7 +56,7 @@ pub fn put<R: Wait, G: Gate>(
     }
 }
 
-/// Puts several pairs of a map at once. No key has two shards, so there are no more points than pairs.
+/// Puts several pairs of a map at once. There are no more points than colours.
 pub fn put_all<R: Wait, G: Gate>(
     rt: &R,
     alloc: Global,
@@ -74,7 +75,7 @@ pub fn put_all<R: Wait, G: Gate>(
     ensures gives { GivesFor store.now client.old client.new (kind_opened opened.old)
         (λ object. What.PutAll object pairs) result }
 {
-    let Ok(pieces) = Vec::with_capacity(alloc, pairs.len()) else {
+    let Ok(pieces) = Vec::with_capacity(alloc, MAX_COLOURS as usize) else {
         return Answer::NoMemory;
     };
     match opened {
@@ -105,6 +106,7 @@ pub fn del<R: Wait, G: Gate>(
     ensures gives { GivesFor store.now client.old client.new (kind_opened opened.old)
         (λ object. What.Del object key) result }
 {
+    reads_go_on();
     let Ok(pieces) = Vec::with_capacity(alloc, 1) else {
         return Answer::NoMemory;
     };
