@@ -10,6 +10,9 @@ mod GivingObjects
 mod GivingPuts
 mod ReplyRoom
 mod GivingGets
+mod FewShown
+mod ReadKeys
+mod GivingReads
 mod ReadsFound
 mod ObjectFrames
 mod Yielding
