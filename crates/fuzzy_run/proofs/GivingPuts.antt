@@ -4,6 +4,7 @@ use Rattle.std.specs.Prelude.{◌%◌, IfErr, IfOk, Result, slice_index, sum}
 use Rattle.std.proofs.lemmas.List.{length-map}
 use Rattle.log_node.specs.declared.ids.Colours.{Colours}
 use Rattle.log_node.specs.declared.forms.Form.TheVariants as forms
+use Rattle.log_node.specs.declared.forms.Pair.{Pair}
 use Rattle.log_node.specs.Sets.{members}
 use Rattle.object_fold.specs.Nodes.{shard_of}
 use Rattle.object_form.specs.Forms.{form_text}
@@ -13,7 +14,7 @@ use Rattle.script_text.specs.declared.script.Kind.TheVariants as kinds
 use Rattle.script_text.specs.declared.script.Object.{Object}
 use Rattle.script_text.specs.declared.script.What.TheVariants as whats
 use Rattle.report_text.specs.declared.report.Answer.{Answer}
-use Rattle.lawful_run.specs.Asks.{AsksToAppend, object_colours, object_home, put_form, shards}
+use Rattle.lawful_run.specs.Asks.{AsksToAppend, keys_of, object_colours, object_home, put_form, shards}
 use Rattle.lawful_run.proofs.CallerLemmas.{one_shard}
 use Rattle.script_meaning.specs.States.{kind_in}
 use Rattle.append_core.specs.declared.stood.Point.{Point}
@@ -83,6 +84,18 @@ module _ (s : Store) (c d : Client) (on : RestsOn s c d) (call : Result Appended
           refl,
         ))
         call (told_home c home call tells) ok err)
+
+  pub gives_map_put_all : (home : ℕ) (colours : List ℕ) (pairs : List Pair)
+      → (c.region ≢ home → call ≡ Err (faults.NotHome home))
+      → IfOk call (StandsIn s c d (shards colours (keys_of pairs)) (form_text (forms.PutAll pairs)))
+      → IfErr call (PutRefused (Some home) s c d (shards colours (keys_of pairs)) (form_text (forms.PutAll pairs)))
+      → GivesFor s c d (kinds.Map home colours) (λ object. whats.PutAll object pairs) answer
+  gives_map_put_all home colours pairs tells ok err objects object at =
+      subst (λ (a : Answer). GivesOf s objects c d (whats.PutAll object pairs) a []) (sym shown)
+      (gives_put s c d on objects (whats.PutAll object pairs) (λ kept. (refl, refl)) refl (Some home)
+      (ap object_home at) (shards colours (keys_of pairs)) (form_text (forms.PutAll pairs))
+      (λ kept set is. (is ∙ ap (λ (k : Option Kind). shards (object_colours k) (keys_of pairs)) (sym at), refl))
+      call (told_home c home call tells) ok err)
 
   pub gives_causal_put : (colour : ℕ) (key value : List ℕ) → colour < 64
       → IfOk call (StandsIn s c d (colour ∷ []) (form_text (forms.Causal key value)))

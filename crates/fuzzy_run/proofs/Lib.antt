@@ -8,7 +8,12 @@ mod GivingCommands
 mod GivingScans
 mod GivingObjects
 mod GivingPuts
+mod ReplyRoom
 mod GivingGets
+mod FewShown
+mod ReadKeys
+mod GivingReads
+mod ReadsFound
 mod ObjectFrames
 mod Yielding
 mod Dealing

@@ -1,6 +1,5 @@
 -- The script of a load can be run on threads, and what its run shows.
 use Rattle.std.proofs.Common.{◌≡◌, ℕ, ◌<◌, ◌≤◌, false, List, refl, ap, sym, subst, ◌∙◌, ◌⊎◌, inl, inr, arith}
-use Rattle.std.specs.Prelude.{IsTrue}
 use Rattle.std.specs.List.{All}
 use Rattle.log_node.specs.declared.limits.TheConstants.{MAX_ROWS}
 use Rattle.script_text.specs.declared.script.What.{What}
@@ -21,32 +20,30 @@ use Rattle.lawful_run.specs.Lawful.{LawfulRun}
 use Rattle.fuzzy_run.specs.declared.status.Status.{Status}
 use Rattle.fuzzy_run.specs.declared.status.Status.TheVariants.{Done, WriteFault, NoMemory}
 use Rattle.fuzzy_run.specs.TopCall.{IsLoaded}
-use Rattle.fuzzy_run.specs.Built.{is_served}
 
--- a command of a load is served, and is no stop
-served : (what : What) → IsPlainWhat what → IsTrue (is_served what) × (is_stop what ≡ false)
-served (whats.Append colours text) p = (refl, refl)
-served (whats.Stop steps colours text) p = absurd p
-served (whats.Sync colour) p = (refl, refl)
-served (whats.Scan colours) p = absurd p
-served (whats.Pull region colour) p = (refl, refl)
-served (whats.Trim colour) p = absurd p
-served (whats.Put object key value) p = absurd p
-served (whats.Get object key) p = absurd p
-served (whats.Del object key) p = absurd p
-served (whats.PutAll object pairs) p = absurd p
-served (whats.GetAll object keys) p = absurd p
-served (whats.Read object keys) p = absurd p
-served (whats.Commit object pairs) p = absurd p
-served (whats.Enq object value) p = absurd p
-served (whats.Deq object) p = absurd p
+-- a command of a load is no stop
+no_stop : (what : What) → IsPlainWhat what → is_stop what ≡ false
+no_stop (whats.Append colours text) p = refl
+no_stop (whats.Stop steps colours text) p = absurd p
+no_stop (whats.Sync colour) p = refl
+no_stop (whats.Scan colours) p = absurd p
+no_stop (whats.Pull region colour) p = refl
+no_stop (whats.Trim colour) p = absurd p
+no_stop (whats.Put object key value) p = absurd p
+no_stop (whats.Get object key) p = absurd p
+no_stop (whats.Del object key) p = absurd p
+no_stop (whats.PutAll object pairs) p = absurd p
+no_stop (whats.GetAll object keys) p = absurd p
+no_stop (whats.Read object keys) p = absurd p
+no_stop (whats.Commit object pairs) p = absurd p
+no_stop (whats.Enq object value) p = absurd p
+no_stop (whats.Deq object) p = absurd p
 
 -- What a run on threads asks of a script.
 pub record CanRun (script : Script) : Type 0 where
   pub fits : IsFitting script
   pub rows : script.shape.rows ≤ MAX_ROWS
   pub some_rows : 0 < script.shape.rows
-  pub built : All (λ (c : Command). IsTrue (is_served c.what)) script.commands
   pub stops : StopsAreLast script
 
 pub load_can_run : LoadsFit → (count : ℕ) → count ≤ MAX_LOAD → (script : Script) → script ≡ load_script count → CanRun script
@@ -54,9 +51,8 @@ load_can_run fit count le script same = subst CanRun (sym same) (record {
   fits = (fit count le).0;
   rows = omega arith;
   some_rows = omega arith;
-  built = λ k d lt. (served _ (plain k d lt)).0;
   stops = λ i j d lt within stop.
-      absurd (let f = (served _ (plain i d (omega (arith, lt, within)))).1 in let g : ⊥ = cc (f, stop) in g);
+      absurd (let f = no_stop _ (plain i d (omega (arith, lt, within))) in let g : ⊥ = cc (f, stop) in g);
 }) where
   plain : All (λ (c : Command). IsPlainWhat c.what) (let s : Script = load_script count in s.commands)
   plain = (fit count le).1.plain

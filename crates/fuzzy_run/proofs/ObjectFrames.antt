@@ -1,13 +1,12 @@
 -- A client's objects while it is served: each stays open, and what is asked of one is answered by that one.
 use Rattle.std.proofs.Common.{◌≡◌, ◌⊎◌, ℕ, zero, suc, List, [], ◌∷◌, length, map, set, get_or, Option, Some, None, slice_get, refl, ap, sym, subst, ◌∙◌, inl, inr, arith}
-use Rattle.std.specs.Prelude.{Bool, IsTrue, ◌<◌, ◌≤◌}
+use Rattle.std.specs.Prelude.{Bool, IsTrue, false, ◌<◌, ◌≤◌}
 use Rattle.std.specs.List.{All}
 use Rattle.std.specs.Option.{option_map}
 use Rattle.std.proofs.lemmas.Simd.{map-map}
 use Rattle.std.proofs.lemmas.Option.{slice_get-map, get_or_from_slice_get, slice_get_within}
 use Rattle.log_node.specs.declared.limits.TheConstants.{MAX_COLOURS}
 use Rattle.log_node.specs.Seen.{PlacedNode}
-use Rattle.col_core.specs.Keeping.{Kept, nothing_kept}
 use Rattle.script_text.specs.Fitting.{HasObject, IsKindWithin, UsesObject, is_any_map, is_map, is_queue, is_tx}
 use Rattle.script_text.specs.declared.script.Kind.{Kind}
 use Rattle.script_text.specs.declared.script.Kind.TheVariants as kinds
@@ -18,41 +17,47 @@ use Rattle.script_text.specs.declared.script.What.TheVariants as whats
 use Rattle.script_text.specs.Words.{word_of}
 use Rattle.report_text.specs.declared.report.Answer.{Answer}
 use Rattle.report_text.specs.declared.report.ReplyLine.{ReplyLine}
-use Rattle.lawful_run.specs.Explains.{Explains}
 use Rattle.lawful_run.specs.Refusals.{kept_behind}
-use Rattle.client_law.specs.Knowing.{log_of}
 use Rattle.script_meaning.specs.States.{kind_in}
 use Rattle.log_client.specs.declared.store.Store.{Store}
 use Rattle.log_client.specs.declared.client.Client.{Client}
-use Rattle.log_client.specs.Clients.{Finished, IsClient, Keeps, caller_of, holds_of, seen_of, tracks_of}
+use Rattle.log_client.specs.Clients.{Finished, IsClient, tracks_of}
 use Rattle.log_client.specs.Objects.{AreColours}
 use Rattle.log_client.specs.Reading.{RestsOn}
+use Rattle.log_client.specs.StampedReads.{ReadsGoOn}
 use Rattle.log_map.proofs.CallerLemmas.{map_later}
 use Rattle.log_queue.proofs.CallerLemmas.{queue_later}
 use Rattle.causal_map.proofs.CallerLemmas.{causal_later}
+use Rattle.atomic_map.proofs.CallerLemmas.{map_later as atomic_later}
+use Rattle.tx_map.proofs.CallerLemmas.{map_later as tx_later}
 use Rattle.fuzzy_run.specs.declared.serving.opened.Opened.{Opened}
 use Rattle.fuzzy_run.specs.declared.serving.opened.Opened.TheVariants as opened
-use Rattle.fuzzy_run.specs.Opened.{AreKept, AreOf, HasCommand, IsKept, IsOfOne, IsUnfolded, kind_opened, object_asked}
-use Rattle.fuzzy_run.specs.Serving.{Gives, GivesFor, GivesOf, IsAnswered}
+use Rattle.fuzzy_run.specs.Opened.{AreKept, AreOf, HasCommand, IsKept, IsOfOne, IsUnfolded, StaysOpen, kind_opened, object_asked}
+use Rattle.fuzzy_run.specs.Serving.{Gives, GivesAll, GivesAt, GivesFor, GivesTo, IsAnswered}
 use Rattle.fuzzy_run.proofs.ByPlace.{mapped, unmapped}
-use Rattle.fuzzy_run.proofs.CommandAnswers.{IsOfLog, of_log}
+use Rattle.fuzzy_run.proofs.CommandAnswers.{IsOfLog}
+use Rattle.fuzzy_run.proofs.GivingObjects.{LetsNoneGo}
+use Rattle.fuzzy_run.proofs.ReadsFound.{IsNoRead, finds_same, given_at}
 
 -- THEY STAY OPEN
 
-pub kept_later : (s : Store) (c d : Client) (x : Opened) → IsClient s c → RestsOn s c d → IsKept c x → IsKept d x
-kept_later s c d (opened.Map of) is on kept = map_later s c d of is on kept
-kept_later s c d (opened.Tx home colours) is on kept = tt
-kept_later s c d (opened.Causal of) is on kept = causal_later s c d of is on kept
-kept_later s c d (opened.Queue of) is on kept = queue_later s c d of is on kept
+pub kept_later : ReadsGoOn → (s : Store) (c d : Client) (x : Opened) → IsClient s c → RestsOn s c d → IsKept c x
+    → IsKept d x
+kept_later law s c d (opened.Map single several) is on kept =
+    (map_later s c d single is on kept.0, atomic_later law s c d on several is kept.1, kept.2, kept.3)
+kept_later law s c d (opened.Tx map found) is on kept = (tx_later law s c d on map is kept.0, kept.1)
+kept_later law s c d (opened.Causal of) is on kept = causal_later s c d of is on kept
+kept_later law s c d (opened.Queue of) is on kept = queue_later s c d of is on kept
 
-pub all_later : (s : Store) (c d : Client) (xs : List Opened) → IsClient s c → RestsOn s c d → AreKept c xs → AreKept d xs
-all_later s c d xs is on kept n x at = kept_later s c d x is on (kept n x at)
+pub all_later : ReadsGoOn → (s : Store) (c d : Client) (xs : List Opened) → IsClient s c → RestsOn s c d → AreKept c xs
+    → AreKept d xs
+all_later law s c d xs is on kept n x at = kept_later law s c d x is on (kept n x at)
 
 -- after a command of the log, of a client who has then finished
-pub kept_on : (s : Store) (c d : Client) (what : What) (answer : Answer) (nodes : List PlacedNode) (xs : List Opened)
-    → IsClient s c → Gives s c d what answer nodes → AreKept c xs → Finished d → AreKept d xs
-kept_on s c d what answer nodes xs is v kept done =
-    all_later s c d xs is
+pub kept_on : ReadsGoOn → (s : Store) (c d : Client) (what : What) (answer : Answer) (nodes : List PlacedNode)
+    (xs : List Opened) → IsClient s c → Gives s c d what answer nodes → AreKept c xs → Finished d → AreKept d xs
+kept_on law s c d what answer nodes xs is v kept done =
+    all_later law s c d xs is
     (record { client = v.rests; same = v.same; goes = v.goes; grows = v.grows; finished = λ before. done }) kept
 
 set_cases : (xs : List Opened) (n j : ℕ) (x y : Opened) → slice_get (set xs n x) j ≡ Some y
@@ -64,11 +69,11 @@ set_cases (z ∷ xs) (suc n) zero x y e = inr e
 set_cases (z ∷ xs) (suc n) (suc j) x y e = set_cases xs n j x y e
 
 -- after a command of one of them
-pub kept_with : (s : Store) (c d : Client) (xs : List Opened) (n : ℕ) (y : Opened) → IsClient s c → RestsOn s c d
-    → AreKept c xs → IsKept d y → AreKept d (set xs n y)
-kept_with s c d xs n y is on kept new j x at = elim (set_cases xs n j y x at) [
+pub kept_with : ReadsGoOn → (s : Store) (c d : Client) (xs : List Opened) (n : ℕ) (y : Opened) → IsClient s c
+    → RestsOn s c d → AreKept c xs → IsKept d y → AreKept d (set xs n y)
+kept_with law s c d xs n y is on kept new j x at = elim (set_cases xs n j y x at) [
   | inl same ↦ subst (IsKept d) same new
-  | inr old ↦ kept_later s c d x is on (kept j x old)
+  | inr old ↦ kept_later law s c d x is on (kept j x old)
 ]
 
 pub kinds_with : (xs : List Opened) (n : ℕ) (x y : Opened) → slice_get xs n ≡ Some x → kind_opened y ≡ kind_opened x
@@ -90,7 +95,7 @@ kept_unfolded c regions colours objects xs long few within of unfolded n x at =
     (ap (λ (l : List Kind). slice_get l n) of ∙ mapped kind_opened xs n x at) in
     let kind = subst (λ (o : Object). IsKindWithin regions colours o.kind)
     (get_or_from_slice_get objects n back.0 back.0 back.1) (within n back.0 (slice_get_within objects n back.0 back.1)) in
-    subst IsUnfolded (get_or_from_slice_get xs n x x at) (unfolded n x (slice_get_within xs n x at)) c regions
+    (subst IsUnfolded (get_or_from_slice_get xs n x x at) (unfolded n x (slice_get_within xs n x at))).1 c regions
     (subst (λ (k : ℕ). k ≤ MAX_COLOURS) (sym long) few)
     (subst (λ (k : ℕ). IsKindWithin regions k (kind_opened x)) (sym long)
     (subst (IsKindWithin regions colours) back.2 kind))
@@ -189,7 +194,7 @@ some_objects xs = (
 )
 
 -- a command of no object is of the log
-of_none : (what : What) → object_asked what ≡ None → IsOfLog what
+pub of_none : (what : What) → object_asked what ≡ None → IsOfLog what
 of_none (whats.Append colours text) none = tt
 of_none (whats.Stop steps colours text) none = tt
 of_none (whats.Sync colour) none = tt
@@ -208,56 +213,51 @@ of_none (whats.Deq object) none = absurd (let f : ⊥ = cc (none) in f)
 
 -- WHAT IS GIVEN
 
--- to a command of the log, whatever the objects
-pub given_by_log : (s : Store) (objects : List Object) (c d : Client) (what : What) (answer : Answer)
-    (nodes : List PlacedNode) → object_asked what ≡ None → Gives s c d what answer nodes
-    → GivesOf s objects c d what answer nodes
-given_by_log s objects c d what answer nodes none v =
-    let of = of_none what none in record {
-      rests = v.rests;
-      same = v.same;
-      goes = v.goes;
-      explained = λ kept done keeps.
-          let e = v.explained objects kept done keeps in (
-            e.0,
-            subst (Keeps s d objects) (sym (of_log what e.0 of).1) e.1,
-            λ rest fits. subst (λ (k : Kept). Explains (log_of (seen_of d) rest) (caller_of s d objects) k what answer nodes e.0)
-                (sym (of_log what kept of).0) (e.2 rest fits),
-          );
-      away = λ away. absurd ((of_log what nothing_kept of).2 (caller_of s d objects) away);
-      finished = v.finished;
-      helps = v.helps;
-    }
-
 -- to a command that names an object by its number
-pub gives_asked : (s : Store) (c d : Client) (kind : Kind) (what : What) (asks : ℕ → What) (n : ℕ) (answer : Answer)
-    → what ≡ asks n → ((k : ℕ) → object_asked (asks k) ≡ Some k) → GivesFor s c d kind asks answer
-    → (objects : List Object) (object : ℕ) → object_asked what ≡ Some object → kind_in objects object ≡ Some kind
-    → GivesOf s objects c d what answer []
-gives_asked s c d kind what asks n answer is numbered gives objects object asked at =
+pub gives_asked : (s : Store) (c d : Client) (x y : Opened) (what : What) (asks : ℕ → What) (n : ℕ) (answer : Answer)
+    → what ≡ asks n → ((k : ℕ) → object_asked (asks k) ≡ Some k) → GivesTo s c d x y asks answer
+    → (objects : List Object) (object : ℕ) → object_asked what ≡ Some object
+    → kind_in objects object ≡ Some (kind_opened x) → GivesAt s objects c d object x y what answer
+gives_asked s c d x y what asks n answer is numbered gives objects object asked at =
     let same = named n object (sym (numbered n) ∙ (sym (ap object_asked is) ∙ asked)) in
-    subst (λ (w : What). GivesOf s objects c d w answer []) (sym (is ∙ ap asks same)) (gives objects object at)
+    subst (λ (w : What). GivesAt s objects c d object x y w answer) (sym (is ∙ ap asks same)) (gives objects object at)
+
+-- the same of a command that neither lets a read go nor uses it up, of an object that has none
+pub gives_unread : (s : Store) (c d : Client) (x y : Opened) (what : What) (asks : ℕ → What) (n : ℕ) (answer : Answer)
+    → what ≡ asks n → ((k : ℕ) → object_asked (asks k) ≡ Some k) → ((k : ℕ) → LetsNoneGo (asks k))
+    → ((k : ℕ) → IsNoRead (asks k)) → is_tx (kind_opened x) ≡ false → StaysOpen d x y
+    → GivesFor s c d (kind_opened x) asks answer
+    → (objects : List Object) (object : ℕ) → object_asked what ≡ Some object
+    → kind_in objects object ≡ Some (kind_opened x) → GivesAt s objects c d object x y what answer
+gives_unread s c d x y what asks n answer is numbered none other no_tx stays gives =
+    gives_asked s c d x y what asks n answer is numbered (λ objects object at.
+    given_at s objects c d object x y (asks object) answer (none object) (other object) (finds_same x y no_tx stays.0)
+    (gives objects object at))
 
 -- what is given to a command is its reply
-pub given_answers : (s : Store) (objects : List Object) (c d : Client) (command : Command) (reply : ReplyLine)
-    → reply.line ≡ command.line → reply.word ≡ word_of command.what
-    → GivesOf s objects c d command.what reply.answer reply.nodes → IsAnswered s objects c d command reply
-given_answers s objects c d command reply line word v = record {
+pub given_answers : (s : Store) (objects : List Object) (c d : Client) (xs ys : List Opened) (command : Command)
+    (reply : ReplyLine) → reply.line ≡ command.line → reply.word ≡ word_of command.what
+    → GivesAll s objects c d xs ys command.what reply.answer reply.nodes → IsAnswered s objects c d xs ys command reply
+given_answers s objects c d xs ys command reply line word v = record {
   rests = v.rests;
   same = v.same;
   goes = v.goes;
-  explained = λ kept done keeps.
-      let e = v.explained kept done keeps in (
+  explained = λ kept done keeps knows.
+      let e = v.explained kept done keeps knows in (
         kept_behind command.what e.0,
         e.1,
-        λ rest fits. record {
-          line = line;
-          word = word;
-          answered = e.0;
-          explained = e.2 rest fits;
-          after_is = refl;
-          away = v.away;
-        },
+        λ rest fits.
+            let r = e.2 rest fits in (
+              record {
+                line = line;
+                word = word;
+                answered = e.0;
+                explained = r.0;
+                after_is = refl;
+                away = v.away;
+              },
+              r.1,
+            ),
       );
   finished = v.finished;
   helps = v.helps;

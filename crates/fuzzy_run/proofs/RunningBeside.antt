@@ -23,7 +23,6 @@ use Rattle.log_client.specs.Closes.{AreClients}
 use Rattle.log_client.specs.Opening.{AreNewClients}
 use Rattle.fuzzy_run.specs.declared.serving.opened.Opened.{Opened}
 use Rattle.fuzzy_run.specs.declared.serving.served.Served.{Served}
-use Rattle.fuzzy_run.specs.Built.{is_served}
 use Rattle.fuzzy_run.specs.Dealing.{AreDealt, IsDealt}
 use Rattle.fuzzy_run.specs.Opened.{AreOf}
 use Rattle.fuzzy_run.specs.Served.{CanServe, IsServable, IsServed}
@@ -33,7 +32,6 @@ use Rattle.fuzzy_run.proofs.ObjectFrames.{kept_unfolded, of_one}
 use Rattle.fuzzy_run.proofs.ServedClients.{serves_none, stops_last_of}
 
 module _ (script : Script) (fits : IsFitting script)
-    (built : All (λ (c : Command). IsTrue (is_served c.what)) script.commands)
     (stops : StopsAreLast script) (s : Store)
     (size : s.size ≡ size_of script.shape) (regions : length s.regions ≡ script.shape.regions) (clients : List Client)
     (new : AreNewClients script.shape s clients) (before : List Served)
@@ -50,7 +48,6 @@ module _ (script : Script) (fits : IsFitting script)
 
   servable : (xs : List Opened) → AreOf script.objects xs → All (IsServable s xs) script.commands
   servable xs of k d lt = record {
-    built = built k d lt;
     within = subst (λ (r : ℕ). IsWithin r s.size.colours (slice_index_or script.commands k d).what) (sym regions)
         (subst (λ (z : Size). IsWithin script.shape.regions z.colours (slice_index_or script.commands k d).what) (sym size)
         (fits.commands k d lt));
@@ -64,7 +61,7 @@ module _ (script : Script) (fits : IsFitting script)
   can_serve n x at =
       let d = dealt_at n x at in
       let c = new.1 n x.client (client_at n x at) in record {
-        serves = λ objects. serves_none script.shape s objects n x.client c;
+        serves = λ objects. serves_none script.shape s objects n x.client x.objects.items c d.unfolded;
         finished = c.finished;
         kept = kept_unfolded x.client script.shape.regions script.shape.colours script.objects x.objects.items
             (c.rests.colours ∙ ap (λ (z : Size). z.colours) size) few fits.objects d.opened d.unfolded;
@@ -106,11 +103,13 @@ module _ (script : Script) (fits : IsFitting script)
           get_or_from_slice_get replies_after n y.0.replies.items []
           (mapped (λ (z : Served). z.replies.items) after n y.0 y.1) in
           subst (λ (z : Client). (z.number ≡ n) × (slice_get script.shape.homes n ≡ Some z.region)
-          × Serves s script.objects z (commands_of script n) (slice_index_or replies_after n [])) is (
+          × (xs : List Opened) × Serves s script.objects z xs (commands_of script n) (slice_index_or replies_after n [])) is (
             v.same.0 ∙ k.number,
             (k.home ∙ ap Some (sym v.same.1)),
-            subst (λ (rs : List ReplyLine). Serves s script.objects y.0.client (commands_of script n) rs) (sym replied)
-                (subst (λ (cs : List Command). Serves s script.objects y.0.client cs y.0.replies.items)
+            y.0.objects.items,
+            subst (λ (rs : List ReplyLine). Serves s script.objects y.0.client y.0.objects.items (commands_of script n) rs)
+                (sym replied)
+                (subst (λ (cs : List Command). Serves s script.objects y.0.client y.0.objects.items cs y.0.replies.items)
                 (dealt_at n x.0 x.1).commands_are (v.serves script.objects (dealt_at n x.0 x.1).opened)),
           );
     } where
@@ -120,7 +119,6 @@ module _ (script : Script) (fits : IsFitting script)
 -- The same as the run has it: of the commands that were moved to the clients, of the slice of clients that was served, and
 -- of the clients and replies that were taken out.
 pub were_served : (script : Script) → IsFitting script
-    → All (λ (c : Command). IsTrue (is_served c.what)) script.commands
     → StopsAreLast script → (s : Store)
     → s.size ≡ size_of script.shape → length s.regions ≡ script.shape.regions → (opened : List Client)
     → AreNewClients script.shape s opened → (commands : List Command) → commands ≡ script.commands
@@ -130,11 +128,11 @@ pub were_served : (script : Script) → IsFitting script
     → clients ≡ map (λ (x : Served). x.client) (take n (after ++ drop (length after) before))
     → replies ≡ map (λ (x : Served). x.replies.items) (take n (after ++ drop (length after) before))
     → AreServed script s clients replies
-were_served script fits built stops s size regions opened new commands moved before lent after same dealt long served n
+were_served script fits stops s size regions opened new commands moved before lent after same dealt long served n
     many clients replies are given =
     let dealt' : AreDealt opened script.objects script.commands before =
     subst (λ (l : List Command). AreDealt opened script.objects l before) moved dealt in
-    let all = are_served script fits built stops s size regions opened new before dealt' after (long ∙ ap length same)
+    let all = are_served script fits stops s size regions opened new before dealt' after (long ∙ ap length same)
     (λ n x y at later. served n x y (subst (λ (l : List Served). slice_get l n ≡ Some x) (sym same) at) later) in
     let whole : take n (after ++ drop (length after) before) ≡ after =
     front_of n after (drop (length after) before) (long ∙ (ap length same ∙ sym many)) in
@@ -152,7 +150,7 @@ pub are_clients : (script : Script) (s : Store) (clients : List Client) (replies
     → AreServed script s clients replies → AreClients s clients
 are_clients script s clients replies served = (
   served.many ∙ ap (λ (z : Size). z.clients) (sym served.size),
-  λ n c at. ((served.each n c at).2.rests, (served.each n c at).0),
+  λ n c at. ((served.each n c at).3.rests, (served.each n c at).0),
 )
 
 -- a report that is this one is lawful where this one is

@@ -1,6 +1,7 @@
 -- A client that is served one command after another.
 use Rattle.std.proofs.Common.{◌≡◌, ℕ, ◌+◌, List, [], ◌∷◌, ◌++◌, length, Some, slice_get, refl, ap, sym, subst, ◌∙◌, inl, inr, arith, append_assoc, eqb-true, length-append}
 use Rattle.std.specs.Prelude.{◌≢◌, ◌==◌, IsTrue}
+use Rattle.std.specs.List.{All}
 use Rattle.std.proofs.lemmas.List.Kept.{AllPairs-filter}
 use Rattle.std.proofs.lemmas.Option.{get_or_from_slice_get, slice_get_within}
 use Rattle.log_node.specs.declared.node.Shape.{Shape}
@@ -23,16 +24,20 @@ use Rattle.log_client.specs.Clients.{Finished, caller_of, holds_of, seen_of}
 use Rattle.log_client.specs.Fits.{Fits}
 use Rattle.log_client.specs.Opening.{IsNewClient}
 use Rattle.log_client.proofs.CallerLemmas.{client_sees_on, fits_less, same_caller}
+use Rattle.fuzzy_run.specs.declared.serving.opened.Opened.{Opened}
+use Rattle.fuzzy_run.specs.Opened.{IsUnfolded}
 use Rattle.fuzzy_run.specs.Serving.{IsAnswered, MayHelp, Serves, StopsLast}
+use Rattle.fuzzy_run.proofs.ReadsFound.{none_found}
 
--- a new client has no replies
-pub serves_none : (shape : Shape) (s : Store) (objects : List Object) (n : ℕ) (c : Client) → IsNewClient shape s n c
-    → Serves s objects c [] []
-serves_none shape s objects n c new = record {
+-- a new client has no replies, and nothing was read of its objects
+pub serves_none : (shape : Shape) (s : Store) (objects : List Object) (n : ℕ) (c : Client) (xs : List Opened)
+    → IsNewClient shape s n c → All IsUnfolded xs → Serves s objects c xs [] []
+serves_none shape s objects n c xs new unfolded = record {
   rests = new.rests;
   kept = nothing_kept;
   keeps = new.keeps objects;
   explained = λ rest fits. start;
+  reads = λ rest fits. none_found xs unfolded;
   finished = inl new.finished;
   helps = λ helps. absurd (new.idle helps);
 }
@@ -54,11 +59,12 @@ may_help_last done command may = (
 )
 
 -- one command more, of a client who has finished
-pub serves_next : (s : Store) (objects : List Object) (c d : Client) (done : List Command) (replies : List ReplyLine)
-    (command : Command) (reply : ReplyLine) → Serves s objects c done replies → Finished c
-    → IsAnswered s objects c d command reply → Serves s objects d (done ++ command ∷ []) (replies ++ reply ∷ [])
-serves_next s objects c d done replies command reply v finished a =
-    let e = a.explained v.kept finished v.keeps in record {
+pub serves_next : (s : Store) (objects : List Object) (c d : Client) (xs ys : List Opened) (done : List Command)
+    (replies : List ReplyLine) (command : Command) (reply : ReplyLine) → Serves s objects c xs done replies → Finished c
+    → IsAnswered s objects c d xs ys command reply
+    → Serves s objects d ys (done ++ command ∷ []) (replies ++ reply ∷ [])
+serves_next s objects c d xs ys done replies command reply v finished a =
+    let e = a.explained v.kept finished v.keeps v.reads in record {
       rests = a.rests;
       kept = e.0;
       keeps = e.1;
@@ -66,7 +72,8 @@ serves_next s objects c d done replies command reply v finished a =
           replies v.kept e.0 command reply (client_sees_on s c d objects a.rests a.goes)
           (λ rest fits. fits_less (holds_of c) (holds_of d) rest a.goes fits)
           (subst (λ (who : Caller). IsExplainedBy (seen_of c) (Fits (holds_of c)) who done replies v.kept)
-          (same_caller s c d objects a.same) v.explained) e.2;
+          (same_caller s c d objects a.same) v.explained) (λ rest fits. (e.2 rest fits).0);
+      reads = λ rest fits. (e.2 rest fits).1;
       finished = elim (a.finished finished) [
         | inl still ↦ inl still
         | inr stop ↦ inr (record {

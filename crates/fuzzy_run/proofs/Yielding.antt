@@ -7,6 +7,7 @@ use Rattle.report_text.specs.declared.report.ReplyLine.{ReplyLine}
 use Rattle.log_client.specs.declared.client.Client.{Client}
 use Rattle.log_client.specs.declared.store.Store.{Store}
 use Rattle.log_client.specs.Clients.{Finished}
+use Rattle.fuzzy_run.specs.declared.serving.opened.Opened.{Opened}
 use Rattle.fuzzy_run.specs.Serving.{Serves, StopsLast}
 
 pub there : {A : Type 0} (xs : List A) (n : ℕ) (x : A) → (n < length xs) × (x ≡ get_or xs n x) → slice_get xs n ≡ Some x
@@ -23,9 +24,9 @@ split_there {A} (y ∷ ys) (suc n) x at = let r = split_there ys n x at in (r.0,
 
 -- a client who is to be served another of its commands has finished
 pub finished_before : (s : Store) (objects : List Object) (c : Client) (commands : List Command) (n : ℕ) (next : Command)
-    (done : List Command) (replies : List ReplyLine) → StopsLast commands → slice_get commands n ≡ Some next
-    → done ≡ take n commands → Serves s objects c done replies → Finished c
-finished_before s objects c commands n next done replies last at are v = elim v.finished [
+    (xs : List Opened) (done : List Command) (replies : List ReplyLine) → StopsLast commands
+    → slice_get commands n ≡ Some next → done ≡ take n commands → Serves s objects c xs done replies → Finished c
+finished_before s objects c commands n next xs done replies last at are v = elim v.finished [
   | inl still ↦ still
   | inr stop ↦ absurd (
       let r = split_there commands n next at in

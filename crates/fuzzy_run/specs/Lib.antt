@@ -1,6 +1,5 @@
 pub mod Statuses
 pub mod Words
-pub mod Built
 pub mod Refusals
 pub mod TopCall
 pub mod Reading

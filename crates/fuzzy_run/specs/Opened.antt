@@ -1,6 +1,10 @@
 -- The objects of a script as a client has opened them, beside which it keeps them.
-use Rattle.std.specs.Prelude.{◌≡◌, ℕ, ◌≤◌, List, length, map, Option, Some, None, slice_get, IsTrue}
+use Rattle.std.specs.Prelude.{◌≡◌, ℕ, ◌≤◌, List, length, map, Option, Some, None, slice_get, IsTrue, IfSome}
+use Rattle.std.specs.Option.{option_map}
 use Rattle.log_node.specs.declared.limits.TheConstants.{MAX_COLOURS}
+use Rattle.log_node.specs.declared.forms.Version.{Version}
+use Rattle.object_form.specs.Forms.{AreVersions}
+use Rattle.col_core.specs.Keeping.{Kept, updated}
 use Rattle.script_text.specs.Fitting.{IsKindWithin, is_any_map, is_map, is_queue, is_tx}
 use Rattle.script_text.specs.Grammar.{are_keys, are_pairs}
 use Rattle.script_text.specs.Pieces.{is_key}
@@ -14,13 +18,16 @@ use Rattle.log_client.specs.Clients.{tracks_of}
 use Rattle.log_map.specs.Maps.{IsMapOf}
 use Rattle.log_queue.specs.Queues.{IsQueueOf}
 use Rattle.causal_map.specs.CausalMaps.{IsCausalMapOf}
+use Rattle.atomic_map.specs.Several.{IsAtomicMapOf}
+use Rattle.tx_map.specs.Transactions.{IsTxMapOf}
+use Rattle.tx_map.specs.declared.transactions.Tx.{Tx}
 use Rattle.fuzzy_run.specs.declared.serving.opened.Opened.{Opened}
 use Rattle.fuzzy_run.specs.declared.serving.opened.Opened.TheVariants as opened
 
 -- what was opened
 abbrev pub kind_opened : Opened → Kind
-kind_opened (opened.Map of) = kinds.Map of.home of.colours
-kind_opened (opened.Tx home colours) = kinds.Tx home colours
+kind_opened (opened.Map single several) = kinds.Map single.home single.colours
+kind_opened (opened.Tx map found) = kinds.Tx map.home map.colours
 kind_opened (opened.Causal of) = kinds.Causal of.colour
 kind_opened (opened.Queue of) = kinds.Queue of.home of.colour
 
@@ -28,21 +35,47 @@ kind_opened (opened.Queue of) = kinds.Queue of.home of.colour
 abbrev pub AreOf : List Object → List Opened → Type 0
 AreOf objects xs = map (λ (o : Object). o.kind) objects ≡ map kind_opened xs
 
--- what is folded of an object is of what the client has played
+-- What is folded of an object is of what the client has played or read, and a commit may rest on what a read found.
 abbrev pub IsKept : Client → Opened → Type 0
-IsKept c (opened.Map of) = IsMapOf c of
-IsKept c (opened.Tx home colours) = Unit {0}
+IsKept c (opened.Map single several) =
+    IsMapOf c single × IsAtomicMapOf c several × (several.home ≡ single.home) × (several.colours ≡ single.colours)
+IsKept c (opened.Tx map found) = IsTxMapOf c map × IfSome found (λ (t : Tx). AreVersions t.versions)
 IsKept c (opened.Causal of) = IsCausalMapOf c of
 IsKept c (opened.Queue of) = IsQueueOf c of
 
 abbrev pub AreKept : Client → List Opened → Type 0
 AreKept c xs = (n : ℕ) (x : Opened) → slice_get xs n ≡ Some x → IsKept c x
 
--- Nothing is folded: it is kept so by each client that has its colours.
+-- WHAT READS FOUND
+
+-- what the last read of it found, and no commit has used up
+abbrev pub versions_in : Opened → Option (List Version)
+versions_in (opened.Map single several) = None
+versions_in (opened.Tx map found) = option_map (λ (t : Tx). t.versions) found
+versions_in (opened.Causal of) = None
+versions_in (opened.Queue of) = None
+
+-- the same of one that is opened, or not
+abbrev pub found_in : Option Opened → Option (List Version)
+found_in None = None
+found_in (Some x) = versions_in x
+
+-- what is kept of reads is what was found by those of these objects, by number
+abbrev pub HaveReads : List Opened → Kept → Type 0
+HaveReads xs kept = (n : ℕ) → kept.reads n ≡ found_in (slice_get xs n)
+
+-- of reads is kept what was kept before, but of one object this
+abbrev pub KeepsReadsBut : ℕ → Option (List Version) → Kept → Kept → Type 0
+KeepsReadsBut object found kept after = (n : ℕ) → after.reads n ≡ updated kept.reads object found n
+
+-- WHILE THE CLIENT GOES ON
+
+-- Nothing was read of it and nothing is folded: it is kept so by each client that has its colours.
 abbrev pub IsUnfolded : Opened → Type 0
 IsUnfolded x =
-    (c : Client) (regions : ℕ) → length (tracks_of c) ≤ MAX_COLOURS
-    → IsKindWithin regions (length (tracks_of c)) (kind_opened x) → IsKept c x
+    (versions_in x ≡ None)
+    × ((c : Client) (regions : ℕ) → length (tracks_of c) ≤ MAX_COLOURS
+    → IsKindWithin regions (length (tracks_of c)) (kind_opened x) → IsKept c x)
 
 -- the client has gone on, and so has what is folded of the same object
 abbrev pub StaysOpen : Client → Opened → Opened → Type 0

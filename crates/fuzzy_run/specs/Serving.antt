@@ -25,6 +25,8 @@ use Rattle.log_client.specs.Fits.{Fits, HaveGoneOn}
 use Rattle.log_client.specs.Growing.{HasGrown}
 use Rattle.log_client.specs.Clients.{IsClient, Keeps, Finished, Helps, caller_of, holds_of, seen_of}
 use Rattle.log_client.specs.Calls.{IsExplained, IsSame}
+use Rattle.fuzzy_run.specs.declared.serving.opened.Opened.{Opened}
+use Rattle.fuzzy_run.specs.Opened.{HaveReads, KeepsReadsBut, kind_opened, versions_in}
 
 -- the answer is that an append stopped
 abbrev pub IsStopped : Answer → Type 0
@@ -45,13 +47,22 @@ pub record HasStopped (commands : List Command) (replies : List ReplyLine) : Typ
 abbrev pub MayHelp : List Command → Type 0
 MayHelp commands = (command : Command) × Contains commands command × IsTrue (may_help (manner_of command.what))
 
--- A client of the store rests after these commands, to which these are the replies: what it has seen explains them.
-pub record Serves (s : Store) (objects : List Object) (c : Client) (commands : List Command)
+-- As far as what a client knows tells, what it keeps of reads is what those of its objects found; and of one of them.
+abbrev pub KnowsReads : Client → List Opened → Kept → Type 0
+KnowsReads c xs kept = (rest : Rest) → Fits (holds_of c) rest → HaveReads xs kept
+
+abbrev pub KnowsRead : Client → ℕ → Opened → Kept → Type 0
+KnowsRead c object x kept = (rest : Rest) → Fits (holds_of c) rest → kept.reads object ≡ versions_in x
+
+-- A client of the store rests after these commands, to which these are the replies: what it has seen explains them, and it
+-- keeps what the reads of its objects found.
+pub record Serves (s : Store) (objects : List Object) (c : Client) (xs : List Opened) (commands : List Command)
     (replies : List ReplyLine) : Type 0 where
   pub rests : IsClient s c
   pub kept : Kept
   pub keeps : Keeps s c objects kept
   pub explained : IsExplainedBy (seen_of c) (Fits (holds_of c)) (caller_of s c objects) commands replies kept
+  pub reads : KnowsReads c xs kept
   pub finished : Finished c ⊎ HasStopped commands replies
   pub helps : Helps c → MayHelp commands
 
@@ -86,15 +97,54 @@ abbrev pub GivesFor : Store → Client → Client → Kind → (ℕ → What) �
 GivesFor s c d kind asked answer =
     (objects : List Object) (object : ℕ) → kind_in objects object ≡ Some kind → GivesOf s objects c d (asked object) answer []
 
--- From c to d the client was served the command, and this is the reply.
-pub record IsAnswered (s : Store) (objects : List Object) (c d : Client) (command : Command)
+-- From c to d the client was asked this of an object, by its number among these, which was opened as x and then is y, and
+-- gave this answer. Of reads it keeps what it kept, but of this object what was found.
+pub record GivesAt (s : Store) (objects : List Object) (c d : Client) (object : ℕ) (x y : Opened) (what : What)
+    (answer : Answer) : Type 0 where
+  pub rests : IsClient s d
+  pub same : IsSame c d
+  pub goes : HaveGoneOn (holds_of c) (holds_of d)
+  pub explained : (kept : Kept) → Finished c → Keeps s c objects kept → KnowsRead c object x kept → (answered : Kept)
+      × Keeps s d objects (kept_behind what answered)
+      × ((rest : Rest) → Fits (holds_of d) rest
+      → Explains (log_of (seen_of d) rest) (caller_of s d objects) (kept_before what kept) what answer [] answered
+      × KeepsReadsBut object (versions_in y) kept (kept_behind what answered))
+  pub away : IsAway (caller_of s d objects) (home_asked (caller_of s d objects) what) → IsHomeRefusal answer
+  pub finished : Finished c → Finished d ⊎ (IsTrue (is_stop what) × IsStopped answer)
+  pub helps : Helps d → Helps c ⊎ IsTrue (may_help (manner_of what))
+
+-- The same of whatever object of its kind was asked.
+abbrev pub GivesTo : Store → Client → Client → Opened → Opened → (ℕ → What) → Answer → Type 0
+GivesTo s c d x y asked answer =
+    (objects : List Object) (object : ℕ) → kind_in objects object ≡ Some (kind_opened x)
+    → GivesAt s objects c d object x y (asked object) answer
+
+-- From c to d the client, which had opened these objects and then has those, was asked this, and gave this answer with these
+-- nodes.
+pub record GivesAll (s : Store) (objects : List Object) (c d : Client) (xs ys : List Opened) (what : What) (answer : Answer)
+    (nodes : List PlacedNode) : Type 0 where
+  pub rests : IsClient s d
+  pub same : IsSame c d
+  pub goes : HaveGoneOn (holds_of c) (holds_of d)
+  pub explained : (kept : Kept) → Finished c → Keeps s c objects kept → KnowsReads c xs kept → (answered : Kept)
+      × Keeps s d objects (kept_behind what answered)
+      × ((rest : Rest) → Fits (holds_of d) rest
+      → Explains (log_of (seen_of d) rest) (caller_of s d objects) (kept_before what kept) what answer nodes answered
+      × HaveReads ys (kept_behind what answered))
+  pub away : IsAway (caller_of s d objects) (home_asked (caller_of s d objects) what) → IsHomeRefusal answer
+  pub finished : Finished c → Finished d ⊎ (IsTrue (is_stop what) × IsStopped answer)
+  pub helps : Helps d → Helps c ⊎ IsTrue (may_help (manner_of what))
+
+-- From c to d the client, with these objects and then those, was served the command, and this is the reply.
+pub record IsAnswered (s : Store) (objects : List Object) (c d : Client) (xs ys : List Opened) (command : Command)
     (reply : ReplyLine) : Type 0 where
   pub rests : IsClient s d
   pub same : IsSame c d
   pub goes : HaveGoneOn (holds_of c) (holds_of d)
-  pub explained : (kept : Kept) → Finished c → Keeps s c objects kept → (after : Kept) × Keeps s d objects after
+  pub explained : (kept : Kept) → Finished c → Keeps s c objects kept → KnowsReads c xs kept → (after : Kept)
+      × Keeps s d objects after
       × ((rest : Rest) → Fits (holds_of d) rest
-      → Answers (log_of (seen_of d) rest) (caller_of s d objects) kept command reply after)
+      → Answers (log_of (seen_of d) rest) (caller_of s d objects) kept command reply after × HaveReads ys after)
   pub finished : Finished c → Finished d ⊎ (IsTrue (is_stop command.what) × IsStopped reply.answer)
   pub helps : Helps d → Helps c ⊎ IsTrue (may_help (manner_of command.what))
 
@@ -114,4 +164,4 @@ pub record AreServed (script : Script) (s : Store) (clients : List Client) (repl
   pub replied : length replies ≡ length script.shape.homes
   pub each : (n : ℕ) (c : Client) → slice_get clients n ≡ Some c
       → (c.number ≡ n) × (slice_get script.shape.homes n ≡ Some c.region)
-      × Serves s script.objects c (commands_of script n) (slice_index_or replies n [])
+      × (xs : List Opened) × Serves s script.objects c xs (commands_of script n) (slice_index_or replies n [])

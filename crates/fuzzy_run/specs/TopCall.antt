@@ -3,6 +3,8 @@ use Rattle.std.specs.Prelude.{◌≡◌, ◌⊎◌, ℕ, List, ◌++◌, Option,
 use Rattle.std.specs.Io.KnownBytes.{Appends}
 use Rattle.fuzzy_io.specs.Causes.{AppendsFront}
 use Rattle.script_text.specs.declared.script.Script.{Script}
+use Rattle.script_text.specs.declared.script.Reason.{Reason}
+use Rattle.script_text.specs.Words.{reason_text}
 use Rattle.report_text.specs.declared.report.Report.{Report}
 use Rattle.report_text.specs.ReportText.{report_bytes, refusal_bytes}
 use Rattle.lawful_run.specs.Lawful.{LawfulRun}
@@ -12,9 +14,7 @@ use Rattle.load_script.specs.Plain.{IsUnwanting}
 use Rattle.load_script.specs.Summing.{load_summary, shown_summary, summary_text}
 use Rattle.fuzzy_run.specs.declared.asked.Asked.{Asked}
 use Rattle.fuzzy_run.specs.declared.asked.Asked.TheVariants.{Step}
-use Rattle.fuzzy_run.specs.declared.refusal.Cause.{Cause}
-use Rattle.fuzzy_run.specs.declared.refusal.Cause.TheVariants.{NotBuilt}
-use Rattle.fuzzy_run.specs.Refusals.{IsTheScript, IsRefusedFor, cause_text, first_unbuilt}
+use Rattle.fuzzy_run.specs.Refusals.{IsTheScript, IsRefusedFor}
 
 -- The report is that of a script done in the order of the file; where no reply and no mark tells of want of memory, it is
 -- the one report that this means.
@@ -36,12 +36,12 @@ pub record IsRunText (asked : Asked) (bytes text : List ℕ) : Type 0 where
   pub run : IsRunOf asked script report
   pub shown : text ≡ report_bytes report
 
--- The bytes are not done, and the text is the line that says why.
-pub record IsRefusalText (asked : Asked) (bytes text : List ℕ) : Type 0 where
+-- The bytes are no script, and the text is the line that says why.
+pub record IsRefusalText (bytes text : List ℕ) : Type 0 where
   pub line : ℕ
-  pub cause : Cause
-  pub refused : IsRefusedFor asked bytes line cause
-  pub shown : text ≡ refusal_bytes line (cause_text cause)
+  pub why : Reason
+  pub refused : IsRefusedFor bytes line why
+  pub shown : text ≡ refusal_bytes line (reason_text why)
 
 -- Such a text of some bytes was written whole; where the source tells what was left, these are the bytes.
 abbrev pub Writes : (List ℕ → List ℕ → Type 0) → Option (List ℕ) → Option (List ℕ) → Option (List ℕ) → Type 0
@@ -52,18 +52,16 @@ Writes IsText left old new =
 abbrev pub WritesFront : Asked → Option (List ℕ) → Option (List ℕ) → Option (List ℕ) → Type 0
 WritesFront asked left old new =
     (bytes front rest : List ℕ) × IfSome left (λ all. all ≡ bytes)
-    × (IsRunText asked bytes (front ++ rest) ⊎ IsRefusalText asked bytes (front ++ rest)) × Appends old new front
+    × (IsRunText asked bytes (front ++ rest) ⊎ IsRefusalText bytes (front ++ rest)) × Appends old new front
 
 -- the text of a report of the script's run was written whole
 abbrev pub Shows : Asked → Script → Option (List ℕ) → Option (List ℕ) → Type 0
 Shows asked script old new = (report : Report) × IsRunOf asked script report × Appends old new (report_bytes report)
 
--- the beginning of such a text was written, or of the line of the first command that is not done yet
+-- the beginning of such a text was written
 abbrev pub ShowsFront : Asked → Script → Option (List ℕ) → Option (List ℕ) → Type 0
 ShowsFront asked script old new =
-    ((report : Report) × IsRunOf asked script report × AppendsFront old new (report_bytes report))
-    ⊎ ((line : ℕ) × (first_unbuilt asked script.commands ≡ Some line)
-    × AppendsFront old new (refusal_bytes line (cause_text NotBuilt)))
+    (report : Report) × IsRunOf asked script report × AppendsFront old new (report_bytes report)
 
 -- There is a lawful run of the script of a load of so many rounds in which no command found want of memory, and its report
 -- shows the load's summary.

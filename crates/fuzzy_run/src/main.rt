@@ -5,9 +5,7 @@ ghost use Rattle.std.specs.Prelude.{◌≡◌, ◌≢◌};
 ghost use Rattle.std.specs.IoError.{error_kind};
 
 mod asked;
-mod built;
 mod reading;
-mod refusal;
 mod serving;
 mod status;
 #[cfg(test)]

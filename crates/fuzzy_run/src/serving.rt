@@ -9,6 +9,7 @@ mod moves;
 mod object_answers;
 mod opened;
 mod puts;
+mod reads;
 mod replies;
 mod run_beside;
 mod scans;

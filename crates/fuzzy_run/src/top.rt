@@ -5,6 +5,7 @@ ghost use Rattle.fuzzy_io.specs.Causes.{Rose, ConsumesUpTo, AppendsFront, Counts
 ghost use Rattle.std.specs.Prelude.{IfOk, OnOk, OnErr};
 ghost use Rattle.script_text.specs.declared.script.Script.{Script};
 ghost use Rattle.script_text.specs.Fitting.{IsFitting};
+ghost use Rattle.script_text.specs.Words.{reason_text};
 ghost use Rattle.report_text.specs.declared.report.Report.{Report};
 ghost use Rattle.report_text.specs.ReportText.{report_bytes, refusal_bytes};
 ghost use Rattle.script_meaning.specs.States.{StopsAreLast};
@@ -12,13 +13,12 @@ ghost use Rattle.load_script.specs.declared.script.TheConstants.{MAX_LOAD};
 ghost use Rattle.load_script.specs.Summing.{load_summary, summary_text};
 ghost use Rattle.fuzzy_run.specs.declared.asked.Asked.{Asked};
 ghost use Rattle.fuzzy_run.specs.Words.{task_of};
-ghost use Rattle.fuzzy_run.specs.Refusals.{first_unbuilt, cause_text, IsDoable};
+ghost use Rattle.fuzzy_run.specs.Refusals.{IsAScript};
 ghost use Rattle.fuzzy_run.specs.Reading.{LawsForReaders};
 ghost use Rattle.fuzzy_run.specs.TopCall.{IsRunOf, IsRunText, IsRefusalText, Writes, WritesFront, Shows, ShowsFront, IsLoaded, WritesLoad, WritesLoadFront};
 
 use crate::asked::{Asked, Task, read_words};
 use crate::reading::laws_for_readers;
-use crate::refusal::{Cause, first_unbuilt};
 use crate::serving::run_beside;
 use crate::status::Status;
 use fuzzy_io::{Failed, Gate, ReadStop, Sink, Source, read_all, write_all};
@@ -37,16 +37,16 @@ use std::thread::Threads;
 /// The most bytes of a script: 2 to the power of 20.
 const MAX_BYTES: usize = 1 << 20;
 
-// Writes the line that says why bytes are not done.
-fn refuse<K: Sink>(sink: &mut K, line: u32, cause: Cause) -> Status
+// Writes the line that says why bytes are no script.
+fn refuse<K: Sink>(sink: &mut K, line: u32, why: Reason) -> Status
     ensures refused { result ≡ Status.Refused
-        → Appends (K.holds sink.old) (K.holds sink.new) (refusal_bytes line (cause_text cause)) }
+        → Appends (K.holds sink.old) (K.holds sink.new) (refusal_bytes line (reason_text why)) }
     ensures write_fault { result ≡ Status.WriteFault → Rose (K.faults sink.old) (K.faults sink.new) }
     ensures front { result ≡ Status.WriteFault
-        → AppendsFront (K.holds sink.old) (K.holds sink.new) (refusal_bytes line (cause_text cause)) }
+        → AppendsFront (K.holds sink.old) (K.holds sink.new) (refusal_bytes line (reason_text why)) }
     ensures one { (result ≡ Status.Refused) ⊎ (result ≡ Status.WriteFault) }
 {
-    match print_refusal(line, cause.as_bytes(), sink) {
+    match print_refusal(line, why.as_str().as_bytes(), sink) {
         Ok(()) => Status::Refused,
         Err(Failed) => Status::WriteFault,
     }
@@ -63,7 +63,6 @@ fn report_of<R: Threads + Wait + Sync, G: Gate>(
     requires fits { IsFitting script }
     requires rows { script.shape.rows ≤ MAX_ROWS }
     requires some_rows { 0 < script.shape.rows }
-    requires built { first_unbuilt asked script.commands ≡ None }
     requires stops { StopsAreLast script }
     ensures { IfOk result (IsRunOf asked script) }
 {
@@ -96,7 +95,7 @@ fn write_report<K: Sink, R: Threads + Wait + Sync>(
     }
 }
 
-// Does the commands of a script, and writes the report; or the line of the first command that is not done yet.
+// Does the commands of a script, and writes the report.
 fn do_script<K: Sink, G: Gate, R: Threads + Wait + Sync>(
     rt: &R,
     alloc: Global,
@@ -110,16 +109,11 @@ fn do_script<K: Sink, G: Gate, R: Threads + Wait + Sync>(
     requires some_rows { 0 < script.shape.rows }
     requires stops { StopsAreLast script }
     ensures done { result ≡ Status.Done → Shows asked script (K.holds sink.old) (K.holds sink.new) }
-    ensures refused { result ≡ Status.Refused → (line : ℕ) × (first_unbuilt asked script.commands ≡ Some line)
-        × Appends (K.holds sink.old) (K.holds sink.new) (refusal_bytes line (cause_text Cause.NotBuilt)) }
     ensures write_fault { result ≡ Status.WriteFault → Rose (K.faults sink.old) (K.faults sink.new) }
     ensures front { result ≡ Status.WriteFault → ShowsFront asked script (K.holds sink.old) (K.holds sink.new) }
     ensures no_memory { result ≡ Status.NoMemory → sink.new ≡ sink.old }
-    ensures no_other { (result ≢ Status.BadWords) × (result ≢ Status.ReadFault) }
+    ensures no_other { (result ≢ Status.BadWords) × (result ≢ Status.Refused) × (result ≢ Status.ReadFault) }
 {
-    if let Some(line) = first_unbuilt(asked, script.commands.as_slice()) {
-        return refuse(sink, line, Cause::NotBuilt);
-    }
     let report = match report_of(rt, alloc, asked, gate, script) {
         Ok(report) => report,
         Err(_) => return Status::NoMemory,
@@ -133,7 +127,7 @@ fn do_script<K: Sink, G: Gate, R: Threads + Wait + Sync>(
     }
 }
 
-// Does the script that the bytes are, or writes the line that says why they are none that can be done.
+// Does the script that the bytes are, or writes the line that says why they are none.
 fn do_bytes<K: Sink, G: Gate, R: Threads + Wait + Sync>(
     rt: &R,
     alloc: Global,
@@ -145,7 +139,7 @@ fn do_bytes<K: Sink, G: Gate, R: Threads + Wait + Sync>(
     ensures done { result ≡ Status.Done
         → Writes (IsRunText asked) (Some bytes.now) (K.holds sink.old) (K.holds sink.new) }
     ensures refused { result ≡ Status.Refused
-        → Writes (IsRefusalText asked) (Some bytes.now) (K.holds sink.old) (K.holds sink.new) }
+        → Writes IsRefusalText (Some bytes.now) (K.holds sink.old) (K.holds sink.new) }
     ensures write_fault { result ≡ Status.WriteFault → Rose (K.faults sink.old) (K.faults sink.new) }
     ensures front { result ≡ Status.WriteFault
         → WritesFront asked (Some bytes.now) (K.holds sink.old) (K.holds sink.new) }
@@ -156,7 +150,7 @@ fn do_bytes<K: Sink, G: Gate, R: Threads + Wait + Sync>(
     scripts_stop_last();
     match parse(alloc, bytes) {
         Ok(script) => do_script(rt, alloc, asked, gate, script, sink),
-        Err(ScriptFault::Refused { line, why }) => refuse(sink, line, Cause::Faulty(why)),
+        Err(ScriptFault::Refused { line, why }) => refuse(sink, line, why),
         Err(ScriptFault::NoMemory) => Status::NoMemory,
     }
 }
@@ -174,7 +168,7 @@ fn perform<S: Source, K: Sink, G: Gate, R: Threads + Wait + Sync>(
         → Writes (IsRunText asked) (S.left source.old) (K.holds sink.old) (K.holds sink.new) }
     ensures to_the_end { result ≡ Status.Done → IsAtEnd (S.left source.new) }
     ensures refused { result ≡ Status.Refused
-        → Writes (IsRefusalText asked) (S.left source.old) (K.holds sink.old) (K.holds sink.new) }
+        → Writes IsRefusalText (S.left source.old) (K.holds sink.old) (K.holds sink.new) }
     ensures read_fault { result ≡ Status.ReadFault → Rose (S.faults source.old) (S.faults source.new) }
     ensures write_fault { result ≡ Status.WriteFault → Rose (K.faults sink.old) (K.faults sink.new) }
     ensures front { result ≡ Status.WriteFault
@@ -186,7 +180,7 @@ fn perform<S: Source, K: Sink, G: Gate, R: Threads + Wait + Sync>(
 {
     match read_all(alloc, source, MAX_BYTES) {
         Ok(bytes) => do_bytes(rt, alloc, asked, gate, bytes.as_slice(), sink),
-        Err(ReadStop::TooLong) => refuse(sink, 0, Cause::Faulty(Reason::ScriptTooLong)),
+        Err(ReadStop::TooLong) => refuse(sink, 0, Reason::ScriptTooLong),
         Err(ReadStop::Failed) => Status::ReadFault,
         Err(ReadStop::NoMemory) => Status::NoMemory,
     }
@@ -258,7 +252,7 @@ pub fn run<S: Source, K: Sink, G: Gate, R: Threads + Wait + Sync>(
         → result ≡ Status.Done → IsAtEnd (S.left source.new) }
     ensures refused { (asked : Asked) → task_of (map string_bytes words.now) ≡ Some (Task.Script asked)
         → result ≡ Status.Refused
-        → Writes (IsRefusalText asked) (S.left source.old) (K.holds sink.old) (K.holds sink.new) }
+        → Writes IsRefusalText (S.left source.old) (K.holds sink.old) (K.holds sink.new) }
     // What was done with a load: it was run, and its summary was written. The source is not read.
     ensures loaded { (count : ℕ) → task_of (map string_bytes words.now) ≡ Some (Task.Load count) → result ≡ Status.Done
         → WritesLoad count (K.holds sink.old) (K.holds sink.new) }
@@ -282,11 +276,10 @@ pub fn run<S: Source, K: Sink, G: Gate, R: Threads + Wait + Sync>(
     ensures load_front { (count : ℕ) → task_of (map string_bytes words.now) ≡ Some (Task.Load count)
         → result ≡ Status.WriteFault → WritesLoadFront count (K.holds sink.old) (K.holds sink.new) }
     ensures taken { ConsumesUpTo MAX_BYTES (S.left source.old) (S.left source.new) }
-    // What is a script of commands that are done, which in the order of the file is every script, is done, and a load is:
-    // nothing but want of memory stands in the way.
+    // Every script is done, and every load: nothing but want of memory stands in the way.
     ensures complete { (asked : Asked) → task_of (map string_bytes words.now) ≡ Some (Task.Script asked)
         → (Rose (S.faults source.old) (S.faults source.new) → ⊥) → (Rose (K.faults sink.old) (K.faults sink.new) → ⊥)
-        → IsDoable asked (S.left source.old) → (result ≡ Status.Done) ⊎ (result ≡ Status.NoMemory) }
+        → IsAScript (S.left source.old) → (result ≡ Status.Done) ⊎ (result ≡ Status.NoMemory) }
     ensures load_complete { (count : ℕ) → task_of (map string_bytes words.now) ≡ Some (Task.Load count)
         → (Rose (K.faults sink.old) (K.faults sink.new) → ⊥) → (result ≡ Status.Done) ⊎ (result ≡ Status.NoMemory) }
 {

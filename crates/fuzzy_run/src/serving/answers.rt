@@ -1,11 +1,10 @@
 // One command of a client, and its reply.
-ghost use Rattle.std.specs.Prelude.{◌≡◌, IsTrue, List, None, length, map};
+ghost use Rattle.std.specs.Prelude.{◌≡◌, List, None, length, map};
 ghost use Rattle.script_text.specs.declared.script.Object.{Object};
 ghost use Rattle.script_text.specs.Fitting.{IsWithin};
 ghost use Rattle.log_client.specs.Clients.{Finished, IsClient};
-ghost use Rattle.fuzzy_run.specs.Built.{is_served};
 ghost use Rattle.fuzzy_run.specs.Opened.{kind_opened, object_asked, AreKept, AreOf, IsOfOne};
-ghost use Rattle.fuzzy_run.specs.Serving.{Gives, GivesOf, IsAnswered};
+ghost use Rattle.fuzzy_run.specs.Serving.{Gives, GivesAll, IsAnswered};
 ghost use Rattle.fuzzy_run.specs.Served.{IsServable};
 
 use crate::serving::appends::{append, stop};
@@ -15,7 +14,7 @@ use crate::serving::opened::Opened;
 use crate::serving::scans::scan;
 use crate::serving::syncs::sync;
 use fuzzy_io::Gate;
-use log_client::{Client, Store};
+use log_client::{Client, Store, reads_go_on};
 use log_node::{Items, ListOf};
 use report_text::{Answer, ReplyLine};
 use script_text::{Command, What};
@@ -83,14 +82,14 @@ fn answer<R: Wait, G: Gate>(
 ) -> (Answer, Items)
     requires client { IsClient store.now client.old }
     requires kept { AreKept client.old opened.old.items }
-    requires built { IsTrue (is_served what) }
     requires within { IsWithin (length store.now.regions) store.now.size.colours what }
     requires of_one { IsOfOne opened.old.items what }
     ensures gives { (objects : List Object) → AreOf objects opened.old.items
-        → GivesOf store.now objects client.old client.new what result.0 result.1 }
+        → GivesAll store.now objects client.old client.new opened.old.items opened.new.items what result.0 result.1 }
     ensures kept { Finished client.new → AreKept client.new opened.new.items }
     ensures same { map kind_opened opened.new.items ≡ map kind_opened opened.old.items }
 {
+    reads_go_on();
     match object_asked(&what) {
         None => log_answer(rt, alloc, store, gate, client, what),
         Some(object) => {
@@ -115,7 +114,7 @@ pub fn serve<R: Wait, G: Gate>(
     requires kept { AreKept client.old opened.old.items }
     requires command { IsServable store.now opened.old.items command }
     ensures answered { (objects : List Object) → AreOf objects opened.old.items
-        → IsAnswered store.now objects client.old client.new command result }
+        → IsAnswered store.now objects client.old client.new opened.old.items opened.new.items command result }
     ensures kept { Finished client.new → AreKept client.new opened.new.items }
     ensures same { map kind_opened opened.new.items ≡ map kind_opened opened.old.items }
 {

@@ -15,10 +15,10 @@ use std::alloc::Global;
 use std::sync::Wait;
 
 /// Where a node stands, in the room that was taken for its points.
-pub fn shown(points: &[Point], mut pieces: Vec<PointPiece>) -> Points
+pub fn pieces_of(points: &[Point], mut pieces: Vec<PointPiece>) -> Vec<PointPiece>
     requires empty { pieces.items ≡ [] }
     requires room { length points.now ≤ vec_capacity pieces }
-    ensures { result ≡ map piece_of points.now }
+    ensures { result.items ≡ map piece_of points.now }
 {
     for point in points {
         pieces.push_reserved(PointPiece {
@@ -27,7 +27,16 @@ pub fn shown(points: &[Point], mut pieces: Vec<PointPiece>) -> Points
             position: point.position,
         });
     }
-    Points::many(ListOf::from(pieces))
+    pieces
+}
+
+/// The same as points.
+pub fn shown(points: &[Point], pieces: Vec<PointPiece>) -> Points
+    requires empty { pieces.items ≡ [] }
+    requires room { length points.now ≤ vec_capacity pieces }
+    ensures { result ≡ map piece_of points.now }
+{
+    Points::many(ListOf::from(pieces_of(points, pieces)))
 }
 
 // The answer to an append whose points have room.

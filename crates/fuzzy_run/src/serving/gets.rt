@@ -9,7 +9,7 @@ ghost use Rattle.fuzzy_run.specs.Serving.{GivesFor};
 use crate::serving::opened::Opened;
 use crate::serving::replies::{got, got_many, took};
 use fuzzy_io::Gate;
-use log_client::{Client, Store};
+use log_client::{Client, Store, reads_go_on};
 use log_node::Text;
 use report_text::Answer;
 use script_text::What;
@@ -34,9 +34,10 @@ pub fn get<R: Wait, G: Gate>(
     ensures gives { GivesFor store.now client.old client.new (kind_opened opened.old)
         (λ object. What.Get object key) result }
 {
+    reads_go_on();
     match opened {
-        Opened::Map(map) => {
-            let get = map.get(rt, alloc, client, store, gate, &key);
+        Opened::Map { single, .. } => {
+            let get = single.get(rt, alloc, client, store, gate, &key);
             got(get)
         }
         Opened::Causal(map) => {
@@ -68,6 +69,6 @@ pub fn deq<R: Wait, G: Gate>(
             let deq = queue.deq(rt, alloc, client, store, gate);
             took(deq)
         }
-        Opened::Map(_) | Opened::Causal(_) | Opened::Tx { .. } => unreachable!(),
+        Opened::Map { .. } | Opened::Causal(_) | Opened::Tx { .. } => unreachable!(),
     }
 }

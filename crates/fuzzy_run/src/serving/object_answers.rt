@@ -1,16 +1,16 @@
 // One command of an object.
-ghost use Rattle.std.specs.Prelude.{◌≡◌, ℕ, IsTrue, List, [], Some};
+ghost use Rattle.std.specs.Prelude.{◌≡◌, ℕ, List, Some};
 ghost use Rattle.script_text.specs.declared.script.Object.{Object};
 ghost use Rattle.script_meaning.specs.States.{kind_in};
 ghost use Rattle.log_client.specs.Clients.{IsClient};
 ghost use Rattle.log_client.specs.Reading.{RestsOn};
-ghost use Rattle.fuzzy_run.specs.Built.{is_served};
 ghost use Rattle.fuzzy_run.specs.Opened.{kind_opened, object_asked, HasCommand, IsKept, StaysOpen};
-ghost use Rattle.fuzzy_run.specs.Serving.{GivesOf};
+ghost use Rattle.fuzzy_run.specs.Serving.{GivesAt};
 
 use crate::serving::gets::{deq, get};
 use crate::serving::opened::Opened;
-use crate::serving::puts::{del, enq, put};
+use crate::serving::puts::{del, enq, put, put_all};
+use crate::serving::reads::{commit, get_all, read};
 use fuzzy_io::Gate;
 use log_client::{Client, Store};
 use report_text::Answer;
@@ -53,13 +53,12 @@ pub fn object_answer<R: Wait, G: Gate>(
 ) -> Answer
     requires client { IsClient store.now client.old }
     requires kept { IsKept client.old opened.old }
-    requires built { IsTrue (is_served what) }
     requires has { HasCommand (kind_opened opened.old) what }
     ensures rests { RestsOn store.now client.old client.new }
     ensures stays { StaysOpen client.new opened.old opened.new }
     ensures gives { (objects : List Object) (object : ℕ) → object_asked what ≡ Some object
         → kind_in objects object ≡ Some (kind_opened opened.old)
-        → GivesOf store.now objects client.old client.new what result [] }
+        → GivesAt store.now objects client.old client.new object opened.old opened.new what result }
 {
     match what {
         What::Put {
@@ -79,16 +78,28 @@ pub fn object_answer<R: Wait, G: Gate>(
             object: _object,
             value,
         } => enq(rt, alloc, store, gate, client, opened, value),
+        What::PutAll {
+            object: _object,
+            pairs,
+        } => put_all(rt, alloc, store, gate, client, opened, pairs),
+        What::GetAll {
+            object: _object,
+            keys,
+        } => get_all(rt, alloc, store, gate, client, opened, keys),
+        What::Read {
+            object: _object,
+            keys,
+        } => read(rt, alloc, store, gate, client, opened, keys),
+        What::Commit {
+            object: _object,
+            pairs,
+        } => commit(rt, alloc, store, gate, client, opened, pairs),
         What::Deq { object: _object } => deq(rt, alloc, store, gate, client, opened),
         What::Append { .. }
         | What::Stop { .. }
         | What::Sync { .. }
         | What::Scan { .. }
         | What::Pull { .. }
-        | What::Trim { .. }
-        | What::PutAll { .. }
-        | What::GetAll { .. }
-        | What::Read { .. }
-        | What::Commit { .. } => unreachable!(),
+        | What::Trim { .. } => unreachable!(),
     }
 }

@@ -3,18 +3,21 @@ ghost use Rattle.std.specs.Prelude.{◌≡◌, IfOk};
 ghost use Rattle.std.specs.List.{All};
 ghost use Rattle.fuzzy_run.specs.Opened.{kind_opened, AreOf, IsUnfolded};
 
+use atomic_map::AtomicMap;
 use causal_map::CausalMap;
 use log_map::LogMap;
 use log_node::{ColourList, ListOf};
 use log_queue::LogQueue;
 use script_text::{Kind, Object};
 use std::alloc::{AllocError, Global};
+use tx_map::{Tx, TxMap};
 
-/// An object of a script, as one client has opened it; a transactional map is not used yet.
+/// An object of a script, as one client has opened it; of a transactional map what its last read found, until a commit uses
+/// it up.
 #[derive(Drop)]
 pub enum Opened {
-    Map(LogMap),
-    Tx { home: u8, colours: ColourList },
+    Map { single: LogMap, several: AtomicMap },
+    Tx { map: TxMap, found: Option<Tx> },
     Causal(CausalMap),
     Queue(LogQueue),
 }
@@ -34,15 +37,15 @@ fn open(alloc: Global, kind: &Kind) -> Result<Opened, AllocError>
     match kind {
         Kind::Map { home, colours } => {
             let copy = copied(alloc, colours.as_slice())?;
-            let map = LogMap::open(alloc, *home, copy)?;
-            Ok(Opened::Map(map))
+            let single = LogMap::open(alloc, *home, copy)?;
+            let again = copied(alloc, colours.as_slice())?;
+            let several = AtomicMap::open(alloc, *home, again);
+            Ok(Opened::Map { single, several })
         }
         Kind::Tx { home, colours } => {
             let copy = copied(alloc, colours.as_slice())?;
-            Ok(Opened::Tx {
-                home: *home,
-                colours: copy,
-            })
+            let map = TxMap::open(alloc, *home, copy);
+            Ok(Opened::Tx { map, found: None })
         }
         Kind::Causal { colour } => {
             let map = CausalMap::open(alloc, *colour)?;

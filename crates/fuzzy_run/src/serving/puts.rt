@@ -1,6 +1,6 @@
 // Commands that append to an object.
 ghost use Rattle.std.specs.Prelude.{IsTrue};
-ghost use Rattle.object_form.specs.Forms.{is_word};
+ghost use Rattle.object_form.specs.Forms.{is_word, ArePairs};
 ghost use Rattle.script_text.specs.Fitting.{is_any_map, is_map, is_queue};
 ghost use Rattle.log_client.specs.Clients.{IsClient};
 ghost use Rattle.log_client.specs.Reading.{RestsOn};
@@ -10,8 +10,8 @@ ghost use Rattle.fuzzy_run.specs.Serving.{GivesFor};
 use crate::serving::opened::Opened;
 use crate::serving::replies::appended;
 use fuzzy_io::Gate;
-use log_client::{Client, Store};
-use log_node::Text;
+use log_client::{Client, Store, reads_go_on};
+use log_node::{MAX_COLOURS, Pairs, Text};
 use report_text::Answer;
 use script_text::What;
 use std::alloc::Global;
@@ -39,12 +39,13 @@ pub fn put<R: Wait, G: Gate>(
     ensures gives { GivesFor store.now client.old client.new (kind_opened opened.old)
         (λ object. What.Put object key value) result }
 {
+    reads_go_on();
     let Ok(pieces) = Vec::with_capacity(alloc, 1) else {
         return Answer::NoMemory;
     };
     match opened {
-        Opened::Map(map) => {
-            let put = map.put(rt, alloc, client, store, gate, &key, &value);
+        Opened::Map { single, .. } => {
+            let put = single.put(rt, alloc, client, store, gate, &key, &value);
             appended(put, pieces)
         }
         Opened::Causal(map) => {
@@ -52,6 +53,37 @@ pub fn put<R: Wait, G: Gate>(
             appended(put, pieces)
         }
         Opened::Tx { .. } | Opened::Queue(_) => unreachable!(),
+    }
+}
+
+/// Puts several pairs of a map at once. There are no more points than colours.
+pub fn put_all<R: Wait, G: Gate>(
+    rt: &R,
+    alloc: Global,
+    store: &Store,
+    gate: &G,
+    client: &mut Client,
+    opened: &mut Opened,
+    pairs: Pairs,
+) -> Answer
+    requires client { IsClient store.now client.old }
+    requires kept { IsKept client.old opened.old }
+    requires kind { IsTrue (is_map (kind_opened opened.old)) }
+    requires pairs { ArePairs 4 pairs }
+    ensures rests { RestsOn store.now client.old client.new }
+    ensures stays { StaysOpen client.new opened.old opened.new }
+    ensures gives { GivesFor store.now client.old client.new (kind_opened opened.old)
+        (λ object. What.PutAll object pairs) result }
+{
+    let Ok(pieces) = Vec::with_capacity(alloc, MAX_COLOURS as usize) else {
+        return Answer::NoMemory;
+    };
+    match opened {
+        Opened::Map { several, .. } => {
+            let put = several.put_all(rt, alloc, client, store, gate, &pairs);
+            appended(put, pieces)
+        }
+        Opened::Causal(_) | Opened::Tx { .. } | Opened::Queue(_) => unreachable!(),
     }
 }
 
@@ -74,12 +106,13 @@ pub fn del<R: Wait, G: Gate>(
     ensures gives { GivesFor store.now client.old client.new (kind_opened opened.old)
         (λ object. What.Del object key) result }
 {
+    reads_go_on();
     let Ok(pieces) = Vec::with_capacity(alloc, 1) else {
         return Answer::NoMemory;
     };
     match opened {
-        Opened::Map(map) => {
-            let del = map.del(rt, alloc, client, store, gate, &key);
+        Opened::Map { single, .. } => {
+            let del = single.del(rt, alloc, client, store, gate, &key);
             appended(del, pieces)
         }
         Opened::Causal(_) | Opened::Tx { .. } | Opened::Queue(_) => unreachable!(),
@@ -113,6 +146,6 @@ pub fn enq<R: Wait, G: Gate>(
             let enq = queue.enq(rt, alloc, client, store, gate, &value);
             appended(enq, pieces)
         }
-        Opened::Map(_) | Opened::Causal(_) | Opened::Tx { .. } => unreachable!(),
+        Opened::Map { .. } | Opened::Causal(_) | Opened::Tx { .. } => unreachable!(),
     }
 }

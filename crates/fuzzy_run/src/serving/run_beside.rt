@@ -1,12 +1,9 @@
 // The run of a script on threads.
-ghost use Rattle.std.specs.Prelude.{◌≡◌, ◌<◌, ◌≤◌, IsTrue, length, map, IfOk};
-ghost use Rattle.std.specs.List.{All};
-ghost use Rattle.script_text.specs.declared.script.Command.{Command};
+ghost use Rattle.std.specs.Prelude.{◌≡◌, ◌<◌, ◌≤◌, length, map, IfOk};
 ghost use Rattle.script_text.specs.Fitting.{IsFitting};
 ghost use Rattle.lawful_run.specs.Lawful.{LawfulRun};
 ghost use Rattle.script_meaning.specs.States.{StopsAreLast};
 ghost use Rattle.fuzzy_run.specs.declared.serving.served.Served.{Served};
-ghost use Rattle.fuzzy_run.specs.Built.{is_served};
 
 use crate::serving::beside::serve_beside;
 use crate::serving::dealing::deal;
@@ -51,7 +48,6 @@ pub fn run_beside<R: Threads + Wait + Sync, G: Gate>(
     requires fits { IsFitting script }
     requires rows { script.shape.rows ≤ MAX_ROWS }
     requires some_rows { 0 < script.shape.rows }
-    requires built { All (λ (c : Command). IsTrue (is_served c.what)) script.commands }
     requires stops { StopsAreLast script }
     ensures { IfOk result (LawfulRun script) }
 {

@@ -13,8 +13,8 @@ use script_text::What;
 use std::alloc::Global;
 use std::sync::Wait;
 
-// Raises, in the room that was taken for them.
-fn raises_shown(raises: &[Raised], mut pieces: Vec<RaisePiece>) -> ListOf<RaisePiece>
+/// Raises, in the room that was taken for them.
+pub fn raises_shown(raises: &[Raised], mut pieces: Vec<RaisePiece>) -> ListOf<RaisePiece>
     requires empty { pieces.items ≡ [] }
     requires room { length raises.now ≤ vec_capacity pieces }
     ensures { result ≡ map raise_piece raises.now }
@@ -28,8 +28,8 @@ fn raises_shown(raises: &[Raised], mut pieces: Vec<RaisePiece>) -> ListOf<RaiseP
     ListOf::from(pieces)
 }
 
-// Syncs, in the room that was taken for them.
-fn syncs_shown(syncs: &[Synced], mut pieces: Vec<SyncPiece>) -> ListOf<SyncPiece>
+/// Syncs, in the room that was taken for them.
+pub fn syncs_shown(syncs: &[Synced], mut pieces: Vec<SyncPiece>) -> ListOf<SyncPiece>
     requires empty { pieces.items ≡ [] }
     requires room { length syncs.now ≤ vec_capacity pieces }
     ensures { result ≡ map sync_piece syncs.now }

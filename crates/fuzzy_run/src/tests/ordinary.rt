@@ -3,7 +3,7 @@ use super::*;
 
 /// A service's users stand in a map, its jobs in a queue, and two sites keep notes together. Each dequeue comes after its own
 /// client's enqueue, and so finds a job.
-const SERVICE: &str = "fuzzylog 1
+pub const SERVICE: &str = "fuzzylog 1
 regions e w
 colours x y z
 client a e

@@ -23,14 +23,6 @@ const REFUSED: [(&str, u32, &str); 11] = [
     ),
 ];
 
-/// Commands on objects from line 12 on that clients on threads are not served today.
-const OBJECTS: [&str; 4] = [
-    "a putall m k=v",
-    "a getall m k",
-    "a read t k",
-    "a read t k\na commit t k=v",
-];
-
 /// The script is refused at that line for that reason.
 fn refuses<R: Threads + Wait + Sync + Abort>(
     alloc: Global,
@@ -48,32 +40,6 @@ fn a_line_that_is_not_done_is_refused_with_its_reason(rt: HostRuntime) -> Result
     for (lines, line, reason) in REFUSED.iter() {
         let script = in_one_region(rt.alloc(), lines)?;
         refuses(rt.alloc(), &rt, script.as_bytes(), *line, reason)?;
-    }
-    Ok(())
-}
-
-#[test]
-fn commands_of_several_keys_are_not_built_on_threads(rt: HostRuntime) -> Result<(), Fail> {
-    for lines in OBJECTS.iter() {
-        let script = format!(in rt.alloc();
-            "fuzzylog 1
-regions r
-colours x y
-client a r
-map m r x y
-tx t r x y
-causal k x
-queue q r x
-# objects
-
-begin
-{lines}
-"
-        )?;
-        let (status, sink) = run_over(rt.alloc(), &rt, "run", script.as_bytes(), &[], &[])?;
-        let refusal: &[u8] = b"refused: line 12: not built\n";
-        assert_eq!(rt; status, Status::Refused);
-        assert_eq!(rt; sink.bytes(), refusal);
     }
     Ok(())
 }

@@ -150,16 +150,6 @@ column r y
 }
 
 #[test]
-fn a_command_that_is_not_served_yet_is_refused(rt: HostRuntime) -> Result<(), Fail> {
-    let script = b"fuzzylog 1\nregions r\ncolours x\nclient a r\nmap m r x\nbegin
-a append x p\na putall m k=v\n";
-    let (status, sink) = run_at(rt.alloc(), &rt, script, &OpenGate)?;
-    assert_eq!(rt; status, Status::Refused);
-    assert_eq!(rt; sink.bytes(), b"refused: line 8: not built\n".as_slice());
-    Ok(())
-}
-
-#[test]
 fn four_clients_fill_one_line(rt: HostRuntime) -> Result<(), Fail> {
     let mut script = String::from_str(
         rt.alloc(),

@@ -1,5 +1,4 @@
 use Rattle.script_text.proofs.CallerLemmas.{script_fits}
-use Rattle.fuzzy_run.specs.declared.refusal.Cause.TheVariants.{Faulty, NotBuilt}
 use Rattle.fuzzy_run.proofs.SomeRows.{some_rows}
 use Rattle.fuzzy_run.proofs.TopLemmas.{refusal_written, refusal_begun, run_written, front_begun}
 use Rattle.fuzzy_run.proofs.top.do_bytes.Goals as goal
@@ -21,9 +20,7 @@ returns-in-Ok-clause-done g c = λ e. run_written c.args.asked c.args.bytes.now 
     (record { is = c.in-Ok.ensures.accepted; only = c.in-Ok.ensures.only }) (c.do_script.ensures.done e)
 
 pub returns-in-Ok-clause-refused : goal.returns-in-Ok-clause-refused
-returns-in-Ok-clause-refused g c = λ e. let r = c.do_script.ensures.refused e in
-    refusal_written c.args.asked c.args.bytes.now _ _ r.0 NotBuilt
-    (c.in-Ok.script, record { is = c.in-Ok.ensures.accepted; only = c.in-Ok.ensures.only }, r.1) r.2
+returns-in-Ok-clause-refused g c = λ e. absurd (c.do_script.ensures.no_other.1 e)
 
 pub returns-in-Ok-clause-front : goal.returns-in-Ok-clause-front
 returns-in-Ok-clause-front g c = λ e. front_begun c.args.asked c.args.bytes.now _ _ c.in-Ok.script
@@ -31,16 +28,16 @@ returns-in-Ok-clause-front g c = λ e. front_begun c.args.asked c.args.bytes.now
 
 pub returns-in-Err-Refused-clause-refused : goal.returns-in-Err-Refused-clause-refused
 returns-in-Err-Refused-clause-refused g c = λ e.
-    refusal_written c.args.asked c.args.bytes.now _ _ c.in-Err-Refused.line (Faulty c.in-Err-Refused.why) (
-      (rw c.in-Err-Refused.field-0-is at c.in-Err-Refused.ensures.refused),
-      (rw c.in-Err-Refused.field-0-is at c.in-Err-Refused.ensures.only),
-    )
+    refusal_written c.args.bytes.now _ _ c.in-Err-Refused.line c.in-Err-Refused.why (record {
+      refused = (rw c.in-Err-Refused.field-0-is at c.in-Err-Refused.ensures.refused);
+      none = (rw c.in-Err-Refused.field-0-is at c.in-Err-Refused.ensures.only);
+    })
     (rw c.in-Err-Refused.field-0-is at (c.refuse.ensures.refused e))
 
 pub returns-in-Err-Refused-clause-front : goal.returns-in-Err-Refused-clause-front
 returns-in-Err-Refused-clause-front g c = λ e.
-    refusal_begun c.args.asked c.args.bytes.now _ _ c.in-Err-Refused.line (Faulty c.in-Err-Refused.why) (
-      (rw c.in-Err-Refused.field-0-is at c.in-Err-Refused.ensures.refused),
-      (rw c.in-Err-Refused.field-0-is at c.in-Err-Refused.ensures.only),
-    )
+    refusal_begun c.args.asked c.args.bytes.now _ _ c.in-Err-Refused.line c.in-Err-Refused.why (record {
+      refused = (rw c.in-Err-Refused.field-0-is at c.in-Err-Refused.ensures.refused);
+      none = (rw c.in-Err-Refused.field-0-is at c.in-Err-Refused.ensures.only);
+    })
     (rw c.in-Err-Refused.field-0-is at (c.refuse.ensures.front e))

@@ -3,7 +3,6 @@ use Rattle.std.specs.Prelude.{IfOk}
 use Rattle.fuzzy_run.specs.declared.asked.Asked.{Asked}
 use Rattle.fuzzy_run.specs.TopCall.{IsRunOf}
 use Rattle.fuzzy_run.proofs.RunsOf.{run_in_file, run_on_threads}
-use Rattle.fuzzy_run.proofs.TopLemmas.{all_served}
 use Rattle.fuzzy_run.proofs.top.report_of.Goals as goal
 
 pub returns-in-Step : goal.returns-in-Step
@@ -11,9 +10,6 @@ returns-in-Step g c =
     let e = c.run_in_order-report.ensures in
     subst (λ (a : Asked). IfOk c.run_in_order-report.result (IsRunOf a c.args.script)) (sym c.in-Step.is)
     (run_in_file c.args.script c.run_in_order-report.result e.ok e.lawful e.exact)
-
-pub run_beside-requires-clause-built : goal.run_beside-requires-clause-built
-run_beside-requires-clause-built g c κs within = all_served c.args.script.commands (rw c.in-Run.is at c.requires.built)
 
 pub returns-in-Run : goal.returns-in-Run
 returns-in-Run g c =

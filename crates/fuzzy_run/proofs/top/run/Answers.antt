@@ -7,15 +7,10 @@ use Rattle.fuzzy_run.proofs.TopLemmas.{completes}
 use Rattle.fuzzy_run.proofs.top.run.Goals as goal
 
 pub returns-in-Ok-Some-Script-clause-complete : goal.returns-in-Ok-Some-Script-clause-complete
-returns-in-Ok-Some-Script-clause-complete g c = λ asked asks no_read no_write doable.
-    let at = c.in-Ok-Some-Script in
-    completes asked c.perform.result (g.S.Source.left c.args.source.now) (g.K.Sink.holds c.args.sink.now)
+returns-in-Ok-Some-Script-clause-complete g c = λ asked asks no_read no_write script.
+    completes c.perform.result (g.S.Source.left c.args.source.now) (g.K.Sink.holds c.args.sink.now)
     (g.K.Sink.holds c.perform.new.sink)
     (Rose (g.S.Source.faults c.args.source.now) (g.S.Source.faults c.perform.new.source))
     (Rose (g.K.Sink.faults c.args.sink.now) (g.K.Sink.faults c.perform.new.sink))
     c.perform.ensures.no_other
-    (λ e. subst (λ (a : Asked). Writes (IsRefusalText a) (g.S.Source.left c.args.source.now)
-    (g.K.Sink.holds c.args.sink.now) (g.K.Sink.holds c.perform.new.sink))
-    (same_asked _ _ at.ensures at.asked asked (at.field-0-is ∙ ap Some at.field-0-0-is) asks)
-    (c.perform.ensures.refused e))
-    c.perform.ensures.read_fault c.perform.ensures.write_fault no_read no_write doable
+    c.perform.ensures.refused c.perform.ensures.read_fault c.perform.ensures.write_fault no_read no_write script

@@ -1,6 +1,7 @@
 use Rattle.std.proofs.Common.{ℕ, List, ap, sym, subst, ◌∙◌, arith}
 use Rattle.script_text.specs.declared.script.Kind.TheVariants as kinds
 use Rattle.script_text.specs.declared.script.What.TheVariants as whats
+use Rattle.atomic_map.proofs.CallerLemmas.{map_later as atomic_later}
 use Rattle.fuzzy_run.specs.declared.serving.opened.Opened.{Opened}
 use Rattle.fuzzy_run.specs.Opened.{IsKept, kind_opened}
 use Rattle.fuzzy_run.specs.Serving.{GivesFor}
@@ -8,14 +9,21 @@ use Rattle.fuzzy_run.proofs.GivingGets.{gives_causal_get, gives_map_get}
 use Rattle.fuzzy_run.proofs.serving.gets.get.Goals as goal
 
 pub get-get-requires-clause-map : goal.get-get-requires-clause-map
-get-get-requires-clause-map g c κs within = subst (IsKept c.args.client.now) c.in-Map.is c.requires.kept
+get-get-requires-clause-map g c κs within = (subst (IsKept c.args.client.now) c.in-Map.is c.requires.kept).0
 
 pub returns-in-Map-clause-stays : goal.returns-in-Map-clause-stays
 returns-in-Map-clause-stays g c =
-    let same = c.get-get.ensures.same in (
-      ap (λ (home : ℕ). kinds.Map home c.get-get.new.self.colours) same.0
-          ∙ (ap (λ (colours : List ℕ). kinds.Map c.in-Map.map.home colours) same.1 ∙ ap kind_opened (sym c.in-Map.is)),
-      c.get-get.ensures.map,
+    let e = c.get-get.ensures in
+    let is = subst (IsKept c.args.client.now) c.in-Map.is c.requires.kept in (
+      ap (λ (home : ℕ). kinds.Map home c.get-get.new.self.colours) e.same.0
+          ∙ (ap (λ (colours : List ℕ). kinds.Map c.in-Map.single.home colours) e.same.1 ∙ ap kind_opened (sym c.in-Map.is)),
+      (
+        e.map,
+        atomic_later c.reads_go_on.ensures c.args.store.now c.args.client.now c.get-get.new.client e.client
+            c.in-Map.several c.requires.client is.1,
+        is.2 ∙ sym e.same.0,
+        is.3 ∙ sym e.same.1,
+      ),
     )
 
 pub returns-in-Map-clause-gives : goal.returns-in-Map-clause-gives
@@ -24,8 +32,8 @@ returns-in-Map-clause-gives g c =
     let is = subst (IsKept c.args.client.now) c.in-Map.is c.requires.kept in
     subst (λ (x : Opened). GivesFor c.args.store.now c.args.client.now c.get-get.new.client (kind_opened x)
     (λ object. whats.Get object c.args.key) c.got.result) (sym c.in-Map.is)
-    (gives_map_get c.args.store.now c.args.client.now c.get-get.new.client e.client c.got.result c.in-Map.map.home
-    c.in-Map.map.colours c.args.key c.get-get.result c.got.ensures is.colours e.idle e.away e.ok e.err)
+    (gives_map_get c.args.store.now c.args.client.now c.get-get.new.client e.client c.got.result c.in-Map.single.home
+    c.in-Map.single.colours c.args.key c.get-get.result c.got.ensures is.0.colours e.idle e.away e.ok e.err)
 
 pub get-get-requires-in-Causal-clause-map : goal.get-get-requires-in-Causal-clause-map
 get-get-requires-in-Causal-clause-map g c κs within = subst (IsKept c.args.client.now) c.in-Causal.is c.requires.kept

@@ -5,6 +5,7 @@ use Rattle.object_fold.specs.Nodes.{shard_of}
 use Rattle.script_text.specs.declared.script.Kind.TheVariants as kinds
 use Rattle.script_text.specs.declared.script.What.TheVariants as whats
 use Rattle.log_client.proofs.CallerLemmas.{rests_same}
+use Rattle.atomic_map.proofs.CallerLemmas.{map_later as atomic_later}
 use Rattle.log_map.specs.declared.map.LogMap.{LogMap}
 use Rattle.causal_map.specs.declared.causal.CausalMap.{CausalMap}
 use Rattle.fuzzy_run.specs.declared.serving.opened.Opened.{Opened}
@@ -23,19 +24,27 @@ returns-in_default-clause-gives g c = λ objects object at.
     c.requires.client (λ kept. (refl, refl))
 
 pub put-put-requires-clause-map : goal.put-put-requires-clause-map
-put-put-requires-clause-map g c κs within = subst (IsKept c.args.client.now) c.in-Map.is c.requires.kept
+put-put-requires-clause-map g c κs within = (subst (IsKept c.args.client.now) c.in-Map.is c.requires.kept).0
 
 pub appended-requires-clause-room : goal.appended-requires-clause-room
 appended-requires-clause-room g c =
     let room = c.in-Ok.ensures.capacity in
-    points_fit c.args.store.now c.args.client.now c.put-put.new.client (shard_of c.in-Map.map.colours c.args.key ∷ [])
+    points_fit c.args.store.now c.args.client.now c.put-put.new.client (shard_of c.in-Map.single.colours c.args.key ∷ [])
     (form_text (forms.Put c.args.key c.args.value)) c.put-put.result _ c.put-put.ensures.ok (omega (arith, room))
 
 pub returns-in-Map-clause-stays : goal.returns-in-Map-clause-stays
-returns-in-Map-clause-stays g c = (
-  ap (λ (m : LogMap). kinds.Map m.home m.colours) c.put-put.ensures.same ∙ ap kind_opened (sym c.in-Map.is),
-  c.put-put.ensures.map,
-)
+returns-in-Map-clause-stays g c =
+    let e = c.put-put.ensures in
+    let is = subst (IsKept c.args.client.now) c.in-Map.is c.requires.kept in (
+      ap (λ (m : LogMap). kinds.Map m.home m.colours) e.same ∙ ap kind_opened (sym c.in-Map.is),
+      (
+        e.map,
+        atomic_later c.reads_go_on.ensures c.args.store.now c.args.client.now c.put-put.new.client e.client
+            c.in-Map.several c.requires.client is.1,
+        is.2 ∙ ap (λ (m : LogMap). m.home) (sym e.same),
+        is.3 ∙ ap (λ (m : LogMap). m.colours) (sym e.same),
+      ),
+    )
 
 pub returns-in-Map-clause-gives : goal.returns-in-Map-clause-gives
 returns-in-Map-clause-gives g c =
@@ -44,7 +53,7 @@ returns-in-Map-clause-gives g c =
     subst (λ (x : Opened). GivesFor c.args.store.now c.args.client.now c.put-put.new.client (kind_opened x)
     (λ object. whats.Put object c.args.key c.args.value) c.appended.result) (sym c.in-Map.is)
     (gives_map_put c.args.store.now c.args.client.now c.put-put.new.client e.client c.put-put.result c.appended.result
-    c.appended.ensures c.in-Map.map.home c.in-Map.map.colours is.colours e.away c.args.key c.args.value e.ok e.err)
+    c.appended.ensures c.in-Map.single.home c.in-Map.single.colours is.0.colours e.away c.args.key c.args.value e.ok e.err)
 
 pub put-put-requires-in-Causal-clause-map : goal.put-put-requires-in-Causal-clause-map
 put-put-requires-in-Causal-clause-map g c κs within = subst (IsKept c.args.client.now) c.in-Causal.is c.requires.kept

@@ -32,7 +32,7 @@ open-requires-clause-size g c =
 pub serve_beside-requires-after_bounds : goal.serve_beside-requires-after_bounds
 serve_beside-requires-after_bounds g c κs within = λ n x at.
     let e = c.in_ok-store.ensures in
-    can_serve c.args.script c.requires.fits c.requires.built c.requires.stops c.in_ok-store.store e.size e.regions
+    can_serve c.args.script c.requires.fits c.requires.stops c.in_ok-store.store e.size e.regions
     c.in_ok-store.clients e.clients c.in_ok-served.served.items
     (subst (λ (l : List Command). AreDealt c.in_ok-store.clients c.args.script.objects l c.in_ok-served.served.items)
     c.replace-commands.ensures.value (objects_are c.as_slice.ensures c.in_ok-served.ensures)) n x
@@ -41,7 +41,7 @@ serve_beside-requires-after_bounds g c κs within = λ n x at.
 pub close-requires : goal.close-requires
 close-requires g c =
     let e = c.in_ok-store.ensures in
-    let served = were_served c.args.script c.requires.fits c.requires.built c.requires.stops c.in_ok-store.store e.size
+    let served = were_served c.args.script c.requires.fits c.requires.stops c.in_ok-store.store e.size
     e.regions c.in_ok-store.clients e.clients c.replace-commands.result c.replace-commands.ensures.value
     c.in_ok-served.served.items c.as_mut_slice.result.now c.serve_beside.new.served c.as_mut_slice.ensures.value
     (objects_are c.as_slice.ensures c.in_ok-served.ensures) c.serve_beside.ensures.len c.serve_beside.ensures.served
@@ -52,7 +52,7 @@ close-requires g c =
 pub end_report-requires-clause-regions : goal.end_report-requires-clause-regions
 end_report-requires-clause-regions g c =
     let e = c.in_ok-store.ensures in
-    let served = were_served c.args.script c.requires.fits c.requires.built c.requires.stops c.in_ok-store.store e.size
+    let served = were_served c.args.script c.requires.fits c.requires.stops c.in_ok-store.store e.size
     e.regions c.in_ok-store.clients e.clients c.replace-commands.result c.replace-commands.ensures.value
     c.in_ok-served.served.items c.as_mut_slice.result.now c.serve_beside.new.served c.as_mut_slice.ensures.value
     (objects_are c.as_slice.ensures c.in_ok-served.ensures) c.serve_beside.ensures.len c.serve_beside.ensures.served
@@ -64,7 +64,7 @@ end_report-requires-clause-regions g c =
 pub returns : goal.returns
 returns g c =
     let e = c.in_ok-store.ensures in
-    let served = were_served c.args.script c.requires.fits c.requires.built c.requires.stops c.in_ok-store.store e.size
+    let served = were_served c.args.script c.requires.fits c.requires.stops c.in_ok-store.store e.size
     e.regions c.in_ok-store.clients e.clients c.replace-commands.result c.replace-commands.ensures.value
     c.in_ok-served.served.items c.as_mut_slice.result.now c.serve_beside.new.served c.as_mut_slice.ensures.value
     (objects_are c.as_slice.ensures c.in_ok-served.ensures) c.serve_beside.ensures.len c.serve_beside.ensures.served

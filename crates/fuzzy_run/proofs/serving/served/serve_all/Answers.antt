@@ -17,7 +17,8 @@ pub loop-command-init : goal.loop-command-init
 loop-command-init g c = record {
   kept = λ done. c.requires.kept;
   kinds = refl;
-  serves = λ objects of. subst (λ (rs : List ReplyLine). Serves c.args.store.now objects c.args.served.now.client [] rs)
+  serves = λ objects of. subst (λ (rs : List ReplyLine). Serves c.args.store.now objects c.args.served.now.client
+      c.args.served.now.objects.items [] rs)
       (sym c.requires.replies) (c.requires.serves objects);
   same = (refl, refl);
   count = ap length c.requires.replies;
@@ -41,7 +42,8 @@ serve-reply-requires-clause-kept g c κs within =
     let so_far = sym (map-id yielded) ∙ YieldsList-so_far all yielded _ c.loop-command.yielded_by in
     let some = some_objects c.args.served.now.objects.items in
     was.kept (finished_before c.args.store.now some.0 c.loop-command.served.client c.args.served.now.commands.items
-    (length yielded) c.in-Some.command yielded c.loop-command.served.replies.items c.requires.stops
+    (length yielded) c.in-Some.command c.loop-command.served.objects.items yielded c.loop-command.served.replies.items
+    c.requires.stops
     (there c.args.served.now.commands.items (length yielded) c.in-Some.command
     (rw (sym c.replace-commands.ensures.value) t)) (so_far ∙ ap (λ (v : _). take (length yielded) v.items) c.replace-commands.ensures.value)
     (was.serves some.0 some.1))
@@ -64,7 +66,6 @@ serve-reply-requires-clause-command g c κs within =
     (length yielded) c.in-Some.command c.requires.servable
     (there c.args.served.now.commands.items (length yielded) c.in-Some.command
     (rw (sym c.replace-commands.ensures.value) t)) in record {
-      built = is.built;
       within = is.within;
       of_one = of_one_on c.args.served.now.objects.items c.loop-command.served.objects.items c.in-Some.command.what
           c.loop-command.invariant.kinds is.of_one;
@@ -86,7 +87,7 @@ loop-command-preserved g c =
     let stops = c.requires.stops in
     let some = some_objects c.args.served.now.objects.items in
     let finished = finished_before store some.0 client c.args.served.now.commands.items (length yielded) c.in-Some.command
-    yielded replies stops (there c.args.served.now.commands.items (length yielded) c.in-Some.command
+    c.loop-command.served.objects.items yielded replies stops (there c.args.served.now.commands.items (length yielded) c.in-Some.command
     (rw (sym c.replace-commands.ensures.value) t)) (so_far ∙ ap (λ (v : _). take (length yielded) v.items) c.replace-commands.ensures.value)
     (was.serves some.0 some.1) in
     let e = c.serve-reply.ensures.answered some.0 (some.1 ∙ sym was.kinds) in
@@ -96,9 +97,10 @@ loop-command-preserved g c =
     record {
       kept = c.serve-reply.ensures.kept;
       kinds = c.serve-reply.ensures.same ∙ was.kinds;
-      serves = λ objects of. subst (Serves store objects c.serve-reply.new.client (yielded ++ c.in-Some.command ∷ []))
+      serves = λ objects of. subst (Serves store objects c.serve-reply.new.client c.serve-reply.new.opened.items (yielded ++ c.in-Some.command ∷ []))
           (sym c.push_reserved.ensures.items)
-          (serves_next store objects client c.serve-reply.new.client yielded replies c.in-Some.command c.serve-reply.result
+          (serves_next store objects client c.serve-reply.new.client c.loop-command.served.objects.items
+          c.serve-reply.new.opened.items yielded replies c.in-Some.command c.serve-reply.result
           (was.serves objects of) finished (c.serve-reply.ensures.answered objects (of ∙ sym was.kinds)));
       same = (e.same.0 ∙ was.same.0, e.same.1 ∙ was.same.1);
       count = omega (arith, items_are, long, longer, was.count);
@@ -115,6 +117,7 @@ returns g c =
     record {
       same = c.loop-command.invariant.same;
       serves = λ objects of. subst (λ (l : List Command).
-          Serves c.args.store.now objects c.loop-command.served.client l c.loop-command.served.replies.items)
+          Serves c.args.store.now objects c.loop-command.served.client c.loop-command.served.objects.items l
+          c.loop-command.served.replies.items)
           whole (c.loop-command.invariant.serves objects of);
     }

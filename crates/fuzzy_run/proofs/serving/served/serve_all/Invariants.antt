@@ -13,7 +13,7 @@ invariant-loop-command g l = record {
   kept : Finished l.served.client → AreKept l.served.client l.served.objects.items;
   kinds : map kind_opened l.served.objects.items ≡ map kind_opened l.initial.served.objects.items;
   serves : (objects : List Object) → AreOf objects l.initial.served.objects.items
-      → Serves l.store objects l.served.client l.yielded l.served.replies.items;
+      → Serves l.store objects l.served.client l.served.objects.items l.yielded l.served.replies.items;
   same : IsSame l.initial.served.client l.served.client;
   count : length l.served.replies.items ≡ length l.yielded;
   room : vec_capacity l.served.replies ≡ vec_capacity l.initial.served.replies;

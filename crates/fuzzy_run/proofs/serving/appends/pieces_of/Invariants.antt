@@ -1,7 +1,7 @@
 use Rattle.std.proofs.Common.{◌≡◌, map, take}
 use Rattle.std.specs.Prelude.{vec_capacity}
 use Rattle.log_client.specs.Appends.{piece_of}
-use Rattle.fuzzy_run.proofs.serving.appends.shown.Given as goal
+use Rattle.fuzzy_run.proofs.serving.appends.pieces_of.Given as goal
 
 -- the points so far
 abbrev pub invariant-loop-point : goal.invariant-loop-point
