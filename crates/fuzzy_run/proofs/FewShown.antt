@@ -1,5 +1,5 @@
 -- A reply shows no more raises, syncs and points than it has room for.
-use Rattle.std.proofs.Common.{◌≡◌, ℕ, ◌≤◌, ◌++◌, List, length, map, Option, Some, None, Ok, Err, ap, sym, ◌∙◌, arith}
+use Rattle.std.proofs.Common.{◌≡◌, ℕ, ◌≤◌, ◌++◌, List, length, map, Option, Some, Ok, Err, ap, sym, ◌∙◌, arith}
 use Rattle.std.specs.Prelude.{IfOk, IfSome, Result}
 use Rattle.std.proofs.lemmas.List.{length-map}
 use Rattle.log_node.specs.declared.limits.TheConstants.{MAX_COLOURS}

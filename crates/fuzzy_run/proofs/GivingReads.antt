@@ -4,7 +4,6 @@ use Rattle.std.specs.Prelude.{◌==◌, IfErr, IfOk, Result}
 use Rattle.std.specs.List.{Contains}
 use Rattle.std.specs.Option.{option_map}
 use Rattle.log_node.specs.declared.ids.Colours.{Colours}
-use Rattle.log_node.specs.declared.ids.Counts.{Counts}
 use Rattle.log_node.specs.declared.ids.Key.{Key}
 use Rattle.log_node.specs.declared.forms.Pair.{Pair}
 use Rattle.log_node.specs.declared.forms.Version.{Version}
@@ -12,9 +11,9 @@ use Rattle.log_node.specs.Sets.{members}
 use Rattle.object_fold.specs.declared.verdict.Verdict.{Verdict}
 use Rattle.object_fold.specs.declared.verdict.Verdict.TheVariants.{Committed, Conflict}
 use Rattle.object_fold.specs.Maps.{Value, values_among}
-use Rattle.object_fold.specs.Transactions.{values_after, verdict_of}
+use Rattle.object_fold.specs.Transactions.{verdict_of}
 use Rattle.col_core.specs.History.{entry_key}
-use Rattle.col_core.specs.Keeping.{Kept, updated, with_made, with_read, with_row}
+use Rattle.col_core.specs.Keeping.{Kept, updated, with_read}
 use Rattle.col_core.specs.Log.{Log}
 use Rattle.script_text.specs.declared.script.Kind.{Kind}
 use Rattle.script_text.specs.declared.script.Kind.TheVariants as kinds
@@ -27,7 +26,7 @@ use Rattle.report_text.specs.declared.report.KeyAnswer.{KeyAnswer}
 use Rattle.report_text.specs.declared.report.RaisePiece.{RaisePiece}
 use Rattle.report_text.specs.declared.report.SyncPiece.{SyncPiece}
 use Rattle.lawful_run.specs.Appends.{HasNoStamp, IsFull}
-use Rattle.lawful_run.specs.Asks.{AsksToAppend, Manner, Reading, Stopping, colours_of, colours_synced, home_asked, home_of, keys_of, manner_of, object_colours, object_home, rising, shards}
+use Rattle.lawful_run.specs.Asks.{AsksToAppend, Manner, Reading, Stopping, colours_synced, home_asked, home_of, keys_of, manner_of, object_colours, object_home, rising, shards}
 use Rattle.lawful_run.specs.Callers.{Caller, node_of}
 use Rattle.lawful_run.specs.Explains.{Explains}
 use Rattle.lawful_run.specs.Objects.{AreAnswers, shown_verdict}
@@ -61,7 +60,7 @@ use Rattle.tx_map.specs.declared.transactions.TxMap.{TxMap}
 use Rattle.tx_map.specs.Transactions.{CommitRefused, Commits, CommitsAs, KeysRefused, ReadsKeys, UnruledLeaves, transaction_text}
 use Rattle.fuzzy_run.specs.declared.serving.opened.Opened.{Opened}
 use Rattle.fuzzy_run.specs.declared.serving.opened.Opened.TheVariants as opened
-use Rattle.fuzzy_run.specs.Opened.{kind_opened, versions_in}
+use Rattle.fuzzy_run.specs.Opened.{versions_in}
 use Rattle.fuzzy_run.specs.Replying.{ShowsKeys, commit_answer, fault_answer, keys_found, ruled_answer, tx_found}
 use Rattle.fuzzy_run.specs.Serving.{GivesAt, GivesFor, GivesOf, GivesTo}
 use Rattle.fuzzy_run.proofs.GivingObjects.{did_nothing, who}

@@ -1,6 +1,5 @@
 // Commands that answer by an object after a stamped read.
-ghost use Rattle.std.specs.Prelude.{◌≡◌, ◌≤◌, [], Option, IsTrue, IfOk, length, map, vec_capacity};
-ghost use Rattle.object_fold.specs.Maps.{Value};
+ghost use Rattle.std.specs.Prelude.{◌≡◌, ◌≤◌, [], IsTrue, IfOk, length, map, vec_capacity};
 ghost use Rattle.lawful_run.specs.Objects.{AreAnswers};
 ghost use Rattle.object_form.specs.Forms.{ArePairs};
 ghost use Rattle.script_text.specs.Fitting.{is_map, is_tx};
