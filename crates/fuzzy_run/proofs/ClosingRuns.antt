@@ -103,7 +103,7 @@ module _ (script : Script) (fits : IsFitting script) (s : Store) (clients : List
   home_of : (n : ℕ) (c : Client) → slice_get clients n ≡ Some c → slice_index script.shape.homes n ≡ c.region
   home_of n c at = get_or_from_slice_get script.shape.homes n c.region 0 (served.each n c at).1
 
-  serves : (n : ℕ) (c : Client) → slice_get clients n ≡ Some c
+  serves : (n : ℕ) (c : Client) (at : slice_get clients n ≡ Some c)
       → Serves s script.objects c (served.each n c at).2 (commands_of script n) (slice_index_or replies n [])
   serves n c at = (served.each n c at).3
 

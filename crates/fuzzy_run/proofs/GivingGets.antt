@@ -16,13 +16,12 @@ use Rattle.script_text.specs.declared.script.What.{What}
 use Rattle.script_text.specs.declared.script.What.TheVariants as whats
 use Rattle.report_text.specs.declared.report.Answer.{Answer}
 use Rattle.report_text.specs.declared.report.Answer.TheVariants as answers
-use Rattle.lawful_run.specs.Asks.{AsksToAppend, Dequeuing, Getting, Manner, Stopping, colours_synced, home_asked, manner_of, object_colours, object_home, shards}
+use Rattle.lawful_run.specs.Asks.{AsksToAppend, Getting, colours_synced, home_asked, manner_of, object_colours, object_home, shards}
 use Rattle.lawful_run.specs.Callers.{Caller}
 use Rattle.lawful_run.specs.Explains.{Explains}
 use Rattle.lawful_run.specs.Reads.{HidesSyncs, IsTrimmed}
 use Rattle.lawful_run.specs.Refusals.{IsAway, IsHomeRefusal}
 use Rattle.lawful_run.proofs.CallerLemmas.{explains_get_trimmed, explains_get_without, explains_take, explains_unread, explains_unread_without}
-use Rattle.script_meaning.specs.States.{kind_in}
 use Rattle.append_core.specs.declared.stood.Point.{Point}
 use Rattle.log_client.specs.declared.store.Store.{Store}
 use Rattle.log_client.specs.declared.client.Client.{Client}

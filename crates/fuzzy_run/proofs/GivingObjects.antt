@@ -3,7 +3,7 @@ use Rattle.std.proofs.Common.{◌≡◌, ◌≢◌, ◌⊎◌, ℕ, List, [], ma
 use Rattle.std.specs.Prelude.{IfErr, IfOk, IsTrue, Result}
 use Rattle.log_node.specs.declared.ids.Colours.{Colours}
 use Rattle.log_node.specs.Sets.{members}
-use Rattle.col_core.specs.Keeping.{Kept, with_made, with_row}
+use Rattle.col_core.specs.Keeping.{Kept}
 use Rattle.col_core.specs.Log.{Log}
 use Rattle.script_text.specs.declared.script.Object.{Object}
 use Rattle.script_text.specs.declared.script.What.{What}
@@ -25,7 +25,7 @@ use Rattle.log_client.specs.declared.client.Client.{Client}
 use Rattle.log_client.specs.declared.answers.Appended.{Appended}
 use Rattle.log_client.specs.declared.object_fault.ObjectFault.{ObjectFault}
 use Rattle.log_client.specs.declared.object_fault.ObjectFault.TheVariants as faults
-use Rattle.log_client.specs.Appends.{AppendRefused, AppendsAs, FindsNoMemory, piece_of}
+use Rattle.log_client.specs.Appends.{AppendsAs, FindsNoMemory, piece_of}
 use Rattle.log_client.specs.Calls.{DidNothing, IsExplained}
 use Rattle.log_client.specs.Clients.{Helps, IsClient, Keeps, caller_of, seen_of}
 use Rattle.log_client.specs.Objects.{IsAwayFrom, PutRefused, StandsIn, StandsNot}

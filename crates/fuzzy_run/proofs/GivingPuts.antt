@@ -1,22 +1,17 @@
 -- What a client gives to appends of objects of each kind.
-use Rattle.std.proofs.Common.{◌≡◌, ◌≢◌, ℕ, ◌+◌, ◌<◌, ◌≤◌, List, [], ◌∷◌, length, map, Option, Some, None, Ok, Err, refl, ap, sym, subst, ◌∙◌, arith}
+use Rattle.std.proofs.Common.{◌≡◌, ◌≢◌, ℕ, ◌<◌, ◌≤◌, List, [], ◌∷◌, length, Option, Some, None, Ok, Err, refl, ap, sym, subst, ◌∙◌, arith}
 use Rattle.std.specs.Prelude.{◌%◌, IfErr, IfOk, Result, slice_index, sum}
 use Rattle.std.proofs.lemmas.List.{length-map}
-use Rattle.log_node.specs.declared.ids.Colours.{Colours}
 use Rattle.log_node.specs.declared.forms.Form.TheVariants as forms
 use Rattle.log_node.specs.declared.forms.Pair.{Pair}
-use Rattle.log_node.specs.Sets.{members}
 use Rattle.object_fold.specs.Nodes.{shard_of}
 use Rattle.object_form.specs.Forms.{form_text}
-use Rattle.col_core.specs.Keeping.{Kept}
 use Rattle.script_text.specs.declared.script.Kind.{Kind}
 use Rattle.script_text.specs.declared.script.Kind.TheVariants as kinds
-use Rattle.script_text.specs.declared.script.Object.{Object}
 use Rattle.script_text.specs.declared.script.What.TheVariants as whats
 use Rattle.report_text.specs.declared.report.Answer.{Answer}
-use Rattle.lawful_run.specs.Asks.{AsksToAppend, keys_of, object_colours, object_home, put_form, shards}
+use Rattle.lawful_run.specs.Asks.{keys_of, object_colours, object_home, put_form, shards}
 use Rattle.lawful_run.proofs.CallerLemmas.{one_shard}
-use Rattle.script_meaning.specs.States.{kind_in}
 use Rattle.append_core.specs.declared.stood.Point.{Point}
 use Rattle.log_client.specs.declared.store.Store.{Store}
 use Rattle.log_client.specs.declared.client.Client.{Client}

@@ -1,8 +1,7 @@
 -- A client's objects while it is served: each stays open, and what is asked of one is answered by that one.
-use Rattle.std.proofs.Common.{◌≡◌, ◌⊎◌, ℕ, zero, suc, List, [], ◌∷◌, length, map, set, get_or, Option, Some, None, slice_get, refl, ap, sym, subst, ◌∙◌, inl, inr, arith}
+use Rattle.std.proofs.Common.{◌≡◌, ◌⊎◌, ℕ, zero, suc, List, [], ◌∷◌, length, map, set, get_or, Some, None, slice_get, refl, ap, sym, subst, ◌∙◌, inl, inr, arith}
 use Rattle.std.specs.Prelude.{Bool, IsTrue, false, ◌<◌, ◌≤◌}
 use Rattle.std.specs.List.{All}
-use Rattle.std.specs.Option.{option_map}
 use Rattle.std.proofs.lemmas.Simd.{map-map}
 use Rattle.std.proofs.lemmas.Option.{slice_get-map, get_or_from_slice_get, slice_get_within}
 use Rattle.log_node.specs.declared.limits.TheConstants.{MAX_COLOURS}
@@ -194,7 +193,7 @@ some_objects xs = (
 )
 
 -- a command of no object is of the log
-of_none : (what : What) → object_asked what ≡ None → IsOfLog what
+pub of_none : (what : What) → object_asked what ≡ None → IsOfLog what
 of_none (whats.Append colours text) none = tt
 of_none (whats.Stop steps colours text) none = tt
 of_none (whats.Sync colour) none = tt

@@ -1,6 +1,6 @@
 -- What the reads of a client's objects found, while it is served.
 use Rattle.std.proofs.Common.{◌≡◌, ◌≢◌, ℕ, zero, suc, List, [], ◌∷◌, set, Option, Some, None, slice_get, refl, ap, sym, subst, ◌∙◌, inl, eq-eqb}
-use Rattle.std.specs.Prelude.{Bool, IsTrue, false, ◌==◌}
+use Rattle.std.specs.Prelude.{IsTrue, false, ◌==◌}
 use Rattle.std.specs.List.{All}
 use Rattle.std.proofs.lemmas.Option.{get_or_from_slice_get, slice_get_within}
 use Rattle.log_node.specs.declared.forms.Version.{Version}

@@ -1,6 +1,6 @@
 -- Clients who were dealt their commands, before they are served and after.
 use Rattle.std.proofs.Common.{◌≡◌, ℕ, List, [], ◌∷◌, ◌++◌, length, map, take, drop, Some, slice_get, Ok, Err, refl, ap, sym, subst, ◌∙◌, arith}
-use Rattle.std.specs.Prelude.{IsTrue, IfOk, Result, ◌==◌, ◌≤◌, slice_index_or}
+use Rattle.std.specs.Prelude.{IfOk, Result, ◌==◌, ◌≤◌, slice_index_or}
 use Rattle.std.specs.List.{All}
 use Rattle.std.proofs.lemmas.List.{length-map}
 use Rattle.std.proofs.lemmas.List.Elements.{All-filter}

@@ -1,8 +1,4 @@
-use Rattle.std.proofs.Common.{◌∙◌, ap, subst, Some}
 use Rattle.fuzzy_io.specs.Causes.{Rose}
-use Rattle.fuzzy_run.specs.declared.asked.Asked.{Asked}
-use Rattle.fuzzy_run.specs.TopCall.{IsRefusalText, Writes}
-use Rattle.fuzzy_run.proofs.RunsOf.{same_asked}
 use Rattle.fuzzy_run.proofs.TopLemmas.{completes}
 use Rattle.fuzzy_run.proofs.top.run.Goals as goal
 

@@ -1,5 +1,4 @@
 use Rattle.std.proofs.Common.{ℕ, refl, subst}
-use Rattle.script_text.specs.declared.script.What.{What}
 use Rattle.script_text.specs.declared.script.What.TheVariants as whats
 use Rattle.script_meaning.proofs.CallerLemmas.{key_is_word, pairs_are}
 use Rattle.fuzzy_run.specs.Opened.{HasCommand, kind_opened}

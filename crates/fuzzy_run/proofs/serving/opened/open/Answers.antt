@@ -1,19 +1,36 @@
-use Rattle.std.proofs.Common.{refl, subst, sym, ◌∙◌}
+use Rattle.std.proofs.Common.{◌≡◌, refl, subst, sym, ◌∙◌}
 use Rattle.log_client.specs.Objects.{AreColours}
 use Rattle.fuzzy_run.proofs.ObjectFrames.{map_colours, one_colour}
 use Rattle.fuzzy_run.proofs.serving.opened.open.Goals as goal
 
-pub returns-in_ok-copy-in-Map-clause-unfolded : goal.returns-in_ok-copy-in-Map-clause-unfolded
-returns-in_ok-copy-in-Map-clause-unfolded c = (
+pub returns-in_ok-again-in-Map-clause-unfolded : goal.returns-in_ok-again-in-Map-clause-unfolded
+returns-in_ok-again-in-Map-clause-unfolded c = (
   refl,
   λ client regions few within.
       let one = c.in_ok-single-in-Map.ensures in
-      let all = c.open-several-in-Map.ensures in
+      let all = c.open-several.ensures in
+      let copy : c.in_ok-copy-in-Map.copy ≡ c.in-Map.colours = c.in_ok-copy-in-Map.ensures ∙ c.as_slice.ensures in
+      let again : c.in_ok-again-in-Map.again ≡ c.in-Map.colours = c.in_ok-again-in-Map.ensures ∙ c.as_slice-in-Map.ensures in
+      let home : c.in_ok-single-in-Map.single.home ≡ c.in-Map.home = one.of.0 in
+      let its_home : c.open-several.result.home ≡ c.in-Map.home = all.of.0 in
+      let colours : c.in_ok-single-in-Map.single.colours ≡ c.in-Map.colours = one.of.1 ∙ copy in
+      let its_colours : c.open-several.result.colours ≡ c.in-Map.colours = all.of.1 ∙ again in
       let are = map_colours client regions c.in_ok-single-in-Map.single.home c.in_ok-single-in-Map.single.colours few within in (
         one.map client (subst (AreColours client) one.of.1 are),
-        all.map client (subst (AreColours client) one.of.1 are),
-        all.of.0 ∙ sym one.of.0,
-        all.of.1 ∙ sym one.of.1,
+        all.map client (subst (AreColours client) (colours ∙ sym again) are),
+        its_home ∙ sym home,
+        its_colours ∙ sym colours,
+      ),
+)
+
+pub returns-in_ok-copy-in-Tx-clause-unfolded : goal.returns-in_ok-copy-in-Tx-clause-unfolded
+returns-in_ok-copy-in-Tx-clause-unfolded c = (
+  refl,
+  λ client regions few within.
+      let e = c.open-map.ensures in (
+        e.map client (subst (AreColours client) e.of.1
+            (map_colours client regions c.open-map.result.home c.open-map.result.colours few within)),
+        tt,
       ),
 )
 

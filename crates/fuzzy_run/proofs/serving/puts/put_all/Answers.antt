@@ -7,7 +7,6 @@ use Rattle.script_text.specs.declared.script.What.TheVariants as whats
 use Rattle.log_client.proofs.CallerLemmas.{rests_same}
 use Rattle.log_map.proofs.CallerLemmas.{map_later}
 use Rattle.atomic_map.specs.declared.atomic.AtomicMap.{AtomicMap}
-use Rattle.fuzzy_run.specs.declared.serving.opened.Opened.{Opened}
 use Rattle.fuzzy_run.specs.Opened.{IsKept, kind_opened}
 use Rattle.fuzzy_run.specs.Serving.{GivesFor}
 use Rattle.fuzzy_run.proofs.GivingObjects.{gives_unasked_of}
