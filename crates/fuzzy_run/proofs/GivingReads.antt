@@ -397,7 +397,7 @@ module _ (s : Store) (c d : Client) (on : RestsOn s c d) (objects : List Object)
           (subst (λ (l : List ℕ). ReadsAt log it r.0 l read.stamp raises syncs after) (sym synced) r.2.0) r.2.2 r.2.4
           (ap (λ (k : Key). verdict_of r.2.3 k) key ∙ (r.2.5 ∙ ap Some (sym v.2)))))
 
-    -- a commit that was refused, of a client to which the map is no nearer than this
+    -- a commit that was refused, which rests on these versions or on none
     unruled : (versions : Option (List Version)) (fault : ObjectFault)
         → CommitRefused home s c d colours versions pairs fault → IsRuled object pairs versions (fault_answer fault)
     unruled versions (faults.NotHome shown) is =
@@ -438,7 +438,8 @@ module _ (s : Store) (c d : Client) (on : RestsOn s c d) (answer : Answer) where
         let syncs = map sync_piece r.1.syncs in
         subst (λ (a : Answer). GivesOf s objects c d (whats.GetAll object keys) a []) (sym shows.2)
         (given_all s c d on objects object keys (answers.GotKeys r.1.stamp shows.0 raises syncs)
-        (told s c d on objects (whats.GetAll object keys) (answers.GotKeys r.1.stamp shows.0 raises syncs) (GetsAllAs colours keys r.0 r.1) ok
+        (told s c d on objects (whats.GetAll object keys) (answers.GotKeys r.1.stamp shows.0 raises syncs)
+        (GetsAllAs colours keys r.0 r.1) ok
         (λ log kept after x. (
           refl,
           after,
@@ -462,7 +463,8 @@ module _ (s : Store) (c d : Client) (on : RestsOn s c d) (answer : Answer) where
     by (Err fault) shows tells ok err =
         subst (λ (a : Answer). GivesOf s objects c d (whats.GetAll object keys) a []) (sym shows)
         (given_all s c d on objects object keys (fault_answer fault)
-        (told_refused s c d on objects (whats.GetAll object keys) refl (shards colours keys) synced_are home (ap object_home at) fault err)
+        (told_refused s c d on objects (whats.GetAll object keys) refl (shards colours keys) synced_are home
+        (ap object_home at) fault err)
         (away_by_fault s c d on objects (whats.GetAll object keys) home fault (ap object_home at) tells))
 
   pub gives_read : (m n : TxMap) (found now : Option Tx) (keys : List (List ℕ))
@@ -483,42 +485,47 @@ module _ (s : Store) (c d : Client) (on : RestsOn s c d) (answer : Answer) where
     by (Ok r) is shows tells ok err =
         let raises = map raise_piece r.2.raises in
         let syncs = map sync_piece r.2.syncs in
-        subst (λ (a : Answer). GivesAt s objects c d object (opened.Tx m found) (opened.Tx n now) (whats.Read object keys) a) (sym shows.2)
+        subst (λ (a : Answer). GivesAt s objects c d object (opened.Tx m found) (opened.Tx n now) (whats.Read object keys) a)
+        (sym shows.2)
         (record {
           rests = on.client;
           same = on.same;
           goes = on.goes;
           explained = λ kept done keeps knows.
-              let e = ok.1 objects (with_read kept object None) done (keeps_read s c objects kept object None keeps) in (
+              let before = with_read kept object None in
+              let e = ok.1 objects before done (keeps_read s c objects kept object None keeps) in (
                 with_read e.0 object (Some r.1.versions),
                 keeps_read s d objects e.0 object (Some r.1.versions) e.1,
                 λ rest fits.
+                    let log = log_of (seen_of d) rest in
+                    let caller = caller_of s d objects in
                     let x = e.2 rest fits in (
-                      subst (λ (v : List Version). Explains (log_of (seen_of d) rest) (caller_of s d objects) (with_read kept object None) (whats.Read object keys)
+                      subst (λ (v : List Version). Explains log caller before (whats.Read object keys)
                           (answers.GotKeys r.2.stamp shows.0 raises syncs) [] (with_read e.0 object (Some v)))
                           (sym x.5.1)
-                          (explains_read (log_of (seen_of d) rest) (caller_of s d objects) (with_read kept object None) object keys r.2.stamp
-                          shows.0 raises syncs e.0 x.1 x.3
-                          (subst (λ (l : List ℕ). ReadsAt (log_of (seen_of d) rest) (caller_of s d objects) (with_read kept object None) l
-                          r.2.stamp raises syncs e.0) (sym synced_are) x.0) x.2 x.4
+                          (explains_read log caller before object keys r.2.stamp shows.0 raises syncs e.0 x.1 x.3
+                          (subst (λ (l : List ℕ). ReadsAt log caller before l r.2.stamp raises syncs e.0) (sym synced_are)
+                          x.0) x.2 x.4
                           (subst (λ (v : List Value). AreAnswers keys v shows.0) x.5.0 shows.1)),
                       λ k. ap (λ (reads : ℕ → Option (List Version)). updated reads object (Some r.1.versions) k)
-                          (reads_keep (log_of (seen_of d) rest) (caller_of s d objects) (with_read kept object None) (rising m.colours)
-                          r.2.stamp raises syncs e.0 x.0)
+                          (reads_keep log caller before (rising m.colours) r.2.stamp raises syncs e.0 x.0)
                           ∙ (updated_twice kept.reads object None (Some r.1.versions) k
                           ∙ ap (λ (o : Option Tx). updated kept.reads object (versions_in (opened.Tx n o)) k) (sym is)),
                     ),
               );
-          away = λ far. absurd (let e = away_told s c d on objects (whats.Read object keys) m.home _ (ap object_home at) tells far in
-              let f : ⊥ = cc (e) in f);
+          away = λ far. absurd (
+              let e = away_told s c d on objects (whats.Read object keys) m.home _ (ap object_home at) tells far in
+              let f : ⊥ = cc (e) in f
+              );
           finished = λ done. inl (on.finished done);
           helps = λ helps. inr refl;
         })
     by (Err fault) is shows tells ok err =
-        subst (λ (a : Answer). GivesAt s objects c d object (opened.Tx m found) (opened.Tx n now) (whats.Read object keys) a) (sym shows)
+        subst (λ (a : Answer). GivesAt s objects c d object (opened.Tx m found) (opened.Tx n now) (whats.Read object keys) a)
+        (sym shows)
         (given_none s c d on objects object keys (opened.Tx m found) (opened.Tx n now) (fault_answer fault)
-        (told_refused s c d on objects (whats.Read object keys) refl (rising m.colours) synced_are m.home (ap object_home at) fault
-        (as_several m.home s c d (rising m.colours) fault err))
+        (told_refused s c d on objects (whats.Read object keys) refl (rising m.colours) synced_are m.home
+        (ap object_home at) fault (as_several m.home s c d (rising m.colours) fault err))
         (ap (λ (o : Option Tx). versions_in (opened.Tx n o)) is) (no_keys fault)
         (away_by_fault s c d on objects (whats.Read object keys) m.home fault (ap object_home at) tells))
 
@@ -529,7 +536,8 @@ module _ (s : Store) (c d : Client) (on : RestsOn s c d) (answer : Answer) where
       → IfErr call (CommitRefused m.home s c d m.colours (option_map (λ (t : Tx). t.versions) found) pairs)
       → GivesTo s c d (opened.Tx m found) (opened.Tx n None) (λ object. whats.Commit object pairs) answer
   gives_commit m n found pairs call shown tells ok err objects object at =
-      subst (λ (a : Answer). GivesAt s objects c d object (opened.Tx m found) (opened.Tx n None) (whats.Commit object pairs) a) (sym shown)
+      subst (λ (a : Answer). GivesAt s objects c d object (opened.Tx m found) (opened.Tx n None) (whats.Commit object pairs) a)
+      (sym shown)
       (by call tells ok err) where
         by : (call : Result (Verdict × Appended × StampedRead) ObjectFault)
             → (c.region ≢ m.home → call ≡ Err (faults.NotHome m.home))
@@ -538,9 +546,11 @@ module _ (s : Store) (c d : Client) (on : RestsOn s c d) (answer : Answer) where
             → GivesAt s objects c d object (opened.Tx m found) (opened.Tx n None) (whats.Commit object pairs) (commit_answer call)
         by (Ok r) tells ok err =
             given_commit s c d on objects object pairs (opened.Tx m found) (opened.Tx n None) (commit_answer (Ok r))
-            (subst (λ (o : Option Tx). IsRuled s c d on objects object pairs (versions_in (opened.Tx m o)) (commit_answer (Ok r)))
+            (subst (λ (o : Option Tx). IsRuled s c d on objects object pairs (versions_in (opened.Tx m o))
+            (commit_answer (Ok r)))
             (sym ok.1) (committed s c d on objects object pairs m.home m.colours at ok.0.versions r.0 r.1 r.2 ok.2)) refl
-            (λ far. absurd (let e = away_told s c d on objects (whats.Commit object pairs) m.home _ (ap object_home at) tells far in
+            (λ far. absurd (
+            let e = away_told s c d on objects (whats.Commit object pairs) m.home _ (ap object_home at) tells far in
             let f : ⊥ = cc (e) in f))
         by (Err fault) tells ok err =
             given_commit s c d on objects object pairs (opened.Tx m found) (opened.Tx n None) (fault_answer fault)
