@@ -5,7 +5,8 @@ ghost use Rattle.client_tests.specs.Stores.{IsSmall};
 ghost use Rattle.log_client.specs.Clients.{IsClient};
 ghost use Rattle.log_map.specs.Maps.{IsMapOf};
 
-use crate::tests::shown::{is_value, looked, stands_at, two_colours};
+use crate::made::two_colours;
+use crate::tests::shown::{is_value, looked, stands_at};
 use client_tests::opened;
 use fuzzy_io::OpenGate;
 use log_client::{Appended, Client, ObjectFault, Store, Synced};

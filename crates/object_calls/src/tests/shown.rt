@@ -1,10 +1,7 @@
 // What answers of objects show.
-ghost use Rattle.std.specs.Prelude.{◌≡◌, [], ◌∷◌, IfOk};
-
 use log_client::{Appended, StampedRead, Synced};
-use log_node::{At, ColourList, Counts, Keys, ListOf, Pair, Pairs, Text};
+use log_node::{At, Counts, Text};
 use object_fold::Values;
-use std::alloc::{AllocError, Global};
 use std::process::Abort;
 
 /// The node stands under the stamp in one colour, where its client's event at a place put it, at a position.
@@ -60,37 +57,6 @@ pub(crate) fn are_values(rt: &impl Abort, values: &Values, wanted: &[u8]) {
             None => assert_eq!(rt; *byte, 0),
         }
     }
-}
-
-/// Keys of one byte each.
-pub(crate) fn keys(alloc: Global, bytes: &[u8]) -> Result<Keys, AllocError> {
-    let mut keys = ListOf::new(alloc);
-    for byte in bytes {
-        let key = Text::copied(alloc, &[*byte])?;
-        keys.push(key)?;
-    }
-    Ok(keys)
-}
-
-/// Pairs of a key and a value of one byte each.
-pub(crate) fn pairs(alloc: Global, bytes: &[(u8, u8)]) -> Result<Pairs, AllocError> {
-    let mut pairs = ListOf::new(alloc);
-    for (key, value) in bytes {
-        let key = Text::copied(alloc, &[*key])?;
-        let value = Text::copied(alloc, &[*value])?;
-        pairs.push(Pair { key, value })?;
-    }
-    Ok(pairs)
-}
-
-/// The colours 0 and 1.
-pub(crate) fn two_colours(alloc: Global) -> Result<ColourList, AllocError>
-    ensures { IfOk result (λ colours. colours ≡ 0 ∷ 1 ∷ []) }
-{
-    let mut colours = ListOf::new(alloc);
-    colours.push(0)?;
-    colours.push(1)?;
-    Ok(colours)
 }
 
 /// The node stands under the stamp, in the row or none, at these events and positions of its colours.
