@@ -2,7 +2,7 @@
 pub use Rattle.chain_store.proofs.Entering.{fresh, single_entered, entered_below}
 pub use Rattle.chain_store.proofs.Begun.{begun_at, begun_later}
 pub use Rattle.chain_store.proofs.Passing.{made_place, made_with}
-pub use Rattle.chain_store.proofs.Resting.{lawful_seen}
+pub use Rattle.chain_store.proofs.Resting.{ids_seen, lawful_seen}
 pub use Rattle.chain_store.proofs.ListedRows.{IsAmong, row_place, row_listed}
 pub use Rattle.chain_store.proofs.Going.{prefix_same, prefix_with, prefix_then, later_same, later_then, append_later}
 pub use Rattle.chain_store.proofs.Going.{goes_same, goes_then, goes_weaken, looks_on, makes_on}

@@ -1,13 +1,16 @@
 -- A column with one entry more.
-use Rattle.std.proofs.Common.{◌≡◌, ℕ, zero, suc, get_or, ◌+◌, ◌-◌, ◌<◌, ◌≤◌, Bool, true, false, List, [], ◌∷◌, ◌++◌, length, map, take, drop, Some, refl, ap, sym, subst, ◌∙◌, arith, inl, inr, ◌⊎◌, length-append}
+use Rattle.std.proofs.Common.{◌≡◌, ℕ, zero, suc, get_or, ◌+◌, ◌-◌, ◌^◌, ◌<◌, ◌≤◌, Bool, true, false, List, [], ◌∷◌, ◌++◌, length, map, take, drop, Some, refl, ap, sym, subst, ◌∙◌, arith, inl, inr, ◌⊎◌, length-append}
 use Rattle.std.specs.Prelude.{slice_get, slice_set, slice_index, slice_index_or, ◌||◌}
 use Rattle.std.specs.List.{Contains}
 use Rattle.std.specs.Option.{option_map}
-use Rattle.std.proofs.lemmas.Bool.{cases_eq}
+use Rattle.std.proofs.lemmas.Bool.{cases_eq, cases_lt}
+use Rattle.std.proofs.lemmas.Option.{slice_get-map}
+use Rattle.log_node.specs.declared.limits.TheConstants.{MAX_CLIENTS}
 use Rattle.log_node.specs.declared.ids.Id.{Id}
 use Rattle.log_node.specs.declared.ids.Key.{Key}
 use Rattle.log_node.specs.declared.node.Node.{Node}
 use Rattle.log_node.specs.Seen.{PlacedNode}
+use Rattle.log_node.specs.Order.{same_id}
 use Rattle.skeen_core.specs.declared.waiting.Waiting.{Waiting}
 use Rattle.col_core.specs.declared.Entry.{Entry}
 use Rattle.col_core.specs.declared.Event.{Event}
@@ -19,14 +22,14 @@ use Rattle.col_core.proofs.CallerLemmas.{dated-append}
 use Rattle.log_node.specs.declared.ids.Counts.{Counts}
 use Rattle.log_node.specs.Marks.{IsStamp}
 use Rattle.col_core.specs.History.{enters, has_entered, last_stamp}
-use Rattle.col_core.proofs.CallerLemmas.{by_test}
+use Rattle.col_core.proofs.CallerLemmas.{by_test, same_id-true}
 use Rattle.column.specs.Entering.{EnteredNode}
 use Rattle.column.specs.Columns.{ColumnState, stamp_for, with_room, after_single, after_propose, entered_node}
 use Rattle.skeen_core.specs.Queues.{entry_under}
-use Rattle.std.proofs.lemmas.List.{get_or-set_same, get_or-set_other}
+use Rattle.std.proofs.lemmas.List.{get_or_past, get_or-set_same, get_or-set_other}
 use Rattle.chain_store.specs.declared.told.Told.{Told}
 use Rattle.chain_store.specs.Entered.{AreBelow}
-use Rattle.chain_store.specs.Histories.{Names, EntersAs, Brings, IsOfMaker}
+use Rattle.chain_store.specs.Histories.{Names, EntersAs, Brings, FitsColumn, HasIds, IsOfMaker}
 use Rattle.chain_store.specs.Columns.{IsOfHistory, newest_in, newest_nodes, told_by, last_of, single_told, told_propose}
 
 -- places of a list with one element more at its end
@@ -166,6 +169,43 @@ pub entered_region : (region colour : ℕ) (log : List Told)
     → (id : Id) (x : Node) → EntersAs log id x → x.region ≡ region
 entered_region region colour log brings id x h =
     brought_region region colour h.told.entry.event h.told.nodes id x (brings h.place h.told h.there) h.brought h.entered
+
+-- the count of an id that enters is that of the node which the event brings in
+fits_count : (region colour : ℕ) (x : Node) (i id : Id) → i ≡ x.id → FitsColumn region colour x → same_id id i ≡ true
+    → id.count < 2 ^ 63
+fits_count region colour x i id is fits entered =
+    let same = ap (λ (j : Id). j.count) (same_id-true id i entered ∙ is) in
+    let counted = fits.counted in
+    omega (arith, same, counted)
+
+brought_count : (region colour : ℕ) (e : Event) (nodes : List Node) (id : Id) → Brings region colour e nodes
+    → enters id e ≡ true → id.count < 2 ^ 63
+brought_count region colour (Single i floor wants) nodes id b entered =
+    fits_count region colour b.0 i id (let e = b.3 in cc (e)) b.4 entered
+brought_count region colour (Propose i floor wants) nodes id b entered =
+    fits_count region colour b.0 i id (let e = b.3 in cc (e)) b.4 entered
+brought_count region colour (Settle i outcome) nodes id b entered = absurd (let f : ⊥ = cc (entered) in f)
+brought_count region colour (Raise to) nodes id b entered = absurd (let f : ⊥ = cc (entered) in f)
+brought_count region colour (Give other from) nodes id b entered = absurd (let f : ⊥ = cc (entered) in f)
+brought_count region colour (Carry other start heads) nodes id b entered = absurd (let f : ⊥ = cc (entered) in f)
+brought_count region colour (Trim counts) nodes id b entered = absurd (let f : ⊥ = cc (entered) in f)
+
+-- The ids that entered a column are such as there may be: it has a number for each client that there may be, and no other.
+pub column_ids : (column : ColumnState) (clients : ℕ) (log : List Told) (numbers : List ℕ)
+    → IsOfHistory column clients log → AreBelow column.journal numbers → length numbers ≡ MAX_CLIENTS → HasIds log
+column_ids column clients log numbers is below long n t id at entered = (
+  elim (cases_lt id.client (length numbers)) [
+    | inl lt ↦ omega (arith, lt, long)
+    | inr past ↦
+        let there : slice_get column.journal n ≡ Some t.entry =
+        ap (λ l. slice_get l n) is.same ∙ slice_get-map (λ (u : Told). u.entry) log n
+        ∙ ap (option_map (λ (u : Told). u.entry)) at in
+        let less = below n t.entry id there entered in
+        let none = get_or_past numbers id.client 0 past in
+        absurd (omega (arith, less, none))
+  ],
+  brought_count column.region column.colour t.entry.event t.nodes id (is.brings n t at) entered,
+)
 
 -- the column has entered the node by this entry
 pub record HasEntered (column new : ColumnState) (e : Entry) (node : Node) : Type 0 where

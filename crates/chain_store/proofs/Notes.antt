@@ -13,7 +13,7 @@ use Rattle.turn_cell.specs.Cells.{seen, own, IsReady, IsSameView, IsAccounted}
 use Rattle.chain_store.specs.declared.told.Told.{Told}
 use Rattle.chain_store.specs.declared.hold.Hold.{Hold}
 use Rattle.chain_store.specs.declared.region.Region.{Region}
-use Rattle.chain_store.specs.Histories.{maker}
+use Rattle.chain_store.specs.Histories.{maker, HasIds}
 use Rattle.chain_store.specs.Columns.{tag_of}
 use Rattle.chain_store.specs.Passes.{ColumnCell, ColumnPass, IsHolder, IsLawfulTold, tag_in}
 use Rattle.chain_store.specs.Owning.{Owns}
@@ -48,6 +48,7 @@ split_holder c n p q holds same = record {
   ready = same.0;
   mine = same.1.1.0 ∙ holds.mine ∙ ap (λ (l : List Told). Some (maker_with n (made_by maker n l))) (sym same.1.0);
   lawful = subst (IsLawfulTold (tag_in c)) (sym same.1.0) holds.lawful;
+  ids = subst HasIds (sym same.1.0) holds.ids;
 }
 
 -- and what was split off has seen what it had
@@ -56,6 +57,7 @@ pub split_told : (c : ColumnCell) (n : ℕ) (p t : ColumnPass) → IsHolder c n 
 split_told c n p t holds ready same = record {
   ready = ready;
   lawful = subst (IsLawfulTold (tag_in c)) (sym same) holds.lawful;
+  ids = subst HasIds (sym same) holds.ids;
 }
 
 module _ (c : ColumnCell) (n : ℕ) (p t q : ColumnPass) (holds : IsHolder c n p) (told : IsTold c t)
@@ -73,6 +75,10 @@ module _ (c : ColumnCell) (n : ℕ) (p t q : ColumnPass) (holds : IsHolder c n p
     lawful = elim longer.2 [
       | inl e ↦ subst (IsLawfulTold (tag_in c)) (sym e) holds.lawful
       | inr e ↦ subst (IsLawfulTold (tag_in c)) (sym e) told.lawful
+    ];
+    ids = elim longer.2 [
+      | inl e ↦ subst HasIds (sym e) holds.ids
+      | inr e ↦ subst HasIds (sym e) told.ids
     ];
   }
 

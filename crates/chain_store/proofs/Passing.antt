@@ -12,14 +12,15 @@ use Rattle.col_core.specs.Legal.{IsColumnHistory}
 use Rattle.col_core.proofs.CallerLemmas.{by_test, if_true, if_false}
 use Rattle.column.specs.Columns.{history_of, greater}
 use Rattle.column.specs.Views.{IsView}
+use Rattle.stamp_board.specs.Seats.{column_seen}
 use Rattle.turn_cell.specs.Histories.{maker as maker_with, made_by}
 use Rattle.turn_cell.specs.Cells.{own, IsNewPass}
 use Rattle.chain_store.specs.declared.told.Tag.{Tag}
 use Rattle.chain_store.specs.declared.told.Told.{Told}
 use Rattle.chain_store.specs.declared.seated.Seated.{Seated}
-use Rattle.chain_store.specs.Histories.{entries_in, maker}
+use Rattle.chain_store.specs.Histories.{entries_in, maker, HasIds}
 use Rattle.chain_store.specs.Columns.{Stands, tag_of}
-use Rattle.chain_store.proofs.Entering.{entered_named, entered_region}
+use Rattle.chain_store.proofs.Entering.{column_ids, entered_named, entered_region}
 use Rattle.chain_store.specs.Passes.{ColumnCell, ColumnPass, IsHolder, ShowsHistory, dated_in, tag_in}
 
 pub ok_as : {T E : Type 0} (r : Result T E) (P Q : T → Type 0) → ((x : T) → P x → Q x) → IfOk r P → IfOk r Q
@@ -75,6 +76,11 @@ lawful_of s t log stands is lawful =
     (subst (λ (l : List Entry). IsColumnHistory s.column.region s.column.regions (dated s.column.region l)) stands.0.same
     lawful)
 
+-- and its ids are such as there may be
+pub ids_of : (s : Seated) (log : List Told) → Stands s log → HasIds log
+ids_of s log stands =
+    column_ids s.column (column_seen s.seat).size.clients log s.entered stands.0 s.above s.all
+
 -- a look at the column shows its history
 pub shows_history : (s : Seated) (t : Tag) (log : List Told) (from : Counts) (view : View) → Stands s log
     → tag_of s ≡ t → IsView s.column from view → ShowsHistory t log from view
@@ -117,4 +123,5 @@ new_holder c n p new = record {
   mine = new.2 ∙ ap (λ (l : List Told). Some (maker_with n (made_by maker n l))) (sym new.1);
   lawful = subst (λ (l : List Told). IsColumnHistory (tag_in c).region (tag_in c).regions (dated_in (tag_in c) l))
       (sym new.1) (λ k d at. absurd (let f : ⊥ = cc in f));
+  ids = subst HasIds (sym new.1) (λ k t id at e. absurd (let f : ⊥ = cc (at) in f));
 }

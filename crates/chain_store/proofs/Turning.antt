@@ -10,7 +10,7 @@ use Rattle.turn_cell.specs.Cells.{seen, own, IsSameMaker, IsSameView, Accounts, 
 use Rattle.chain_store.specs.declared.told.Tag.{Tag}
 use Rattle.chain_store.specs.declared.told.Told.{Told}
 use Rattle.chain_store.specs.declared.seated.Seated.{Seated}
-use Rattle.chain_store.specs.Histories.{entries_in, maker}
+use Rattle.chain_store.specs.Histories.{entries_in, maker, HasIds}
 use Rattle.chain_store.specs.Columns.{Stands, Gains, newest_of, tag_of}
 use Rattle.chain_store.specs.Passes.{ColumnCell, ColumnPass, IsHolder, HasTurnOf, SeesMore, MakesOne, IsLawfulTold, tag_in}
 use Rattle.chain_store.proofs.Passing.{lawful_of, made_with}
@@ -70,21 +70,23 @@ module _ (cell : ColumnCell) (n : ℕ) (q : ColumnPass) (turn : HasTurnOf cell n
 -- the end of a turn
 module _ (cell there : ColumnCell) (n : ℕ) (q r : ColumnPass) (is : there ≡ cell) where
   pub rests : HasTurnOf cell n q → IsReady tag_of there r → IsSameView q r → IsLawfulTold (tag_in cell) (seen q)
-      → IsHolder cell n r
-  rests turn ready kept lawful = record {
+      → HasIds (seen q) → IsHolder cell n r
+  rests turn ready kept lawful ids = record {
     ready = subst (λ (z : ColumnCell). IsReady tag_of z r) is ready;
     mine = kept.1.0 ∙ turn.mine ∙ ap (λ (l : List Told). Some (maker_with n (made_by maker n l))) (sym kept.0);
     lawful = subst (IsLawfulTold (tag_in cell)) (sym kept.0) lawful;
+    ids = subst HasIds (sym kept.0) ids;
   }
 
   pub rests_with : (t : Told) → maker t ≡ n → HasTurnOf cell n q → IsReady tag_of there r → AddsEntry t q r
-      → IsLawfulTold (tag_in cell) (seen q ++ t ∷ []) → IsHolder cell n r
-  rests_with t by turn ready added lawful = record {
+      → IsLawfulTold (tag_in cell) (seen q ++ t ∷ []) → HasIds (seen q ++ t ∷ []) → IsHolder cell n r
+  rests_with t by turn ready added lawful ids = record {
     ready = subst (λ (z : ColumnCell). IsReady tag_of z r) is ready;
     mine = added.1 ∙ ap (with_entry t) turn.mine
         ∙ ap (λ (l : List Told). Some (maker_with n l)) (sym (made_with n (seen q) t by))
         ∙ ap (λ (l : List Told). Some (maker_with n (made_by maker n l))) (sym added.0);
     lawful = subst (IsLawfulTold (tag_in cell)) (sym added.0) lawful;
+    ids = subst HasIds (sym added.0) ids;
   }
 
 -- the number of an entry that may be added

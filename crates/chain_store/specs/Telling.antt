@@ -9,7 +9,7 @@ use Rattle.chain_store.specs.declared.told.Told.{Told}
 use Rattle.chain_store.specs.declared.hold.Hold.{Hold}
 use Rattle.chain_store.specs.declared.region.Region.{Region}
 use Rattle.chain_store.specs.declared.telling.HoldNote.{HoldNote}
-use Rattle.chain_store.specs.Histories.{maker}
+use Rattle.chain_store.specs.Histories.{maker, HasIds}
 use Rattle.chain_store.specs.Columns.{tag_of}
 use Rattle.chain_store.specs.Passes.{ColumnCell, ColumnPass, IsLawfulTold, tag_in}
 use Rattle.chain_store.specs.Holds.{history_seen, seen_in, made_in, view_of}
@@ -22,10 +22,11 @@ told_in note colour = history_seen (slice_get note.passes.items colour)
 abbrev pub view_told : HoldNote → View
 view_told note = seat_seen note.seat
 
--- a pass of the cell, at rest, that has seen a lawful history
+-- a pass of the cell, at rest, that has seen a lawful history, with ids that there may be
 pub record IsTold (c : ColumnCell) (p : ColumnPass) : Type 0 where
   pub ready : IsReady tag_of c p
   pub lawful : IsLawfulTold (tag_in c) (seen p)
+  pub ids : HasIds (seen p)
 
 -- such a pass of each column, by colour
 abbrev pub AreTold : List ColumnCell → List ColumnPass → Type 0

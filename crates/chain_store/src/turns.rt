@@ -2,7 +2,7 @@
 ghost use Rattle.std.specs.Prelude.{◌≡◌, ℕ};
 ghost use Rattle.turn_cell.specs.Cells.{seen, IsLook, IsEvent, HasTurn, Adds, MayPut};
 ghost use Rattle.chain_store.specs.declared.told.Told.{Told};
-ghost use Rattle.chain_store.specs.Histories.{maker};
+ghost use Rattle.chain_store.specs.Histories.{maker, HasIds};
 ghost use Rattle.chain_store.specs.Columns.{Stands, newest_of, tag_of};
 ghost use Rattle.chain_store.specs.Passes.{IsHolder, HasTurnOf, SeesMore, IsLawfulTold, tag_in};
 
@@ -24,6 +24,7 @@ pub(crate) fn begin<'a, R: Wait>(
     ensures value { Stands result.value.value (seen pass.new) }
     ensures tag { tag_of result.value.value ≡ tag_in cell.now }
     ensures lawful { IsLawfulTold (tag_in cell.now) (seen pass.new) }
+    ensures ids { HasIds (seen pass.new) }
 {
     let turn = cell.take(rt, pass);
     turn.value.column.agrees();

@@ -1,5 +1,6 @@
 use Rattle.turn_cell.specs.Cells.{seen}
 use Rattle.chain_store.specs.Passes.{tag_in}
+use Rattle.chain_store.proofs.Passing.{ids_of}
 use Rattle.chain_store.proofs.Turning.{begun, sees, lawful_at}
 use Rattle.chain_store.proofs.turns.begin.Goals as goal
 
@@ -16,4 +17,5 @@ returns g c =
       tag = t.value.1;
       lawful = lawful_at x c.deref.result.now (tag_in cell) (seen q) c.deref.ensures t.value.0 t.value.1
           c.agrees.ensures.lawful;
+      ids = ids_of x (seen q) t.value.0;
     }
