@@ -4,3 +4,5 @@ mod TxLemmas
 mod PastLemmas
 mod LatestLemmas
 mod CausalLemmas
+mod Versions
+pub mod CallerLemmas

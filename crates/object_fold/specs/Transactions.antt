@@ -1,6 +1,6 @@
 -- The transactional map: which transactions commit, what they leave, and what a conflict names.
-use Rattle.std.specs.Prelude.{Bool, true, false, not, ℕ, List, [], ◌∷◌, map, Option, Some, None}
-use Rattle.std.specs.List.{fold, find}
+use Rattle.std.specs.Prelude.{Bool, IsTrue, true, false, not, ℕ, ◌≤◌, List, [], ◌∷◌, length, map, Option, Some, None}
+use Rattle.std.specs.List.{fold, find, list_all}
 use Rattle.std.specs.Option.{option_map}
 use Rattle.std.specs.Str.{bytes_eq}
 use Rattle.log_node.specs.declared.ids.Key.{Key}
@@ -9,6 +9,7 @@ use Rattle.log_node.specs.declared.forms.Version.{Version}
 use Rattle.log_node.specs.declared.forms.Form.{Form}
 use Rattle.log_node.specs.declared.forms.Form.TheVariants as forms
 use Rattle.log_node.specs.Order.{same_key}
+use Rattle.object_form.specs.Forms.{is_word, are_distinct}
 use Rattle.object_form.specs.Readings.{form_of}
 use Rattle.object_fold.specs.declared.verdict.Verdict.{Verdict}
 use Rattle.object_fold.specs.declared.verdict.Verdict.TheVariants.{Committed, Conflict}
@@ -92,6 +93,13 @@ writes_after nodes = fold (λ writes node. writes_with node.key writes (form_of 
 -- the versions of keys, which a read keeps for its commit
 abbrev pub versions_after : List ObjectNode → List (List ℕ) → List Version
 versions_after nodes keys = map (λ key. record { key = key; writer = writer_of (writes_after nodes) key }) keys
+
+-- keys whose versions a transaction can name: 1 or 2 words, each once
+pub record CanRead (keys : List (List ℕ)) : Type 0 where
+  pub some : 1 ≤ length keys
+  pub few : length keys ≤ 2
+  pub words : IsTrue (list_all is_word keys)
+  pub distinct : IsTrue (are_distinct keys)
 
 -- the values of keys
 abbrev pub values_after : List ObjectNode → List (List ℕ) → List Value

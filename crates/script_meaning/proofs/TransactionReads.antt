@@ -46,7 +46,7 @@ use Rattle.script_meaning.proofs.ShardSets.{rising_below, rising_some}
 use Rattle.script_meaning.proofs.StampedEnds.{ReadTo, KeepsRead}
 use Rattle.script_meaning.proofs.StampedPlays.{MayLook}
 use Rattle.script_meaning.proofs.StampedRaises.{AreDistinct}
-use Rattle.script_meaning.proofs.VersionsFit.{key_fits, versions_fit}
+use Rattle.script_meaning.proofs.VersionsFit.{key_fits, read_versions_fit}
 
 module _ (script : Script) (commands : List Command) (state : State) (command : Command) (grants : Grants)
     (runs : Runs script commands state) (fit : IsFitWhere script commands command ⊥ (Unit {0})) (object : ℕ)
@@ -161,7 +161,7 @@ module _ (script : Script) (commands : List Command) (state : State) (command : 
         at_updated (λ (r : Option (List Version)). r ≡ Some versions → AreVersions versions) (state.reads u) object
         (Some found) other
         (λ _ e. let same : found ≡ versions = cc in subst AreVersions same
-        (versions_fit nodes (λ node i. good few node (in_map (object_at x) read node i)) keys uses.1))
+        (read_versions_fit nodes (λ node i. good few node (in_map (object_at x) read node i)) keys uses.1))
         (λ _ e. runs.versions u other versions e) where
           asked_by_clients : (c : Command) → In c (commands ++ command ∷ []) → c.client < length script.shape.homes
           asked_by_clients c i = elim (in_append c commands (command ∷ []) i) [

@@ -1,32 +1,23 @@
 -- What a read finds is such as the text of a transaction may name.
-use Rattle.std.proofs.Common.{◌≡◌, ◌⊎◌, ℕ, zero, suc, ◌+◌, ◌-◌, ◌^◌, ◌<◌, ◌≤◌, max, List, [], ◌∷◌, ◌++◌, length, map, Option, Some, None, Bool, true, false, inl, inr, refl, ap, sym, subst, ◌∙◌, arith, reverse}
-use Rattle.std.specs.Prelude.{◌==◌, ◌&&◌, nat_le, slice_get}
-use Rattle.std.specs.List.{fold, find, list_all}
-use Rattle.std.specs.Option.{option_map}
-use Rattle.std.specs.Str.{bytes_eq}
+use Rattle.std.proofs.Common.{◌≡◌, ℕ, ◌+◌, ◌-◌, ◌^◌, ◌<◌, ◌≤◌, List, [], ◌∷◌, length, get_or, Some, true, false, ap, subst, ◌∙◌, arith, reverse}
+use Rattle.std.specs.Prelude.{◌==◌, ◌&&◌, nat_le}
 use Rattle.std.proofs.lemmas.Bool.{and_from, eqb-true, le-leb, leb-true}
-use Rattle.std.proofs.lemmas.List.{length-map}
+use Rattle.std.proofs.lemmas.List.Elements.{Contains-get_or}
 use Rattle.log_node.specs.declared.ids.Id.{Id}
 use Rattle.log_node.specs.declared.ids.Key.{Key}
-use Rattle.log_node.specs.declared.forms.Pair.{Pair}
-use Rattle.log_node.specs.declared.forms.Version.{Version}
-use Rattle.log_node.specs.declared.forms.Form.{Form}
-use Rattle.log_node.specs.declared.forms.Form.TheVariants as forms
 use Rattle.log_node.specs.declared.marks.Outcome.TheVariants.{Open, Gone, Final}
 use Rattle.log_node.specs.Order.{same_id}
 use Rattle.log_node.specs.Standings.{Standing}
-use Rattle.object_form.specs.Forms.{is_word, is_writer, are_distinct, AreVersions}
-use Rattle.object_form.specs.Readings.{form_of}
-use Rattle.object_fold.specs.declared.verdict.Verdict.{Verdict}
-use Rattle.object_fold.specs.declared.verdict.Verdict.TheVariants.{Committed, Conflict}
+use Rattle.object_form.specs.Forms.{is_writer, AreVersions}
 use Rattle.object_fold.specs.Nodes.{ObjectNode}
-use Rattle.object_fold.specs.Transactions.{Write, written, ruled, writes_with, writes_after, last_write, writer_of, verdict_on, versions_after}
+use Rattle.object_fold.specs.Transactions.{CanRead, versions_after}
+use Rattle.object_fold.proofs.CallerLemmas.{versions_fit}
 use Rattle.col_core.specs.declared.Event.{Event}
 use Rattle.col_core.specs.declared.Event.TheVariants as events
 use Rattle.col_core.specs.declared.Entry.{Entry}
-use Rattle.col_core.specs.History.{line, entry_key, last_stamp}
+use Rattle.col_core.specs.History.{line, entry_key}
 use Rattle.col_core.specs.History as history
-use Rattle.col_core.proofs.CallerLemmas.{both, by_test, choice, In, in_filter, in_line, shown, entries-of, entry_within, past_clock_within, IsLawfulPast, IsLawfulNext, Status, Alone, Waits, Settled, status, standing_of, after_event}
+use Rattle.col_core.proofs.CallerLemmas.{both, choice, In, in_contains, in_filter, in_line, shown, entries-of, entry_within, past_clock_within, IsLawfulPast, IsLawfulNext, Status, Alone, Waits, Settled, status, standing_of, after_event}
 use Rattle.world_laws.specs.Worlds.{World}
 use Rattle.world_laws.specs.Laws.{IsReached}
 use Rattle.world_laws.proofs.CallerLemmas.{lawful_past_in}
@@ -125,103 +116,23 @@ module _ (w : World) (reached : IsReached w) (commands : List Command) (clients 
       (le-leb _ _ (omega (arith, client, small))))
       (le-leb key.id.count (2 ^ 63 - 1) (omega (arith, count, total, fewer, all, short)))
 
--- WRITERS
+-- READS
 
--- the writers of writes have what these nodes' keys have
-module _ (IsGood : Key → Type 0) where
-  AreGood : List Write → Type 0
-  AreGood writes = (write : Write) → In write writes → IsGood write.writer
+-- the keys of a script's read are such as a transaction can name
+can_read : (keys : List (List ℕ)) → are_keys 2 keys ≡ true → CanRead keys
+can_read keys e =
+    let a = both _ _ e in
+    let n = both _ _ a.0 in record {
+      some = leb-true _ _ n.0;
+      few = leb-true _ _ n.1;
+      words = keys_are_words keys a.1;
+      distinct = keys_distinct keys a.1;
+    }
 
-  written_good : (writer : Key) → IsGood writer → (pairs : List Pair) (writes : List Write) → AreGood writes
-      → AreGood (written writer writes pairs)
-  unfolding AreGood
-  written_good writer good [] writes all = all
-  written_good writer good (pair ∷ pairs) writes all =
-      written_good writer good pairs (record { key = pair.key; value = pair.value; writer = writer } ∷ writes)
-      (λ write i. more write i) where
-        more : (write : Write) → In write (record { key = pair.key; value = pair.value; writer = writer } ∷ writes)
-            → IsGood write.writer
-        more write (inl e) = subst (λ (x : Write). IsGood x.writer) e good
-        more write (inr i) = all write i
-
-  ruled_good : (key : Key) → IsGood key → (writes : List Write) → AreGood writes → (verdict : Verdict)
-      (pairs : List Pair) → AreGood (ruled key writes verdict pairs)
-  ruled_good key good writes all (Committed stamp) pairs = written_good key good pairs writes all
-  ruled_good key good writes all (Conflict other stamp) pairs = all
-
-  with_good : (key : Key) → IsGood key → (writes : List Write) → AreGood writes → (form : Form)
-      → AreGood (writes_with key writes form)
-  with_good key good writes all (forms.Transaction reads pairs) =
-      ruled_good key good writes all (verdict_on writes key.stamp reads) pairs
-  with_good key good writes all (forms.Put other value) = all
-  with_good key good writes all (forms.Delete other) = all
-  with_good key good writes all (forms.PutAll pairs) = all
-  with_good key good writes all (forms.Enqueue value) = all
-  with_good key good writes all forms.Dequeue = all
-  with_good key good writes all (forms.Causal other value) = all
-  with_good key good writes all forms.Plain = all
-
-  fold_good : (nodes : List ObjectNode) → ((node : ObjectNode) → In node nodes → IsGood node.key)
-      → (writes : List Write) → AreGood writes
-      → AreGood (fold (λ writes (node : ObjectNode). writes_with node.key writes (form_of node.text)) writes nodes)
-  fold_good [] keys writes all = all
-  fold_good (node ∷ nodes) keys writes all =
-      fold_good nodes (λ n i. keys n (inr i)) (writes_with node.key writes (form_of node.text))
-      (with_good node.key (keys node (inl refl)) writes all (form_of node.text))
-
-  last_good : (writes : List Write) → AreGood writes → (key : List ℕ) (writer : Key)
-      → writer_of writes key ≡ Some writer → IsGood writer
-  unfolding AreGood
-  last_good [] all key writer e = absurd (let f : ⊥ = cc in f)
-  last_good (write ∷ writes) all key writer is =
-      choice (λ (o : Option Write). option_map (λ (w : Write). w.writer) o ≡ Some writer → IsGood writer) (bytes_eq write.key key) (Some write)
-      (last_write writes key)
-      (λ _ e. let same : write.writer ≡ writer = cc in subst IsGood same (all write (inl refl)))
-      (λ _ e. last_good writes (λ w i. all w (inr i)) key writer e) is
-
-  pub writers_good : (nodes : List ObjectNode) → ((node : ObjectNode) → In node nodes → IsGood node.key)
-      → (key : List ℕ) (writer : Key) → writer_of (writes_after nodes) key ≡ Some writer → IsGood writer
-  unfolding AreGood
-  writers_good nodes keys key writer e =
-      last_good (writes_after nodes) (fold_good nodes keys [] (λ w i. absurd i)) key writer e
-
--- VERSIONS
-
-module _ (nodes : List ObjectNode) (good : (node : ObjectNode) → In node nodes → is_writer (Some node.key) ≡ true) where
-  version : List ℕ → Version
-  version key = record { key = key; writer = writer_of (writes_after nodes) key }
-
-  writer_ok : (o : Option Key) → ((k : Key) → o ≡ Some k → is_writer (Some k) ≡ true) → is_writer o ≡ true
-  writer_ok None all = refl
-  writer_ok (Some k) all = all k refl
-
-  all_writers : (keys : List (List ℕ)) → list_all (λ (v : Version). is_writer v.writer) (versions_after nodes keys) ≡ true
-  all_writers [] = refl
-  all_writers (key ∷ keys) =
-      and_from (is_writer (writer_of (writes_after nodes) key)) _
-      (writer_ok (writer_of (writes_after nodes) key)
-      (writers_good (λ (k : Key). is_writer (Some k) ≡ true) nodes good key)) (all_writers keys)
-
-  all_keys : (keys : List (List ℕ)) → list_all is_word keys ≡ true
-      → list_all (λ (v : Version). is_word v.key) (versions_after nodes keys) ≡ true
-  all_keys [] e = refl
-  all_keys (key ∷ keys) e =
-      let p = both (is_word key) _ e in
-      and_from (is_word key) _ p.0 (all_keys keys p.1)
-
-  same_keys : (keys : List (List ℕ)) → map (λ (v : Version). v.key) (versions_after nodes keys) ≡ keys
-  same_keys [] = refl
-  same_keys (key ∷ keys) = ap (λ (l : List (List ℕ)). key ∷ l) (same_keys keys)
-
-  -- the versions of keys of a script are those of a text
-  pub versions_fit : (keys : List (List ℕ)) → are_keys 2 keys ≡ true → AreVersions (versions_after nodes keys)
-  versions_fit keys e =
-      let a = both _ _ e in
-      let n = both _ _ a.0 in
-      let same : length (versions_after nodes keys) ≡ length keys = length-map keys (λ key. record { key = key; writer = writer_of (writes_after nodes) key }) in record {
-        some = subst (λ (x : ℕ). 1 ≤ x) (sym same) (leb-true _ _ n.0);
-        few = subst (λ (x : ℕ). x ≤ 2) (sym same) (leb-true _ _ n.1);
-        keys = all_keys keys (keys_are_words keys a.1);
-        writers = all_writers keys;
-        distinct = subst (λ (l : List (List ℕ)). are_distinct l ≡ true) (sym (same_keys keys)) (keys_distinct keys a.1);
-      }
+-- and their versions are those of a text
+pub read_versions_fit : (nodes : List ObjectNode) → ((node : ObjectNode) → In node nodes → is_writer (Some node.key) ≡ true)
+    → (keys : List (List ℕ)) → are_keys 2 keys ≡ true → AreVersions (versions_after nodes keys)
+read_versions_fit nodes good keys e =
+    versions_fit nodes
+    (λ k d lt. good (get_or nodes k d) (in_contains nodes (get_or nodes k d) (Contains-get_or nodes k d lt))) keys
+    (can_read keys e)
