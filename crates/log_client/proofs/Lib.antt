@@ -67,6 +67,7 @@ mod LineParts
 mod ItemsRead
 mod ReadLater
 mod ReadCalls
+mod NamedKeys
 mod ObjectNodes
 mod ObjectFolds
 mod ObjectCalls

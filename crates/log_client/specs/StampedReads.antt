@@ -1,9 +1,10 @@
 -- What a stamped read of a client answers.
-use Rattle.std.specs.Prelude.{◌≡◌, Bool, true, ℕ, ◌<◌, ◌≤◌, List, [], ◌∷◌, ◌++◌, map, Option, Some, None, slice_get}
+use Rattle.std.specs.Prelude.{◌≡◌, Bool, IsTrue, true, ℕ, ◌<◌, ◌≤◌, List, [], ◌∷◌, ◌++◌, map, Option, Some, None, slice_get}
 use Rattle.std.specs.List.{All, AllZip, Contains, filter, fold}
 use Rattle.log_node.specs.declared.ids.Key.{Key}
 use Rattle.log_node.specs.Order.{key_below}
 use Rattle.log_node.specs.Seen.{PlacedNode}
+use Rattle.object_form.specs.Forms.{is_writer}
 use Rattle.col_core.specs.History.{clock, line}
 use Rattle.col_core.specs.Log.{Log}
 use Rattle.col_core.specs.RegionOrder.{IsRegionOrder, IsClearUpTo}
@@ -45,6 +46,10 @@ IsAppended log item =
 -- an item of a read has this key, and is the node that was appended with its id
 abbrev pub ShowsItem : Log → Key → PlacedNode → Type 0
 ShowsItem log key item = (item.head.key ≡ key) × IsAppended log item
+
+-- each item's key is one that a version can name
+abbrev pub CanBeNamed : List PlacedNode → Type 0
+CanBeNamed items = All (λ (item : PlacedNode). IsTrue (is_writer (Some item.head.key))) items
 
 -- the stamp is not below what the client has seen of the clock of any of the colours
 abbrev pub IsAboveSeen : Client → List ℕ → ℕ → Type 0

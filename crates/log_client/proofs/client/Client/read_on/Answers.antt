@@ -6,8 +6,10 @@ use Rattle.playback.specs.Merging.{AreRising}
 use Rattle.log_client.specs.declared.track.Track.{Track}
 use Rattle.log_client.specs.Items.{are_parts, AreItems}
 use Rattle.log_client.specs.Reading.{keys_of, raised_colours, synced_colours}
+use Rattle.log_client.specs.StampedReads.{is_behind}
 use Rattle.log_client.proofs.Colours.{all_within}
 use Rattle.log_client.proofs.Explaining.{rests_then}
+use Rattle.log_client.proofs.NamedKeys.{items_named}
 use Rattle.log_client.proofs.ReadCalls.{reached_all, read_answered, read_rests, tracks_rising, unanswered, unraised, unsynced}
 use Rattle.log_client.proofs.client.Client.read_on.Goals as goal
 
@@ -34,6 +36,7 @@ returns-in_default g c =
       syncs = tt;
       above = tt;
       ok = tt;
+      named = tt;
       hidden = tt;
       err = unraised s x b c.args.colours (members c.args.colours) refl stamp e.rests e.keeps e.chosen e.floor e.above
           c.raise_all.new.self c.raise_all.ensures.rests c.in_default.ensures.err;
@@ -64,6 +67,7 @@ returns-in_err-syncs g c =
       syncs = tt;
       above = tt;
       ok = tt;
+      named = tt;
       hidden = tt;
       err = unsynced s x b c.args.colours (members c.args.colours) refl stamp e.rests e.keeps e.chosen e.floor e.above
           r q c.in-Ok.raises.items c.raise_all.ensures.rests up.ok up.colours k.rests k.keeps k.clear
@@ -106,6 +110,7 @@ returns-in_default-items_read g c =
       syncs = tt;
       above = tt;
       ok = tt;
+      named = tt;
       hidden = tt;
       err = unanswered s x b c.args.colours (members c.args.colours) refl stamp e.rests e.keeps e.chosen e.floor e.above
           r q c.in-Ok.raises.items c.raise_all.ensures.rests up.ok up.colours k.rests k.keeps k.clear
@@ -128,6 +133,15 @@ returns g c =
     r q c.in-Ok.raises.items c.raise_all.ensures.rests up.ok up.colours k.rests k.keeps k.clear
     c.sync_all.new.self c.sync_all.ensures.rests c.in_ok-syncs.syncs.items c.in_ok-syncs.ensures.ok c.max-self.result
     c.max-self.ensures e.in_range in
+    let ok =
+    read_answered s x b c.args.colours (members c.args.colours) refl stamp e.rests e.keeps e.chosen e.floor e.above
+    r q c.in-Ok.raises.items c.raise_all.ensures.rests up.ok up.colours k.rests k.keeps k.clear
+    c.sync_all.new.self c.sync_all.ensures.rests c.in_ok-syncs.syncs.items c.in_ok-syncs.ensures.ok c.max-self.result
+    c.max-self.ensures e.in_range
+    c.args.last c.in-Ok-items_read.items
+    (subst (λ (ts : List Track). AreItems (are_parts ts c.args.last stamp (members c.args.colours))
+    c.in-Ok-items_read.items) c.as_slice.ensures.value c.in-Ok-items_read.ensures)
+    c.read_items_last.ensures c.into.result c.into-2.result c.into.ensures c.into-2.ensures in
     record {
       client = on.client;
       same = on.same;
@@ -137,14 +151,9 @@ returns g c =
       raises = ap raised_colours c.into.ensures ∙ up.colours;
       syncs = ap synced_colours c.into-2.ensures ∙ c.in_ok-syncs.ensures.ok.2;
       above = e.above;
-      ok = read_answered s x b c.args.colours (members c.args.colours) refl stamp e.rests e.keeps e.chosen e.floor e.above
-          r q c.in-Ok.raises.items c.raise_all.ensures.rests up.ok up.colours k.rests k.keeps k.clear
-          c.sync_all.new.self c.sync_all.ensures.rests c.in_ok-syncs.syncs.items c.in_ok-syncs.ensures.ok c.max-self.result
-          c.max-self.ensures e.in_range
-          c.args.last c.in-Ok-items_read.items
-          (subst (λ (ts : List Track). AreItems (are_parts ts c.args.last stamp (members c.args.colours))
-          c.in-Ok-items_read.items) c.as_slice.ensures.value c.in-Ok-items_read.ensures)
-          c.read_items_last.ensures c.into.result c.into-2.result c.into.ensures c.into-2.ensures;
+      ok = ok;
+      named = items_named s _ on.client (members c.args.colours) stamp ok.0 ok.1 (is_behind c.args.last)
+          c.in-Ok-items_read.items ok.2.0;
       hidden = unanswered s x b c.args.colours (members c.args.colours) refl stamp e.rests e.keeps e.chosen e.floor e.above
           r q c.in-Ok.raises.items c.raise_all.ensures.rests up.ok up.colours k.rests k.keeps k.clear
           c.sync_all.new.self c.sync_all.ensures.rests c.in_ok-syncs.syncs.items c.in_ok-syncs.ensures.ok c.max-self.result
