@@ -5,7 +5,7 @@ ghost use Rattle.object_fold.specs.Nodes.{ObjectNode};
 ghost use Rattle.object_fold.specs.Maps.{values_among};
 ghost use Rattle.lawful_run.specs.Asks.{shards, keys_of};
 ghost use Rattle.log_client.specs.Clients.{IsClient};
-ghost use Rattle.log_client.specs.Reading.{RestsOn};
+ghost use Rattle.log_client.specs.Reading.{RestsOn, raised_colours, synced_colours};
 ghost use Rattle.log_client.specs.Objects.{AreColours, StandsIn, PutRefused, object_nodes};
 ghost use Rattle.atomic_map.specs.KeyValues.{AreFew, HoldsValues};
 ghost use Rattle.atomic_map.specs.Several.{FoldsAt, IsAtomicMapOf, IsSameMap, GetsAll, GetAllRefused};
@@ -127,6 +127,7 @@ impl AtomicMap {
         ensures same { IsSameMap self.old self.new }
         ensures folds { (kept : KeptRead) → slice_get self.old.reads.items place ≡ Some kept
             → FoldsAt self.old self.new place kept items.now }
+        ensures many { IfOk result (λ values. length values ≡ length keys.now) }
         ensures values { (kept : KeptRead) (nodes : List ObjectNode) → slice_get self.old.reads.items place ≡ Some kept
             → HoldsValues kept.map nodes → IfOk result (λ values. values
             ≡ values_among kept.map.colours (nodes ++ object_nodes items.now) keys.now) }
@@ -152,6 +153,9 @@ impl AtomicMap {
         ensures map { IsAtomicMapOf client.new self.new }
         ensures same { IsSameMap self.old self.new }
         ensures ok { IfOk result (λ r. GetsAll store.now client.old client.new self.old.colours keys.now r.0 r.1) }
+        ensures many { IfOk result (λ r. length r.0 ≡ length keys.now) }
+        ensures raises { IfOk result (λ r. raised_colours r.1.raises ≡ shards self.old.colours keys.now) }
+        ensures syncs { IfOk result (λ r. synced_colours r.1.syncs ≡ shards self.old.colours keys.now) }
         ensures away { client.old.region ≢ self.old.home → result ≡ Err (ObjectFault.NotHome self.old.home) }
         ensures err { IfErr result (GetAllRefused self.old.home store.now client.old client.new
             (shards self.old.colours keys.now)) }

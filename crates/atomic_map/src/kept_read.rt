@@ -1,5 +1,5 @@
 // What the stamped reads of some shards have read is folded, and kept.
-ghost use Rattle.std.specs.Prelude.{◌≡◌, ◌++◌, ◌∷◌, [], ℕ, List, None, IfOk, OnOk, OnErr};
+ghost use Rattle.std.specs.Prelude.{◌≡◌, ◌++◌, ◌∷◌, [], ℕ, List, length, None, IfOk, OnOk, OnErr};
 ghost use Rattle.object_fold.specs.Nodes.{ObjectNode};
 ghost use Rattle.object_fold.specs.Maps.{values_among};
 ghost use Rattle.log_client.specs.Objects.{object_nodes};
@@ -69,6 +69,7 @@ impl KeptRead {
         requires { AreFew self.old.map.colours }
         ensures same { HasSetOf self.old self.new }
         ensures first { FeedsFirst self.old self.new items.now }
+        ensures many { IfOk result (λ values. length values ≡ length keys.now) }
         ensures values { (nodes : List ObjectNode) → HoldsValues self.old.map nodes
             → IfOk result (λ values. values
             ≡ values_among self.old.map.colours (nodes ++ object_nodes items.now) keys.now) }

@@ -136,7 +136,8 @@ impl KeyValues {
 
     /// The values of keys, in the order of the keys.
     pub fn values(&self, alloc: Global, keys: &Keys) -> Result<Values, AllocError>
-        ensures { (nodes : List ObjectNode) → HoldsValues self.now nodes
+        ensures many { IfOk result (λ values. length values ≡ length keys.now) }
+        ensures values { (nodes : List ObjectNode) → HoldsValues self.now nodes
             → IfOk result (λ values. values ≡ values_among self.now.colours nodes keys.now) }
     {
         let mut values = ListOf::new(alloc);

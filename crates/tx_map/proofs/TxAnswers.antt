@@ -1,20 +1,25 @@
 -- What a transactional map keeps while its client goes on, and what explains the answers to its reads and commits.
 use Rattle.std.proofs.Common.{◌≡◌, inl, inr, ℕ, ◌<◌, ◌≤◌, ◌^◌, Bool, true, false, List, [], ◌∷◌, ◌++◌, length, map, take, drop, Option, Some, None, refl, ap, sym, subst, ◌∙◌, arith, take-append-drop}
+use Rattle.std.specs.Prelude.{IsTrue}
 use Rattle.std.specs.List.{All}
 use Rattle.std.proofs.lemmas.Bool.{cases_Bool}
+use Rattle.std.proofs.lemmas.List.{length-map}
+use Rattle.std.proofs.lemmas.List.Elements.{All-append, All-map, All-nil, All-take}
 use Rattle.log_node.specs.declared.ids.Colours.{Colours}
 use Rattle.log_node.specs.declared.ids.Key.{Key}
 use Rattle.log_node.specs.declared.forms.Pair.{Pair}
 use Rattle.log_node.specs.declared.forms.Version.{Version}
+use Rattle.log_node.specs.Seen.{PlacedNode}
 use Rattle.log_node.specs.Order.{key_below, same_key}
 use Rattle.log_node.specs.Sets.{has, members}
 use Rattle.log_node.proofs.CallerLemmas.{key-irrefl, same_key-is}
-use Rattle.object_form.specs.Forms.{AreVersions}
+use Rattle.object_form.specs.Forms.{is_writer, AreVersions}
 use Rattle.object_fold.specs.declared.verdict.Verdict.{Verdict}
 use Rattle.object_fold.specs.Maps.{Value}
-use Rattle.object_fold.specs.Nodes.{ObjectNode}
+use Rattle.object_fold.specs.Nodes.{ObjectNode, object_node}
 use Rattle.object_fold.specs.States.{IsTxState}
-use Rattle.object_fold.specs.Transactions.{values_after, versions_after, verdict_of}
+use Rattle.object_fold.specs.Transactions.{CanRead, value_of, writes_after, values_after, versions_after, verdict_of}
+use Rattle.object_fold.proofs.CallerLemmas.{versions_fit}
 use Rattle.playback.specs.Merging.{AreRising}
 use Rattle.lawful_run.specs.Asks.{keys_of, rising, shards}
 use Rattle.lawful_run.specs.Objects.{AreObjectNodes}
@@ -27,13 +32,13 @@ use Rattle.log_client.specs.Appends.{AreColoursOf}
 use Rattle.log_client.specs.Clients.{IsClient, caller_of, holds_of, seen_of, tracks_of}
 use Rattle.log_client.specs.Fits.{Fits}
 use Rattle.log_client.specs.Reading.{RestsOn}
-use Rattle.log_client.specs.StampedReads.{HasRead, IsAboveSeen, ReadsAs, ReadsGoOn, ReadsOn, is_behind, raise_piece, sync_piece}
+use Rattle.log_client.specs.StampedReads.{CanBeNamed, HasRead, IsAboveSeen, ReadsAs, ReadsGoOn, ReadsOn, is_behind, raise_piece, sync_piece}
 use Rattle.log_client.specs.Objects.{AreColours, KeepsRead, object_nodes, version_keys}
 use Rattle.log_client.proofs.CallerLemmas.{all_appended, all_explained, behind_all, explained_less, first_kept, fits_less, reads_later, rising_front, rising_set, shards_set, tracks_long}
 use Rattle.tx_map.specs.declared.kept_state.KeptState.{KeptState}
 use Rattle.tx_map.specs.declared.transactions.Tx.{Tx}
 use Rattle.tx_map.specs.declared.transactions.TxMap.{TxMap}
-use Rattle.tx_map.specs.Kept.{FeedsAll, FeedsFirst, IsAbsent}
+use Rattle.tx_map.specs.Kept.{AreWriters, FeedsAll, FeedsFirst, IsAbsent}
 use Rattle.tx_map.specs.Transactions.{HasNodes, IsTxMapOf, KeepsState, ReadsKeys, Rules}
 use Rattle.tx_map.proofs.OwnNodes.{others_absent}
 
@@ -76,7 +81,7 @@ tx_set set a b v w p q same colours versions pairs =
 
 module _ (law : ReadsGoOn) (s : Store) (c d : Client) (on : RestsOn s c d) where
   pub state_later : (colours : List ℕ) (kept : KeptState) → KeepsState c colours kept → KeepsState d colours kept
-  state_later colours kept k = (k.0, k.1, reads_later law s c d colours kept.last k.0 on k.2)
+  state_later colours kept k = (k.0, k.1, reads_later law s c d colours kept.last k.0 on k.2, k.3)
 
   pub colours_later : (colours : List ℕ) → IsClient s c → AreColours c colours → AreColours d colours
   colours_later colours is are = record {
@@ -92,9 +97,19 @@ module _ (law : ReadsGoOn) (s : Store) (c d : Client) (on : RestsOn s c d) where
     folds = state_later (rising m.colours) m.kept of.folds;
   }
 
+no_writers : AreWriters []
+no_writers = All-nil (λ (node : ObjectNode). IsTrue (is_writer (Some node.key)))
+
+-- nodes that were folded, and those of items
+pub more_writers : (nodes : List ObjectNode) (items : List PlacedNode) → AreWriters nodes → CanBeNamed items
+    → AreWriters (nodes ++ object_nodes items)
+more_writers nodes items before named =
+    let Is : ObjectNode → Type 0 = λ node. IsTrue (is_writer (Some node.key)) in
+    All-append Is nodes (object_nodes items) before (All-map Is object_node items named)
+
 -- a map of which nothing is folded
 pub opened : (c : Client) (m : TxMap) → AreColours c m.colours → m.kept.last ≡ None → IsTxState m.kept.state [] → IsTxMapOf c m
-opened c m are none empty = record { colours = are; folds = ([], empty, inl (none, refl)) }
+opened c m are none empty = record { colours = are; folds = ([], empty, inl (none, refl), no_writers) }
 
 -- where only the fold is another one
 pub map_folded : (c : Client) (m n : TxMap) → n.colours ≡ m.colours → AreColours c m.colours
@@ -111,7 +126,7 @@ pub state_stays : (c : Client) (colours : List ℕ) (old new : KeptState) (own :
     → KeepsState c colours new
 state_stays c colours old new own same anew k = elim (cases_Bool (is_behind old.last own)) [
   | inl t ↦ subst (KeepsState c colours) (sym (same t)) k
-  | inr f ↦ (let a = anew f in ([], a.1, inl (a.0, refl)))
+  | inr f ↦ (let a = anew f in ([], a.1, inl (a.0, refl), no_writers))
 ]
 
 -- READS
@@ -124,13 +139,16 @@ module _ (law : ReadsGoOn) (s : Store) (c d : Client) (set : Colours) (colours :
   its_nodes = subst (λ (l : List ℕ). KeepsRead c l kept.last k.0) (sym are) k.2
 
   -- after the first nodes that were read
-  pub state_on : (new : KeptState) → FeedsFirst kept new read.items → KeepsState d (rising colours) new
-  state_on new first = (
+  pub state_on : (new : KeptState) → FeedsFirst kept new read.items → CanBeNamed read.items
+      → KeepsState d (rising colours) new
+  state_on new first named = (
     k.0 ++ object_nodes (take first.0 read.items),
     first.2.1 k.0 k.1,
     subst (λ (l : List ℕ). KeepsRead d l new.last (k.0 ++ object_nodes (take first.0 read.items))) are
         (subst (λ (l : Option Key). KeepsRead d (members set) l (k.0 ++ object_nodes (take first.0 read.items)))
         (sym first.2.0) (first_kept law s c d (members set) kept.last k.0 read some on above reads its_nodes first.0)),
+    more_writers k.0 (take first.0 read.items) k.3
+        (All-take (λ (item : PlacedNode). IsTrue (is_writer (Some item.head.key))) first.0 read.items named),
   )
 
   pub reads_keys : (new : KeptState) (asked : List (List ℕ)) (values : List Value) (tx : Tx) → tx.stamp ≡ read.stamp
@@ -199,6 +217,27 @@ module _ (law : ReadsGoOn) (s : Store) (c d : Client) (set : Colours) (colours :
           ),
     )
 
+-- WHAT IT FINDS OF KEYS
+
+module _ (c : Client) (colours : List ℕ) (kept new : KeptState) (items : List PlacedNode) (asked : List (List ℕ))
+    (values : List Value) (versions : List Version) (k : KeepsState c colours kept) (all : FeedsAll kept new items)
+    (found : (nodes : List ObjectNode) → IsTxState new.state nodes
+    → (values ≡ values_after nodes asked) × (versions ≡ versions_after nodes asked)) where
+  abbrev nodes : List ObjectNode
+  nodes = k.0 ++ object_nodes items
+
+  after_all : (values ≡ values_after nodes asked) × (versions ≡ versions_after nodes asked)
+  after_all = found nodes (all.1 k.0 k.1)
+
+  -- a value for each key
+  pub values_many : length values ≡ length asked
+  values_many = ap length after_all.0 ∙ length-map asked (value_of (writes_after nodes))
+
+  -- and versions that a transaction can name
+  pub versions_named : CanBeNamed items → CanRead asked → AreVersions versions
+  versions_named named can =
+      subst AreVersions (sym after_all.1) (versions_fit nodes (more_writers k.0 items k.3 named) asked can)
+
 -- A READ OF ALL COLOURS OF A MAP
 
 module _ (law : ReadsGoOn) (s : Store) (c d : Client) (m : TxMap) (set : Colours) (bits : set.0 < 2 ^ 16)
@@ -210,10 +249,11 @@ module _ (law : ReadsGoOn) (s : Store) (c d : Client) (m : TxMap) (set : Colours
       (rising_set (length (tracks_of c)) m.colours of.colours.some of.colours.within of.colours.few set bits are).0
 
   -- the map that goes on by some of its nodes
-  pub map_read : (n : TxMap) → n.colours ≡ m.colours → FeedsFirst kept n.kept read.items → IsTxMapOf d n
-  map_read n same first =
+  pub map_read : (n : TxMap) → n.colours ≡ m.colours → FeedsFirst kept n.kept read.items → CanBeNamed read.items
+      → IsTxMapOf d n
+  map_read n same first named =
       map_folded d m n same (colours_later law s c d on m.colours is of.colours)
-      (state_on law s c d set m.colours are some on kept k read above reads n.kept first)
+      (state_on law s c d set m.colours are some on kept k read above reads n.kept first named)
 
   -- or by all of them, and answers
   pub keys_read : (new : KeptState) (asked : List (List ℕ)) (values : List Value) (tx : Tx) → tx.stamp ≡ read.stamp

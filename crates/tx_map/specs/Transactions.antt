@@ -34,10 +34,12 @@ use Rattle.log_client.specs.Objects.{AreColours, IsAwayFrom, KeepsRead, StandsNo
 use Rattle.tx_map.specs.declared.kept_state.KeptState.{KeptState}
 use Rattle.tx_map.specs.declared.transactions.Tx.{Tx}
 use Rattle.tx_map.specs.declared.transactions.TxMap.{TxMap}
+use Rattle.tx_map.specs.Kept.{AreWriters}
 
--- What is folded are nodes that the client has read of these colours.
+-- What is folded are nodes that the client has read of these colours, with keys that a version can name.
 abbrev pub KeepsState : Client → List ℕ → KeptState → Type 0
-KeepsState c colours kept = (nodes : List ObjectNode) × IsTxState kept.state nodes × KeepsRead c colours kept.last nodes
+KeepsState c colours kept =
+    (nodes : List ObjectNode) × IsTxState kept.state nodes × KeepsRead c colours kept.last nodes × AreWriters nodes
 
 -- The map is kept beside the client: its colours are the client's, and what is folded are nodes that the client has read of all
 -- of them.

@@ -1,13 +1,14 @@
 // The transactional map.
-ghost use Rattle.std.specs.Prelude.{◌≡◌, ◌≢◌, ◌++◌, List, Some, None, Err, IfOk, IfErr, IfSome};
+ghost use Rattle.std.specs.Prelude.{◌≡◌, ◌≢◌, ◌++◌, List, length, map, Some, None, Err, IfOk, IfErr, IfSome};
 ghost use Rattle.std.specs.Option.{option_map};
 ghost use Rattle.object_form.specs.Forms.{ArePairs, AreVersions};
 ghost use Rattle.lawful_run.specs.Asks.{rising, shards, keys_of};
 ghost use Rattle.object_fold.specs.Nodes.{ObjectNode};
 ghost use Rattle.object_fold.specs.States.{IsTxState};
-ghost use Rattle.object_fold.specs.Transactions.{values_after, versions_after};
+ghost use Rattle.object_fold.specs.Transactions.{CanRead, values_after, versions_after};
+ghost use Rattle.append_core.specs.declared.stood.Point.{Point};
 ghost use Rattle.log_client.specs.Clients.{IsClient};
-ghost use Rattle.log_client.specs.Reading.{RestsOn};
+ghost use Rattle.log_client.specs.Reading.{RestsOn, raised_colours, synced_colours};
 ghost use Rattle.log_client.specs.StampedReads.{ReadRefused};
 ghost use Rattle.log_client.specs.Objects.{AreColours, StandsIn, StandsNot, version_keys};
 ghost use Rattle.tx_map.specs.Kept.{FeedsFirst, FeedsAll};
@@ -103,6 +104,10 @@ impl TxMap {
         ensures map { IsTxMapOf client.new self.new }
         ensures same { IsSameTx self.old self.new }
         ensures ok { IfOk result (λ r. ReadsKeys store.now client.old client.new self.old.colours keys.now r.0 r.1 r.2) }
+        ensures many { IfOk result (λ r. length r.0 ≡ length keys.now) }
+        ensures versions { CanRead keys.now → IfOk result (λ r. AreVersions r.1.versions) }
+        ensures raises { IfOk result (λ r. raised_colours r.2.raises ≡ rising self.old.colours) }
+        ensures syncs { IfOk result (λ r. synced_colours r.2.syncs ≡ rising self.old.colours) }
         ensures away { client.old.region ≢ self.old.home → result ≡ Err (ObjectFault.NotHome self.old.home) }
         ensures err { IfErr result (KeysRefused self.old.home store.now client.old client.new (rising self.old.colours)) }
     {
@@ -136,6 +141,8 @@ impl TxMap {
         ensures map { IsTxMapOf client.new self.new }
         ensures same { IsSameTx self.old self.new }
         ensures ok { IfOk result (λ r. Rules store.now client.old client.new (rising self.old.colours) own r.0 r.1) }
+        ensures raises { IfOk result (λ r. raised_colours r.1.raises ≡ rising self.old.colours) }
+        ensures syncs { IfOk result (λ r. synced_colours r.1.syncs ≡ rising self.old.colours) }
         ensures err { IfErr result (ReadRefused store.now client.old client.new (rising self.old.colours)) }
     {
         reads_go_on();
@@ -207,6 +214,11 @@ impl TxMap {
         ensures same { IsSameTx self.old self.new }
         ensures ok { IfOk result (λ r. (rests : Tx) × (tx ≡ Some rests)
             × Commits store.now client.old client.new self.old.colours rests.versions writes.now r.0 r.1 r.2) }
+        ensures points { IfOk result (λ r. (rests : Tx) × (tx ≡ Some rests)
+            × (map (λ (p : Point). p.colour) r.1.stood.points
+            ≡ shards self.old.colours (version_keys rests.versions ++ keys_of writes.now))) }
+        ensures raises { IfOk result (λ r. raised_colours r.2.raises ≡ rising self.old.colours) }
+        ensures syncs { IfOk result (λ r. synced_colours r.2.syncs ≡ rising self.old.colours) }
         ensures away { client.old.region ≢ self.old.home → result ≡ Err (ObjectFault.NotHome self.old.home) }
         ensures no_tx { client.old.region ≡ self.old.home → tx ≡ None → result ≡ Err ObjectFault.NoTx }
         ensures err { IfErr result (CommitRefused self.old.home store.now client.old client.new self.old.colours

@@ -87,6 +87,18 @@ returns-in-Ok-values-clause-ok g c =
     r.ensures.above r.ensures.ok c.as_slice-in-Ok-read_on.result.now c.as_slice-in-Ok-read_on.ensures c.in-Ok-values.values
     (λ nodes holds. c.in-Ok-values.ensures.values kept.0 nodes kept.1 holds)
 
+pub returns-in-Ok-values-clause-raises : goal.returns-in-Ok-values-clause-raises
+returns-in-Ok-values-clause-raises g c =
+    c.in-Ok-read_on.ensures.raises
+    ∙ of_keys c.key_shards-set.result c.as_slice.result.now c.args.self.now.colours c.as_slice-2.result.now c.args.keys.now
+    c.key_shards-set.ensures c.as_slice.ensures c.as_slice-2.ensures
+
+pub returns-in-Ok-values-clause-syncs : goal.returns-in-Ok-values-clause-syncs
+returns-in-Ok-values-clause-syncs g c =
+    c.in-Ok-read_on.ensures.syncs
+    ∙ of_keys c.key_shards-set.result c.as_slice.result.now c.args.self.now.colours c.as_slice-2.result.now c.args.keys.now
+    c.key_shards-set.ensures c.as_slice.ensures c.as_slice-2.ensures
+
 pub returns-in-Err-values-clause-map : goal.returns-in-Err-values-clause-map
 returns-in-Err-values-clause-map g c =
     let s = c.args.store.now in

@@ -32,6 +32,9 @@ returns-in-Ok-rule-clause-ok g c = (
       c.in-Ok.ensures.ok c.in-Ok-rule.ensures.ok,
 )
 
+pub returns-in-Ok-rule-clause-points : goal.returns-in-Ok-rule-clause-points
+returns-in-Ok-rule-clause-points g c = (c.in-Some.tx, c.in-Some.is, c.in-Ok.ensures.ok.points)
+
 pub returns-in-Err-rule-clause-client : goal.returns-in-Err-rule-clause-client
 returns-in-Err-rule-clause-client g c =
     rests_then c.args.store.now c.args.client.now c.append.new.client c.rule.new.client c.append.ensures.client

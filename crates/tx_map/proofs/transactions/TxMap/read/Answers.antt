@@ -2,7 +2,7 @@ use Rattle.std.proofs.Common.{◌<◌, List, ℕ, ap, subst, ◌∙◌}
 use Rattle.lawful_run.specs.Asks.{rising}
 use Rattle.log_client.specs.StampedReads.{ReadHidden, ReadRefused}
 use Rattle.log_client.proofs.CallerLemmas.{rests_synced}
-use Rattle.tx_map.proofs.TxAnswers.{all_of_store, keys_read, map_later, map_read}
+use Rattle.tx_map.proofs.TxAnswers.{all_of_store, keys_read, map_later, map_read, values_many, versions_named}
 use Rattle.tx_map.proofs.transactions.TxMap.read.Goals as goal
 
 pub read_on-requires-clause-colours : goal.read_on-requires-clause-colours
@@ -19,7 +19,7 @@ returns-in-Ok-found-clause-map g c =
     (c.colour_set-set.ensures ∙ ap rising c.as_slice.ensures) c.requires.client c.requires.map
     (rests_synced c.args.store.now c.args.client.now c.read_on.new.self e.client e.same e.goes e.grows e.finished)
     c.args.self.now.kept c.requires.map.folds c.in-Ok.read c.in-Ok.ensures.above c.in-Ok.ensures.ok
-    c.found.new.self c.found.ensures.same.1 c.found.ensures.first
+    c.found.new.self c.found.ensures.same.1 c.found.ensures.first c.in-Ok.ensures.named
 
 pub returns-in-Ok-found-clause-ok : goal.returns-in-Ok-found-clause-ok
 returns-in-Ok-found-clause-ok g c =
@@ -32,6 +32,25 @@ returns-in-Ok-found-clause-ok g c =
     c.args.self.now.kept c.requires.map.folds c.in-Ok.read c.in-Ok.ensures.above c.in-Ok.ensures.ok
     c.found.new.self.kept c.args.keys.now c.in-Ok-found.values c.in-Ok-found.tx f.found.0 f.whole f.found.1
 
+pub returns-in-Ok-found-clause-many : goal.returns-in-Ok-found-clause-many
+returns-in-Ok-found-clause-many g c =
+    let f = c.in-Ok-found.ensures in
+    values_many c.args.client.now (rising c.args.self.now.colours) c.args.self.now.kept c.found.new.self.kept
+    c.in-Ok.read.items c.args.keys.now c.in-Ok-found.values c.in-Ok-found.tx.versions c.requires.map.folds f.whole f.found.1
+
+pub returns-in-Ok-found-clause-versions : goal.returns-in-Ok-found-clause-versions
+returns-in-Ok-found-clause-versions g c can =
+    let f = c.in-Ok-found.ensures in
+    versions_named c.args.client.now (rising c.args.self.now.colours) c.args.self.now.kept c.found.new.self.kept
+    c.in-Ok.read.items c.args.keys.now c.in-Ok-found.values c.in-Ok-found.tx.versions c.requires.map.folds f.whole f.found.1
+    c.in-Ok.ensures.named can
+
+pub returns-in-Ok-found-clause-raises : goal.returns-in-Ok-found-clause-raises
+returns-in-Ok-found-clause-raises g c = c.in-Ok.ensures.raises ∙ (c.colour_set-set.ensures ∙ ap rising c.as_slice.ensures)
+
+pub returns-in-Ok-found-clause-syncs : goal.returns-in-Ok-found-clause-syncs
+returns-in-Ok-found-clause-syncs g c = c.in-Ok.ensures.syncs ∙ (c.colour_set-set.ensures ∙ ap rising c.as_slice.ensures)
+
 pub returns-in-Err-found-clause-map : goal.returns-in-Err-found-clause-map
 returns-in-Err-found-clause-map g c =
     let e = c.read_on.ensures in
@@ -40,7 +59,7 @@ returns-in-Err-found-clause-map g c =
     (c.colour_set-set.ensures ∙ ap rising c.as_slice.ensures) c.requires.client c.requires.map
     (rests_synced c.args.store.now c.args.client.now c.read_on.new.self e.client e.same e.goes e.grows e.finished)
     c.args.self.now.kept c.requires.map.folds c.in-Ok.read c.in-Ok.ensures.above c.in-Ok.ensures.ok
-    c.found.new.self c.found.ensures.same.1 c.found.ensures.first
+    c.found.new.self c.found.ensures.same.1 c.found.ensures.first c.in-Ok.ensures.named
 
 pub returns-in-Err-found-clause-err : goal.returns-in-Err-found-clause-err
 returns-in-Err-found-clause-err g c =

@@ -26,7 +26,7 @@ returns-in-Ok-ruled-clause-map g c =
     (state_stays c.args.client.now (rising c.args.self.now.colours) c.args.self.now.kept c.stay_before.new.self c.args.own
     c.stay_before.ensures.same c.stay_before.ensures.anew c.requires.map.folds) c.in-Ok.read c.in-Ok.ensures.above c.in-Ok.ensures.ok
     (record { home = c.args.self.now.home; colours = c.args.self.now.colours; kept = c.ruled.new.self }) refl
-    (subst (FeedsFirst c.stay_before.new.self c.ruled.new.self) c.as_slice-in-Ok.ensures c.ruled.ensures.first)
+    (subst (FeedsFirst c.stay_before.new.self c.ruled.new.self) c.as_slice-in-Ok.ensures c.ruled.ensures.first) c.in-Ok.ensures.named
 
 pub returns-in-Ok-ruled-clause-ok : goal.returns-in-Ok-ruled-clause-ok
 returns-in-Ok-ruled-clause-ok g c =
@@ -42,6 +42,12 @@ returns-in-Ok-ruled-clause-ok g c =
     (λ nodes ruling is absent there. c.in-Ok-ruled.ensures.ok nodes ruling is absent
     (ap (λ (l : List PlacedNode). verdict_of (nodes ++ object_nodes l) c.args.own) c.as_slice-in-Ok.ensures ∙ there))
 
+pub returns-in-Ok-ruled-clause-raises : goal.returns-in-Ok-ruled-clause-raises
+returns-in-Ok-ruled-clause-raises g c = c.in-Ok.ensures.raises ∙ (c.colour_set-set.ensures ∙ ap rising c.as_slice.ensures)
+
+pub returns-in-Ok-ruled-clause-syncs : goal.returns-in-Ok-ruled-clause-syncs
+returns-in-Ok-ruled-clause-syncs g c = c.in-Ok.ensures.syncs ∙ (c.colour_set-set.ensures ∙ ap rising c.as_slice.ensures)
+
 pub returns-in-Err-ruled-clause-map : goal.returns-in-Err-ruled-clause-map
 returns-in-Err-ruled-clause-map g c =
     let e = c.read_on.ensures in
@@ -53,7 +59,7 @@ returns-in-Err-ruled-clause-map g c =
     (state_stays c.args.client.now (rising c.args.self.now.colours) c.args.self.now.kept c.stay_before.new.self c.args.own
     c.stay_before.ensures.same c.stay_before.ensures.anew c.requires.map.folds) c.in-Ok.read c.in-Ok.ensures.above c.in-Ok.ensures.ok
     (record { home = c.args.self.now.home; colours = c.args.self.now.colours; kept = c.ruled.new.self }) refl
-    (subst (FeedsFirst c.stay_before.new.self c.ruled.new.self) c.as_slice-in-Ok.ensures c.ruled.ensures.first)
+    (subst (FeedsFirst c.stay_before.new.self c.ruled.new.self) c.as_slice-in-Ok.ensures c.ruled.ensures.first) c.in-Ok.ensures.named
 
 pub returns-in-Err-ruled-clause-err : goal.returns-in-Err-ruled-clause-err
 returns-in-Err-ruled-clause-err g c =
