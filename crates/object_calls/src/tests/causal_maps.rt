@@ -114,16 +114,66 @@ fn two_writers(alloc: Global) -> Result<(Store, Writer, Writer), AllocError>
     Ok((store, east, west))
 }
 
+// Both put, and the east has pulled what the west put.
+fn put_and_pull<R: Wait + Abort>(
+    rt: &R,
+    alloc: Global,
+    store: &Store,
+    east: &mut Writer,
+    west: &mut Writer,
+) -> Result<(), Fail>
+    requires clients { IsClient store.now east.old.client × IsClient store.now west.old.client }
+    requires maps { IsCausalMapOf east.old.client east.old.map × IsCausalMapOf west.old.client west.old.map }
+    requires regions { length store.now.regions ≡ 2 }
+    ensures clients { IsClient store.now east.new.client × IsClient store.now west.new.client }
+    ensures maps { IsCausalMapOf east.new.client east.new.map × IsCausalMapOf west.new.client west.new.map }
+{
+    east.puts(rt, alloc, store, b"2", (1, 0, 0))?;
+    west.puts(rt, alloc, store, b"1", (1, 0, 0))?;
+    east.pulls(rt, alloc, store, 1, (1, 1, 1))
+}
+
+// The east gets what both put, and puts once more.
+fn put_after<R: Wait + Abort>(
+    rt: &R,
+    alloc: Global,
+    store: &Store,
+    east: &mut Writer,
+) -> Result<(), Fail>
+    requires client { IsClient store.now east.old.client }
+    requires map { IsCausalMapOf east.old.client east.old.map }
+{
+    east.gets(rt, alloc, store, b"k", b"12", (2, 1, 1))?;
+    east.puts(rt, alloc, store, b"3", (2, 2, 1))?;
+    east.gets(rt, alloc, store, b"k", b"3", (3, 2, 1))
+}
+
 #[test]
 fn writes_that_none_follows_are_answered(rt: HostRuntime) -> Result<(), Fail> {
     let alloc = rt.alloc();
     let (store, mut east, mut west) = two_writers(alloc)?;
-    east.puts(&rt, alloc, &store, b"2", (1, 0, 0))?;
-    west.puts(&rt, alloc, &store, b"1", (1, 0, 0))?;
-    east.pulls(&rt, alloc, &store, 1, (1, 1, 1))?;
-    east.gets(&rt, alloc, &store, b"k", b"12", (2, 1, 1))?;
-    east.puts(&rt, alloc, &store, b"3", (2, 2, 1))?;
-    east.gets(&rt, alloc, &store, b"k", b"3", (3, 2, 1))
+    put_and_pull(&rt, alloc, &store, &mut east, &mut west)?;
+    put_after(&rt, alloc, &store, &mut east)
+}
+
+// The east puts once more, and so does the west, which then pulls what the east put.
+fn put_beside<R: Wait + Abort>(
+    rt: &R,
+    alloc: Global,
+    store: &Store,
+    east: &mut Writer,
+    west: &mut Writer,
+) -> Result<(), Fail>
+    requires clients { IsClient store.now east.old.client × IsClient store.now west.old.client }
+    requires maps { IsCausalMapOf east.old.client east.old.map × IsCausalMapOf west.old.client west.old.map }
+    requires regions { length store.now.regions ≡ 2 }
+{
+    west.gets(rt, alloc, store, b"k", b"1", (2, 0, 1))?;
+    east.gets(rt, alloc, store, b"j", b"", (2, 1, 1))?;
+    east.puts(rt, alloc, store, b"4", (2, 2, 1))?;
+    west.puts(rt, alloc, store, b"3", (2, 2, 1))?;
+    west.pulls(rt, alloc, store, 0, (2, 3, 3))?;
+    west.gets(rt, alloc, store, b"k", b"34", (4, 2, 2))
 }
 
 // The last write of the east has seen the first one of the west, and so ends it; the last one of the west has not seen the east.
@@ -131,13 +181,6 @@ fn writes_that_none_follows_are_answered(rt: HostRuntime) -> Result<(), Fail> {
 fn an_overwrite_ends_what_it_has_seen(rt: HostRuntime) -> Result<(), Fail> {
     let alloc = rt.alloc();
     let (store, mut east, mut west) = two_writers(alloc)?;
-    east.puts(&rt, alloc, &store, b"2", (1, 0, 0))?;
-    west.puts(&rt, alloc, &store, b"1", (1, 0, 0))?;
-    west.gets(&rt, alloc, &store, b"k", b"1", (1, 0, 1))?;
-    east.pulls(&rt, alloc, &store, 1, (1, 1, 1))?;
-    east.gets(&rt, alloc, &store, b"j", b"", (2, 1, 1))?;
-    east.puts(&rt, alloc, &store, b"4", (2, 2, 1))?;
-    west.puts(&rt, alloc, &store, b"3", (2, 2, 1))?;
-    west.pulls(&rt, alloc, &store, 0, (2, 3, 3))?;
-    west.gets(&rt, alloc, &store, b"k", b"34", (4, 2, 2))
+    put_and_pull(&rt, alloc, &store, &mut east, &mut west)?;
+    put_beside(&rt, alloc, &store, &mut east, &mut west)
 }

@@ -6,7 +6,7 @@ ghost use Rattle.log_client.specs.Clients.{IsClient};
 ghost use Rattle.tx_map.specs.Transactions.{IsTxMapOf};
 
 use crate::made::{keys, one_pair, two_colours};
-use crate::tests::shown::{are_values, reads, stands_at};
+use crate::tests::shown::{Row, are_values, shows, stands_at};
 use client_tests::opened;
 use fuzzy_io::OpenGate;
 use log_client::{Appended, Client, ObjectFault, StampedRead, Store};
@@ -17,23 +17,6 @@ use std::process::Abort;
 use std::sync::Wait;
 use std::test::Fail;
 use tx_map::{Tx, TxMap};
-
-// What a stamped read of both colours shows: its syncs with events and own counts, and the texts of its nodes.
-#[derive(Clone, Copy)]
-struct Row {
-    stamp: u64,
-    raises: [At; 2],
-    syncs: [(u64, u64); 2],
-    texts: &'static [&'static str],
-}
-
-fn shows(rt: &impl Abort, read: &StampedRead, row: &Row) {
-    reads(rt, read, row.stamp, &row.raises, &row.syncs);
-    assert_eq!(rt; read.items.len(), row.texts.len());
-    for (item, text) in read.items.as_slice().iter().zip(row.texts) {
-        assert_eq!(rt; item.node().text.as_bytes(), text.as_bytes());
-    }
-}
 
 // The one key `b` was read, whose last writer is this.
 fn rests_on(rt: &impl Abort, tx: &Tx, writer: Option<Key>) {
@@ -101,8 +84,8 @@ impl Writer {
         )
     }
 
-    // A commit stands under the row's stamp at this event and position of the first colour.
-    fn stands<R: Wait + Abort>(
+    // The verdict on a commit that stands under the row's stamp, at this event and position of the first colour.
+    fn verdict<R: Wait + Abort>(
         &mut self,
         rt: &R,
         alloc: Global,
@@ -206,16 +189,26 @@ const THIRD: Row = Row {
     texts: &["t:b@1.1.0|b=9"],
 };
 
-#[test]
-fn of_two_that_read_alike_the_first_commits(rt: HostRuntime) -> Result<(), Fail> {
-    let alloc = rt.alloc();
-    let (store, mut a, mut b) = two_writers(alloc)?;
-    let late = a.read(&rt, alloc, &store, 0, None, &NOTHING)?;
-    let early = b.read(&rt, alloc, &store, 0, None, &NOTHING)?;
-    let verdict = b.stands(&rt, alloc, &store, early, b'7', 0, &FIRST)?;
-    committed(&rt, &verdict, 1);
-    let verdict = a.stands(&rt, alloc, &store, late, b'8', 1, &SECOND)?;
-    in_conflict(&rt, &verdict, b"b", 1);
+// Both read before both commit; then the second one reads and commits once more.
+fn race<R: Wait + Abort>(
+    rt: &R,
+    alloc: Global,
+    store: &Store,
+    a: &mut Writer,
+    b: &mut Writer,
+) -> Result<(), Fail>
+    requires clients { IsClient store.now a.old.client × IsClient store.now b.old.client }
+    requires maps { IsTxMapOf a.old.client a.old.map × IsTxMapOf b.old.client b.old.map }
+{
+    let late = a.read(rt, alloc, store, 0, None, &NOTHING)?;
+    let early = b.read(rt, alloc, store, 0, None, &NOTHING)?;
+    committed(rt, &b.verdict(rt, alloc, store, early, b'7', 0, &FIRST)?, 1);
+    in_conflict(
+        rt,
+        &a.verdict(rt, alloc, store, late, b'8', 1, &SECOND)?,
+        b"b",
+        1,
+    );
     let own = Key {
         stamp: 1,
         id: Id {
@@ -223,10 +216,16 @@ fn of_two_that_read_alike_the_first_commits(rt: HostRuntime) -> Result<(), Fail>
             count: 0,
         },
     };
-    let next = b.read(&rt, alloc, &store, b'7', Some(own), &AGAIN)?;
-    let verdict = b.stands(&rt, alloc, &store, next, b'9', 2, &THIRD)?;
-    committed(&rt, &verdict, 3);
+    let next = b.read(rt, alloc, store, b'7', Some(own), &AGAIN)?;
+    committed(rt, &b.verdict(rt, alloc, store, next, b'9', 2, &THIRD)?, 3);
     Ok(())
+}
+
+#[test]
+fn of_two_that_read_alike_the_first_commits(rt: HostRuntime) -> Result<(), Fail> {
+    let alloc = rt.alloc();
+    let (store, mut a, mut b) = two_writers(alloc)?;
+    race(&rt, alloc, &store, &mut a, &mut b)
 }
 
 #[test]
