@@ -5,10 +5,11 @@ ghost use Rattle.client_tests.specs.Stores.{IsSmall};
 ghost use Rattle.log_client.specs.Clients.{IsClient};
 ghost use Rattle.log_map.specs.Maps.{IsMapOf};
 
-use crate::tests::shown::{is_value, looked, stands_at, two_colours};
+use crate::made::two_colours;
+use crate::tests::shown::{is_value, looked, stands_at};
 use client_tests::opened;
 use fuzzy_io::OpenGate;
-use log_client::{Appended, Client, ObjectFault, Store, Synced};
+use log_client::{Client, ObjectFault, Store, Synced};
 use log_map::LogMap;
 use log_node::Text;
 use std::alloc::{AllocError, Global};
@@ -24,14 +25,17 @@ struct Writer {
 }
 
 impl Writer {
-    fn put<R: Wait>(
+    // The value is put under the key: its node stands under the stamp, at this event and position of a colour.
+    fn puts<R: Wait + Abort>(
         &mut self,
         rt: &R,
         alloc: Global,
         store: &Store,
         key: &[u8],
         value: &[u8],
-    ) -> Result<Appended, Fail>
+        stamp: u64,
+        point: (u8, u64, u64),
+    ) -> Result<(), Fail>
         requires client { IsClient store.now self.old.client }
         requires map { IsMapOf self.old.client self.old.map }
         requires key { IsTrue (is_word key.now) }
@@ -42,16 +46,20 @@ impl Writer {
         let key = Text::copied(alloc, key)?;
         let value = Text::copied(alloc, value)?;
         let own = self.map.put(rt, alloc, &mut self.client, store, &OpenGate, &key, &value)?;
-        Ok(own)
+        stands_at(rt, &own, stamp, None, &[point]);
+        Ok(())
     }
 
-    fn del<R: Wait>(
+    // The key is deleted, by a node that stands so.
+    fn dels<R: Wait + Abort>(
         &mut self,
         rt: &R,
         alloc: Global,
         store: &Store,
         key: &[u8],
-    ) -> Result<Appended, Fail>
+        stamp: u64,
+        point: (u8, u64, u64),
+    ) -> Result<(), Fail>
         requires client { IsClient store.now self.old.client }
         requires map { IsMapOf self.old.client self.old.map }
         requires key { IsTrue (is_word key.now) }
@@ -62,7 +70,8 @@ impl Writer {
         let own = self
             .map
             .del(rt, alloc, &mut self.client, store, &OpenGate, &key)?;
-        Ok(own)
+        stands_at(rt, &own, stamp, None, &[point]);
+        Ok(())
     }
 
     // The map's answer for a key.
@@ -131,22 +140,30 @@ fn two_writers(alloc: Global) -> Result<(Store, Writer, Writer), AllocError>
 }
 
 // The keys `k` and `i` are of the second colour, and `j` of the first.
+fn put_and_delete<R: Wait + Abort>(
+    rt: &R,
+    alloc: Global,
+    store: &Store,
+    home: &mut Writer,
+) -> Result<(), Fail>
+    requires client { IsClient store.now home.old.client }
+    requires map { IsMapOf home.old.client home.old.map }
+{
+    home.puts(rt, alloc, store, b"k", b"1", 1, (1, 0, 0))?;
+    home.puts(rt, alloc, store, b"j", b"2", 2, (0, 0, 0))?;
+    home.puts(rt, alloc, store, b"k", b"3", 3, (1, 1, 1))?;
+    home.has(rt, alloc, store, b"k", b"3", 2)?;
+    home.has(rt, alloc, store, b"j", b"2", 1)?;
+    home.dels(rt, alloc, store, b"k", 4, (1, 2, 2))?;
+    home.has(rt, alloc, store, b"k", b"", 3)?;
+    home.has(rt, alloc, store, b"i", b"", 3)
+}
+
 #[test]
 fn a_get_answers_by_what_is_played(rt: HostRuntime) -> Result<(), Fail> {
     let alloc = rt.alloc();
     let (store, mut home, _away) = two_writers(alloc)?;
-    let own = home.put(&rt, alloc, &store, b"k", b"1")?;
-    stands_at(&rt, &own, 1, None, &[(1, 0, 0)]);
-    let own = home.put(&rt, alloc, &store, b"j", b"2")?;
-    stands_at(&rt, &own, 2, None, &[(0, 0, 0)]);
-    let own = home.put(&rt, alloc, &store, b"k", b"3")?;
-    stands_at(&rt, &own, 3, None, &[(1, 1, 1)]);
-    home.has(&rt, alloc, &store, b"k", b"3", 2)?;
-    home.has(&rt, alloc, &store, b"j", b"2", 1)?;
-    let own = home.del(&rt, alloc, &store, b"k")?;
-    stands_at(&rt, &own, 4, None, &[(1, 2, 2)]);
-    home.has(&rt, alloc, &store, b"k", b"", 3)?;
-    home.has(&rt, alloc, &store, b"i", b"", 3)
+    put_and_delete(&rt, alloc, &store, &mut home)
 }
 
 #[test]

@@ -1,10 +1,7 @@
 // What answers of objects show.
-ghost use Rattle.std.specs.Prelude.{◌≡◌, [], ◌∷◌, IfOk};
-
 use log_client::{Appended, StampedRead, Synced};
-use log_node::{At, ColourList, Counts, Keys, ListOf, Pair, Pairs, Text};
+use log_node::{At, Counts, Text};
 use object_fold::Values;
-use std::alloc::{AllocError, Global};
 use std::process::Abort;
 
 /// The node stands under the stamp in one colour, where its client's event at a place put it, at a position.
@@ -32,14 +29,8 @@ pub(crate) fn is_value(rt: &impl Abort, value: &Option<Text>, wanted: &[u8]) {
     }
 }
 
-/// The read has this stamp, these raises, and events and own counts of its syncs.
-pub(crate) fn reads(
-    rt: &impl Abort,
-    read: &StampedRead,
-    stamp: u64,
-    raises: &[At],
-    syncs: &[(u64, u64)],
-) {
+// The read has this stamp, these raises, and events and own counts of its syncs.
+fn reads(rt: &impl Abort, read: &StampedRead, stamp: u64, raises: &[At], syncs: &[(u64, u64)]) {
     assert_eq!(rt; read.stamp, stamp);
     assert_eq!(rt; read.raises.len(), raises.len());
     for (raise, at) in read.raises.as_slice().iter().zip(raises) {
@@ -48,6 +39,23 @@ pub(crate) fn reads(
     assert_eq!(rt; read.syncs.len(), syncs.len());
     for (sync, looked) in read.syncs.as_slice().iter().zip(syncs) {
         assert_eq!(rt; (sync.events, sync.snapshot.counts.of_region(0)), *looked);
+    }
+}
+
+/// What a stamped read of two colours shows: its syncs with events and own counts, and the texts of its nodes.
+pub(crate) struct Row {
+    pub(crate) stamp: u64,
+    pub(crate) raises: [At; 2],
+    pub(crate) syncs: [(u64, u64); 2],
+    pub(crate) texts: &'static [&'static str],
+}
+
+/// The read is this one.
+pub(crate) fn shows(rt: &impl Abort, read: &StampedRead, row: &Row) {
+    reads(rt, read, row.stamp, &row.raises, &row.syncs);
+    assert_eq!(rt; read.items.len(), row.texts.len());
+    for (item, text) in read.items.as_slice().iter().zip(row.texts) {
+        assert_eq!(rt; item.node().text.as_bytes(), text.as_bytes());
     }
 }
 
@@ -60,37 +68,6 @@ pub(crate) fn are_values(rt: &impl Abort, values: &Values, wanted: &[u8]) {
             None => assert_eq!(rt; *byte, 0),
         }
     }
-}
-
-/// Keys of one byte each.
-pub(crate) fn keys(alloc: Global, bytes: &[u8]) -> Result<Keys, AllocError> {
-    let mut keys = ListOf::new(alloc);
-    for byte in bytes {
-        let key = Text::copied(alloc, &[*byte])?;
-        keys.push(key)?;
-    }
-    Ok(keys)
-}
-
-/// Pairs of a key and a value of one byte each.
-pub(crate) fn pairs(alloc: Global, bytes: &[(u8, u8)]) -> Result<Pairs, AllocError> {
-    let mut pairs = ListOf::new(alloc);
-    for (key, value) in bytes {
-        let key = Text::copied(alloc, &[*key])?;
-        let value = Text::copied(alloc, &[*value])?;
-        pairs.push(Pair { key, value })?;
-    }
-    Ok(pairs)
-}
-
-/// The colours 0 and 1.
-pub(crate) fn two_colours(alloc: Global) -> Result<ColourList, AllocError>
-    ensures { IfOk result (λ colours. colours ≡ 0 ∷ 1 ∷ []) }
-{
-    let mut colours = ListOf::new(alloc);
-    colours.push(0)?;
-    colours.push(1)?;
-    Ok(colours)
 }
 
 /// The node stands under the stamp, in the row or none, at these events and positions of its colours.
