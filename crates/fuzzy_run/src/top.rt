@@ -23,12 +23,12 @@ use crate::serving::run_beside;
 use crate::status::Status;
 use fuzzy_io::{Failed, Gate, ReadStop, Sink, Source, read_all, write_all};
 use load_script::{found_memory, loads_come_to_their_summary, loads_fit, make, sum_up};
-use log_node::MAX_ROWS;
+use log_node::{ListOf, MAX_ROWS};
 use report_beside::print_beside;
 use report_text::{Report, print, print_refusal};
 use script_in_order::run_in_order;
 use script_meaning::scripts_stop_last;
-use script_text::{Reason, Script, ScriptFault, parse, rows_are_within_limits};
+use script_text::{Piece, Reason, Script, ScriptFault, parse, parse_beside, rows_are_within_limits};
 use std::alloc::{AllocError, Global};
 use std::mem;
 use std::sync::Wait;
@@ -52,13 +52,55 @@ fn refuse<K: Sink>(sink: &mut K, line: u32, cause: Cause) -> Status
     }
 }
 
+fn one_piece(alloc: Global, script: &mut Script) -> Result<Vec<Piece>, AllocError> {
+    let commands = mem::replace(&mut script.commands, ListOf::new(alloc));
+    let mut pieces = Vec::new(alloc);
+    pieces.push(Piece {
+        number: 0,
+        from: 0,
+        upto: 0,
+        commands: commands.into_vec(),
+        good: true,
+    })?;
+    Ok(pieces)
+}
+
+fn do_pieces<K: Sink, G: Gate, R: Threads + Wait + Sync>(
+    rt: &R,
+    alloc: Global,
+    gate: &G,
+    script: Script,
+    pieces: Vec<Piece>,
+    sink: &mut K,
+) -> Status {
+    let report = match run_beside(rt, alloc, gate, script, pieces) {
+        Ok(report) => report,
+        Err(_) => return Status::NoMemory,
+    };
+    let printed = print_beside(rt, alloc, &report, sink);
+    mem::forget(report);
+    match printed {
+        Ok(()) => Status::Done,
+        Err(Failed) => Status::WriteFault,
+    }
+}
+
+fn all_good(pieces: &[Piece]) -> bool {
+    for piece in pieces {
+        if !piece.good {
+            return false;
+        }
+    }
+    true
+}
+
 // The report of a script's run, as the words ask for it.
 fn report_of<R: Threads + Wait + Sync, G: Gate>(
     rt: &R,
     alloc: Global,
     asked: Asked,
     gate: &G,
-    script: Script,
+    mut script: Script,
 ) -> Result<Report, AllocError>
     requires fits { IsFitting script }
     requires rows { script.shape.rows ≤ MAX_ROWS }
@@ -74,7 +116,10 @@ fn report_of<R: Threads + Wait + Sync, G: Gate>(
             mem::forget(script);
             report
         }
-        Asked::Run => run_beside(rt, alloc, gate, script),
+        Asked::Run => {
+            let pieces = one_piece(alloc, &mut script)?;
+            run_beside(rt, alloc, gate, script, pieces)
+        }
     }
 }
 
@@ -154,6 +199,13 @@ fn do_bytes<K: Sink, G: Gate, R: Threads + Wait + Sync>(
 {
     rows_are_within_limits();
     scripts_stop_last();
+    if matches!(asked, Asked::Run) {
+        if let Ok((script, pieces)) = parse_beside(rt, alloc, bytes) {
+            if all_good(pieces.as_slice()) {
+                return do_pieces(rt, alloc, gate, script, pieces, sink);
+            }
+        }
+    }
     match parse(alloc, bytes) {
         Ok(script) => do_script(rt, alloc, asked, gate, script, sink),
         Err(ScriptFault::Refused { line, why }) => refuse(sink, line, Cause::Faulty(why)),
@@ -205,10 +257,11 @@ fn load_text<G: Gate, R: Threads + Wait + Sync>(
 {
     loads_fit();
     loads_come_to_their_summary();
-    let script = make(alloc, count)?;
+    let mut script = make(alloc, count)?;
     // Counted before the commands move to their clients; the report shows the same.
     let text = sum_up(count, script.commands.as_slice()).text(alloc)?;
-    let report = run_beside(rt, alloc, gate, script)?;
+    let pieces = one_piece(alloc, &mut script)?;
+    let report = run_beside(rt, alloc, gate, script, pieces)?;
     let found = found_memory(&report);
     // Not freed here either.
     mem::forget(report);

@@ -1,4 +1,5 @@
 // A client.
+use std::alloc::Global;
 use crate::track::Track;
 use chain_store::Hold;
 use log_node::{Item, Node};
@@ -20,6 +21,11 @@ pub struct Client {
 }
 
 impl Client {
+    /// Frees what was played.
+    pub fn free_played(&mut self, alloc: Global) {
+        self.tracks = Vec::new(alloc);
+    }
+
     ghost use Rattle.std.specs.Prelude.{◌≡◌, ◌<◌, length};
     ghost use Rattle.log_client.specs.Clients.{tracks_of, starts_of, played_of, line_of};
 

@@ -171,7 +171,7 @@ fn asked(alloc: Global, known: &Known, bytes: &[u8]) -> Result<Option<What>, All
 
 // Whether the header has ended.
 #[inline(always)]
-fn is_begun(stage: Stage) -> bool
+pub fn is_begun(stage: Stage) -> bool
     ensures { result ≡ is_begun stage }
 {
     matches!(stage, Stage::Commands)

@@ -14,5 +14,6 @@ use std::snapshot::Snapshot;
 pub struct Cell<V: HasHistory> {
     pub(crate) table: Table<Option<Box<V>>, View<V::Entry, V::Tag>, Snapshot<V>, InTurn, Global>,
     pub(crate) sleepers: Sleepers,
+    pub(crate) gap: [u64; 16],
     ghost sized: { (table.shared.table_id.words ≡ 2) × (table.shared.table_id.slots ≡ 1) },
 }

@@ -34,7 +34,7 @@ impl<V: HasHistory> Cell<V> {
         let boxed = Box::new(alloc, value)?;
         let mut slots = Vec::new(alloc);
         slots.push(Some(boxed))?;
-        let (table, mut dealer) = match Table::new(alloc, &[FREE, 0], slots, &opening) {
+        let (table, mut dealer) = match Table::new(alloc, &[FREE, 0, 0, 0, 0, 0, 0, 0, 0, 0, 0, 0, 0, 0, 0, 0], slots, &opening) {
             Ok(made) => made,
             Err(_) => return Err(AllocError),
         };
@@ -43,7 +43,8 @@ impl<V: HasHistory> Cell<V> {
             passes.push(table.shared.split_seat::<Deal>(&mut dealer))?;
         }
         let sleepers = Sleepers::new();
-        Ok((Cell { table, sleepers }, passes))
+        let gap = [0; 16];
+        Ok((Cell { table, sleepers, gap }, passes))
     }
 
     /// A pass that has seen as much, has no number and can add no entry.

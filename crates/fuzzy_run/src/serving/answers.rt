@@ -29,7 +29,7 @@ fn log_answer<R: Wait, G: Gate>(
     store: &Store,
     gate: &G,
     client: &mut Client,
-    what: What,
+    what: &What,
 ) -> (Answer, Items)
     requires client { IsClient store.now client.old }
     requires of_none { object_asked what ≡ None }
@@ -38,7 +38,7 @@ fn log_answer<R: Wait, G: Gate>(
 {
     match what {
         What::Append { colours, text } => {
-            let answer = append(rt, alloc, store, gate, client, colours, text);
+            let answer = append(rt, alloc, store, gate, client, *colours, text);
             (answer, ListOf::new(alloc))
         }
         What::Stop {
@@ -46,17 +46,17 @@ fn log_answer<R: Wait, G: Gate>(
             colours,
             text,
         } => {
-            let answer = stop(rt, alloc, store, gate, client, steps, colours, text);
+            let answer = stop(rt, alloc, store, gate, client, *steps, *colours, text);
             (answer, ListOf::new(alloc))
         }
-        What::Sync { colour } => sync(rt, alloc, store, client, colour),
-        What::Scan { colours } => scan(rt, alloc, store, client, colours),
+        What::Sync { colour } => sync(rt, alloc, store, client, *colour),
+        What::Scan { colours } => scan(rt, alloc, store, client, *colours),
         What::Pull { region, colour } => {
-            let answer = pull(rt, alloc, store, client, region, colour);
+            let answer = pull(rt, alloc, store, client, *region, *colour);
             (answer, ListOf::new(alloc))
         }
         What::Trim { colour } => {
-            let answer = trim(rt, store, client, colour);
+            let answer = trim(rt, store, client, *colour);
             (answer, ListOf::new(alloc))
         }
         What::Put { .. }
@@ -79,7 +79,7 @@ fn answer<R: Wait, G: Gate>(
     gate: &G,
     client: &mut Client,
     opened: &mut Vec<Opened>,
-    what: What,
+    what: &What,
 ) -> (Answer, Items)
     requires client { IsClient store.now client.old }
     requires kept { AreKept client.old opened.old.items }
@@ -91,7 +91,7 @@ fn answer<R: Wait, G: Gate>(
     ensures kept { Finished client.new → AreKept client.new opened.new.items }
     ensures same { map kind_opened opened.new.items ≡ map kind_opened opened.old.items }
 {
-    match object_asked(&what) {
+    match object_asked(what) {
         None => log_answer(rt, alloc, store, gate, client, what),
         Some(object) => {
             let one = &mut opened[object as usize];
@@ -109,7 +109,7 @@ pub fn serve<R: Wait, G: Gate>(
     gate: &G,
     client: &mut Client,
     opened: &mut Vec<Opened>,
-    command: Command,
+    command: &Command,
 ) -> ReplyLine
     requires client { IsClient store.now client.old }
     requires kept { AreKept client.old opened.old.items }
@@ -121,7 +121,7 @@ pub fn serve<R: Wait, G: Gate>(
 {
     let line = command.line;
     let word = command.what.word();
-    let (answer, nodes) = answer(rt, alloc, store, gate, client, opened, command.what);
+    let (answer, nodes) = answer(rt, alloc, store, gate, client, opened, &command.what);
     ReplyLine {
         line,
         word,

@@ -68,15 +68,18 @@ pub fn append<R: Wait, G: Gate>(
     gate: &G,
     client: &mut Client,
     colours: Colours,
-    text: Text,
+    text: &Text,
 ) -> Answer
     requires client { IsClient store.now client.old }
     requires colours { AreColoursOf store.now colours }
     ensures { Gives store.now client.old client.new (What.Append colours text) result [] }
 {
     let _bits = colours.0;
+    let Ok(copy) = Text::copied(alloc, text.as_bytes()) else {
+        return Answer::NoMemory;
+    };
     match Vec::with_capacity(alloc, colours.count()) {
-        Ok(pieces) => append_with(rt, alloc, store, gate, client, colours, text, pieces),
+        Ok(pieces) => append_with(rt, alloc, store, gate, client, colours, copy, pieces),
         Err(_) => Answer::NoMemory,
     }
 }
@@ -90,14 +93,17 @@ pub fn stop<R: Wait, G: Gate>(
     client: &mut Client,
     steps: u8,
     colours: Colours,
-    text: Text,
+    text: &Text,
 ) -> Answer
     requires client { IsClient store.now client.old }
     requires colours { AreColoursOf store.now colours }
     requires steps { IsStopWithin colours steps }
     ensures { Gives store.now client.old client.new (What.Stop steps colours text) result [] }
 {
-    match client.append(rt, alloc, store, gate, colours, text, Some(steps)) {
+    let Ok(copy) = Text::copied(alloc, text.as_bytes()) else {
+        return Answer::NoMemory;
+    };
+    match client.append(rt, alloc, store, gate, colours, copy, Some(steps)) {
         Ok(_) => unreachable!(),
         Err(MultiFault::Full { used }) => Answer::Full { used },
         Err(MultiFault::StampEnd { .. }) => unreachable!(),

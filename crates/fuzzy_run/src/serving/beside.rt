@@ -6,6 +6,7 @@ ghost use Rattle.fuzzy_run.specs.Served.{CanServe, IsServed};
 use crate::serving::served::{Served, serve_all};
 use fuzzy_io::Gate;
 use log_client::Store;
+use script_text::Piece;
 use std::alloc::Global;
 use std::sync::Wait;
 use std::thread;
@@ -17,6 +18,7 @@ pub fn serve_beside<R: Threads + Wait + Sync, G: Gate>(
     alloc: Global,
     store: &Store,
     gate: &G,
+    commands: &[Piece],
     served: &mut [Served],
 )
     requires { (n : ℕ) (x : Served) → slice_get served.old n ≡ Some x → CanServe store.now x }
@@ -32,9 +34,9 @@ pub fn serve_beside<R: Threads + Wait + Sync, G: Gate>(
         rt,
         served,
         threads,
-        &|_place: usize, one: &mut Served|
+        &|place: usize, one: &mut Served|
             requires { CanServe store.now one.now }
             ensures { IsServed store.entry.now one.entry.now one.exit.now }
-        { serve_all(rt, alloc, store, gate, one) },
+        { serve_all(rt, alloc, store, gate, commands, place as u8, one) },
     );
 }

@@ -7,8 +7,7 @@ ghost use Rattle.fuzzy_run.specs.Dealing.{AreIdle, HaveOwn, HaveRoom, AreDealt};
 use crate::serving::opened::open_all;
 use crate::serving::served::Served;
 use log_client::{Client, Clients};
-use log_node::ListOf;
-use script_text::{Command, Object};
+use script_text::{Object, Piece};
 use std::alloc::{AllocError, Global};
 
 // Clients who have opened these objects, and are to be served nothing.
@@ -21,32 +20,26 @@ fn idle(alloc: Global, objects: &[Object], clients: Vec<Client>) -> Result<Vec<S
         served.push(Served {
             client,
             objects,
-            commands: Vec::new(alloc),
             replies: Vec::new(alloc),
+            gap: [0; 16],
         })?;
     }
     Ok(served)
 }
 
-// Gives each command to its client, behind those that it has.
-fn give(served: &mut Vec<Served>, commands: Vec<Command>) -> Result<(), AllocError>
-    requires { All (λ (c : Command). c.client < length served.old.items) commands.items }
-    ensures { IfOk result (λ _. HaveOwn commands.items served.old.items served.new.items) }
-{
-    for command in commands {
-        let number = command.client as usize;
-        served[number].commands.push(command)?;
-    }
-    Ok(())
-}
-
 // Takes the room for the replies to all commands.
-fn make_room(alloc: Global, served: &mut Vec<Served>) -> Result<(), AllocError>
+fn make_room(alloc: Global, commands: &[Piece], served: &mut Vec<Served>) -> Result<(), AllocError>
     ensures { IfOk result (λ _. HaveRoom served.old.items served.new.items (length served.old.items)) }
 {
+    let mut counts = [0usize; 16];
+    for piece in commands {
+        for command in piece.commands.as_slice() {
+            counts[command.client as usize] += 1;
+        }
+    }
     for number in 0..served.len() {
         let one = &mut served[number];
-        one.replies = Vec::with_capacity(alloc, one.commands.len())?;
+        one.replies = Vec::with_capacity(alloc, counts[number])?;
     }
     Ok(())
 }
@@ -56,13 +49,12 @@ pub fn deal(
     alloc: Global,
     clients: Clients,
     objects: &[Object],
-    commands: ListOf<Command>,
+    commands: &[Piece],
 ) -> Result<Vec<Served>, AllocError>
     requires { All (λ (c : Command). c.client < length clients) commands }
     ensures { IfOk result (λ served. AreDealt clients objects.now commands served.items) }
 {
     let mut served = idle(alloc, objects, clients.into_vec())?;
-    give(&mut served, commands.into_vec())?;
-    make_room(alloc, &mut served)?;
+    make_room(alloc, commands, &mut served)?;
     Ok(served)
 }

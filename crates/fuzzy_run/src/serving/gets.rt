@@ -24,7 +24,7 @@ pub fn get<R: Wait, G: Gate>(
     gate: &G,
     client: &mut Client,
     opened: &mut Opened,
-    key: Text,
+    key: &Text,
 ) -> Answer
     requires client { IsClient store.now client.old }
     requires kept { IsKept client.old opened.old }
@@ -36,11 +36,11 @@ pub fn get<R: Wait, G: Gate>(
 {
     match opened {
         Opened::Map(map) => {
-            let get = map.get(rt, alloc, client, store, gate, &key);
+            let get = map.get(rt, alloc, client, store, gate, key);
             got(get)
         }
         Opened::Causal(map) => {
-            let get = map.get(rt, alloc, client, store, gate, &key);
+            let get = map.get(rt, alloc, client, store, gate, key);
             got_many(get)
         }
         Opened::Tx { .. } | Opened::Queue(_) => unreachable!(),

@@ -49,7 +49,7 @@ pub fn object_answer<R: Wait, G: Gate>(
     gate: &G,
     client: &mut Client,
     opened: &mut Opened,
-    what: What,
+    what: &What,
 ) -> Answer
     requires client { IsClient store.now client.old }
     requires kept { IsKept client.old opened.old }

@@ -26,8 +26,8 @@ pub fn put<R: Wait, G: Gate>(
     gate: &G,
     client: &mut Client,
     opened: &mut Opened,
-    key: Text,
-    value: Text,
+    key: &Text,
+    value: &Text,
 ) -> Answer
     requires client { IsClient store.now client.old }
     requires kept { IsKept client.old opened.old }
@@ -44,11 +44,11 @@ pub fn put<R: Wait, G: Gate>(
     };
     match opened {
         Opened::Map(map) => {
-            let put = map.put(rt, alloc, client, store, gate, &key, &value);
+            let put = map.put(rt, alloc, client, store, gate, key, value);
             appended(put, pieces)
         }
         Opened::Causal(map) => {
-            let put = map.put(rt, alloc, client, store, gate, &key, &value);
+            let put = map.put(rt, alloc, client, store, gate, key, value);
             appended(put, pieces)
         }
         Opened::Tx { .. } | Opened::Queue(_) => unreachable!(),
@@ -63,7 +63,7 @@ pub fn del<R: Wait, G: Gate>(
     gate: &G,
     client: &mut Client,
     opened: &mut Opened,
-    key: Text,
+    key: &Text,
 ) -> Answer
     requires client { IsClient store.now client.old }
     requires kept { IsKept client.old opened.old }
@@ -79,7 +79,7 @@ pub fn del<R: Wait, G: Gate>(
     };
     match opened {
         Opened::Map(map) => {
-            let del = map.del(rt, alloc, client, store, gate, &key);
+            let del = map.del(rt, alloc, client, store, gate, key);
             appended(del, pieces)
         }
         Opened::Causal(_) | Opened::Tx { .. } | Opened::Queue(_) => unreachable!(),
@@ -94,7 +94,7 @@ pub fn enq<R: Wait, G: Gate>(
     gate: &G,
     client: &mut Client,
     opened: &mut Opened,
-    value: Text,
+    value: &Text,
 ) -> Answer
     requires client { IsClient store.now client.old }
     requires kept { IsKept client.old opened.old }
@@ -110,7 +110,7 @@ pub fn enq<R: Wait, G: Gate>(
     };
     match opened {
         Opened::Queue(queue) => {
-            let enq = queue.enq(rt, alloc, client, store, gate, &value);
+            let enq = queue.enq(rt, alloc, client, store, gate, value);
             appended(enq, pieces)
         }
         Opened::Map(_) | Opened::Causal(_) | Opened::Tx { .. } => unreachable!(),

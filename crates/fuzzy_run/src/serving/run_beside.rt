@@ -16,7 +16,7 @@ use fuzzy_io::Gate;
 use log_client::{Client, Store};
 use log_node::{ListOf, MAX_ROWS};
 use report_text::{ReplyLine, Report};
-use script_text::Script;
+use script_text::{Piece, Script, What};
 use std::alloc::{AllocError, Global};
 use std::mem;
 use std::sync::Wait;
@@ -39,6 +39,25 @@ fn parted(
     Ok((clients, replies))
 }
 
+fn takes_row(what: &What) -> bool {
+    match what {
+        What::Append { colours, .. } => colours.count() > 1,
+        What::Sync { .. } | What::Scan { .. } | What::Pull { .. } | What::Trim { .. } => false,
+        _ => true,
+    }
+}
+
+fn needs_rows(commands: &[Piece]) -> bool {
+    for piece in commands {
+        for command in piece.commands.as_slice() {
+            if takes_row(&command.what) {
+                return true;
+            }
+        }
+    }
+    false
+}
+
 /// Serves the clients of a script beside one another, each on a thread of its own where one can be made. A command that
 /// finds no memory is answered so, and the run goes on; `Err` means that there was no memory before the first command, or
 /// none after the last. The report is that of a lawful run.
@@ -47,6 +66,7 @@ pub fn run_beside<R: Threads + Wait + Sync, G: Gate>(
     alloc: Global,
     gate: &G,
     mut script: Script,
+    pieces: Vec<Piece>,
 ) -> Result<Report, AllocError>
     requires fits { IsFitting script }
     requires rows { script.shape.rows ≤ MAX_ROWS }
@@ -55,11 +75,28 @@ pub fn run_beside<R: Threads + Wait + Sync, G: Gate>(
     requires stops { StopsAreLast script }
     ensures { IfOk result (LawfulRun script) }
 {
+    if !needs_rows(pieces.as_slice()) {
+        script.shape.rows = 1;
+    }
     let (store, clients) = Store::open(alloc, &script.shape)?;
-    let commands = mem::replace(&mut script.commands, ListOf::new(alloc));
-    let mut served = deal(alloc, clients, script.objects.as_slice(), commands)?;
-    serve_beside(rt, alloc, &store, gate, served.as_mut_slice());
+    let mut served = deal(
+        alloc,
+        clients,
+        script.objects.as_slice(),
+        pieces.as_slice(),
+    )?;
+    serve_beside(
+        rt,
+        alloc,
+        &store,
+        gate,
+        pieces.as_slice(),
+        served.as_mut_slice(),
+    );
     let (clients, replies) = parted(alloc, served)?;
     let closed = store.close(rt, alloc, clients.into())?;
-    end_report(alloc, &script, closed, replies)
+    let report = end_report(alloc, &script, closed, replies);
+    mem::forget(script);
+    mem::forget(pieces);
+    report
 }

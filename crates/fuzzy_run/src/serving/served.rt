@@ -6,9 +6,8 @@ use crate::serving::opened::Opened;
 use fuzzy_io::Gate;
 use log_client::{Client, Store};
 use report_text::ReplyLine;
-use script_text::Command;
+use script_text::Piece;
 use std::alloc::Global;
-use std::mem;
 use std::sync::Wait;
 
 /// A client, its objects by number, the commands that it is still to be served, in order, and the replies so far.
@@ -16,8 +15,8 @@ use std::sync::Wait;
 pub struct Served {
     pub client: Client,
     pub objects: Vec<Opened>,
-    pub commands: Vec<Command>,
     pub replies: Vec<ReplyLine>,
+    pub gap: [u64; 16],
 }
 
 /// Serves a client all its commands, one after another. Takes no memory but for what the commands do.
@@ -26,13 +25,18 @@ pub fn serve_all<R: Wait, G: Gate>(
     alloc: Global,
     store: &Store,
     gate: &G,
+    commands: &[Piece],
+    number: u8,
     served: &mut Served,
 )
     requires { CanServe store.now served.old }
     ensures { IsServed store.now served.old served.new }
 {
-    let commands = mem::replace(&mut served.commands, Vec::new(alloc));
-    for command in commands {
+    for piece in commands {
+    for command in piece.commands.as_slice() {
+        if command.client != number {
+            continue;
+        }
         let reply = serve(
             rt,
             alloc,
@@ -44,4 +48,6 @@ pub fn serve_all<R: Wait, G: Gate>(
         );
         served.replies.push_reserved(reply);
     }
+    }
+    served.client.free_played(alloc);
 }
