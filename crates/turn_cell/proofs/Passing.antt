@@ -1,5 +1,5 @@
 -- Opening a table, and cutting, joining and comparing passes, keep the rule.
-use Rattle.std.proofs.Common.{◌≡◌, ◌≢◌, ℕ, zero, suc, ◌+◌, eqb, List, [], ◌∷◌, ◌++◌, length, get_or, set, cond}
+use Rattle.std.proofs.Common.{◌≡◌, ◌≢◌, ℕ, zero, suc, ◌+◌, eqb, List, [], ◌∷◌, ◌++◌, length, get_or, replicate, set, cond}
 use Rattle.std.proofs.Common.{Option, Some, None, refl, ap, sym, subst, ◌∙◌, ⊎_elim, arith}
 use Rattle.std.proofs.Common.{length-set, eq-eqb, ne_eqb}
 use Rattle.std.specs.List.{AllByRecursion}
@@ -7,6 +7,7 @@ use mathlib.Core.Option.{none, some, some-ne-none}
 use lib.ListN.{get_elem?}
 use Rattle.atomic_table.specs.Table.{State, step, keeps, Allows, Splits, Joins}
 use Rattle.atomic_table.proofs.Lists.{set_else}
+use Rattle.turn_cell.specs.declared.rule.TheConstants.{WORDS}
 use Rattle.turn_cell.specs.declared.view.Maker.{Maker}
 use Rattle.turn_cell.specs.declared.view.Stage.TheVariants.{Idle}
 use Rattle.turn_cell.specs.declared.view.View.{View}
@@ -62,7 +63,7 @@ module _ {S E T : Type 0} (stands : S → List E → Type 0) (by : E → ℕ) (t
         log = r.log;
         rights = rights;
         holder = r.holder;
-        two = r.two;
+        many = r.many;
         counts = r.counts;
         lies = r.lies;
         each = λ j u e.
@@ -165,7 +166,7 @@ module _ {S E T : Type 0} (stands : S → List E → Type 0) (by : E → ℕ) (t
         log = r.log;
         rights = rights;
         holder = r.holder;
-        two = r.two;
+        many = r.many;
         counts = r.counts;
         lies = r.lies;
         each = each_set K (set s.views id (joined v w)) other spent
@@ -205,14 +206,14 @@ module _ {S E T : Type 0} (stands : S → List E → Type 0) (by : E → ℕ) (t
   -- at the start
   pub opens : (x : S) → tag_of x ≡ tag → stands x []
       → Ruled stands by tag_of tag
-      record { words = 0 ∷ 0 ∷ []; homes = some (Some x) ∷ []; views = first_view tag ∷ [] }
+      record { words = replicate WORDS 0; homes = some (Some x) ∷ []; views = first_view tag ∷ [] }
   opens x same right =
       let rights : ℕ → Owner = λ n. (0, may_give) in
       let K = Knows by tag [] rights 0 0 (some (Some x) ∷ []) in record {
         log = [];
         rights = rights;
         holder = 0;
-        two = refl;
+        many = refl;
         counts = refl;
         lies = λ _. (x, refl, right, same);
         each = λ j v e.

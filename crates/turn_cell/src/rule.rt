@@ -13,6 +13,10 @@ pub(crate) const TURN: usize = 0;
 /// The word that counts the history.
 pub(crate) const COUNT: usize = 1;
 
+/// The words of a cell: the two that are used, and as many more as make 128 bytes, so that no other cell's words lie in a cache
+/// line of theirs, nor in the one that is fetched with it.
+pub(crate) const WORDS: usize = 16;
+
 /// The slot that has the value while the turn is free.
 pub(crate) const VALUE: usize = 0;
 
