@@ -8,4 +8,5 @@ pub mod Replying
 pub mod Serving
 pub mod Served
 pub mod Dealing
+pub mod Running
 pub mod EndReports

@@ -17,13 +17,14 @@ use Rattle.lawful_run.specs.Asks.{home_asked, manner_of, may_help}
 use Rattle.lawful_run.specs.Callers.{commands_of}
 use Rattle.lawful_run.specs.Explains.{Answers, Explains}
 use Rattle.lawful_run.specs.Refusals.{IsAway, IsHomeRefusal, kept_before, kept_behind}
+use Rattle.client_law.specs.Kept.{IsKeptBy}
 use Rattle.client_law.specs.Knowing.{Rest, log_of, IsExplainedBy}
 use Rattle.script_meaning.specs.States.{kind_in}
 use Rattle.log_client.specs.declared.store.Store.{Store}
 use Rattle.log_client.specs.declared.client.Client.{Client}
 use Rattle.log_client.specs.Fits.{Fits, HaveGoneOn}
 use Rattle.log_client.specs.Growing.{HasGrown}
-use Rattle.log_client.specs.Clients.{IsClient, Keeps, Finished, Helps, caller_of, holds_of, seen_of}
+use Rattle.log_client.specs.Clients.{IsClient, Keeps, Finished, Helps, caller_of, holds_of, rows_of, seen_of}
 use Rattle.log_client.specs.Calls.{IsExplained, IsSame}
 use Rattle.fuzzy_run.specs.declared.serving.opened.Opened.{Opened}
 use Rattle.fuzzy_run.specs.Opened.{HaveReads, KeepsReadsBut, kind_opened, versions_in}
@@ -156,6 +157,19 @@ StopsLast commands =
     (before after : List Command) (command : Command) → commands ≡ before ++ command ∷ after
     → IsTrue (is_stop command.what) → after ≡ []
 
+-- A client of the store was served these commands, to which these are the replies: what the end of the store needs of it. It
+-- may have forgotten what it played.
+pub record WasServed (s : Store) (objects : List Object) (c : Client) (commands : List Command) (replies : List ReplyLine)
+    : Type 0 where
+  pub rests : IsClient s c
+  pub kept : Kept
+  pub by : IsKeptBy (seen_of c) (caller_of s c objects) kept
+  pub ids : kept.ids ≡ c.count
+  pub rows : kept.rows ≡ length (rows_of c)
+  pub explained : IsExplainedBy (seen_of c) (Fits (holds_of c)) (caller_of s c objects) commands replies kept
+  pub finished : Finished c ⊎ HasStopped commands replies
+  pub helps : Helps c → MayHelp commands
+
 -- Each client of the store was served its commands of the script.
 pub record AreServed (script : Script) (s : Store) (clients : List Client) (replies : List (List ReplyLine)) : Type 0 where
   pub size : s.size ≡ size_of script.shape
@@ -164,4 +178,4 @@ pub record AreServed (script : Script) (s : Store) (clients : List Client) (repl
   pub replied : length replies ≡ length script.shape.homes
   pub each : (n : ℕ) (c : Client) → slice_get clients n ≡ Some c
       → (c.number ≡ n) × (slice_get script.shape.homes n ≡ Some c.region)
-      × (xs : List Opened) × Serves s script.objects c xs (commands_of script n) (slice_index_or replies n [])
+      × WasServed s script.objects c (commands_of script n) (slice_index_or replies n [])

@@ -1,13 +1,12 @@
 // The top call: from the words of a command line and the bytes of a script to the bytes of a report.
 ghost use Rattle.std.specs.Prelude.{◌≡◌, ◌≢◌, ◌<◌, ◌≤◌, ◌↔◌, ◌⊎◌, ℕ, map, None, Some, string_bytes};
 ghost use Rattle.std.specs.Io.KnownBytes.{Appends, IsAtEnd};
-ghost use Rattle.fuzzy_io.specs.Causes.{Rose, ConsumesUpTo, AppendsFront, CountsFaults};
-ghost use Rattle.std.specs.Prelude.{IfOk, OnOk, OnErr};
+ghost use Rattle.fuzzy_io.specs.Causes.{Rose, ConsumesUpTo, AppendsFront};
+ghost use Rattle.std.specs.Prelude.{IfOk};
 ghost use Rattle.script_text.specs.declared.script.Script.{Script};
 ghost use Rattle.script_text.specs.Fitting.{IsFitting};
 ghost use Rattle.script_text.specs.Words.{reason_text};
-ghost use Rattle.report_text.specs.declared.report.Report.{Report};
-ghost use Rattle.report_text.specs.ReportText.{report_bytes, refusal_bytes};
+ghost use Rattle.report_text.specs.ReportText.{refusal_bytes};
 ghost use Rattle.script_meaning.specs.States.{StopsAreLast};
 ghost use Rattle.load_script.specs.declared.script.TheConstants.{MAX_LOAD};
 ghost use Rattle.load_script.specs.Summing.{load_summary, summary_text};
@@ -15,7 +14,8 @@ ghost use Rattle.fuzzy_run.specs.declared.asked.Asked.{Asked};
 ghost use Rattle.fuzzy_run.specs.Words.{task_of};
 ghost use Rattle.fuzzy_run.specs.Refusals.{IsAScript};
 ghost use Rattle.fuzzy_run.specs.Reading.{LawsForReaders};
-ghost use Rattle.fuzzy_run.specs.TopCall.{IsRunOf, IsRunText, IsRefusalText, Writes, WritesFront, Shows, ShowsFront, IsLoaded, WritesLoad, WritesLoadFront};
+ghost use Rattle.fuzzy_run.specs.Running.{CanRun};
+ghost use Rattle.fuzzy_run.specs.TopCall.{IsRunText, IsRefusalText, Writes, WritesFront, Shows, ShowsFront, IsLoaded, WritesLoad, WritesLoadFront};
 
 use crate::asked::{Asked, Task, read_words};
 use crate::reading::laws_for_readers;
@@ -25,7 +25,8 @@ use fuzzy_io::{Failed, Gate, ReadStop, Sink, Source, read_all, write_all};
 use load_script::{found_memory, loads_come_to_their_summary, loads_fit, make, sum_up};
 use log_node::MAX_ROWS;
 use report_beside::print_beside;
-use report_text::{Report, print, print_refusal};
+use report_text::{print, print_refusal};
+use script_beside::{DealtScript, deal, parse_beside};
 use script_in_order::run_in_order;
 use script_meaning::scripts_stop_last;
 use script_text::{Reason, Script, ScriptFault, parse, rows_are_within_limits};
@@ -52,74 +53,57 @@ fn refuse<K: Sink>(sink: &mut K, line: u32, why: Reason) -> Status
     }
 }
 
-// The report of a script's run, as the words ask for it.
-fn report_of<R: Threads + Wait + Sync, G: Gate>(
-    rt: &R,
-    alloc: Global,
-    asked: Asked,
-    gate: &G,
-    script: Script,
-) -> Result<Report, AllocError>
+// Does the commands of a script in the order of the file, and writes the report.
+fn do_script<K: Sink>(alloc: Global, script: Script, sink: &mut K) -> Status
     requires fits { IsFitting script }
     requires rows { script.shape.rows ≤ MAX_ROWS }
-    requires some_rows { 0 < script.shape.rows }
     requires stops { StopsAreLast script }
-    ensures { IfOk result (IsRunOf asked script) }
-{
-    match asked {
-        Asked::Step => {
-            let report = run_in_order(alloc, &script);
-            // Not freed here: the process ends soon, and its end frees all at once.
-            mem::forget(script);
-            report
-        }
-        Asked::Run => run_beside(rt, alloc, gate, script),
-    }
-}
-
-// Writes the report; on threads, its parts are made into text beside one another.
-fn write_report<K: Sink, R: Threads + Wait + Sync>(
-    rt: &R,
-    alloc: Global,
-    asked: Asked,
-    report: &Report,
-    sink: &mut K,
-) -> Result<(), Failed>
-    ensures ok { OnOk result (Appends (K.holds sink.old) (K.holds sink.new) (report_bytes report.now)) }
-    ensures front { OnErr result (AppendsFront (K.holds sink.old) (K.holds sink.new) (report_bytes report.now)) }
-    ensures cause { CountsFaults (K.faults sink.old) (K.faults sink.new) result }
-{
-    match asked {
-        Asked::Step => print(report, sink),
-        Asked::Run => print_beside(rt, alloc, report, sink),
-    }
-}
-
-// Does the commands of a script, and writes the report.
-fn do_script<K: Sink, G: Gate, R: Threads + Wait + Sync>(
-    rt: &R,
-    alloc: Global,
-    asked: Asked,
-    gate: &G,
-    script: Script,
-    sink: &mut K,
-) -> Status
-    requires fits { IsFitting script }
-    requires rows { script.shape.rows ≤ MAX_ROWS }
-    requires some_rows { 0 < script.shape.rows }
-    requires stops { StopsAreLast script }
-    ensures done { result ≡ Status.Done → Shows asked script (K.holds sink.old) (K.holds sink.new) }
+    ensures done { result ≡ Status.Done → Shows Asked.Step script (K.holds sink.old) (K.holds sink.new) }
     ensures write_fault { result ≡ Status.WriteFault → Rose (K.faults sink.old) (K.faults sink.new) }
-    ensures front { result ≡ Status.WriteFault → ShowsFront asked script (K.holds sink.old) (K.holds sink.new) }
+    ensures front { result ≡ Status.WriteFault → ShowsFront Asked.Step script (K.holds sink.old) (K.holds sink.new) }
     ensures no_memory { result ≡ Status.NoMemory → sink.new ≡ sink.old }
     ensures no_other { (result ≢ Status.BadWords) × (result ≢ Status.Refused) × (result ≢ Status.ReadFault) }
 {
-    let report = match report_of(rt, alloc, asked, gate, script) {
+    let ran = run_in_order(alloc, &script);
+    // Not freed here: the process ends soon, and its end frees all at once.
+    mem::forget(script);
+    let report = match ran {
         Ok(report) => report,
         Err(_) => return Status::NoMemory,
     };
-    let printed = write_report(rt, alloc, asked, &report, sink);
+    let printed = print(&report, sink);
     // Not freed here either.
+    mem::forget(report);
+    if let Err(Failed) = printed {
+        return Status::WriteFault;
+    }
+    Status::Done
+}
+
+// Does the commands of a script on threads, where they have been dealt out to its clients, and writes the report, whose
+// parts are made into text beside one another.
+fn do_dealt<K: Sink, G: Gate, R: Threads + Wait + Sync>(
+    rt: &R,
+    alloc: Global,
+    gate: &G,
+    dealt: DealtScript,
+    sink: &mut K,
+) -> Status
+    requires { (script : Script) × CanRun script dealt }
+    ensures done { result ≡ Status.Done → (script : Script) → CanRun script dealt
+        → Shows Asked.Run script (K.holds sink.old) (K.holds sink.new) }
+    ensures write_fault { result ≡ Status.WriteFault → Rose (K.faults sink.old) (K.faults sink.new) }
+    ensures front { result ≡ Status.WriteFault → (script : Script) → CanRun script dealt
+        → ShowsFront Asked.Run script (K.holds sink.old) (K.holds sink.new) }
+    ensures no_memory { result ≡ Status.NoMemory → sink.new ≡ sink.old }
+    ensures no_other { (result ≢ Status.BadWords) × (result ≢ Status.Refused) × (result ≢ Status.ReadFault) }
+{
+    let report = match run_beside(rt, alloc, gate, dealt) {
+        Ok(report) => report,
+        Err(_) => return Status::NoMemory,
+    };
+    let printed = print_beside(rt, alloc, &report, sink);
+    // Not freed here: the process ends soon, and its end frees all at once.
     mem::forget(report);
     match printed {
         Ok(()) => Status::Done,
@@ -148,10 +132,17 @@ fn do_bytes<K: Sink, G: Gate, R: Threads + Wait + Sync>(
 {
     rows_are_within_limits();
     scripts_stop_last();
-    match parse(alloc, bytes) {
-        Ok(script) => do_script(rt, alloc, asked, gate, script, sink),
-        Err(ScriptFault::Refused { line, why }) => refuse(sink, line, why),
-        Err(ScriptFault::NoMemory) => Status::NoMemory,
+    match asked {
+        Asked::Step => match parse(alloc, bytes) {
+            Ok(script) => do_script(alloc, script, sink),
+            Err(ScriptFault::Refused { line, why }) => refuse(sink, line, why),
+            Err(ScriptFault::NoMemory) => Status::NoMemory,
+        },
+        Asked::Run => match parse_beside(rt, alloc, bytes) {
+            Ok(dealt) => do_dealt(rt, alloc, gate, dealt, sink),
+            Err(ScriptFault::Refused { line, why }) => refuse(sink, line, why),
+            Err(ScriptFault::NoMemory) => Status::NoMemory,
+        },
     }
 }
 
@@ -200,9 +191,10 @@ fn load_text<G: Gate, R: Threads + Wait + Sync>(
     loads_fit();
     loads_come_to_their_summary();
     let script = make(alloc, count)?;
-    // Counted before the commands move to their clients; the report shows the same.
+    // Counted before the commands are dealt out to their clients; the report shows the same.
     let text = sum_up(count, script.commands.as_slice()).text(alloc)?;
-    let report = run_beside(rt, alloc, gate, script)?;
+    let dealt = deal(alloc, script)?;
+    let report = run_beside(rt, alloc, gate, dealt)?;
     let found = found_memory(&report);
     // Not freed here either.
     mem::forget(report);

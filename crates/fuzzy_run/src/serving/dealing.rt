@@ -1,43 +1,48 @@
-// The commands of a script by client.
-ghost use Rattle.std.specs.Prelude.{◌≡◌, ◌<◌, length, map, IfOk};
-ghost use Rattle.std.specs.List.{All};
-ghost use Rattle.script_text.specs.declared.script.Command.{Command};
-ghost use Rattle.fuzzy_run.specs.Dealing.{AreIdle, HaveOwn, HaveRoom, AreDealt};
+// Each client of a script with its share of the commands, before it is served.
+ghost use Rattle.std.specs.Prelude.{◌≡◌, length, IfOk, IfSome};
+ghost use Rattle.script_beside.specs.Dealt.{commands_in};
+ghost use Rattle.fuzzy_run.specs.Dealing.{AreIdle, AreReady, HaveRoom};
 
 use crate::serving::opened::open_all;
 use crate::serving::served::Served;
 use log_client::{Client, Clients};
-use log_node::ListOf;
+use script_beside::Share;
 use script_text::{Command, Object};
 use std::alloc::{AllocError, Global};
 
-// Clients who have opened these objects, and are to be served nothing.
-fn idle(alloc: Global, objects: &[Object], clients: Vec<Client>) -> Result<Vec<Served>, AllocError>
-    ensures { IfOk result (λ served. AreIdle objects.now clients.items served.items) }
+// Clients who have opened these objects, each with the share of its number, and have no room for replies.
+fn idle(
+    alloc: Global,
+    objects: &[Object],
+    clients: Vec<Client>,
+    shares: Vec<Share>,
+) -> Result<Vec<Served>, AllocError>
+    requires { length shares.items ≡ length clients.items }
+    ensures { IfOk result (λ served. AreIdle objects.now clients.items shares.items served.items) }
 {
     let mut served = Vec::new(alloc);
-    for client in clients {
+    for (client, commands) in clients.into_iter().zip(shares) {
         let objects = open_all(alloc, objects)?;
         served.push(Served {
             client,
             objects,
-            commands: Vec::new(alloc),
+            commands,
             replies: Vec::new(alloc),
+            apart: [0; 16],
         })?;
     }
     Ok(served)
 }
 
-// Gives each command to its client, behind those that it has.
-fn give(served: &mut Vec<Served>, commands: Vec<Command>) -> Result<(), AllocError>
-    requires { All (λ (c : Command). c.client < length served.old.items) commands.items }
-    ensures { IfOk result (λ _. HaveOwn commands.items served.old.items served.new.items) }
+// How many commands there are in the pieces, where a number tells.
+fn count(pieces: &[Vec<Command>]) -> Option<usize>
+    ensures { IfSome result (λ n. n ≡ length (commands_in pieces.now)) }
 {
-    for command in commands {
-        let number = command.client as usize;
-        served[number].commands.push(command)?;
+    let mut count: usize = 0;
+    for piece in pieces {
+        count = count.checked_add(piece.len())?;
     }
-    Ok(())
+    Some(count)
 }
 
 // Takes the room for the replies to all commands.
@@ -46,23 +51,25 @@ fn make_room(alloc: Global, served: &mut Vec<Served>) -> Result<(), AllocError>
 {
     for number in 0..served.len() {
         let one = &mut served[number];
-        one.replies = Vec::with_capacity(alloc, one.commands.len())?;
+        let Some(count) = count(one.commands.as_slice()) else {
+            return Err(AllocError);
+        };
+        one.replies = Vec::with_capacity(alloc, count)?;
     }
     Ok(())
 }
 
-/// Each client with the objects, opened, with its commands, in their order, and with room for as many replies.
-pub fn deal(
+/// Each client with the objects, opened, with the share of its number, and with room for as many replies as it has commands.
+pub fn make_ready(
     alloc: Global,
     clients: Clients,
     objects: &[Object],
-    commands: ListOf<Command>,
+    shares: Vec<Share>,
 ) -> Result<Vec<Served>, AllocError>
-    requires { All (λ (c : Command). c.client < length clients) commands }
-    ensures { IfOk result (λ served. AreDealt clients objects.now commands served.items) }
+    requires { length shares.items ≡ length clients }
+    ensures { IfOk result (λ served. AreReady objects.now clients shares.items served.items) }
 {
-    let mut served = idle(alloc, objects, clients.into_vec())?;
-    give(&mut served, commands.into_vec())?;
+    let mut served = idle(alloc, objects, clients.into_vec(), shares)?;
     make_room(alloc, &mut served)?;
     Ok(served)
 }

@@ -1,21 +1,20 @@
 // The run of a script on threads.
-ghost use Rattle.std.specs.Prelude.{◌≡◌, ◌<◌, ◌≤◌, length, map, IfOk};
-ghost use Rattle.script_text.specs.Fitting.{IsFitting};
+ghost use Rattle.std.specs.Prelude.{◌≡◌, map, IfOk};
+ghost use Rattle.script_text.specs.declared.script.Script.{Script};
 ghost use Rattle.lawful_run.specs.Lawful.{LawfulRun};
-ghost use Rattle.script_meaning.specs.States.{StopsAreLast};
 ghost use Rattle.fuzzy_run.specs.declared.serving.served.Served.{Served};
+ghost use Rattle.fuzzy_run.specs.Running.{CanRun};
 
 use crate::serving::beside::serve_beside;
-use crate::serving::dealing::deal;
+use crate::serving::dealing::make_ready;
 use crate::serving::ending::end_report;
 use crate::serving::served::Served;
 use fuzzy_io::Gate;
 use log_client::{Client, Store};
-use log_node::{ListOf, MAX_ROWS};
+use log_node::ListOf;
 use report_text::{ReplyLine, Report};
-use script_text::Script;
+use script_beside::DealtScript;
 use std::alloc::{AllocError, Global};
-use std::mem;
 use std::sync::Wait;
 use std::thread::Threads;
 
@@ -43,19 +42,16 @@ pub fn run_beside<R: Threads + Wait + Sync, G: Gate>(
     rt: &R,
     alloc: Global,
     gate: &G,
-    mut script: Script,
+    dealt: DealtScript,
 ) -> Result<Report, AllocError>
-    requires fits { IsFitting script }
-    requires rows { script.shape.rows ≤ MAX_ROWS }
-    requires some_rows { 0 < script.shape.rows }
-    requires stops { StopsAreLast script }
-    ensures { IfOk result (LawfulRun script) }
+    requires { (script : Script) × CanRun script dealt }
+    ensures { IfOk result (λ report. (script : Script) → CanRun script dealt → LawfulRun script report) }
 {
-    let (store, clients) = Store::open(alloc, &script.shape)?;
-    let commands = mem::replace(&mut script.commands, ListOf::new(alloc));
-    let mut served = deal(alloc, clients, script.objects.as_slice(), commands)?;
+    let DealtScript { header, shares } = dealt;
+    let (store, clients) = Store::open(alloc, &header.shape)?;
+    let mut served = make_ready(alloc, clients, header.objects.as_slice(), shares)?;
     serve_beside(rt, alloc, &store, gate, served.as_mut_slice());
     let (clients, replies) = parted(alloc, served)?;
     let closed = store.close(rt, alloc, clients.into())?;
-    end_report(alloc, &script, closed, replies)
+    end_report(alloc, &header, closed, replies)
 }

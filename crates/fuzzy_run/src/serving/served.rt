@@ -6,7 +6,7 @@ use crate::serving::opened::Opened;
 use fuzzy_io::Gate;
 use log_client::{Client, Store};
 use report_text::ReplyLine;
-use script_text::Command;
+use script_beside::Share;
 use std::alloc::Global;
 use std::mem;
 use std::sync::Wait;
@@ -16,11 +16,15 @@ use std::sync::Wait;
 pub struct Served {
     pub client: Client,
     pub objects: Vec<Opened>,
-    pub commands: Vec<Command>,
+    pub commands: Share,
     pub replies: Vec<ReplyLine>,
+    /// Nothing: it keeps what threads write of two clients 128 bytes apart, so that no cache line has some of both, nor
+    /// the one that is fetched with it, as a cell's words are kept from another's.
+    pub apart: [u64; 16],
 }
 
-/// Serves a client all its commands, one after another. Takes no memory but for what the commands do.
+/// Serves a client all its commands, one after another, and then gives back here, on its own thread, what it has played
+/// and what its objects have folded. Takes no memory but for what the commands do.
 pub fn serve_all<R: Wait, G: Gate>(
     rt: &R,
     alloc: Global,
@@ -32,7 +36,7 @@ pub fn serve_all<R: Wait, G: Gate>(
     ensures { IsServed store.now served.old served.new }
 {
     let commands = mem::replace(&mut served.commands, Vec::new(alloc));
-    for command in commands {
+    for command in commands.into_iter().flatten() {
         let reply = serve(
             rt,
             alloc,
@@ -44,4 +48,6 @@ pub fn serve_all<R: Wait, G: Gate>(
         );
         served.replies.push_reserved(reply);
     }
+    served.objects = Vec::new(alloc);
+    served.client.forget_played(alloc);
 }
