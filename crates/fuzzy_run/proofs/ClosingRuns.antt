@@ -52,7 +52,7 @@ use Rattle.log_client.specs.Closing.{AreHoldsAt, EndsColumn, EndsRegion}
 use Rattle.log_client.specs.Fits.{Fits}
 use Rattle.log_client.proofs.CallerLemmas.{open_row}
 use Rattle.fuzzy_run.specs.EndReports.{CanShow, HaveNodes, client_shown, columns_shown, end_report, id_of, node_at, nodes_in, nodes_of, row_shown, rows_shown}
-use Rattle.fuzzy_run.specs.Serving.{AreServed, HasStopped as Stopped, Serves}
+use Rattle.fuzzy_run.specs.Serving.{AreServed, HasStopped as Stopped, WasServed}
 use Rattle.fuzzy_run.proofs.ByPlace.{all_flat, flat_numbered, map_flat, map_numbered, mapped, numbered_at, numbered_get, numbered_second, unmapped}
 
 -- what a search for one that is there finds
@@ -103,9 +103,9 @@ module _ (script : Script) (fits : IsFitting script) (s : Store) (clients : List
   home_of : (n : ℕ) (c : Client) → slice_get clients n ≡ Some c → slice_index script.shape.homes n ≡ c.region
   home_of n c at = get_or_from_slice_get script.shape.homes n c.region 0 (served.each n c at).1
 
-  serves : (n : ℕ) (c : Client) (at : slice_get clients n ≡ Some c)
-      → Serves s script.objects c (served.each n c at).2 (commands_of script n) (slice_index_or replies n [])
-  serves n c at = (served.each n c at).3
+  serves : (n : ℕ) (c : Client) → slice_get clients n ≡ Some c
+      → WasServed s script.objects c (commands_of script n) (slice_index_or replies n [])
+  serves n c at = (served.each n c at).2
 
   -- CLIENTS
 
@@ -135,12 +135,12 @@ module _ (script : Script) (fits : IsFitting script) (s : Store) (clients : List
             (explained_at_end (seen_of c) (Fits (holds_of c)) (client_caller s c script.objects) (commands_of script n)
             (slice_index_or replies n []) v.kept log (e.on script.objects) e.fits v.explained);
         made = λ region colour lt lc. subst (λ (k : ℕ). places_of k (log.histories region colour) ≡ v.kept.made region colour)
-            number (e.steps script.objects v.kept v.keeps region colour);
-        nodes = ap (λ (k : ℕ). length (log.nodes k)) (sym number) ∙ (e.ids ∙ sym v.keeps.ids);
+            number (e.steps script.objects v.kept v.by region colour);
+        nodes = ap (λ (k : ℕ). length (log.nodes k)) (sym number) ∙ (e.ids ∙ sym v.ids);
         rows = ap (λ (r : ℕ). length (filter (is_of n) (log.rows r))) (sym own)
             ∙ (ap (λ (k : ℕ). length (filter (is_of k) (log.rows c.region))) (sym number)
             ∙ (sym (length-map (filter (is_of c.number) (log.rows c.region)) (λ (b : BegunRow). b.node))
-            ∙ (ap length e.rows ∙ sym v.keeps.rows)));
+            ∙ (ap length e.rows ∙ sym v.rows)));
         row_nodes = λ b among mine. subst (λ (k : ℕ). slice_get (log.nodes k) b.node.id.count ≡ Some b.node) number
             (e.row_nodes b (subst (λ (r : ℕ). Contains (log.rows r) b) (sym own) among) (mine ∙ sym number));
       }

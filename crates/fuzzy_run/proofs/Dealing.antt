@@ -1,17 +1,19 @@
--- How commands come to their clients.
-use Rattle.std.proofs.Common.{◌≡◌, ℕ, suc, ◌+◌, ◌<◌, List, [], ◌∷◌, ◌++◌, length, map, take, get_or, Global, Vec, ap, refl, sym, subst, ◌∙◌, arith}
-use Rattle.std.specs.Prelude.{◌==◌, slice_index_or}
-use Rattle.std.specs.List.{All, filter}
+-- How clients get ready to be served.
+use Rattle.std.proofs.Common.{◌≡◌, ℕ, suc, ◌+◌, ◌<◌, List, [], ◌∷◌, ◌++◌, length, map, take, get_or, Global, Vec, ap, refl, sym, subst, ◌∙◌, arith, length-append}
+use Rattle.std.specs.Prelude.{slice_index_or}
+use Rattle.std.specs.List.{All}
 use Rattle.std.proofs.lemmas.List.{map_push, take_more}
 use Rattle.std.proofs.lemmas.List.Elements.{All-push}
 use Rattle.script_text.specs.declared.script.Kind.{Kind}
 use Rattle.script_text.specs.declared.script.Command.{Command}
 use Rattle.script_text.specs.declared.script.Object.{Object}
+use Rattle.script_beside.specs.Dealt.{commands_in}
 use Rattle.log_client.specs.declared.client.Client.{Client}
 use Rattle.fuzzy_run.specs.declared.serving.opened.Opened.{Opened}
 use Rattle.fuzzy_run.specs.declared.serving.served.Served.{Served}
-use Rattle.fuzzy_run.specs.Dealing.{AreIdle, HaveOwn, HaveRoom, AreDealt, IsIdle}
+use Rattle.fuzzy_run.specs.Dealing.{AreIdle, AreReady, GetsRoom, HaveRoom, IsIdle}
 use Rattle.fuzzy_run.specs.Opened.{IsUnfolded, kind_opened}
+use Rattle.fuzzy_run.proofs.EndsShown.{flat_more}
 
 -- one more object is opened
 pub opened_more : (objects : List Object) (n : ℕ) (o : Object) (old new : List Opened) (x : Opened) → n < length objects
@@ -29,14 +31,22 @@ pub unfolded_more : (old new : List Opened) (x : Opened) → All IsUnfolded old 
     → All IsUnfolded new
 unfolded_more old new x was is same = subst (All IsUnfolded) (sym same) (All-push IsUnfolded old x was is)
 
+abbrev Share : Type 0
+Share = Vec (Vec Command Global) Global
+
 -- one more client is idle
-pub idle_more : (objects : List Object) (clients : List Client) (old new : List Served) (x : Served)
-    → AreIdle objects clients old → IsIdle objects x → new ≡ old ++ x ∷ []
-    → AreIdle objects (clients ++ x.client ∷ []) new
-idle_more objects clients old new x was is same =
-    subst (AreIdle objects (clients ++ x.client ∷ [])) (sym same) (record {
+pub idle_more : (objects : List Object) (pairs : List (Client × Share)) (old new : List Served)
+    (x : Served) → AreIdle objects (map (λ p. p.0) pairs) (map (λ p. p.1) pairs) old → IsIdle objects x → new ≡ old ++ x ∷ []
+    → AreIdle objects (map (λ p. p.0) (pairs ++ (x.client, x.commands) ∷ [])) (map (λ p. p.1) (pairs ++ (x.client, x.commands) ∷ [])) new
+idle_more objects pairs old new x was is same =
+    let pair : Client × Share = (x.client, x.commands) in
+    subst (AreIdle objects (map (λ p. p.0) (pairs ++ pair ∷ [])) (map (λ p. p.1) (pairs ++ pair ∷ []))) (sym same) (record {
       clients_are = map_push (λ (y : Served). y.client) old x
-          ∙ ap (λ (l : List Client). l ++ x.client ∷ []) was.clients_are;
+          ∙ (ap (λ (l : List Client). l ++ x.client ∷ []) was.clients_are
+          ∙ sym (map_push (λ (p : Client × Share). p.0) pairs pair));
+      shares_are = map_push (λ (y : Served). y.commands) old x
+          ∙ (ap (λ (l : List Share). l ++ x.commands ∷ []) was.shares_are
+          ∙ sym (map_push (λ (p : Client × Share). p.1) pairs pair));
       idle = All-push (IsIdle objects) old x was.idle is;
     })
 
@@ -50,29 +60,39 @@ map_same {A} {B} f (x ∷ xs) (y ∷ ys) long each =
     ap (λ (b : B). b ∷ map f xs) (each 0 x (omega arith))
     ∙ ap (λ (l : List B). f y ∷ l) (map_same f xs ys (omega (arith, long)) (λ n d lt. each (suc n) d (omega (arith, lt))))
 
--- clients who were idle, and have been given their commands and room
-pub dealt : (objects : List Object) (clients : List Client) (commands : List Command) (idle given served : List Served)
-    → AreIdle objects clients idle → HaveOwn commands idle given → HaveRoom given served (length given)
-    → AreDealt clients objects commands served
-dealt objects clients commands idle given served none own room =
-    let long : length served ≡ length idle = room.many ∙ own.many in record {
-      clients_are = map_same (λ (x : Served). x.client) served idle long
-          (λ n d lt. let many = room.many in let few = own.many in
-          (room.each n d (omega (arith, lt, many)) (omega (arith, lt, many))).client
-          ∙ (own.each n d (omega (arith, lt, many, few))).client)
-          ∙ none.clients_are;
-      each = λ n d lt.
-          let many = room.many in
-          let few = own.many in
-          let r = room.each n d (omega (arith, lt, many)) (omega (arith, lt, many)) in
-          let o = own.each n d (omega (arith, lt, many, few)) in
-          let i = none.idle n d (omega (arith, lt, many, few)) in
-          let same = r.objects ∙ o.objects in record {
-            opened = i.opened ∙ ap (λ (v : Vec Opened Global). map kind_opened v.items) (sym same);
-            unfolded = subst (λ (v : Vec Opened Global). All IsUnfolded v.items) (sym same) i.unfolded;
-            commands_are = r.commands ∙ (o.commands_are
-                ∙ ap (λ (l : List Command). l ++ filter (λ (c : Command). c.client == n) commands) i.commands);
-            replies = r.replies;
-            room = r.room;
-          };
-    }
+-- clients who were idle, and have got room
+pub ready : (objects : List Object) (clients : List Client) (shares : List Share) (idle served : List Served) → AreIdle objects clients shares idle → HaveRoom idle served (length idle)
+    → AreReady objects clients shares served
+ready objects clients shares idle served none room = record {
+  idle = record {
+    clients_are = map_same (λ (x : Served). x.client) served idle room.many
+        (λ n d lt. (got n d lt).client) ∙ none.clients_are;
+    shares_are = map_same (λ (x : Served). x.commands) served idle room.many
+        (λ n d lt. (got n d lt).commands) ∙ none.shares_are;
+    idle = λ n d lt.
+        let g = got n d lt in
+        let i = none.idle n d (low n lt) in record {
+          opened = i.opened ∙ ap (λ (v : Vec Opened Global). map kind_opened v.items) (sym g.objects);
+          unfolded = subst (λ (v : Vec Opened Global). All IsUnfolded v.items) (sym g.objects) i.unfolded;
+          replies = g.replies;
+        };
+  };
+  room = λ n d lt. (got n d lt).room;
+} where
+  low : (n : ℕ) → n < length served → n < length idle
+  low n lt = let many = room.many in omega (arith, lt, many)
+  got : (n : ℕ) (d : Served) → n < length served → GetsRoom (slice_index_or idle n d) (slice_index_or served n d)
+  got n d lt = room.each n d (low n lt) (low n lt)
+
+-- one piece more
+pub counted_more : (pieces : List (Vec Command Global)) (n count more : ℕ) (piece : Vec Command Global) → n < length pieces
+    → piece ≡ get_or pieces n piece → count ≡ length (commands_in (take n pieces)) → more ≡ count + length piece.items
+    → more ≡ length (commands_in (take (n + 1) pieces))
+counted_more pieces n count more piece lt at was is =
+    let here : commands_in (take (n + 1) pieces) ≡ commands_in (take n pieces) ++ piece.items =
+    ap commands_in (take_more pieces n piece lt)
+    ∙ (ap (λ (p : Vec Command Global). commands_in (take n pieces ++ p ∷ [])) (sym at)
+    ∙ flat_more (λ (p : Vec Command Global). p.items) (take n pieces) piece) in
+    let long = ap length here in
+    let parts = length-append (commands_in (take n pieces)) piece.items in
+    omega (arith, is, was, long, parts)

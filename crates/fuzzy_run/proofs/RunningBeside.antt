@@ -1,5 +1,5 @@
--- Clients who were dealt their commands, before they are served and after.
-use Rattle.std.proofs.Common.{◌≡◌, ℕ, List, [], ◌∷◌, ◌++◌, length, map, take, drop, Some, slice_get, Ok, Err, refl, ap, sym, subst, ◌∙◌, arith}
+-- Clients who are ready to be served, before they are served and after.
+use Rattle.std.proofs.Common.{◌≡◌, ℕ, List, [], ◌∷◌, ◌++◌, length, map, take, drop, Some, slice_get, Ok, Err, Global, Vec, refl, ap, sym, subst, ◌∙◌, arith}
 use Rattle.std.specs.Prelude.{IfOk, Result, ◌==◌, ◌≤◌, slice_index_or}
 use Rattle.std.specs.List.{All}
 use Rattle.std.proofs.lemmas.List.{length-map}
@@ -11,40 +11,60 @@ use Rattle.chain_store.specs.Opening.{size_of}
 use Rattle.chain_store.proofs.CallerLemmas.{got}
 use Rattle.script_text.specs.declared.script.Command.{Command}
 use Rattle.script_text.specs.declared.script.Script.{Script}
-use Rattle.script_text.specs.Fitting.{IsFitting, IsWithin}
+use Rattle.script_text.specs.Fitting.{IsWithin}
+use Rattle.script_beside.specs.declared.dealt.DealtScript.{DealtScript}
+use Rattle.script_beside.specs.Dealt.{commands_in}
 use Rattle.report_text.specs.declared.report.Report.{Report}
 use Rattle.report_text.specs.declared.report.ReplyLine.{ReplyLine}
 use Rattle.lawful_run.specs.Callers.{commands_of}
 use Rattle.lawful_run.specs.Lawful.{LawfulRun}
-use Rattle.script_meaning.specs.States.{StopsAreLast}
 use Rattle.log_client.specs.declared.client.Client.{Client}
 use Rattle.log_client.specs.declared.store.Store.{Store}
+use Rattle.log_client.specs.Clients.{tracks_of}
 use Rattle.log_client.specs.Closes.{AreClients}
 use Rattle.log_client.specs.Opening.{AreNewClients}
 use Rattle.fuzzy_run.specs.declared.serving.opened.Opened.{Opened}
 use Rattle.fuzzy_run.specs.declared.serving.served.Served.{Served}
-use Rattle.fuzzy_run.specs.Dealing.{AreDealt, IsDealt}
+use Rattle.fuzzy_run.specs.Dealing.{AreReady, HasRoom, IsIdle}
 use Rattle.fuzzy_run.specs.Opened.{AreOf}
+use Rattle.fuzzy_run.specs.Running.{CanRun}
 use Rattle.fuzzy_run.specs.Served.{CanServe, IsServable, IsServed}
-use Rattle.fuzzy_run.specs.Serving.{AreServed, Serves, StopsLast}
+use Rattle.fuzzy_run.specs.Serving.{AreServed, StopsLast, WasServed}
 use Rattle.fuzzy_run.proofs.ByPlace.{mapped}
 use Rattle.fuzzy_run.proofs.ObjectFrames.{kept_unfolded, of_one}
 use Rattle.fuzzy_run.proofs.ServedClients.{serves_none, stops_last_of}
 
-module _ (script : Script) (fits : IsFitting script)
-    (stops : StopsAreLast script) (s : Store)
+-- a script of which these are the commands, and the rest is what was dealt
+abbrev pub script_of : DealtScript → List Command → Script
+script_of dealt commands = record dealt.header { commands = commands }
+
+pub whole : (script : Script) (dealt : DealtScript) → CanRun script dealt → CanRun (script_of dealt script.commands) dealt
+whole script dealt can = subst (λ (s : Script). CanRun s dealt) can.dealt.header can
+
+-- each client has its share
+pub many_shares : (script : Script) (dealt : DealtScript) (s : Store) (clients : List Client) → CanRun script dealt
+    → AreNewClients script.shape s clients → length dealt.shares.items ≡ length clients
+many_shares script dealt s clients can new = can.dealt.many ∙ (can.fits.clients ∙ sym new.0)
+
+module _ (script : Script) (dealt : DealtScript) (can : CanRun script dealt) (s : Store)
     (size : s.size ≡ size_of script.shape) (regions : length s.regions ≡ script.shape.regions) (clients : List Client)
     (new : AreNewClients script.shape s clients) (before : List Served)
-    (dealt : AreDealt clients script.objects script.commands before) where
-  dealt_at : (n : ℕ) (x : Served) → slice_get before n ≡ Some x → IsDealt script.objects script.commands n x
-  dealt_at n x at =
-      subst (IsDealt script.objects script.commands n) (get_or_from_slice_get before n x x at)
-      (dealt.each n x (slice_get_within before n x at))
+    (ready : AreReady script.objects clients dealt.shares.items before) where
+  idle_at : (n : ℕ) (x : Served) → slice_get before n ≡ Some x → IsIdle script.objects x
+  idle_at n x at =
+      subst (IsIdle script.objects) (get_or_from_slice_get before n x x at)
+      (ready.idle.idle n x (slice_get_within before n x at))
 
   client_at : (n : ℕ) (x : Served) → slice_get before n ≡ Some x → slice_get clients n ≡ Some x.client
   client_at n x at =
-      subst (λ (cs : List Client). slice_get cs n ≡ Some x.client) dealt.clients_are
+      subst (λ (cs : List Client). slice_get cs n ≡ Some x.client) ready.idle.clients_are
       (mapped (λ (y : Served). y.client) before n x at)
+
+  commands_at : (n : ℕ) (x : Served) → slice_get before n ≡ Some x → commands_in x.commands.items ≡ commands_of script n
+  commands_at n x at =
+      can.dealt.each n x.commands
+      (subst (λ (shares : List (Vec (Vec Command Global) Global)). slice_get shares n ≡ Some x.commands) ready.idle.shares_are
+      (mapped (λ (y : Served). y.commands) before n x at))
 
   servable : (xs : List Opened) → AreOf script.objects xs → All (IsServable s xs) script.commands
   servable xs of k d lt = record {
@@ -55,26 +75,29 @@ module _ (script : Script) (fits : IsFitting script)
   }
 
   few : script.shape.colours ≤ MAX_COLOURS
-  few = let colours = fits.shape.few_colours in omega (arith, colours)
+  few = let colours = can.fits.shape.few_colours in omega (arith, colours)
 
   pub can_serve : (n : ℕ) (x : Served) → slice_get before n ≡ Some x → CanServe s x
   can_serve n x at =
-      let d = dealt_at n x at in
-      let c = new.1 n x.client (client_at n x at) in record {
-        serves = λ objects. serves_none script.shape s objects n x.client x.objects.items c d.unfolded;
+      let i = idle_at n x at in
+      let c = new.1 n x.client (client_at n x at) in
+      let colours : length (tracks_of x.client) ≡ script.shape.colours = c.rests.colours ∙ ap (λ (z : Size). z.colours) size in
+      record {
+        serves = λ objects. serves_none script.shape s objects n x.client x.objects.items c i.unfolded;
         finished = c.finished;
-        kept = kept_unfolded x.client script.shape.regions script.shape.colours script.objects x.objects.items
-            (c.rests.colours ∙ ap (λ (z : Size). z.colours) size) few fits.objects d.opened d.unfolded;
-        servable = subst (All (IsServable s x.objects.items)) (sym d.commands_are)
+        kept = kept_unfolded x.client script.shape.regions script.shape.colours script.objects x.objects.items colours few
+            can.fits.objects i.opened i.unfolded;
+        servable = subst (All (IsServable s x.objects.items)) (sym (commands_at n x at))
             (All-filter (λ (k : Command). k.client == n) (IsServable s x.objects.items) script.commands
-            (servable x.objects.items d.opened));
-        stops = subst StopsLast (sym d.commands_are) (stops_last_of script stops n);
-        replies = d.replies;
-        room = d.room;
+            (servable x.objects.items i.opened));
+        stops = subst StopsLast (sym (commands_at n x at)) (stops_last_of script can.stops n);
+        replies = i.replies;
+        room = subst HasRoom (get_or_from_slice_get before n x x at) (ready.room n x (slice_get_within before n x at));
+        few = subst (λ (k : ℕ). k ≤ MAX_COLOURS) (sym colours) few;
       }
 
   many_before : length before ≡ length script.shape.homes
-  many_before = sym (length-map before (λ (x : Served). x.client)) ∙ (ap length dealt.clients_are ∙ new.0)
+  many_before = sym (length-map before (λ (x : Served). x.client)) ∙ (ap length ready.idle.clients_are ∙ new.0)
 
   module _ (after : List Served) (long : length after ≡ length before)
       (served : (n : ℕ) (x y : Served) → slice_get before n ≡ Some x → slice_get after n ≡ Some y → IsServed s x y) where
@@ -103,36 +126,29 @@ module _ (script : Script) (fits : IsFitting script)
           get_or_from_slice_get replies_after n y.0.replies.items []
           (mapped (λ (z : Served). z.replies.items) after n y.0 y.1) in
           subst (λ (z : Client). (z.number ≡ n) × (slice_get script.shape.homes n ≡ Some z.region)
-          × (xs : List Opened) × Serves s script.objects z xs (commands_of script n) (slice_index_or replies_after n [])) is (
+          × WasServed s script.objects z (commands_of script n) (slice_index_or replies_after n [])) is (
             v.same.0 ∙ k.number,
             (k.home ∙ ap Some (sym v.same.1)),
-            y.0.objects.items,
-            subst (λ (rs : List ReplyLine). Serves s script.objects y.0.client y.0.objects.items (commands_of script n) rs)
-                (sym replied)
-                (subst (λ (cs : List Command). Serves s script.objects y.0.client y.0.objects.items cs y.0.replies.items)
-                (dealt_at n x.0 x.1).commands_are (v.serves script.objects (dealt_at n x.0 x.1).opened)),
+            subst (λ (rs : List ReplyLine). WasServed s script.objects y.0.client (commands_of script n) rs) (sym replied)
+                (subst (λ (cs : List Command). WasServed s script.objects y.0.client cs y.0.replies.items)
+                (commands_at n x.0 x.1) (v.served script.objects (idle_at n x.0 x.1).opened)),
           );
     } where
       same_there : (a b : Client) → Some a ≡ Some b → a ≡ b
       same_there a b e = cc
 
--- The same as the run has it: of the commands that were moved to the clients, of the slice of clients that was served, and
--- of the clients and replies that were taken out.
-pub were_served : (script : Script) → IsFitting script
-    → StopsAreLast script → (s : Store)
+-- The same as the run has it: of the slice of clients that was served, and of the clients and replies that were taken out.
+pub were_served : (script : Script) (dealt : DealtScript) → CanRun script dealt → (s : Store)
     → s.size ≡ size_of script.shape → length s.regions ≡ script.shape.regions → (opened : List Client)
-    → AreNewClients script.shape s opened → (commands : List Command) → commands ≡ script.commands
-    → (before lent after : List Served) → lent ≡ before → AreDealt opened script.objects commands before → length after ≡ length lent
+    → AreNewClients script.shape s opened → (before lent after : List Served) → lent ≡ before
+    → AreReady script.objects opened dealt.shares.items before → length after ≡ length lent
     → ((n : ℕ) (x y : Served) → slice_get lent n ≡ Some x → slice_get after n ≡ Some y → IsServed s x y)
     → (n : ℕ) → n ≡ length before → (clients : List Client) (replies : List (List ReplyLine))
     → clients ≡ map (λ (x : Served). x.client) (take n (after ++ drop (length after) before))
     → replies ≡ map (λ (x : Served). x.replies.items) (take n (after ++ drop (length after) before))
     → AreServed script s clients replies
-were_served script fits stops s size regions opened new commands moved before lent after same dealt long served n
-    many clients replies are given =
-    let dealt' : AreDealt opened script.objects script.commands before =
-    subst (λ (l : List Command). AreDealt opened script.objects l before) moved dealt in
-    let all = are_served script fits stops s size regions opened new before dealt' after (long ∙ ap length same)
+were_served script dealt can s size regions opened new before lent after same ready long served n many clients replies are given =
+    let all = are_served script dealt can s size regions opened new before ready after (long ∙ ap length same)
     (λ n x y at later. served n x y (subst (λ (l : List Served). slice_get l n ≡ Some x) (sym same) at) later) in
     let whole : take n (after ++ drop (length after) before) ≡ after =
     front_of n after (drop (length after) before) (long ∙ (ap length same ∙ sym many)) in
@@ -150,11 +166,14 @@ pub are_clients : (script : Script) (s : Store) (clients : List Client) (replies
     → AreServed script s clients replies → AreClients s clients
 are_clients script s clients replies served = (
   served.many ∙ ap (λ (z : Size). z.clients) (sym served.size),
-  λ n c at. ((served.each n c at).3.rests, (served.each n c at).0),
+  λ n c at. ((served.each n c at).2.rests, (served.each n c at).0),
 )
 
--- a report that is this one is lawful where this one is
-pub lawful_if : {E : Type 0} (script : Script) (report : Report) (result : Result Report E)
-    → IfOk result (λ r. r ≡ report) → LawfulRun script report → IfOk result (LawfulRun script)
-lawful_if script report (Ok r) is lawful = subst (LawfulRun script) (sym is) lawful
-lawful_if script report (Err e) is lawful = tt
+-- a report that is that of each script which was dealt so, and lawful where it is, is lawful
+pub lawful_if : {E : Type 0} (dealt : DealtScript) (report : Report) (result : Result Report E) → IfOk result (λ r. r ≡ report)
+    → ((commands : List Command) → CanRun (script_of dealt commands) dealt → LawfulRun (script_of dealt commands) report)
+    → IfOk result (λ r. (script : Script) → CanRun script dealt → LawfulRun script r)
+lawful_if dealt report (Ok r) is lawful = λ script can.
+    subst (LawfulRun script) (sym is)
+    (subst (λ (s : Script). LawfulRun s report) (sym can.dealt.header) (lawful script.commands (whole script dealt can)))
+lawful_if dealt report (Err e) is lawful = tt

@@ -40,10 +40,8 @@ run_in_file script (Ok report) in_order lawful exact = record {
 }
 run_in_file script (Err e) in_order lawful exact = tt
 
-pub run_on_threads : {E : Type 0} (script : Script) (result : Result Report E) → IfOk result (LawfulRun script)
-    → IfOk result (IsRunOf Run script)
-run_on_threads script (Ok report) lawful = record {
+pub run_on_threads : (script : Script) (report : Report) → LawfulRun script report → IsRunOf Run script report
+run_on_threads script report lawful = record {
   lawful = lawful;
   in_order = λ e. absurd (let f : ⊥ = cc (e) in f);
 }
-run_on_threads script (Err e) lawful = tt

@@ -1,5 +1,5 @@
 -- A client that is served one command after another.
-use Rattle.std.proofs.Common.{◌≡◌, ℕ, ◌+◌, List, [], ◌∷◌, ◌++◌, length, Some, slice_get, refl, ap, sym, subst, ◌∙◌, inl, inr, arith, append_assoc, eqb-true, length-append}
+use Rattle.std.proofs.Common.{◌≡◌, ◌⊎◌, ℕ, ◌+◌, List, [], ◌∷◌, ◌++◌, length, Some, slice_get, refl, ap, sym, subst, ◌∙◌, inl, inr, arith, append_assoc, eqb-true, length-append}
 use Rattle.std.specs.Prelude.{◌≢◌, ◌==◌, IsTrue}
 use Rattle.std.specs.List.{All}
 use Rattle.std.proofs.lemmas.List.Kept.{AllPairs-filter}
@@ -15,18 +15,21 @@ use Rattle.report_text.specs.declared.report.ReplyLine.{ReplyLine}
 use Rattle.lawful_run.specs.Asks.{manner_of, may_help}
 use Rattle.lawful_run.specs.Callers.{Caller, commands_of}
 use Rattle.lawful_run.specs.Explains.{start}
+use Rattle.client_law.specs.Kept.{IsKeptBy}
 use Rattle.client_law.specs.Knowing.{IsExplainedBy}
 use Rattle.client_law.proofs.CallerLemmas.{replies_last}
 use Rattle.script_meaning.specs.States.{StopsAreLast}
 use Rattle.log_client.specs.declared.client.Client.{Client}
 use Rattle.log_client.specs.declared.store.Store.{Store}
-use Rattle.log_client.specs.Clients.{Finished, caller_of, holds_of, seen_of}
+use Rattle.log_client.specs.Calls.{IsSame}
+use Rattle.log_client.specs.Clients.{Finished, Helps, caller_of, holds_of, rows_of, seen_of}
 use Rattle.log_client.specs.Fits.{Fits}
+use Rattle.log_client.specs.Forgetting.{HasForgotten}
 use Rattle.log_client.specs.Opening.{IsNewClient}
-use Rattle.log_client.proofs.CallerLemmas.{client_sees_on, fits_less, same_caller}
+use Rattle.log_client.proofs.CallerLemmas.{client_sees_on, fits_less, rests_forgotten, same_caller}
 use Rattle.fuzzy_run.specs.declared.serving.opened.Opened.{Opened}
 use Rattle.fuzzy_run.specs.Opened.{IsUnfolded}
-use Rattle.fuzzy_run.specs.Serving.{IsAnswered, MayHelp, Serves, StopsLast}
+use Rattle.fuzzy_run.specs.Serving.{HasStopped, IsAnswered, MayHelp, Serves, StopsLast, WasServed}
 use Rattle.fuzzy_run.proofs.ReadsFound.{none_found}
 
 -- a new client has no replies, and nothing was read of its objects
@@ -92,6 +95,41 @@ serves_next s objects c d xs ys done replies command reply v finished a =
         | inr may ↦ may_help_last done command may
       ];
     }
+
+-- WHAT THE END NEEDS
+
+pub was_served : (s : Store) (objects : List Object) (c : Client) (xs : List Opened) (commands : List Command)
+    (replies : List ReplyLine) → Serves s objects c xs commands replies → WasServed s objects c commands replies
+was_served s objects c xs commands replies v = record {
+  rests = v.rests;
+  kept = v.kept;
+  by = v.keeps.by;
+  ids = v.keeps.ids;
+  rows = v.keeps.rows;
+  explained = v.explained;
+  finished = v.finished;
+  helps = v.helps;
+}
+
+-- of a client that then forgets what it played the same holds
+pub forgotten : (s : Store) (objects : List Object) (c d : Client) (commands : List Command) (replies : List ReplyLine)
+    → WasServed s objects c commands replies → HasForgotten c d → WasServed s objects d commands replies
+forgotten s objects c d commands replies v f =
+    let is = sym f.rest in record {
+      rests = rests_forgotten s c d v.rests f;
+      kept = v.kept;
+      by = subst (λ (x : Client). IsKeptBy (seen_of x) (caller_of s x objects) v.kept) is v.by;
+      ids = subst (λ (x : Client). v.kept.ids ≡ x.count) is v.ids;
+      rows = subst (λ (x : Client). v.kept.rows ≡ length (rows_of x)) is v.rows;
+      explained = subst (λ (x : Client). IsExplainedBy (seen_of x) (Fits (holds_of x)) (caller_of s x objects) commands replies
+          v.kept) is v.explained;
+      finished = subst (λ (x : Client). Finished x ⊎ HasStopped commands replies) is v.finished;
+      helps = subst (λ (x : Client). Helps x → MayHelp commands) is v.helps;
+    }
+
+-- it is the same client
+pub forgets_same : (b c d : Client) → IsSame b c → HasForgotten c d → IsSame b d
+forgets_same b c d same f = subst (IsSame b) (sym f.rest) same
 
 -- A STOP IS THE LAST
 
