@@ -1,3 +1,2 @@
 pub mod Dealt
 pub mod Joining
-
