@@ -1,1 +1,2 @@
 mod JoiningLines
+mod JoiningItems
