@@ -1,2 +1,3 @@
 mod JoiningLines
 mod JoiningItems
+mod JoiningCommands
