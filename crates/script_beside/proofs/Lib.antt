@@ -1,1 +1,4 @@
-
+mod JoiningLines
+mod JoiningItems
+mod JoiningCommands
+mod Joining
