@@ -1,9 +1,10 @@
 -- How clients get ready to be served.
-use Rattle.std.proofs.Common.{◌≡◌, ℕ, suc, ◌+◌, ◌<◌, List, [], ◌∷◌, ◌++◌, length, map, take, get_or, Global, Vec, ap, refl, sym, subst, ◌∙◌, arith, length-append}
+use Rattle.std.proofs.Common.{◌≡◌, ℕ, suc, ◌+◌, ◌<◌, ◌≤◌, List, [], ◌∷◌, ◌++◌, length, map, take, zip, get_or, Global, Vec, ap, refl, sym, subst, ◌∙◌, arith, length-append}
 use Rattle.std.specs.Prelude.{slice_index_or}
 use Rattle.std.specs.List.{All}
-use Rattle.std.proofs.lemmas.List.{map_push, take_more}
+use Rattle.std.proofs.lemmas.List.{map_push, take_all, take_more}
 use Rattle.std.proofs.lemmas.List.Elements.{All-push}
+use Rattle.std.proofs.lemmas.Slice.Zip.{firsts-zip, seconds-zip}
 use Rattle.script_text.specs.declared.script.Kind.{Kind}
 use Rattle.script_text.specs.declared.script.Command.{Command}
 use Rattle.script_text.specs.declared.script.Object.{Object}
@@ -96,3 +97,19 @@ counted_more pieces n count more piece lt at was is =
     let long = ap length here in
     let parts = length-append (commands_in (take n pieces)) piece.items in
     omega (arith, is, was, long, parts)
+
+-- all pieces
+pub counted_all : (pieces : List (Vec Command Global)) (n count : ℕ) → length pieces ≤ n
+    → count ≡ length (commands_in (take n pieces)) → count ≡ length (commands_in pieces)
+counted_all pieces n count long is =
+    is ∙ ap (λ (l : List (Vec Command Global)). length (commands_in l)) (take_all n pieces long)
+
+-- clients and shares beside one another
+pub idle_zip : (objects : List Object) (clients : List Client) (shares : List Share) (pairs : List (Client × Share))
+    (served : List Served) → length shares ≡ length clients → pairs ≡ zip clients shares
+    → AreIdle objects (map (λ p. p.0) pairs) (map (λ p. p.1) pairs) served → AreIdle objects clients shares served
+idle_zip objects clients shares pairs served long is idle =
+    subst (λ (l : List Client). AreIdle objects l shares served)
+    (ap (map (λ (p : Client × Share). p.0)) is ∙ firsts-zip clients shares long)
+    (subst (λ (l : List Share). AreIdle objects (map (λ p. p.0) pairs) l served)
+    (ap (map (λ (p : Client × Share). p.1)) is ∙ seconds-zip clients shares long) idle)

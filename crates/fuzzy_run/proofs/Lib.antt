@@ -17,6 +17,7 @@ mod ReadsFound
 mod ObjectFrames
 mod Yielding
 mod Dealing
+mod Pieces
 mod EndsShown
 mod ClientsShown
 mod SomeRows

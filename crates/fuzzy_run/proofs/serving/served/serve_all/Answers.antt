@@ -1,15 +1,16 @@
-use Rattle.std.proofs.Common.{◌≡◌, ◌∙◌, refl, ap, sym, subst, arith, ℕ, List, [], ◌∷◌, ◌++◌, length, take, Some, slice_get}
+use Rattle.std.proofs.Common.{◌≡◌, ◌∙◌, refl, ap, sym, subst, arith, ℕ, List, [], ◌∷◌, ◌++◌, length, Some, slice_get}
 use Rattle.std.specs.List.{All}
 use Rattle.std.proofs.lemmas.List.{length_push, map-id}
 use Rattle.std.proofs.lemmas.Option.{get_or_from_slice_get, slice_get_within}
-use Rattle.std.proofs.lemmas.Iterator.Adapters.{YieldsList-from_vec}
 use Rattle.std.proofs.lemmas.Iterator.Consumers.{YieldsList-turn, YieldsList-end, YieldsList-so_far}
 use Rattle.script_text.specs.declared.script.Command.{Command}
+use Rattle.script_beside.specs.Dealt.{commands_in}
 use Rattle.report_text.specs.declared.report.ReplyLine.{ReplyLine}
 use Rattle.fuzzy_run.specs.Served.{IsServable}
 use Rattle.fuzzy_run.specs.Serving.{Serves}
 use Rattle.fuzzy_run.proofs.ObjectFrames.{of_one_on, some_objects}
-use Rattle.fuzzy_run.proofs.ServedClients.{serves_next}
+use Rattle.fuzzy_run.proofs.Pieces.{all_pieces}
+use Rattle.fuzzy_run.proofs.ServedClients.{forgets_same, forgotten, serves_next, was_served}
 use Rattle.fuzzy_run.proofs.Yielding.{there, finished_before}
 use Rattle.fuzzy_run.proofs.serving.served.serve_all.Goals as goal
 
@@ -32,20 +33,21 @@ serve-reply-requires-clause-client g c κs within =
 
 pub serve-reply-requires-clause-kept : goal.serve-reply-requires-clause-kept
 serve-reply-requires-clause-kept g c κs within =
-    let items = c.replace-commands.result in
     let was = c.loop-command.invariant in
     let yielded = c.loop-command.yielded in
-    let gives = c.into_iter-command-iterator.ensures.into_iter_gives in
-    let all = YieldsList-from_vec {s = c.into_iter-command-iterator.result} items.items gives.0 (gives.1 ∙ items.ok.0) in
+    let flat = c.flatten-command-items.ensures in
+    let all = all_pieces c.next.ensures.steps (λ x j b. (b.0, b.1 ∙ x.ok.0)) c.into_iter-command-iterator.ensures.into_iter_gives
+    flat.source flat.front flat.back flat.done c.replace-commands.ensures.value c.into_iter.ensures.rest c.into_iter.ensures.len in
+    let commands = commands_in c.args.served.now.commands.items in
     let t = YieldsList-turn all yielded _
     c.loop-command.yielded_by _ c.next.new.self c.in-Some.command c.in-Some.is c.next.ensures.steps in
     let so_far = sym (map-id yielded) ∙ YieldsList-so_far all yielded _ c.loop-command.yielded_by in
     let some = some_objects c.args.served.now.objects.items in
-    was.kept (finished_before c.args.store.now some.0 c.loop-command.served.client c.args.served.now.commands.items
+    was.kept (finished_before c.args.store.now some.0 c.loop-command.served.client commands
     (length yielded) c.in-Some.command c.loop-command.served.objects.items yielded c.loop-command.served.replies.items
     c.requires.stops
-    (there c.args.served.now.commands.items (length yielded) c.in-Some.command
-    (rw (sym c.replace-commands.ensures.value) t)) (so_far ∙ ap (λ (v : _). take (length yielded) v.items) c.replace-commands.ensures.value)
+    (there commands (length yielded) c.in-Some.command
+    t) so_far
     (was.serves some.0 some.1))
 
 -- one of the commands that can be served
@@ -56,16 +58,16 @@ servable P commands n command all at =
 
 pub serve-reply-requires-clause-command : goal.serve-reply-requires-clause-command
 serve-reply-requires-clause-command g c κs within =
-    let items = c.replace-commands.result in
     let yielded = c.loop-command.yielded in
-    let gives = c.into_iter-command-iterator.ensures.into_iter_gives in
-    let all = YieldsList-from_vec {s = c.into_iter-command-iterator.result} items.items gives.0 (gives.1 ∙ items.ok.0) in
+    let flat = c.flatten-command-items.ensures in
+    let all = all_pieces c.next.ensures.steps (λ x j b. (b.0, b.1 ∙ x.ok.0)) c.into_iter-command-iterator.ensures.into_iter_gives
+    flat.source flat.front flat.back flat.done c.replace-commands.ensures.value c.into_iter.ensures.rest c.into_iter.ensures.len in
+    let commands = commands_in c.args.served.now.commands.items in
     let t = YieldsList-turn all yielded _
     c.loop-command.yielded_by _ c.next.new.self c.in-Some.command c.in-Some.is c.next.ensures.steps in
-    let is = servable (IsServable c.args.store.now c.args.served.now.objects.items) c.args.served.now.commands.items
+    let is = servable (IsServable c.args.store.now c.args.served.now.objects.items) commands
     (length yielded) c.in-Some.command c.requires.servable
-    (there c.args.served.now.commands.items (length yielded) c.in-Some.command
-    (rw (sym c.replace-commands.ensures.value) t)) in record {
+    (there commands (length yielded) c.in-Some.command t) in record {
       within = is.within;
       of_one = of_one_on c.args.served.now.objects.items c.loop-command.served.objects.items c.in-Some.command.what
           c.loop-command.invariant.kinds is.of_one;
@@ -73,22 +75,23 @@ serve-reply-requires-clause-command g c κs within =
 
 pub loop-command-preserved : goal.loop-command-preserved
 loop-command-preserved g c =
-    let items = c.replace-commands.result in
     let was = c.loop-command.invariant in
     let store = c.args.store.now in
     let client = c.loop-command.served.client in
     let yielded = c.loop-command.yielded in
     let replies = c.loop-command.served.replies.items in
-    let gives = c.into_iter-command-iterator.ensures.into_iter_gives in
-    let all = YieldsList-from_vec {s = c.into_iter-command-iterator.result} items.items gives.0 (gives.1 ∙ items.ok.0) in
+    let flat = c.flatten-command-items.ensures in
+    let all = all_pieces c.next.ensures.steps (λ x j b. (b.0, b.1 ∙ x.ok.0)) c.into_iter-command-iterator.ensures.into_iter_gives
+    flat.source flat.front flat.back flat.done c.replace-commands.ensures.value c.into_iter.ensures.rest c.into_iter.ensures.len in
+    let commands = commands_in c.args.served.now.commands.items in
     let t = YieldsList-turn all yielded _
     c.loop-command.yielded_by _ c.next.new.self c.in-Some.command c.in-Some.is c.next.ensures.steps in
     let so_far = sym (map-id yielded) ∙ YieldsList-so_far all yielded _ c.loop-command.yielded_by in
     let stops = c.requires.stops in
     let some = some_objects c.args.served.now.objects.items in
-    let finished = finished_before store some.0 client c.args.served.now.commands.items (length yielded) c.in-Some.command
-    c.loop-command.served.objects.items yielded replies stops (there c.args.served.now.commands.items (length yielded) c.in-Some.command
-    (rw (sym c.replace-commands.ensures.value) t)) (so_far ∙ ap (λ (v : _). take (length yielded) v.items) c.replace-commands.ensures.value)
+    let finished = finished_before store some.0 client commands (length yielded) c.in-Some.command
+    c.loop-command.served.objects.items yielded replies stops (there commands (length yielded) c.in-Some.command
+    t) so_far
     (was.serves some.0 some.1) in
     let e = c.serve-reply.ensures.answered some.0 (some.1 ∙ sym was.kinds) in
     let items_are = ap length c.push_reserved.ensures.items in
@@ -109,15 +112,30 @@ loop-command-preserved g c =
 
 pub returns : goal.returns
 returns g c =
-    let items = c.replace-commands.result in
-    let gives = c.into_iter-command-iterator.ensures.into_iter_gives in
-    let all = YieldsList-from_vec {s = c.into_iter-command-iterator.result} items.items gives.0 (gives.1 ∙ items.ok.0) in
+    let flat = c.flatten-command-items.ensures in
+    let all = all_pieces c.next.ensures.steps (λ x j b. (b.0, b.1 ∙ x.ok.0)) c.into_iter-command-iterator.ensures.into_iter_gives
+    flat.source flat.front flat.back flat.done c.replace-commands.ensures.value c.into_iter.ensures.rest c.into_iter.ensures.len in
+    let commands = commands_in c.args.served.now.commands.items in
     let t = YieldsList-end all c.loop-command.yielded _ c.loop-command.yielded_by _ c.next.new.self c.in-None.is c.next.ensures.steps in
-    let whole = sym (map-id c.loop-command.yielded) ∙ (t.0 ∙ ap (λ (v : _). v.items) c.replace-commands.ensures.value) in
+    let whole = sym (map-id c.loop-command.yielded) ∙ t.0 in
+    let store = c.args.store.now in
+    let client = c.loop-command.served.client in
+    let xs = c.loop-command.served.objects.items in
+    let replies = c.loop-command.served.replies.items in
     record {
-      same = c.loop-command.invariant.same;
-      serves = λ objects of. subst (λ (l : List Command).
-          Serves c.args.store.now objects c.loop-command.served.client c.loop-command.served.objects.items l
-          c.loop-command.served.replies.items)
-          whole (c.loop-command.invariant.serves objects of);
+      same = forgets_same c.args.served.now.client client c.forget_played.new.self c.loop-command.invariant.same
+          c.forget_played.ensures;
+      served = λ objects of. forgotten store objects client c.forget_played.new.self commands replies
+          (was_served store objects client xs commands replies
+          (subst (λ (l : List Command). Serves store objects client xs l replies) whole
+          (c.loop-command.invariant.serves objects of)))
+          c.forget_played.ensures;
     }
+
+pub forget_played-requires : goal.forget_played-requires
+forget_played-requires g c κs within =
+    let some = some_objects c.args.served.now.objects.items in
+    let first = (c.requires.serves some.0).rests.colours in
+    let last = (c.loop-command.invariant.serves some.0 some.1).rests.colours in
+    let few = c.requires.few in
+    omega (arith, first, last, few)

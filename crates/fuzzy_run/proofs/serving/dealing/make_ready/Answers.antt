@@ -1,0 +1,13 @@
+use Rattle.std.proofs.Common.{List, subst}
+use Rattle.log_client.specs.declared.client.Client.{Client}
+use Rattle.fuzzy_run.specs.Dealing.{AreIdle}
+use Rattle.fuzzy_run.proofs.Dealing.{ready}
+use Rattle.fuzzy_run.proofs.serving.dealing.make_ready.Goals as goal
+
+pub returns : goal.returns
+returns c =
+    let idle = c.in_ok-served.served.items in
+    let shares = c.args.shares.items in
+    ready c.args.objects.now c.args.clients shares idle c.make_room.new.served.items
+    (subst (λ (l : List Client). AreIdle c.args.objects.now l shares idle) c.into_vec.ensures c.in_ok-served.ensures)
+    c.in_ok-make_room.ensures
