@@ -20,7 +20,7 @@ Commands = IntoIter Command Global
 
 -- The commands of all pieces, one after another, where the pieces were moved to the loop. A step of the loop comes first, since
 -- it tells how a piece becomes an iterator.
-pub all_pieces : {becomes : Piece → Commands → Type 0} {t u : Flatten Pieces Commands} {r : Option Command}
+pub all_pieces : {becomes : Piece → Commands → Type 0} (t u : Flatten Pieces Commands) (r : Option Command)
     → flatten_steps (into_iter_steps {X = Piece} {Z = Global}) becomes (into_iter_steps {X = Command} {Z = Global}) t r u
     → ((x : Piece) (j : Commands) → becomes x j → (j.rest.items ≡ x.items) × (j.rest.len ≡ length x.items))
     → {s flat : Flatten Pieces Commands} → s ≡ flat → {source : Pieces} → flat.iter ≡ source → flat.front ≡ None
@@ -28,7 +28,7 @@ pub all_pieces : {becomes : Piece → Commands → Type 0} {t u : Flatten Pieces
     → source.rest.items ≡ moved.items → source.rest.len ≡ moved.len
     → YieldsList (flatten_steps (into_iter_steps {X = Piece} {Z = Global}) becomes (into_iter_steps {X = Command} {Z = Global}))
     (λ x. x) s (commands_in pieces.items)
-all_pieces {becomes} step each {s} same {source} of front back done {moved} {pieces} is items len =
+all_pieces {becomes} t u r step each {s} same {source} of front back done {moved} {pieces} is items len =
     YieldsList-from_flatten becomes (into_iter_steps {X = Command} {Z = Global}) (λ x. x) (λ (p : Piece). p.items)
     (λ x j b. YieldsList-from_vec {s = j} x.items (each x j b).0 (each x j b).1)
     (YieldsList-from_vec {s = s.iter} pieces.items

@@ -1,15 +1,23 @@
 -- What the words ask for, and the report of a run that they ask for.
-use Rattle.std.proofs.Common.{◌≡◌, ℕ, Option, Some, Ok, Err, sym, ◌∙◌}
-use Rattle.std.specs.Prelude.{IfOk, Result}
+use Rattle.std.proofs.Common.{◌≡◌, ℕ, List, Option, Some, sym, ◌∙◌}
 use Rattle.script_text.specs.declared.script.Script.{Script}
+use Rattle.script_text.specs.Grammar.{IsScript}
+use Rattle.script_text.specs.Laws.{RowsAreWithinLimits}
+use Rattle.script_text.proofs.CallerLemmas.{one_script, script_fits}
+use Rattle.script_beside.specs.declared.dealt.DealtScript.{DealtScript}
+use Rattle.script_beside.specs.Dealt.{IsDealt}
 use Rattle.report_text.specs.declared.report.Report.{Report}
 use Rattle.lawful_run.specs.Lawful.{LawfulRun}
+use Rattle.script_meaning.specs.Laws.{ScriptsStopLast}
 use Rattle.script_meaning.specs.Meaning.{IsStepReport, FindsMemory, step_report}
 use Rattle.fuzzy_run.specs.declared.asked.Asked.{Asked}
 use Rattle.fuzzy_run.specs.declared.asked.Asked.TheVariants.{Step, Run}
 use Rattle.fuzzy_run.specs.declared.asked.Task.{Task}
 use Rattle.fuzzy_run.specs.declared.asked.Task.TheVariants as tasks
+use Rattle.fuzzy_run.specs.Refusals.{IsTheScript}
+use Rattle.fuzzy_run.specs.Running.{CanRun}
 use Rattle.fuzzy_run.specs.TopCall.{IsRunOf}
+use Rattle.fuzzy_run.proofs.SomeRows.{some_rows}
 
 -- what was read from the words is what they ask for
 module _ (result words : Option Task) (same : result ≡ words) where
@@ -31,17 +39,30 @@ module _ (result words : Option Task) (same : result ≡ words) where
   no_script asked count read asks =
       let both : Some (tasks.Load count) ≡ Some (tasks.Script asked) = sym read ∙ (same ∙ asks) in cc (both)
 
-pub run_in_file : {E : Type 0} (script : Script) (result : Result Report E) → IfOk result (IsStepReport script)
-    → IfOk result (LawfulRun script) → IfOk result (λ report. FindsMemory report → report ≡ step_report script)
-    → IfOk result (IsRunOf Step script)
-run_in_file script (Ok report) in_order lawful exact = record {
+pub run_in_file : (script : Script) (report : Report) → IsStepReport script report → LawfulRun script report
+    → (FindsMemory report → report ≡ step_report script) → IsRunOf Step script report
+run_in_file script report in_order lawful exact = record {
   lawful = lawful;
   in_order = λ e. record { in_order = in_order; exact = exact };
 }
-run_in_file script (Err e) in_order lawful exact = tt
 
 pub run_on_threads : (script : Script) (report : Report) → LawfulRun script report → IsRunOf Run script report
 run_on_threads script report lawful = record {
   lawful = lawful;
   in_order = λ e. absurd (let f : ⊥ = cc (e) in f);
+}
+
+-- WHAT WAS READ ON THREADS
+
+pub the_script : (bytes : List ℕ) (script : Script) → IsScript bytes script → IsTheScript bytes script
+the_script bytes script is = record { is = is; only = λ other too. one_script bytes script other is too }
+
+pub can_run : RowsAreWithinLimits → ScriptsStopLast → (bytes : List ℕ) (script : Script) (dealt : DealtScript)
+    → IsScript bytes script → IsDealt script dealt → CanRun script dealt
+can_run within stop bytes script dealt is given = record {
+  dealt = given;
+  fits = script_fits bytes script is;
+  rows = within bytes script is;
+  some_rows = some_rows bytes script is;
+  stops = stop bytes script is;
 }

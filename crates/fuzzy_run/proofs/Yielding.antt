@@ -1,5 +1,5 @@
 -- What a loop over a list has had, and what comes next.
-use Rattle.std.proofs.Common.{◌≡◌, ℕ, zero, suc, ◌<◌, List, [], ◌∷◌, ◌++◌, length, take, get_or, Some, slice_get, ap, sym, ◌∙◌, inl, inr, arith}
+use Rattle.std.proofs.Common.{◌≡◌, ℕ, zero, suc, ◌<◌, ◌≤◌, List, [], ◌∷◌, ◌++◌, length, take, get_or, Some, slice_get, ap, sym, ◌∙◌, inl, inr, arith}
 use Rattle.std.proofs.lemmas.List.{append_assoc}
 use Rattle.script_text.specs.declared.script.Command.{Command}
 use Rattle.script_text.specs.declared.script.Object.{Object}
@@ -36,3 +36,8 @@ finished_before s objects c commands n next xs done replies last at are v = elim
       let none = last stop.before (next ∷ r.0) stop.command split stop.stops in
       let f : ⊥ = cc (none) in f)
 ]
+
+-- there is room for one more reply
+pub room_left : (len replies yielded commands capacity first : ℕ) → len ≡ replies → replies ≡ yielded → yielded < commands
+    → commands ≤ first → capacity ≡ first → len < capacity
+room_left len replies yielded commands capacity first is count low room same = omega (arith, is, count, low, room, same)

@@ -11,7 +11,7 @@ use Rattle.fuzzy_run.specs.Serving.{Serves}
 use Rattle.fuzzy_run.proofs.ObjectFrames.{of_one_on, some_objects}
 use Rattle.fuzzy_run.proofs.Pieces.{all_pieces}
 use Rattle.fuzzy_run.proofs.ServedClients.{forgets_same, forgotten, serves_next, was_served}
-use Rattle.fuzzy_run.proofs.Yielding.{there, finished_before}
+use Rattle.fuzzy_run.proofs.Yielding.{there, finished_before, room_left}
 use Rattle.fuzzy_run.proofs.serving.served.serve_all.Goals as goal
 
 pub loop-command-init : goal.loop-command-init
@@ -36,7 +36,7 @@ serve-reply-requires-clause-kept g c κs within =
     let was = c.loop-command.invariant in
     let yielded = c.loop-command.yielded in
     let flat = c.flatten-command-items.ensures in
-    let all = all_pieces c.next.ensures.steps (λ x j b. (b.0, b.1 ∙ x.ok.0)) c.into_iter-command-iterator.ensures.into_iter_gives
+    let all = all_pieces _ _ _ c.next.ensures.steps (λ x j b. (b.0, b.1 ∙ x.ok.0)) c.into_iter-command-iterator.ensures.into_iter_gives
     flat.source flat.front flat.back flat.done c.replace-commands.ensures.value c.into_iter.ensures.rest c.into_iter.ensures.len in
     let commands = commands_in c.args.served.now.commands.items in
     let t = YieldsList-turn all yielded _
@@ -60,7 +60,7 @@ pub serve-reply-requires-clause-command : goal.serve-reply-requires-clause-comma
 serve-reply-requires-clause-command g c κs within =
     let yielded = c.loop-command.yielded in
     let flat = c.flatten-command-items.ensures in
-    let all = all_pieces c.next.ensures.steps (λ x j b. (b.0, b.1 ∙ x.ok.0)) c.into_iter-command-iterator.ensures.into_iter_gives
+    let all = all_pieces _ _ _ c.next.ensures.steps (λ x j b. (b.0, b.1 ∙ x.ok.0)) c.into_iter-command-iterator.ensures.into_iter_gives
     flat.source flat.front flat.back flat.done c.replace-commands.ensures.value c.into_iter.ensures.rest c.into_iter.ensures.len in
     let commands = commands_in c.args.served.now.commands.items in
     let t = YieldsList-turn all yielded _
@@ -73,6 +73,17 @@ serve-reply-requires-clause-command g c κs within =
           c.loop-command.invariant.kinds is.of_one;
     }
 
+pub push_reserved-requires : goal.push_reserved-requires
+push_reserved-requires g c =
+    let yielded = c.loop-command.yielded in
+    let flat = c.flatten-command-items.ensures in
+    let all = all_pieces _ _ _ c.next.ensures.steps (λ x j b. (b.0, b.1 ∙ x.ok.0)) c.into_iter-command-iterator.ensures.into_iter_gives
+    flat.source flat.front flat.back flat.done c.replace-commands.ensures.value c.into_iter.ensures.rest c.into_iter.ensures.len in
+    let t = YieldsList-turn all yielded _
+    c.loop-command.yielded_by _ c.next.new.self c.in-Some.command c.in-Some.is c.next.ensures.steps in
+    room_left _ _ (length yielded) (length (commands_in c.args.served.now.commands.items)) _ _ c.loop-command.served.replies.ok.0
+    c.loop-command.invariant.count t.0 c.requires.room c.loop-command.invariant.room
+
 pub loop-command-preserved : goal.loop-command-preserved
 loop-command-preserved g c =
     let was = c.loop-command.invariant in
@@ -81,7 +92,7 @@ loop-command-preserved g c =
     let yielded = c.loop-command.yielded in
     let replies = c.loop-command.served.replies.items in
     let flat = c.flatten-command-items.ensures in
-    let all = all_pieces c.next.ensures.steps (λ x j b. (b.0, b.1 ∙ x.ok.0)) c.into_iter-command-iterator.ensures.into_iter_gives
+    let all = all_pieces _ _ _ c.next.ensures.steps (λ x j b. (b.0, b.1 ∙ x.ok.0)) c.into_iter-command-iterator.ensures.into_iter_gives
     flat.source flat.front flat.back flat.done c.replace-commands.ensures.value c.into_iter.ensures.rest c.into_iter.ensures.len in
     let commands = commands_in c.args.served.now.commands.items in
     let t = YieldsList-turn all yielded _
@@ -113,7 +124,7 @@ loop-command-preserved g c =
 pub returns : goal.returns
 returns g c =
     let flat = c.flatten-command-items.ensures in
-    let all = all_pieces c.next.ensures.steps (λ x j b. (b.0, b.1 ∙ x.ok.0)) c.into_iter-command-iterator.ensures.into_iter_gives
+    let all = all_pieces _ _ _ c.next.ensures.steps (λ x j b. (b.0, b.1 ∙ x.ok.0)) c.into_iter-command-iterator.ensures.into_iter_gives
     flat.source flat.front flat.back flat.done c.replace-commands.ensures.value c.into_iter.ensures.rest c.into_iter.ensures.len in
     let commands = commands_in c.args.served.now.commands.items in
     let t = YieldsList-end all c.loop-command.yielded _ c.loop-command.yielded_by _ c.next.new.self c.in-None.is c.next.ensures.steps in
