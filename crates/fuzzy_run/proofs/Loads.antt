@@ -45,7 +45,7 @@ no_stop (whats.Deq object) p = absurd p
 pub load_can_run : LoadsFit → (count : ℕ) → count ≤ MAX_LOAD → (script : Script) → script ≡ load_script count
     → (dealt : DealtScript) → IsDealt script dealt → CanRun script dealt
 load_can_run fit count le script same dealt is = record {
-  dealt = is;
+  is = is;
   fits = subst IsFitting (sym same) (fit count le).0;
   rows = subst (λ (s : Script). s.shape.rows ≤ MAX_ROWS) (sym same) (omega arith);
   some_rows = subst (λ (s : Script). 0 < s.shape.rows) (sym same) (omega arith);

@@ -39,12 +39,12 @@ abbrev pub script_of : DealtScript → List Command → Script
 script_of dealt commands = record dealt.header { commands = commands }
 
 pub whole : (script : Script) (dealt : DealtScript) → CanRun script dealt → CanRun (script_of dealt script.commands) dealt
-whole script dealt can = subst (λ (s : Script). CanRun s dealt) can.dealt.header can
+whole script dealt can = subst (λ (s : Script). CanRun s dealt) can.is.header can
 
 -- each client has its share
 pub many_shares : (script : Script) (dealt : DealtScript) (s : Store) (clients : List Client) → CanRun script dealt
     → AreNewClients script.shape s clients → length dealt.shares.items ≡ length clients
-many_shares script dealt s clients can new = can.dealt.many ∙ (can.fits.clients ∙ sym new.0)
+many_shares script dealt s clients can new = can.is.many ∙ (can.fits.clients ∙ sym new.0)
 
 module _ (script : Script) (dealt : DealtScript) (can : CanRun script dealt) (s : Store)
     (size : s.size ≡ size_of script.shape) (regions : length s.regions ≡ script.shape.regions) (clients : List Client)
@@ -62,7 +62,7 @@ module _ (script : Script) (dealt : DealtScript) (can : CanRun script dealt) (s 
 
   commands_at : (n : ℕ) (x : Served) → slice_get before n ≡ Some x → commands_in x.commands.items ≡ commands_of script n
   commands_at n x at =
-      can.dealt.each n x.commands
+      can.is.each n x.commands
       (subst (λ (shares : List (Vec (Vec Command Global) Global)). slice_get shares n ≡ Some x.commands) ready.idle.shares_are
       (mapped (λ (y : Served). y.commands) before n x at))
 
@@ -175,5 +175,5 @@ pub lawful_if : {E : Type 0} (dealt : DealtScript) (report : Report) (result : R
     → IfOk result (λ r. (script : Script) → CanRun script dealt → LawfulRun script r)
 lawful_if dealt report (Ok r) is lawful = λ script can.
     subst (LawfulRun script) (sym is)
-    (subst (λ (s : Script). LawfulRun s report) (sym can.dealt.header) (lawful script.commands (whole script dealt can)))
+    (subst (λ (s : Script). LawfulRun s report) (sym can.is.header) (lawful script.commands (whole script dealt can)))
 lawful_if dealt report (Err e) is lawful = tt

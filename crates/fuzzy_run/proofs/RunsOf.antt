@@ -60,7 +60,7 @@ the_script bytes script is = record { is = is; only = λ other too. one_script b
 pub can_run : RowsAreWithinLimits → ScriptsStopLast → (bytes : List ℕ) (script : Script) (dealt : DealtScript)
     → IsScript bytes script → IsDealt script dealt → CanRun script dealt
 can_run within stop bytes script dealt is given = record {
-  dealt = given;
+  is = given;
   fits = script_fits bytes script is;
   rows = within bytes script is;
   some_rows = some_rows bytes script is;

@@ -10,7 +10,7 @@ use Rattle.script_meaning.specs.States.{StopsAreLast}
 -- It fits, with a number of rows for each client that a store can have, no client has a command after a stop, and it was dealt
 -- out so.
 pub record CanRun (script : Script) (dealt : DealtScript) : Type 0 where
-  pub dealt : IsDealt script dealt
+  pub is : IsDealt script dealt
   pub fits : IsFitting script
   pub rows : script.shape.rows ≤ MAX_ROWS
   pub some_rows : 0 < script.shape.rows

@@ -74,10 +74,10 @@ fn do_script<K: Sink>(alloc: Global, script: Script, sink: &mut K) -> Status
     let printed = print(&report, sink);
     // Not freed here either.
     mem::forget(report);
-    if let Err(Failed) = printed {
-        return Status::WriteFault;
+    match printed {
+        Ok(()) => Status::Done,
+        Err(Failed) => Status::WriteFault,
     }
-    Status::Done
 }
 
 // Does the commands of a script on threads, where they have been dealt out to its clients, and writes the report, whose
