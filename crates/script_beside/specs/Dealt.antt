@@ -1,5 +1,6 @@
 -- What it is to deal a script's commands out to its clients.
-use Rattle.std.specs.Prelude.{◌≡◌, ◌==◌, ℕ, List, length, Some, slice_get, Vec, Global, Result, Ok, Err}
+use Rattle.std.specs.Prelude.{◌≡◌, ◌==◌, ℕ, List, length, Some, slice_get, Vec, Result, Ok, Err}
+use Rattle.std.specs.Global.{Global}
 use Rattle.std.specs.List.{filter, flat_map}
 use Rattle.script_text.specs.declared.script.Command.{Command}
 use Rattle.script_text.specs.declared.script.Script.{Script}

@@ -1,3 +1,3 @@
 pub mod Dealt
 pub mod Joining
-
+pub mod Lists

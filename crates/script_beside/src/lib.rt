@@ -3,6 +3,7 @@
 
 mod dealing;
 mod dealt;
+mod lists;
 mod reading;
 
 pub use dealing::deal;
