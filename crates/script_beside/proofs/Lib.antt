@@ -1,1 +1,5 @@
+mod JoiningLines
+mod JoiningItems
+mod JoiningCommands
+mod Joining
 mod ListLemmas
