@@ -3,3 +3,4 @@ mod JoiningItems
 mod JoiningCommands
 mod Joining
 mod ListLemmas
+mod PartLemmas

@@ -38,7 +38,7 @@ no_shares count shares none = record {
 }
 
 -- an item of a list that is not empty
-some_item : {X : Type 0} (xs : List X) (n : ℕ) → n < length xs → X
+pub some_item : {X : Type 0} (xs : List X) (n : ℕ) → n < length xs → X
 some_item [] n lt = absurd (let e : ⊥ = omega (arith, lt) in e)
 some_item (x ∷ xs) n lt = x
 

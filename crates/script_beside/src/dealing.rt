@@ -5,7 +5,7 @@ ghost use Rattle.script_text.specs.declared.script.Command.{Command};
 ghost use Rattle.script_beside.specs.Dealt.{IsDealt};
 
 use crate::dealt::DealtScript;
-use crate::lists::{empty_lists, give, put_behind};
+use crate::lists::{empty_lists, own_lists, put_behind};
 use log_node::ListOf;
 use script_text::Script;
 use std::alloc::{AllocError, Global};
@@ -18,8 +18,7 @@ pub fn deal(alloc: Global, mut script: Script) -> Result<DealtScript, AllocError
 {
     let clients = script.clients.len();
     let commands = mem::replace(&mut script.commands, ListOf::new(alloc));
-    let mut lists = empty_lists(alloc, clients, 0)?;
-    give(&mut lists, commands.into_vec(), 0)?;
+    let lists = own_lists(alloc, clients, commands, 0)?;
     let mut shares = empty_lists(alloc, clients, 1)?;
     put_behind(&mut shares, lists)?;
     Ok(DealtScript {
