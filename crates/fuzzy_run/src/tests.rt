@@ -15,6 +15,7 @@ mod loads;
 mod maps;
 mod objects;
 mod ordinary;
+mod parts;
 mod refusals;
 mod regions;
 mod scans;

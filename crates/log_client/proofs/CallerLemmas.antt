@@ -4,6 +4,7 @@ pub use Rattle.log_client.proofs.Fitting.{fits_less, text_named}
 pub use Rattle.log_client.proofs.GoingOn.{client_sees_on, same_caller}
 pub use Rattle.log_client.proofs.LeftOpen.{open_row}
 pub use Rattle.log_client.proofs.FewColours.{few_colours}
+pub use Rattle.log_client.proofs.Forgetting.{rests_forgotten}
 pub use Rattle.log_client.proofs.Growing.{grown_same, grown_then}
 pub use Rattle.log_client.proofs.ItemsRead.{items_show, items_are_objects, made_from}
 pub use Rattle.log_client.proofs.ReadCalls.{line_is_own}

@@ -345,7 +345,7 @@ module _ (s : Store) (clients : List Client) (all : AreClients s clients) (ends 
       };
       fits = client.fits;
       steps = λ objects kept keeps region colour.
-          steps_at_end (caller_of s c objects) (seen_of c) kept region colour (log.histories region colour) keeps.by
+          steps_at_end (caller_of s c objects) (seen_of c) kept region colour (log.histories region colour) keeps
           (client.more region colour)
           (subst (λ (u : ℕ). own_steps u (log.histories region colour) ≡ own_steps u (seen_of c region colour)) (sym number)
           (steps_same n (seen_of c region colour) (log.histories region colour) (client.made region colour)));

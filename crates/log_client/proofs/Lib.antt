@@ -37,6 +37,7 @@ mod TrimReplies
 mod Everywhere
 mod TellingAll
 mod Dealing
+mod Forgetting
 mod TwoHolds
 mod BetweenHolds
 mod PullReplies

@@ -12,12 +12,13 @@ use Rattle.col_core.specs.Log.{Log, places_of}
 use Rattle.col_core.specs.Rows.{BegunRow, is_of}
 use Rattle.script_text.specs.declared.script.Object.{Object}
 use Rattle.lawful_run.specs.Lawful.{IsHelp}
+use Rattle.client_law.specs.Kept.{IsKeptBy}
 use Rattle.client_law.specs.Knowing.{SeesOn}
 use Rattle.log_client.specs.declared.store.Store.{Store}
 use Rattle.log_client.specs.declared.client.Client.{Client}
 use Rattle.log_client.specs.declared.closed.Closed.{Closed}
 use Rattle.log_client.specs.Fits.{Fits}
-use Rattle.log_client.specs.Clients.{IsClient, Keeps, Finished, Helps, caller_of, holds_of, rows_of, seen_of}
+use Rattle.log_client.specs.Clients.{IsClient, Finished, Helps, caller_of, holds_of, rows_of, seen_of}
 use Rattle.log_client.specs.Closing.{EndsStore}
 
 -- they are all clients of the store, by number
@@ -39,7 +40,8 @@ pub record EndsComplete (log : Log) (colours region : ℕ) (b : BegunRow) : Type
 pub record EndsFor (s : Store) (log : Log) (c : Client) : Type 0 where
   pub on : (objects : List Object) → SeesOn (caller_of s c objects) (seen_of c) log.histories
   pub fits : Fits (holds_of c) (record { nodes = log.nodes; rows = log.rows })
-  pub steps : (objects : List Object) (kept : Kept) → Keeps s c objects kept → (region colour : ℕ)
+  pub steps : (objects : List Object) (kept : Kept) → IsKeptBy (seen_of c) (caller_of s c objects) kept
+      → (region colour : ℕ)
       → places_of c.number (log.histories region colour) ≡ kept.made region colour
   pub ids : length (log.nodes c.number) ≡ c.count
   pub rows : map (λ (b : BegunRow). b.node) (filter (is_of c.number) (log.rows c.region)) ≡ rows_of c

@@ -14,5 +14,6 @@ pub mod Items
 pub mod Notes
 pub mod Opening
 pub mod Leaving
+pub mod Forgetting
 pub mod Closes
 pub mod Objects

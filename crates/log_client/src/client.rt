@@ -1,8 +1,10 @@
 // A client.
+use crate::opening::fresh_track;
 use crate::track::Track;
 use chain_store::Hold;
 use log_node::{Item, Node};
 use playback::Snapshot;
+use std::alloc::Global;
 use std::sync::Arc;
 
 /// A client of a store, which acts from a thread of its own: its holds of all regions, the greatest stamp that it has seen
@@ -20,8 +22,9 @@ pub struct Client {
 }
 
 impl Client {
-    ghost use Rattle.std.specs.Prelude.{◌≡◌, ◌<◌, length};
+    ghost use Rattle.std.specs.Prelude.{◌≡◌, ◌<◌, ◌≤◌, length};
     ghost use Rattle.log_client.specs.Clients.{tracks_of, starts_of, played_of, line_of};
+    ghost use Rattle.log_client.specs.Forgetting.{HasForgotten};
 
     /// The client's number.
     pub fn number(&self) -> u8
@@ -66,5 +69,15 @@ impl Client {
         ensures { result.now ≡ self.now.rows.items }
     {
         self.rows.as_slice()
+    }
+
+    /// Gives back the memory of what the client has played, for one that plays no more: it is as if it had played nothing.
+    pub fn forget_played(&mut self, alloc: Global)
+        requires { length (tracks_of self.old) ≤ 255 }
+        ensures { HasForgotten self.old self.new }
+    {
+        for colour in 0..self.tracks.len() {
+            self.tracks[colour] = fresh_track(alloc, self.region, colour as u8);
+        }
     }
 }

@@ -3,7 +3,7 @@ ghost use Rattle.std.specs.Prelude.{◌≡◌, ◌<◌, ◌≤◌, length, IfOk}
 ghost use Rattle.std.specs.List.{All};
 ghost use Rattle.stamp_board.specs.Rows.{IsSize};
 ghost use Rattle.chain_store.specs.Opening.{size_of};
-ghost use Rattle.log_client.specs.Opening.{AreFreshTracks, AreFreshClients, HaveNoHolds, Dealt, AreNewClients};
+ghost use Rattle.log_client.specs.Opening.{fresh_track, AreFreshTracks, AreFreshClients, HaveNoHolds, Dealt, AreNewClients};
 
 use crate::client::Client;
 use crate::played::PlayedNodes;
@@ -18,24 +18,28 @@ use std::alloc::{AllocError, Global};
 /// Clients, by number.
 pub type Clients = ListOf<Client>;
 
+/// A track of a colour, on which nothing is played.
+pub fn fresh_track(alloc: Global, region: u8, colour: u8) -> Track
+    ensures { result ≡ fresh_track region colour }
+{
+    Track {
+        snapshot: Snapshot {
+            region,
+            colour,
+            counts: Counts([0; 4]),
+        },
+        nodes: PlayedNodes::new(alloc),
+        line: PlayedNodes::new(alloc),
+    }
+}
+
 // A track of each colour, on which nothing is played.
 fn fresh_tracks(alloc: Global, region: u8, colours: u8) -> Result<Vec<Track>, AllocError>
     ensures { IfOk result (λ tracks. AreFreshTracks region colours tracks.items) }
 {
     let mut tracks = Vec::new(alloc);
     for colour in 0..colours {
-        let snapshot = Snapshot {
-            region,
-            colour,
-            counts: Counts([0; 4]),
-        };
-        let nodes = PlayedNodes::new(alloc);
-        let line = PlayedNodes::new(alloc);
-        tracks.push(Track {
-            snapshot,
-            nodes,
-            line,
-        })?;
+        tracks.push(fresh_track(alloc, region, colour))?;
     }
     Ok(tracks)
 }

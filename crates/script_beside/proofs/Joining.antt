@@ -1,6 +1,6 @@
 -- Pieces that are read one by one behind the header are one script.
 use Rattle.std.proofs.Common.{◌≡◌, inr, ℕ, ◌+◌, ◌<◌, ◌≤◌, Bool, true, false, cond, eqb, List, [], ◌∷◌, ◌++◌, length, map, refl, sym, ap, subst, ◌∙◌, arith, length-append, append-nil, append_assoc}
-use Rattle.std.specs.Prelude.{IsTrue, not, ◌&&◌, codes}
+use Rattle.std.specs.Prelude.{not, ◌&&◌, codes}
 use Rattle.std.specs.List.{list_all, enumerate_from}
 use Rattle.std.proofs.lemmas.Bool.{and_parts}
 use Rattle.std.proofs.lemmas.List.Folds.{list_all-append}
@@ -9,8 +9,8 @@ use Rattle.script_text.specs.declared.script.Script.{Script}
 use Rattle.script_text.specs.declared.item.Item.{Item}
 use Rattle.script_text.specs.declared.limits.TheConstants.{MAX_BYTES, MAX_LINES}
 use Rattle.script_text.specs.Pieces.{lines_of, is_ascii_line}
-use Rattle.script_text.specs.Items.{has_begun, regions_in, colours_in, clients_in, objects_in, last_said, commands, is_stop, script_of}
-use Rattle.script_text.specs.Grammar.{is_passed_over, said_lines, Say, IsScript}
+use Rattle.script_text.specs.Items.{has_begun, regions_in, colours_in, clients_in, objects_in, last_said, commands, script_of}
+use Rattle.script_text.specs.Grammar.{said_lines, Say, IsScript}
 use Rattle.script_beside.specs.Joining.{later, EndsALine, IsHeader, NoneStops}
 use Rattle.script_beside.proofs.JoiningLines.{lines_ended, said_joined, moved, said_moved}
 use Rattle.script_beside.proofs.JoiningItems.{asks, asks_joined, asked_of, commands_asked, script_asked, say_split, say_joined, begun_by, begun_still, all_ask}
@@ -41,8 +41,8 @@ begin_said n = of (not (eqb n 1)) ((n, begin_line) ∷ []) where
 header_begun : (lines front : List (List ℕ)) (u : List Item) → lines ≡ front ++ begin_lines → Say [] (said_lines (enumerate_from 1 lines)) u → has_begun u ≡ true
 header_begun lines front u e say =
     let apart : said_lines (enumerate_from 1 lines) ≡ said_lines (enumerate_from 1 front) ++ (1 + length front, begin_line) ∷ [] =
-      ap (λ l. said_lines (enumerate_from 1 l)) e ∙ said_joined 1 front begin_lines
-      ∙ ap (λ l. said_lines (enumerate_from 1 front) ++ l) (begin_said (1 + length front)) in
+    ap (λ l. said_lines (enumerate_from 1 l)) e ∙ said_joined 1 front begin_lines
+    ∙ ap (λ l. said_lines (enumerate_from 1 front) ++ l) (begin_said (1 + length front)) in
     begun_by [] (said_lines (enumerate_from 1 front)) (1 + length front) u (subst (λ l. Say [] l u) apart say)
 
 -- ---- one piece
@@ -74,15 +74,15 @@ opened : (h a : List ℕ) (s0 s : Script) → IsHeader h s0 → IsScript (h ++ a
 opened h a s0 s is script =
     let apart = lines_joined h a (header_ends h s0 is) in
     let numbered : said_lines (enumerate_from 1 (lines_of (h ++ a)))
-      ≡ said_lines (enumerate_from 1 (lines_of h)) ++ said_lines (enumerate_from (1 + length (lines_of h)) (lines_of a)) =
-      ap (λ l. said_lines (enumerate_from 1 l)) apart ∙ said_joined 1 (lines_of h) (lines_of a) in
+    ≡ said_lines (enumerate_from 1 (lines_of h)) ++ said_lines (enumerate_from (1 + length (lines_of h)) (lines_of a)) =
+    ap (λ l. said_lines (enumerate_from 1 l)) apart ∙ said_joined 1 (lines_of h) (lines_of a) in
     let parts = say_split [] (said_lines (enumerate_from 1 (lines_of h))) (said_lines (enumerate_from (1 + length (lines_of h)) (lines_of a))) script.said
-      (subst (λ l. Say [] l script.said) numbered script.lines.say) in
+    (subst (λ l. Say [] l script.said) numbered script.lines.say) in
     let lines = header_lines h s0 is in
     let begun = header_begun (lines_of h) lines.0 parts.0 lines.1 parts.3 in
     let more = all_ask parts.0 (said_lines (enumerate_from (1 + length (lines_of h)) (lines_of a))) parts.1 begun parts.4 in
     let ascii = and_parts (list_all is_ascii_line (lines_of h)) (list_all is_ascii_line (lines_of a))
-      (sym (list_all-append is_ascii_line (lines_of h) (lines_of a)) ∙ ap (list_all is_ascii_line) (sym apart) ∙ script.lines.ascii) in
+    (sym (list_all-append is_ascii_line (lines_of h) (lines_of a)) ∙ ap (list_all is_ascii_line) (sym apart) ∙ script.lines.ascii) in
     let alone : IsScript h (script_of parts.0) = record {
       short = front_few MAX_BYTES h a script.short;
       said = parts.0;
@@ -128,8 +128,8 @@ carries k s0 one other more mine its idle begun =
       made = ap (λ (t : Script). t.objects) same ∙ sym (asked_of objects_in (λ c. refl) other more);
       begun = begun_still other more begun;
       asked =
-        commands_asked other more ∙ ap (λ (l : List Command). l ++ more) nothing
-        ∙ sym (ap (λ (l : List Command). more ++ map (later k) l) none ∙ append-nil more);
+          commands_asked other more ∙ ap (λ (l : List Command). l ++ more) nothing
+          ∙ sym (ap (λ (l : List Command). more ++ map (later k) l) none ∙ append-nil more);
     }
 
 -- the lines of the header and of both pieces
@@ -175,25 +175,25 @@ joined h a b s0 sa sb is ends first second none short few =
     let front = header_lines h s0 is in
     let said = said_apart (lines_of h) (lines_of a) (lines_of b) (ends_some (lines_of h) front.0 front.1) in
     let there = carried k oa.asked (subst NoneStops mine none) ob.header (oa.header ++ asks oa.asked)
-      (said_lines (enumerate_from (1 + length (lines_of h)) (lines_of b))) ob.asked
-      (carries k s0 ob.header oa.header oa.asked ob.same oa.same is.idle oa.begun) ob.behind in
+    (said_lines (enumerate_from (1 + length (lines_of h)) (lines_of b))) ob.asked
+    (carries k s0 ob.header oa.header oa.asked ob.same oa.same is.idle oa.begun) ob.behind in
     let behind = say_joined oa.header (said_lines (enumerate_from (1 + length (lines_of h)) (lines_of a)))
-      (map (moved k) (said_lines (enumerate_from (1 + length (lines_of h)) (lines_of b)))) (asks oa.asked) (asks (map (later k) ob.asked)) oa.behind there in
+    (map (moved k) (said_lines (enumerate_from (1 + length (lines_of h)) (lines_of b)))) (asks oa.asked) (asks (map (later k) ob.asked)) oa.behind there in
     let all = say_joined [] (said_lines (enumerate_from 1 (lines_of h)))
-      (said_lines (enumerate_from (1 + length (lines_of h)) (lines_of a)) ++ map (moved k) (said_lines (enumerate_from (1 + length (lines_of h)) (lines_of b))))
-      oa.header (asks oa.asked ++ asks (map (later k) ob.asked)) oa.first behind in
+    (said_lines (enumerate_from (1 + length (lines_of h)) (lines_of a)) ++ map (moved k) (said_lines (enumerate_from (1 + length (lines_of h)) (lines_of b))))
+    oa.header (asks oa.asked ++ asks (map (later k) ob.asked)) oa.first behind in
     record {
       short = short;
       said = oa.header ++ asks more;
       lines = record {
         few = few;
         ascii =
-          ap (list_all is_ascii_line) apart
-          ∙ list_all-append is_ascii_line (lines_of h) (lines_of a ++ lines_of b)
-          ∙ (λ i. oa.ascii_first i && list_all-append is_ascii_line (lines_of a) (lines_of b) i)
-          ∙ (λ i. oa.ascii_behind i && ob.ascii_behind i);
+            ap (list_all is_ascii_line) apart
+            ∙ list_all-append is_ascii_line (lines_of h) (lines_of a ++ lines_of b)
+            ∙ (λ i. oa.ascii_first i && list_all-append is_ascii_line (lines_of a) (lines_of b) i)
+            ∙ (λ i. oa.ascii_behind i && ob.ascii_behind i);
         say = subst (λ (l : List Item). Say [] (said_lines (enumerate_from 1 (lines_of (h ++ (a ++ b))))) (oa.header ++ l)) (sym (asks_joined oa.asked (map (later k) ob.asked)))
-          (subst (λ l. Say [] l (oa.header ++ (asks oa.asked ++ asks (map (later k) ob.asked)))) (sym (ap (λ l. said_lines (enumerate_from 1 l)) apart ∙ said)) all);
+            (subst (λ l. Say [] l (oa.header ++ (asks oa.asked ++ asks (map (later k) ob.asked)))) (sym (ap (λ l. said_lines (enumerate_from 1 l)) apart ∙ said)) all);
       };
       begun = begun_still oa.header more oa.begun;
       same = joined_script s0 sa sb oa.header k oa.asked ob.asked oa.same is.idle mine its;

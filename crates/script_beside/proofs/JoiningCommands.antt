@@ -1,7 +1,7 @@
 -- A piece's commands may stand behind other commands, of which none stops its client.
-use Rattle.std.proofs.Common.{◌≡◌, ℕ, zero, suc, ◌+◌, Bool, true, false, cond, eqb, List, [], ◌∷◌, ◌++◌, length, map, Option, Some, None, refl, sym, ap, subst, ◌∙◌, arith, append_assoc}
-use Rattle.std.specs.Prelude.{IsTrue, not, ◌&&◌, ◌||◌, ◌==◌, nat_le, nat_lt, slice_get}
-use Rattle.std.specs.List.{filter_map, fold, list_any, list_all}
+use Rattle.std.proofs.Common.{◌≡◌, ℕ, suc, ◌+◌, Bool, true, false, cond, eqb, List, [], ◌∷◌, ◌++◌, length, map, refl, sym, ap, subst, ◌∙◌, arith, append_assoc}
+use Rattle.std.specs.Prelude.{IsTrue, not, ◌&&◌, ◌||◌, nat_le, nat_lt, slice_get}
+use Rattle.std.specs.List.{fold, list_any, list_all}
 use Rattle.std.proofs.lemmas.Bool.{and_parts}
 use Rattle.std.proofs.lemmas.List.{map-append}
 use Rattle.std.proofs.lemmas.List.Folds.{list_any-append}
@@ -21,7 +21,7 @@ use Rattle.script_text.specs.Table.{row_fields, last_of, own_fields, later_field
 use Rattle.script_text.specs.Words.{word_of, word_text}
 use Rattle.script_text.specs.Pieces.{fields_of, name_of}
 use Rattle.script_text.specs.Items.{has_begun, regions_in, colours_in, clients_in, objects_in, last_said, region_names, colour_names, client_names, objects, commands, is_stop, has_stopped, holds_read, has_read}
-use Rattle.script_text.specs.Grammar.{may_follow, are_new_numbers, is_one_of, SpellsColours, Spells, SpellAll, ends_well, SpellsWhat, Says, Say}
+use Rattle.script_text.specs.Grammar.{may_follow, are_new_numbers, is_one_of, Spells, SpellAll, ends_well, SpellsWhat, Says, Say}
 use Rattle.script_beside.specs.Joining.{later, NoneStops}
 use Rattle.script_beside.proofs.JoiningLines.{moved}
 use Rattle.script_beside.proofs.JoiningItems.{asks, asked_of, commands_asked, begun_after}
@@ -45,13 +45,13 @@ none_stopped client [] none = refl
 none_stopped client (c ∷ cs) none =
     or_neither (stops client c) (list_any (stops client) cs) (and_never (eqb c.client client) (is_stop c.what) (none 0 c (omega arith)))
     (none_stopped client cs (λ n d lt. none (suc n) d (omega (arith, lt)))) where
-  and_never : (a b : Bool) → b ≡ false → (a && b) ≡ false
-  and_never true b e = e
-  and_never false b e = refl
+      and_never : (a b : Bool) → b ≡ false → (a && b) ≡ false
+      and_never true b e = e
+      and_never false b e = refl
 
-  or_neither : (a b : Bool) → a ≡ false → b ≡ false → (a || b) ≡ false
-  or_neither true b e f = e
-  or_neither false b e f = f
+      or_neither : (a b : Bool) → a ≡ false → b ≡ false → (a || b) ≡ false
+      or_neither true b e f = e
+      or_neither false b e f = f
 
 stopped_later : (k client : ℕ) (cs : List Command) → list_any (stops client) (map (later k) cs) ≡ list_any (stops client) cs
 stopped_later k client [] = refl
@@ -131,13 +131,16 @@ same_colours one other e order ok =
 spells_as : (one other : List Item) → region_names one ≡ region_names other → colour_names one ≡ colour_names other → objects one ≡ objects other
     → (field : Field) (own : List (List ℕ)) (given next : Given) → Spells one field own given next → Spells other field own given next
 spells_as one other r c o fields.Steps own given next s = s
-spells_as one other r c o fields.Cols own given next s =
-    (s.0, s.1, record {
-      order = s.2.order;
-      lawful = same_colours one other c s.2.order s.2.lawful;
-      names = s.2.names ∙ ap (λ (names : List (List ℕ)). map (name_of names) s.2.order) c;
-      next_is = s.2.next_is;
-    })
+spells_as one other r c o fields.Cols own given next s = (
+  s.0,
+  s.1,
+  record {
+    order = s.2.order;
+    lawful = same_colours one other c s.2.order s.2.lawful;
+    names = s.2.names ∙ ap (λ (names : List (List ℕ)). map (name_of names) s.2.order) c;
+    next_is = s.2.next_is;
+  },
+)
 spells_as one other r c o fields.Colour own given next s =
     (s.0, s.1 ∙ ap (λ (names : List (List ℕ)). name_of names s.0 ∷ []) c, subst (λ (names : List (List ℕ)). IsTrue (nat_lt s.0 (length names))) c s.2, s.3)
 spells_as one other r c o fields.Region own given next s =
@@ -180,9 +183,12 @@ module _ (k : ℕ) (more : List Command) (none : NoneStops more) (one other : Li
   }
 
   says_as : (number : ℕ) (line : List (List ℕ)) (c : Command) → Says one number line (items.Asks c) → Says other (number + k) line (items.Asks (later k c))
-  says_as number line c s =
-      (ap (λ n. n + k) s.0, s.1, what_as c.client s.1 c.what s.2,
-      s.3 ∙ ap (λ (names : List (List ℕ)). name_of names c.client ∷ word_text (word_of c.what) ∷ s.1) like.clients)
+  says_as number line c s = (
+    ap (λ n. n + k) s.0,
+    s.1,
+    what_as c.client s.1 c.what s.2,
+    s.3 ∙ ap (λ (names : List (List ℕ)). name_of names c.client ∷ word_text (word_of c.what) ∷ s.1) like.clients,
+  )
 
   follows_as : (c : Command) → may_follow one (items.Asks c) ≡ true → may_follow other (items.Asks (later k c)) ≡ true
   follows_as c may =
@@ -200,15 +206,15 @@ module _ (k : ℕ) (more : List Command) (none : NoneStops more) (one other : Li
         regions = ap (last_said []) (asked_of regions_in (λ d. refl) one mine) ∙ like.regions ∙ sym (ap (last_said []) (asked_of regions_in (λ d. refl) other its));
         colours = ap (last_said []) (asked_of colours_in (λ d. refl) one mine) ∙ like.colours ∙ sym (ap (last_said []) (asked_of colours_in (λ d. refl) other its));
         clients =
-          ap (λ (l : List (List ℕ × ℕ)). map (λ d. d.0) l) (asked_of clients_in (λ d. refl) one mine) ∙ like.clients
-          ∙ sym (ap (λ (l : List (List ℕ × ℕ)). map (λ d. d.0) l) (asked_of clients_in (λ d. refl) other its));
+            ap (λ (l : List (List ℕ × ℕ)). map (λ d. d.0) l) (asked_of clients_in (λ d. refl) one mine) ∙ like.clients
+            ∙ sym (ap (λ (l : List (List ℕ × ℕ)). map (λ d. d.0) l) (asked_of clients_in (λ d. refl) other its));
         made = asked_of objects_in (λ d. refl) one mine ∙ like.made ∙ sym (asked_of objects_in (λ d. refl) other its);
         begun = begun_after other (later k c);
         asked =
-          commands_asked other its
-          ∙ ap (λ (l : List Command). l ++ its) like.asked
-          ∙ append_assoc more (map (later k) (commands one)) its
-          ∙ ap (λ (l : List Command). more ++ l) (sym (ap (map (later k)) (commands_asked one mine) ∙ map-append (later k) (commands one) mine));
+            commands_asked other its
+            ∙ ap (λ (l : List Command). l ++ its) like.asked
+            ∙ append_assoc more (map (later k) (commands one)) its
+            ∙ ap (λ (l : List Command). more ++ l) (sym (ap (map (later k)) (commands_asked one mine) ∙ map-append (later k) (commands one) mine));
       }
 
 -- ---- all commands
@@ -219,6 +225,8 @@ pub carried : (k : ℕ) (more : List Command) → NoneStops more → (one other 
 carried k more none one other [] [] like say = tt
 carried k more none one other [] (c ∷ cs) like say = absurd say
 carried k more none one other (line ∷ lines) [] like say = absurd say
-carried k more none one other (line ∷ lines) (c ∷ cs) like say =
-    (says_as k more none one other like line.0 (fields_of line.1) c say.0, follows_as k more none one other like c say.1,
-    carried k more none (one ++ items.Asks c ∷ []) (other ++ items.Asks (later k c) ∷ []) lines cs (one_more k more none one other like c) say.2)
+carried k more none one other (line ∷ lines) (c ∷ cs) like say = (
+  says_as k more none one other like line.0 (fields_of line.1) c say.0,
+  follows_as k more none one other like c say.1,
+  carried k more none (one ++ items.Asks c ∷ []) (other ++ items.Asks (later k c) ∷ []) lines cs (one_more k more none one other like c) say.2,
+)

@@ -1,7 +1,7 @@
 -- The lines of bytes that stand one after another, and their numbers.
 use Rattle.std.proofs.Common.{◌≡◌, inl, inr, ℕ, ◌+◌, ◌<◌, ◌≤◌, Bool, true, false, cond, eqb, List, [], ◌∷◌, ◌++◌, length, map, refl, sym, ap, ◌∙◌, arith, append_assoc}
-use Rattle.std.specs.Prelude.{not, ◌&&◌, ◌==◌}
-use Rattle.std.specs.List.{filter, count_by, enumerate_from, onto_first}
+use Rattle.std.specs.Prelude.{not, ◌==◌}
+use Rattle.std.specs.List.{count_by, enumerate_from, onto_first}
 use Rattle.std.proofs.lemmas.Bool.{ne_eqb}
 use Rattle.std.proofs.lemmas.List.Elements.{filter-append}
 use Rattle.std.proofs.lemmas.List.Sums.{sum_by-cons}
@@ -56,10 +56,10 @@ front_counted : (front : List ℕ) → length (lines_of (front ++ 10 ∷ [])) �
 front_counted [] = refl
 front_counted (c ∷ cs) =
     of (eqb c 10) (lines_of (cs ++ 10 ∷ [])) (has_lines cs) (front_counted cs) ∙ sym (feeds-cons c (cs ++ 10 ∷ [])) where
-  of : (test : Bool) (more : List (List ℕ)) → 0 < length more → length more ≡ feeds (cs ++ 10 ∷ [])
-      → length (cond test ([] ∷ more) (onto_first c more)) ≡ cond test 1 0 + feeds (cs ++ 10 ∷ [])
-  of true more lt e = omega (arith, e)
-  of false more lt e = onto_length c more lt ∙ omega (arith, e)
+      of : (test : Bool) (more : List (List ℕ)) → 0 < length more → length more ≡ feeds (cs ++ 10 ∷ [])
+          → length (cond test ([] ∷ more) (onto_first c more)) ≡ cond test 1 0 + feeds (cs ++ 10 ∷ [])
+      of true more lt e = omega (arith, e)
+      of false more lt e = onto_length c more lt ∙ omega (arith, e)
 
 -- bytes that end a line have as many lines as line feeds
 pub lines_counted : (bytes : List ℕ) → EndsALine bytes → length (lines_of bytes) ≡ count_by (λ b. b == 10) bytes
@@ -112,11 +112,11 @@ said_alike k n (x ∷ xs) lt =
     ap (λ test. cond (not test) ((n + k, x) ∷ said_lines (map (moved k) (enumerate_from (n + 1) xs))) (said_lines (map (moved k) (enumerate_from (n + 1) xs))))
     (passed_alike k n x lt)
     ∙ of (is_passed_over (n, x)) (said_alike k (n + 1) xs (omega (arith, lt))) where
-  of : (test : Bool) → said_lines (map (moved k) (enumerate_from (n + 1) xs)) ≡ map (moved k) (said_lines (enumerate_from (n + 1) xs))
-      → cond (not test) ((n + k, x) ∷ said_lines (map (moved k) (enumerate_from (n + 1) xs))) (said_lines (map (moved k) (enumerate_from (n + 1) xs)))
-      ≡ map (moved k) (cond (not test) ((n, x) ∷ said_lines (enumerate_from (n + 1) xs)) (said_lines (enumerate_from (n + 1) xs)))
-  of true e = e
-  of false e = ap (λ (l : List (ℕ × List ℕ)). (n + k, x) ∷ l) e
+      of : (test : Bool) → said_lines (map (moved k) (enumerate_from (n + 1) xs)) ≡ map (moved k) (said_lines (enumerate_from (n + 1) xs))
+          → cond (not test) ((n + k, x) ∷ said_lines (map (moved k) (enumerate_from (n + 1) xs))) (said_lines (map (moved k) (enumerate_from (n + 1) xs)))
+          ≡ map (moved k) (cond (not test) ((n, x) ∷ said_lines (enumerate_from (n + 1) xs)) (said_lines (enumerate_from (n + 1) xs)))
+      of true e = e
+      of false e = ap (λ (l : List (ℕ × List ℕ)). (n + k, x) ∷ l) e
 
 -- Behind line 1, the same lines further down say the same further down.
 pub said_moved : (k n : ℕ) (xs : List (List ℕ)) → 1 < n → said_lines (enumerate_from (n + k) xs) ≡ map (moved k) (said_lines (enumerate_from n xs))

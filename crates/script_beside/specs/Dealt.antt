@@ -19,8 +19,8 @@ pub record IsDealt (script : Script) (d : DealtScript) : Type 0 where
   pub each : (n : ℕ) (share : Vec (Vec Command Global) Global) → slice_get d.shares.items n ≡ Some share
       → commands_in share.items ≡ filter (λ (c : Command). c.client == n) script.commands
 
--- something was given, unless memory ran out
-abbrev pub IsGiven : {X : Type 0} → Result X ScriptFault → Type 0
-IsGiven (Ok x) = Unit {0}
-IsGiven (Err (Refused line why)) = ⊥
-IsGiven (Err NoMemory) = Unit {0}
+-- the script was given, dealt out, unless memory ran out
+abbrev pub GivesDealt : Result DealtScript ScriptFault → Script → Type 0
+GivesDealt (Ok dealt) script = IsDealt script dealt
+GivesDealt (Err (Refused line why)) script = ⊥
+GivesDealt (Err NoMemory) script = Unit {0}

@@ -3,7 +3,7 @@ ghost use Rattle.std.specs.Prelude.{IfOk, IfErr, IfSome};
 ghost use Rattle.script_text.specs.declared.script.Script.{Script};
 ghost use Rattle.script_text.specs.Grammar.{IsScript};
 ghost use Rattle.script_text.specs.Parse.{IsFaultOf};
-ghost use Rattle.script_beside.specs.Dealt.{IsDealt, IsGiven};
+ghost use Rattle.script_beside.specs.Dealt.{IsDealt, GivesDealt};
 ghost use Rattle.script_beside.specs.Parts.{all_bytes, IsParted, AreRead};
 
 use crate::cuts::Parted;
@@ -69,8 +69,8 @@ pub fn parse_beside<R: Threads + Sync>(
 ) -> Result<DealtScript, ScriptFault>
     // What is read is a script.
     ensures accepted { IfOk result (λ dealt. (script : Script) × IsScript bytes.now script × IsDealt script dealt) }
-    // A script is read, unless memory runs out.
-    ensures only { (script : Script) → IsScript bytes.now script → IsGiven result }
+    // A script is read as it is, unless memory runs out.
+    ensures only { (script : Script) → IsScript bytes.now script → GivesDealt result script }
     // The line is the first faulty one, with its reason.
     ensures refused { IfErr result (IsFaultOf bytes.now) }
 {

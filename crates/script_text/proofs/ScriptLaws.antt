@@ -334,6 +334,10 @@ is_refused bytes n why e =
       | stopped m because le f g ↦ let same = told_is {A = Script} n m why because g in inr (omega (arith, le), inl (rw (same.0, same.1) (first_fault bytes m because f)))
     ]
 
+-- bytes are one script at most
+pub one_script : (bytes : List ℕ) (a b : Script) → IsScript bytes a → IsScript bytes b → a ≡ b
+one_script bytes a b is too = given_is a b (sym (script_read bytes a is) ∙ script_read bytes b too)
+
 -- ---- what `parse` ensures
 
 pub parse_accepted : (bytes : List ℕ) (r : Result Script ScriptFault) → GivesAt r (script_at bytes) → IfOk r (λ script. IsScript bytes script)
