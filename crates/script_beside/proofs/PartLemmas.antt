@@ -22,11 +22,12 @@ use Rattle.script_text.specs.Pieces.{lines_of}
 use Rattle.script_text.specs.Items.{commands, commands_in, is_stop}
 use Rattle.script_text.specs.Grammar.{said_lines, is_passed_over, Say, Says, IsScript}
 use Rattle.script_text.specs.Parse.{GivesScript}
-use Rattle.script_text.proofs.CallerLemmas.{script_fits}
+use Rattle.script_text.proofs.CallerLemmas.{script_fits, one_script}
+use Rattle.script_beside.specs.declared.dealt.DealtScript.{DealtScript}
 use Rattle.script_beside.specs.declared.cuts.Cut.{Cut}
 use Rattle.script_beside.specs.declared.cuts.Parted.{Parted}
 use Rattle.script_beside.specs.declared.part.ReadPart.{ReadPart}
-use Rattle.script_beside.specs.Dealt.{IsDealt, IsGiven}
+use Rattle.script_beside.specs.Dealt.{IsDealt, GivesDealt}
 use Rattle.script_beside.specs.Joining.{later, EndsALine, IsHeader, NoneStops}
 use Rattle.script_beside.specs.Lists.{AreEmpty, AreOwn, AreBehind, AreShares}
 use Rattle.script_beside.specs.Parts.{line_feeds, bytes_of, IsBehind, AreCuts, all_bytes, IsParted, IsRead, AreRead}
@@ -142,8 +143,17 @@ front_lines (c ∷ cs) b = let r = front_lines cs b in of (c == 10) r where
   of true r = omega (arith, r)
   of false r = onto_more c (lines_of cs) (lines_of (cs ++ b)) r
 
-pub few_lines : (bytes : List ℕ) (feeds : ℕ) → feeds ≡ line_feeds bytes → feeds < MAX_LINES → length (lines_of bytes) ≤ MAX_LINES
-few_lines bytes feeds is few = let most = lines_at_most bytes in omega (arith, is, few, most)
+-- bytes whose last one is a line feed
+ends_there : (bytes : List ℕ) (n : ℕ) → n + 1 ≡ length bytes → get_or bytes n 0 ≡ 10 → EndsALine bytes
+ends_there bytes n last is =
+    inr (take n bytes, sym (take_all (n + 1) bytes (omega (arith, last)))
+    ∙ (take_more bytes n 0 (omega (arith, last)) ∙ ap (λ (b : ℕ). take n bytes ++ b ∷ []) is))
+
+pub lines_if_ended : (bytes : List ℕ) (n feeds : ℕ) → n + 1 ≡ length bytes → get_or bytes n 0 ≡ 10 → feeds ≡ line_feeds bytes → length (lines_of bytes) ≤ feeds
+lines_if_ended bytes n feeds last is count = let e = lines_counted bytes (ends_there bytes n last is) in omega (arith, e, count)
+
+pub lines_if_not : (bytes : List ℕ) (feeds : ℕ) → feeds ≡ line_feeds bytes → length (lines_of bytes) ≤ feeds + 1
+lines_if_not bytes feeds is = let most = lines_at_most bytes in omega (arith, is, most)
 
 -- ---- cutting
 
@@ -345,6 +355,11 @@ all_gathered p parts n stops shares parted read end so =
 -- ---- the whole
 
 -- what `parse` did not give is not given
-pub not_given : {X : Type 0} (e : ScriptFault) (r : Result X ScriptFault) (s : Script) → r ≡ Err e → GivesScript (Err e) s → IsGiven r
-not_given {X} (Refused line why) r s is gives = absurd gives
-not_given {X} NoMemory r s is gives = subst (λ (q : Result X ScriptFault). IsGiven q) (sym is) tt
+pub not_given : (e : ScriptFault) (r : Result DealtScript ScriptFault) (s : Script) → r ≡ Err e → GivesScript (Err e) s → GivesDealt r s
+not_given (Refused line why) r s is gives = absurd gives
+not_given NoMemory r s is gives = subst (λ (q : Result DealtScript ScriptFault). GivesDealt q s) (sym is) tt
+
+-- the bytes are no other script
+pub only_dealt : (bytes : List ℕ) (dealt : DealtScript) → (script : Script) × IsScript bytes script × IsDealt script dealt
+    → (script : Script) → IsScript bytes script → IsDealt script dealt
+only_dealt bytes dealt found script is = subst (λ (s : Script). IsDealt s dealt) (one_script bytes found.0 script found.1 is) found.2

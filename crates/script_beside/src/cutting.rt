@@ -20,7 +20,8 @@ const LEAST: usize = 16_384;
 // How many of the bytes are line feeds.
 fn line_feeds(bytes: &[u8]) -> u32
     requires { length bytes.now ≤ MAX_BYTES }
-    ensures { result ≡ line_feeds bytes.now }
+    ensures count { result ≡ line_feeds bytes.now }
+    ensures few { result ≤ length bytes.now }
 {
     let mut count = 0;
     for b in bytes {
@@ -31,6 +32,19 @@ fn line_feeds(bytes: &[u8]) -> u32
     count
 }
 
+// How many lines the bytes have.
+fn lines_in(bytes: &[u8]) -> u32
+    requires some { 0 < length bytes.now }
+    requires short { length bytes.now ≤ MAX_BYTES }
+    ensures { length (lines_of bytes.now) ≤ result }
+{
+    let feeds = line_feeds(bytes);
+    if bytes[bytes.len() - 1] == b'\n' {
+        return feeds;
+    }
+    feeds + 1
+}
+
 // Whether a script of these bytes is within the limits, and worth the threads.
 fn is_for_parts(bytes: &[u8]) -> bool
     ensures short { IsTrue result → length bytes.now ≤ MAX_BYTES }
@@ -39,7 +53,7 @@ fn is_for_parts(bytes: &[u8]) -> bool
     if bytes.len() < LEAST || bytes.len() > MAX_BYTES {
         return false;
     }
-    line_feeds(bytes) < MAX_LINES
+    lines_in(bytes) <= MAX_LINES
 }
 
 // The bytes up to the line that ends the header, and those behind it.
