@@ -1,13 +1,11 @@
 -- How commands come to their clients' lists, and lists to shares.
-use Rattle.std.proofs.Common.{◌≡◌, ℕ, ◌+◌, ◌<◌, List, [], ◌∷◌, ◌++◌, length, map, Some, slice_get, Vec, Global, refl, sym, ap, subst, ◌∙◌, arith}
+use Rattle.std.proofs.Common.{◌≡◌, ℕ, ◌+◌, ◌<◌, List, [], ◌∷◌, ◌++◌, length, map, Vec, Global, refl, sym, ap, ◌∙◌, arith}
 use Rattle.std.specs.Prelude.{◌==◌, slice_index_or}
-use Rattle.std.specs.List.{filter, flat_map}
 use Rattle.std.proofs.lemmas.List.{flat_map_more}
 use Rattle.std.proofs.lemmas.List.Elements.{filter-append}
 use Rattle.std.proofs.lemmas.Option.{get_or_from_slice_get, slice_get_within}
 use Rattle.script_text.specs.declared.script.Command.{Command}
 use Rattle.script_text.specs.declared.script.Script.{Script}
-use Rattle.script_beside.specs.declared.dealt.DealtScript.{DealtScript}
 use Rattle.script_beside.specs.Dealt.{commands_in, IsDealt}
 use Rattle.script_beside.specs.Joining.{later}
 use Rattle.script_beside.specs.Lists.{own, AreEmpty, HaveOwn, AreOwn, AreBehind, AreShares}

@@ -1,7 +1,7 @@
 -- Parts of a script, and what is read of them.
-use Rattle.std.proofs.Common.{◌≡◌, inl, inr, ⊎_elim, cond, ℕ, ◌+◌, ◌<◌, ◌≤◌, Bool, true, false, List, [], ◌∷◌, ◌++◌, length, map, take, drop, get_or, Some, None, Ok, Err, Option, Result, slice_get, Vec, Global, refl, sym, ap, subst, ◌∙◌, arith, append_assoc, append-nil, length-append, take-append-drop, ◌^◌}
-use Rattle.std.specs.Prelude.{if◌then◌else◌, not, ◌==◌, slice_index_or, IsTrue, codes, IfSome}
-use Rattle.std.specs.List.{All, filter, filter_map, flat_map, enumerate_from, list_any, onto_first, count_by, cons_option}
+use Rattle.std.proofs.Common.{◌≡◌, inl, inr, ⊎_elim, cond, ℕ, ◌+◌, ◌<◌, ◌≤◌, Bool, true, false, List, [], ◌∷◌, ◌++◌, length, map, take, drop, get_or, Some, Err, Option, Result, slice_get, Vec, Global, refl, sym, ap, subst, ◌∙◌, arith, append_assoc, append-nil, length-append, take-append-drop, ◌^◌}
+use Rattle.std.specs.Prelude.{if◌then◌else◌, not, ◌==◌, codes}
+use Rattle.std.specs.List.{All, enumerate_from, list_any, onto_first, cons_option}
 use Rattle.std.proofs.Math.Seq.{take-add}
 use Rattle.std.proofs.lemmas.Bool.{or_parts, cases_lt}
 use Rattle.std.proofs.lemmas.List.{flat_map_more, take_more, take_all, take_at, take-append-le, get_or_append_left, get_or_push, length_push}
@@ -146,8 +146,11 @@ front_lines (c ∷ cs) b = let r = front_lines cs b in of (c == 10) r where
 -- bytes whose last one is a line feed
 ends_there : (bytes : List ℕ) (n : ℕ) → n + 1 ≡ length bytes → get_or bytes n 0 ≡ 10 → EndsALine bytes
 ends_there bytes n last is =
-    inr (take n bytes, sym (take_all (n + 1) bytes (omega (arith, last)))
-    ∙ (take_more bytes n 0 (omega (arith, last)) ∙ ap (λ (b : ℕ). take n bytes ++ b ∷ []) is))
+    inr (
+      take n bytes,
+      sym (take_all (n + 1) bytes (omega (arith, last)))
+          ∙ (take_more bytes n 0 (omega (arith, last)) ∙ ap (λ (b : ℕ). take n bytes ++ b ∷ []) is),
+    )
 
 pub lines_if_ended : (bytes : List ℕ) (n feeds : ℕ) → n + 1 ≡ length bytes → get_or bytes n 0 ≡ 10 → feeds ≡ line_feeds bytes → length (lines_of bytes) ≤ feeds
 lines_if_ended bytes n feeds last is count = let e = lines_counted bytes (ends_there bytes n last is) in omega (arith, e, count)

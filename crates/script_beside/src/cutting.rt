@@ -1,5 +1,5 @@
 // Cutting a script's bytes into its header and parts behind it.
-ghost use Rattle.std.specs.Prelude.{◌≡◌, ◌≤◌, ◌<◌, ◌^◌, ◌++◌, ◌∷◌, [], ℕ, List, length, IfOk, IfSome, IsTrue, codes};
+ghost use Rattle.std.specs.Prelude.{◌≡◌, ◌≤◌, ◌<◌, ◌++◌, ◌∷◌, [], ℕ, List, length, IfOk, IfSome, IsTrue, codes};
 ghost use Rattle.script_text.specs.declared.limits.TheConstants.{MAX_BYTES, MAX_LINES};
 ghost use Rattle.script_text.specs.Pieces.{lines_of};
 ghost use Rattle.script_text.specs.Grammar.{IsScript};

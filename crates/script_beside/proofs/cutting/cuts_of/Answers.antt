@@ -5,11 +5,11 @@ use Rattle.script_beside.proofs.cutting.cuts_of.Goals.{in-Some+in_ok-push, in_de
 
 pub loop-preserved : goal.loop-preserved
 loop-preserved c = elim c.match-first_part.branch [
-    in-Some+in_ok-push w ↦ rw (w.cuts-is, w.rest-is, w.before-is, w.line_feeds-before.ensures.count)
-        (one_cut c.args.lines.now c.loop.cuts.items w.push.new.self.items c.loop.rest.now w.in-Some.after.now c.loop.before _ c.loop.invariant refl
-        w.in-Some.ensures.whole w.in-Some.ensures.ends w.in_ok-push.ensures.items)
+  | in-Some+in_ok-push w ↦ rw (w.cuts-is, w.rest-is, w.before-is, w.line_feeds-before.ensures.count)
+      (one_cut c.args.lines.now c.loop.cuts.items w.push.new.self.items c.loop.rest.now w.in-Some.after.now c.loop.before _ c.loop.invariant refl
+      w.in-Some.ensures.whole w.in-Some.ensures.ends w.in_ok-push.ensures.items)
   | in_default w ↦ rw (w.cuts-is, w.rest-is, w.before-is) c.loop.invariant
-  ]
+]
 
 pub returns-clause-cuts : goal.returns-clause-cuts
 returns-clause-cuts c =

@@ -1,6 +1,5 @@
-use Rattle.std.proofs.Common.{List, [], length, refl, subst, ◌∙◌, ap, map}
+use Rattle.std.proofs.Common.{List, [], refl, subst, ◌∙◌}
 use Rattle.script_text.specs.declared.script.Command.{Command}
-use Rattle.script_beside.specs.Joining.{later}
 use Rattle.script_beside.specs.Lists.{AreOwn, AreShares}
 use Rattle.script_beside.proofs.ListLemmas.{later_nothing, no_shares, more_shares, all_dealt}
 use Rattle.script_beside.proofs.dealing.deal.Goals as goal

@@ -1,4 +1,4 @@
-use Rattle.std.proofs.Common.{◌≡◌, List, ℕ, ◌<◌, length, ap, subst, sym, ◌∙◌}
+use Rattle.std.proofs.Common.{List, ℕ, ◌<◌, ap, subst, sym, ◌∙◌}
 use Rattle.std.specs.List.{All, list_any}
 use Rattle.script_text.specs.declared.script.Command.{Command}
 use Rattle.script_text.specs.Items.{is_stop}
