@@ -1,6 +1,6 @@
 -- A client that has forgotten what it played rests as before.
-use Rattle.std.proofs.Common.{◌≡◌, ℕ, ◌<◌, List, length, Some, refl, sym, subst, ◌∙◌, arith}
-use Rattle.std.specs.Prelude.{slice_get, Vec, Global}
+use Rattle.std.proofs.Common.{◌≡◌, ℕ, ◌<◌, length, Some, Vec, Global, refl, sym, subst, ◌∙◌, arith}
+use Rattle.std.specs.Prelude.{slice_get}
 use Rattle.log_node.specs.Reach.{nothing}
 use Rattle.log_node.proofs.CallerLemmas.{at-zeros}
 use Rattle.col_core.specs.Cuts.{chain}
@@ -11,7 +11,7 @@ use Rattle.chain_store.specs.Holds.{seen_in}
 use Rattle.log_client.specs.declared.store.Store.{Store}
 use Rattle.log_client.specs.declared.client.Client.{Client}
 use Rattle.log_client.specs.declared.track.Track.{Track}
-use Rattle.log_client.specs.Clients.{holds_of, tracks_of, nothing_played, IsTrack, IsHome, IsClient}
+use Rattle.log_client.specs.Clients.{tracks_of, nothing_played, IsTrack, IsClient}
 use Rattle.log_client.specs.Opening.{fresh_track, AreFreshTracks}
 use Rattle.log_client.specs.Forgetting.{HasForgotten}
 

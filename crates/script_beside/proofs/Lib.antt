@@ -2,3 +2,5 @@ mod JoiningLines
 mod JoiningItems
 mod JoiningCommands
 mod Joining
+mod ListLemmas
+mod PartLemmas

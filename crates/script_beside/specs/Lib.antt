@@ -1,2 +1,4 @@
 pub mod Dealt
 pub mod Joining
+pub mod Lists
+pub mod Parts

@@ -1,8 +1,12 @@
 //! Reads a script on threads, and deals its commands out to its clients.
 #![tactic(auto)]
 
+mod cuts;
+mod cutting;
 mod dealing;
 mod dealt;
+mod lists;
+mod part;
 mod reading;
 
 pub use dealing::deal;

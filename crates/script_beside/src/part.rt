@@ -1,0 +1,78 @@
+// Reading a part of a script behind the script's header.
+ghost use Rattle.std.specs.Prelude.{◌≡◌, ◌++◌, IfOk, IfSome};
+ghost use Rattle.std.specs.List.{list_any};
+ghost use Rattle.script_text.specs.declared.script.Command.{Command};
+ghost use Rattle.script_text.specs.Items.{is_stop};
+ghost use Rattle.script_beside.specs.Parts.{IsRead, AreRead};
+
+use crate::cuts::Cut;
+use crate::lists::own_lists;
+use script_text::{Command, ScriptFault, What, parse};
+use std::alloc::{AllocError, Global};
+use std::thread;
+use std::thread::Threads;
+
+/// What was read of a part.
+#[derive(Drop)]
+pub struct ReadPart {
+    /// Its commands by client.
+    pub lists: Vec<Vec<Command>>,
+    /// Whether one of them stops its client.
+    pub stops: bool,
+}
+
+// The part's bytes behind the header's.
+fn behind(alloc: Global, header: &[u8], bytes: &[u8]) -> Result<Vec<u8>, AllocError>
+    ensures { IfOk result (λ all. all.items ≡ header.now ++ bytes.now) }
+{
+    let mut all = Vec::with_capacity(alloc, header.len() + bytes.len())?;
+    all.extend_from_slice(header)?;
+    all.extend_from_slice(bytes)?;
+    Ok(all)
+}
+
+// Whether one of the commands stops its client.
+fn has_stop(commands: &[Command]) -> bool
+    ensures { result ≡ list_any (λ (c : Command). is_stop c.what) commands.now }
+{
+    commands
+        .iter()
+        .any(|command| matches!(command.what, What::Stop { .. }))
+}
+
+fn read(alloc: Global, header: &[u8], cut: &Cut<'_>) -> Result<ReadPart, ScriptFault>
+    ensures { IfOk result (IsRead header.now cut.now) }
+{
+    let all = behind(alloc, header, cut.bytes)?;
+    let script = parse(alloc, all.as_slice())?;
+    let stops = has_stop(script.commands.as_slice());
+    let lists = own_lists(alloc, script.clients.len(), script.commands, cut.before)?;
+    Ok(ReadPart { lists, stops })
+}
+
+// A part, where its lines are a script's behind the header and there is memory.
+fn read_part(alloc: Global, header: &[u8], cut: &Cut<'_>) -> Option<ReadPart>
+    ensures { IfSome result (IsRead header.now cut.now) }
+{
+    match read(alloc, header, cut) {
+        Ok(part) => Some(part),
+        Err(_) => None,
+    }
+}
+
+/// The parts, each read on a thread of its own where one can be.
+pub fn read_parts<R: Threads + Sync>(
+    rt: &R,
+    alloc: Global,
+    header: &[u8],
+    cuts: &[Cut<'_>],
+) -> Result<Vec<Option<ReadPart>>, AllocError>
+    ensures { IfOk result (λ parts. AreRead header.now cuts.now parts.items) }
+{
+    thread::map_indices(
+        rt,
+        alloc,
+        cuts.len(),
+        &|place| { read_part(alloc, header, &cuts[place]) },
+    )
+}
