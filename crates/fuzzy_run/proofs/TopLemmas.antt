@@ -15,7 +15,7 @@ use Rattle.fuzzy_run.specs.declared.asked.Asked.{Asked}
 use Rattle.fuzzy_run.specs.declared.status.Status.{Status}
 use Rattle.fuzzy_run.specs.declared.status.Status.TheVariants.{Done, BadWords, Refused, ReadFault, WriteFault, NoMemory}
 use Rattle.fuzzy_run.specs.Refusals.{IsTheScript, IsRefusedFor, IsAScript}
-use Rattle.fuzzy_run.specs.TopCall.{IsRunText, IsRefusalText, Writes, WritesFront, Shows, ShowsFront}
+use Rattle.fuzzy_run.specs.TopCall.{IsRunOf, IsRunText, IsRefusalText, Writes, WritesFront, Shows, ShowsFront}
 
 -- the beginning of a text is the beginning of it and of the rest
 cut_text : (P : List ℕ → Type 0) (n : ℕ) (text : List ℕ) → P text → P (take n text ++ drop n text)
@@ -45,27 +45,37 @@ refusal_begun asked bytes old new line why is out =
       out.2,
     )
 
--- a run of the script that the bytes are
-pub run_written : (asked : Asked) (bytes : List ℕ) (old new : Option (List ℕ)) (script : Script) → IsTheScript bytes script
-    → Shows asked script old new → Writes (IsRunText asked) (Some bytes) old new
-run_written asked bytes old new script is (report, run, out) = (
+-- a run of the script that the bytes are, done as the words ask
+pub run_written : (asked did : Asked) (bytes : List ℕ) (old new : Option (List ℕ)) (script : Script) → asked ≡ did
+    → IsTheScript bytes script → Shows did script old new → Writes (IsRunText asked) (Some bytes) old new
+run_written asked did bytes old new script same is (report, run, out) = (
   bytes,
   report_bytes report,
   refl,
-  record
-      { script = script; report = report; read = is; run = run; shown = refl },
+  record {
+    script = script;
+    report = report;
+    read = is;
+    run = subst (λ (a : Asked). IsRunOf a script report) (sym same) run;
+    shown = refl;
+  },
   out,
 )
 
-pub front_begun : (asked : Asked) (bytes : List ℕ) (old new : Option (List ℕ)) (script : Script) → IsTheScript bytes script
-    → ShowsFront asked script old new → WritesFront asked (Some bytes) old new
-front_begun asked bytes old new script is (report, run, out) = (
+pub front_begun : (asked did : Asked) (bytes : List ℕ) (old new : Option (List ℕ)) (script : Script) → asked ≡ did
+    → IsTheScript bytes script → ShowsFront did script old new → WritesFront asked (Some bytes) old new
+front_begun asked did bytes old new script same is (report, run, out) = (
   bytes,
   take out.0 (report_bytes report),
   drop out.0 (report_bytes report),
   refl,
-  inl (cut_text (IsRunText asked bytes) out.0
-      (report_bytes report) (record { script = script; report = report; read = is; run = run; shown = refl })),
+  inl (cut_text (IsRunText asked bytes) out.0 (report_bytes report) (record {
+        script = script;
+        report = report;
+        read = is;
+        run = subst (λ (a : Asked). IsRunOf a script report) (sym same) run;
+        shown = refl;
+      })),
   out.2,
 )
 
