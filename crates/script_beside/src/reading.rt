@@ -1,4 +1,3 @@
-// (NEWS in the root of this clone, 19:43: the clause `only` was made stronger by the merger; remove this line.)
 // The script that bytes are, read on threads.
 ghost use Rattle.std.specs.Prelude.{IfOk, IfErr, IfSome};
 ghost use Rattle.script_text.specs.declared.script.Script.{Script};
