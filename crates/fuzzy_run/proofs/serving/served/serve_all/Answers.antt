@@ -144,7 +144,7 @@ returns g c =
     }
 
 pub forget_played-requires : goal.forget_played-requires
-forget_played-requires g c κs within =
+forget_played-requires g c =
     let some = some_objects c.args.served.now.objects.items in
     let first = (c.requires.serves some.0).rests.colours in
     let last = (c.loop-command.invariant.serves some.0 some.1).rests.colours in
