@@ -31,7 +31,7 @@ open-requires-clause-size g c =
     )
 
 pub make_ready-requires : goal.make_ready-requires
-make_ready-requires g c κs within =
+make_ready-requires g c =
     many_shares (script_of c.args.dealt c.requires.0.commands) c.args.dealt c.in_ok-store.store c.in_ok-store.clients
     (whole c.requires.0 c.args.dealt c.requires.1) c.in_ok-store.ensures.clients
 
