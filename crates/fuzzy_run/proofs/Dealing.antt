@@ -82,6 +82,7 @@ ready objects clients shares idle served none room = record {
 } where
   low : (n : ℕ) → n < length served → n < length idle
   low n lt = let many = room.many in omega (arith, lt, many)
+
   got : (n : ℕ) (d : Served) → n < length served → GetsRoom (slice_index_or idle n d) (slice_index_or served n d)
   got n d lt = room.each n d (low n lt) (low n lt)
 

@@ -70,8 +70,8 @@ module _ (script : Script) (dealt : DealtScript) (can : CanRun script dealt) (s 
   servable xs of k d lt = record {
     within = subst (λ (r : ℕ). IsWithin r s.size.colours (slice_index_or script.commands k d).what) (sym regions)
         (subst (λ (z : Size). IsWithin script.shape.regions z.colours (slice_index_or script.commands k d).what) (sym size)
-        (fits.commands k d lt));
-    of_one = of_one script.objects xs (slice_index_or script.commands k d).what of (fits.uses k d lt);
+        (can.fits.commands k d lt));
+    of_one = of_one script.objects xs (slice_index_or script.commands k d).what of (can.fits.uses k d lt);
   }
 
   few : script.shape.colours ≤ MAX_COLOURS

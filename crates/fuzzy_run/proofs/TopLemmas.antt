@@ -70,12 +70,12 @@ front_begun asked did bytes old new script same is (report, run, out) = (
   drop out.0 (report_bytes report),
   refl,
   inl (cut_text (IsRunText asked bytes) out.0 (report_bytes report) (record {
-        script = script;
-        report = report;
-        read = is;
-        run = subst (λ (a : Asked). IsRunOf a script report) (sym same) run;
-        shown = refl;
-      })),
+    script = script;
+    report = report;
+    read = is;
+    run = subst (λ (a : Asked). IsRunOf a script report) (sym same) run;
+    shown = refl;
+  })),
   out.2,
 )
 

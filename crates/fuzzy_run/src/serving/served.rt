@@ -19,7 +19,7 @@ pub struct Served {
     pub commands: Share,
     pub replies: Vec<ReplyLine>,
     /// Nothing: it keeps what threads write of two clients 128 bytes apart, so that no cache line has some of both, nor
-    /// the one that is fetched with it, as a cell's words are kept from another's.
+    /// the one that is fetched with it, as `turn_cell` does with the words of its cells.
     pub apart: [u64; 16],
 }
 

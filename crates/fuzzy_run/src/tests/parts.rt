@@ -45,6 +45,9 @@ fn the_first_faulty_line_of_a_long_script_is_told(rt: HostRuntime) -> Result<(),
     let script = with_lines(rt.alloc(), "b append x,z far\nb dance\n")?;
     let (status, sink) = run_at(rt.alloc(), &rt, script.as_bytes(), &OpenGate)?;
     assert_eq!(rt; status, Status::Refused);
-    assert_eq!(rt; sink.bytes(), b"refused: line 2008: unknown colour\n".as_slice());
+    assert_eq!(rt;
+        sink.bytes(),
+        b"refused: line 2008: unknown colour\n".as_slice()
+    );
     Ok(())
 }

@@ -31,7 +31,7 @@ open-requires-clause-size g c =
     )
 
 pub make_ready-requires : goal.make_ready-requires
-make_ready-requires g c κs within =
+make_ready-requires g c =
     many_shares (script_of c.args.dealt c.requires.0.commands) c.args.dealt c.in_ok-store.store c.in_ok-store.clients
     (whole c.requires.0 c.args.dealt c.requires.1) c.in_ok-store.ensures.clients
 
@@ -71,11 +71,11 @@ pub returns : goal.returns
 returns g c =
     let e = c.in_ok-store.ensures in
     lawful_if c.args.dealt _ c.end_report.result c.end_report.ensures (λ commands can.
-        runs_end_lawfully (script_of c.args.dealt commands) can.fits c.in_ok-store.store c.into.result
-        c.in_ok-clients.replies.items
-        (were_served (script_of c.args.dealt commands) c.args.dealt can c.in_ok-store.store e.size
-        e.regions c.in_ok-store.clients e.clients c.in_ok-served.served.items c.as_mut_slice.result.now c.serve_beside.new.served
-        c.as_mut_slice.ensures.value (objects_are c.as_slice.ensures c.in_ok-served.ensures) c.serve_beside.ensures.len
-        c.serve_beside.ensures.served c.in_ok-served.served.len c.in_ok-served.served.ok.0 c.into.result
-        c.in_ok-clients.replies.items (c.into.ensures ∙ c.in_ok-clients.ensures.clients) c.in_ok-clients.ensures.replies)
-        c.in_ok-closed.closed c.in_ok-closed.ensures)
+    runs_end_lawfully (script_of c.args.dealt commands) can.fits c.in_ok-store.store c.into.result
+    c.in_ok-clients.replies.items
+    (were_served (script_of c.args.dealt commands) c.args.dealt can c.in_ok-store.store e.size
+    e.regions c.in_ok-store.clients e.clients c.in_ok-served.served.items c.as_mut_slice.result.now c.serve_beside.new.served
+    c.as_mut_slice.ensures.value (objects_are c.as_slice.ensures c.in_ok-served.ensures) c.serve_beside.ensures.len
+    c.serve_beside.ensures.served c.in_ok-served.served.len c.in_ok-served.served.ok.0 c.into.result
+    c.in_ok-clients.replies.items (c.into.ensures ∙ c.in_ok-clients.ensures.clients) c.in_ok-clients.ensures.replies)
+    c.in_ok-closed.closed c.in_ok-closed.ensures)
