@@ -1,5 +1,5 @@
 -- What a loop over commands in pieces yields.
-use Rattle.std.proofs.Common.{◌≡◌, List, length, Option, None, false, Global, Vec, ap, ◌∙◌}
+use Rattle.std.proofs.Common.{◌≡◌, length, Option, None, false, Global, Vec, ap, ◌∙◌}
 use Rattle.std.specs.declared.iter.Flatten.{Flatten}
 use Rattle.std.specs.declared.vec.IntoIter.{IntoIter}
 use Rattle.std.specs.Vec.Iter.{into_iter_steps}

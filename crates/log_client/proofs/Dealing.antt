@@ -6,9 +6,6 @@ use Rattle.log_node.specs.declared.node.Shape.{Shape}
 use Rattle.log_node.specs.Reach.{nothing}
 use Rattle.col_core.specs.declared.Entry.{Entry}
 use Rattle.log_node.specs.Vectors.{at, zeros}
-use Rattle.log_node.proofs.CallerLemmas.{at-zeros}
-use Rattle.col_core.specs.Cuts.{chain}
-use Rattle.col_core.specs.Computed.{dated}
 use Rattle.col_core.specs.Keeping.{nothing_kept}
 use Rattle.col_core.specs.Log.{places_of}
 use Rattle.script_text.specs.declared.script.Object.{Object}
@@ -24,10 +21,11 @@ use Rattle.log_client.specs.declared.store.Store.{Store}
 use Rattle.log_client.specs.declared.client.Client.{Client}
 use Rattle.log_client.specs.declared.track.Track.{Track}
 use Rattle.log_client.specs.Fits.{entries_by}
-use Rattle.log_client.specs.Clients.{holds_of, seen_of, rows_of, tracks_of, counts_in, caller_of, nothing_played, IsTrack, IsClient, Keeps, Finished}
+use Rattle.log_client.specs.Clients.{holds_of, seen_of, rows_of, tracks_of, counts_in, caller_of, IsTrack, IsClient, Keeps, Finished}
 use Rattle.log_client.specs.Opening.{AreFreshTracks, IsFresh, AreFreshClients, HaveNoHolds, Got, Dealt, HasNewHolds, HaveNewHolds, IsNewClient}
 use Rattle.log_client.proofs.Lists.{got, got_end}
 use Rattle.log_client.proofs.AtHome.{set_elsewhere, set_long}
+use Rattle.log_client.proofs.Forgetting.{fresh_is_track}
 
 -- ONE CLIENT MORE GOT ITS HOLD
 
@@ -175,15 +173,7 @@ module _ (shape : Shape) (s : Store) (n : ℕ) (c : Client) (fresh : IsFresh sha
             begun = λ j x there. absurd (none_at (rows_of c) j x no_rows there);
           };
           tracks = λ k track there.
-              subst (IsTrack c.region k (seen_in h k)) (sym (fresh.tracks.1 k track there)) (record {
-                region = refl;
-                of_colour = refl;
-                reached = nothing;
-                played = nothing_played;
-                line = (chain c.region (dated c.region (entries_in (seen_in h k))) c.region, refl);
-                line_long = let low = home in let few = s.fit.few in sym (at-zeros c.region (omega (arith, low, few)));
-                named = λ n item at. absurd (let f : ⊥ = cc (at) in f);
-              });
+              subst (IsTrack c.region k (seen_in h k)) (sym (fresh.tracks.1 k track there)) (fresh_is_track s c h k home);
         };
     floored = let e = fresh.floor in omega (arith, e);
     colours = fresh.tracks.0 ∙ sym colours;

@@ -19,7 +19,8 @@ use Rattle.log_client.specs.Forgetting.{HasForgotten}
 abbrev with_tracks : Client → Vec Track Global → Client
 with_tracks c tracks = record c { tracks = tracks }
 
-fresh_is_track : (s : Store) (c : Client) (h : Hold) (k : ℕ) → c.region < length s.regions
+-- a fresh track has nothing of what its region is told to have
+pub fresh_is_track : (s : Store) (c : Client) (h : Hold) (k : ℕ) → c.region < length s.regions
     → IsTrack c.region k (seen_in h k) (fresh_track c.region k)
 fresh_is_track s c h k home = record {
   region = refl;

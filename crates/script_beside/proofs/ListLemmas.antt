@@ -66,9 +66,11 @@ more_shares count commands more lists before after shares owns behind =
 
 -- shares in which are all commands of a script
 pub all_dealt : (script header : Script) (shares : Vec (Vec (Vec Command Global) Global) Global) → script ≡ record header { commands = script.commands }
-    → AreShares (length script.clients) script.commands shares.items → IsDealt script (record { header = header; shares = shares })
-all_dealt script header shares same are = record {
+    → header.commands ≡ [] → AreShares (length script.clients) script.commands shares.items
+    → IsDealt script (record { header = header; shares = shares })
+all_dealt script header shares same none are = record {
   header = same;
+  without = none;
   many = are.many;
   each = λ n share at.
       ap (λ (s : Vec (Vec Command Global) Global). commands_in s.items) (sym (get_or_from_slice_get shares.items n share share at))

@@ -351,7 +351,7 @@ all_gathered p parts n stops shares parted read end so =
     let same = same_header h (bytes_of (take n p.cuts.items)) p.script so.script parted.header so.is in (
       so.script,
       subst (λ (l : List Cut). IsScript (h ++ bytes_of l) so.script) all so.is,
-      all_dealt so.script p.script shares same
+      all_dealt so.script p.script shares same parted.header.idle
           (subst (λ (k : ℕ). AreShares k so.script.commands shares.items) (sym (ap (λ (t : Script). length t.clients) same)) so.shared),
     )
 

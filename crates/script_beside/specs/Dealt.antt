@@ -1,5 +1,5 @@
 -- What it is to deal a script's commands out to its clients.
-use Rattle.std.specs.Prelude.{◌≡◌, ◌==◌, ℕ, List, length, Some, slice_get, Vec, Result, Ok, Err}
+use Rattle.std.specs.Prelude.{◌≡◌, ◌==◌, ℕ, List, [], length, Some, slice_get, Vec, Result, Ok, Err}
 use Rattle.std.specs.Global.{Global}
 use Rattle.std.specs.List.{filter, flat_map}
 use Rattle.script_text.specs.declared.script.Command.{Command}
@@ -12,9 +12,10 @@ use Rattle.script_beside.specs.declared.dealt.DealtScript.{DealtScript}
 abbrev pub commands_in : List (Vec Command Global) → List Command
 commands_in pieces = flat_map (λ (piece : Vec Command Global). piece.items) pieces
 
--- The header is the script's, and each client has its own of the script's commands, in their order.
+-- The header is the script without its commands, and each client has its own of them, in their order.
 pub record IsDealt (script : Script) (d : DealtScript) : Type 0 where
   pub header : script ≡ record d.header { commands = script.commands }
+  pub without : d.header.commands ≡ []
   pub many : length d.shares.items ≡ length script.clients
   pub each : (n : ℕ) (share : Vec (Vec Command Global) Global) → slice_get d.shares.items n ≡ Some share
       → commands_in share.items ≡ filter (λ (c : Command). c.client == n) script.commands
