@@ -1,8 +1,9 @@
 -- How clients get ready to be served.
-use Rattle.std.proofs.Common.{◌≡◌, ℕ, suc, ◌+◌, ◌<◌, ◌≤◌, List, [], ◌∷◌, ◌++◌, length, map, take, zip, get_or, Global, Vec, ap, refl, sym, subst, ◌∙◌, arith, length-append}
+use Rattle.std.proofs.Common.{◌≡◌, ℕ, suc, ◌+◌, ◌<◌, ◌≤◌, List, [], ◌∷◌, ◌++◌, ◌^◌, length, map, take, drop, zip, get_or, Global, Vec, ap, refl, sym, subst, ◌∙◌, arith, length-append}
 use Rattle.std.specs.Prelude.{slice_index_or}
 use Rattle.std.specs.List.{All}
-use Rattle.std.proofs.lemmas.List.{map_push, take_all, take_more}
+use Rattle.std.proofs.lemmas.List.{map_push, take_all, take_more, take-append-drop}
+use Rattle.std.proofs.lemmas.List.Concat.{flat_map-append}
 use Rattle.std.proofs.lemmas.List.Elements.{All-push}
 use Rattle.std.proofs.lemmas.Slice.Zip.{firsts-zip, seconds-zip}
 use Rattle.script_text.specs.declared.script.Kind.{Kind}
@@ -12,7 +13,7 @@ use Rattle.script_beside.specs.Dealt.{commands_in}
 use Rattle.log_client.specs.declared.client.Client.{Client}
 use Rattle.fuzzy_run.specs.declared.serving.opened.Opened.{Opened}
 use Rattle.fuzzy_run.specs.declared.serving.served.Served.{Served}
-use Rattle.fuzzy_run.specs.Dealing.{AreIdle, AreReady, GetsRoom, HaveRoom, IsIdle}
+use Rattle.fuzzy_run.specs.Dealing.{AreFew, AreIdle, AreReady, GetsRoom, HaveRoom, IsIdle}
 use Rattle.fuzzy_run.specs.Opened.{IsUnfolded, kind_opened}
 use Rattle.fuzzy_run.proofs.EndsShown.{flat_more}
 
@@ -98,6 +99,20 @@ counted_more pieces n count more piece lt at was is =
     let long = ap length here in
     let parts = length-append (commands_in (take n pieces)) piece.items in
     omega (arith, is, was, long, parts)
+
+-- so many pieces, and the next, have no more commands than all
+pub few_counted : (pieces : List (Vec Command Global)) (n count : ℕ) (piece : Vec Command Global) → AreFew pieces → n < length pieces
+    → piece ≡ get_or pieces n piece → count ≡ length (commands_in (take n pieces)) → count + length piece.items < 2 ^ 15
+few_counted pieces n count piece few lt at was =
+    let here = counted_more pieces n count (count + length piece.items) piece lt at was refl in
+    let less = parts_few pieces (n + 1) in
+    omega (arith, few, here, less) where
+      parts_few : (l : List (Vec Command Global)) (k : ℕ) → length (commands_in (take k l)) ≤ length (commands_in l)
+      parts_few l k =
+          let all = ap (λ (m : List (Vec Command Global)). length (commands_in m)) (take-append-drop k l) in
+          let both = ap length (flat_map-append (λ (p : Vec Command Global). p.items) (take k l) (drop k l)) in
+          let long = length-append (commands_in (take k l)) (commands_in (drop k l)) in
+          omega (arith, all, both, long)
 
 -- all pieces
 pub counted_all : (pieces : List (Vec Command Global)) (n count : ℕ) → length pieces ≤ n

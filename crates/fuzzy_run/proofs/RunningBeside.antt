@@ -1,9 +1,10 @@
 -- Clients who are ready to be served, before they are served and after.
-use Rattle.std.proofs.Common.{◌≡◌, ℕ, List, [], ◌∷◌, ◌++◌, length, map, take, drop, Some, slice_get, Ok, Err, Global, Vec, refl, ap, sym, subst, ◌∙◌, arith}
+use Rattle.std.proofs.Common.{◌≡◌, ℕ, ◌^◌, ◌<◌, Bool, List, [], ◌∷◌, ◌++◌, length, map, take, drop, Some, slice_get, Ok, Err, Global, Vec, refl, ap, sym, subst, ◌∙◌, arith}
 use Rattle.std.specs.Prelude.{IfOk, Result, ◌==◌, ◌≤◌, slice_index_or}
 use Rattle.std.specs.List.{All}
 use Rattle.std.proofs.lemmas.List.{length-map}
 use Rattle.std.proofs.lemmas.List.Elements.{All-filter}
+use Rattle.std.proofs.lemmas.List.Sums.{count_by-le-length, length-filter}
 use Rattle.std.proofs.lemmas.Option.{get_or_from_slice_get, slice_get_within}
 use Rattle.log_node.specs.declared.limits.TheConstants.{MAX_COLOURS}
 use Rattle.stamp_board.specs.declared.view.Size.{Size}
@@ -25,7 +26,7 @@ use Rattle.log_client.specs.Closes.{AreClients}
 use Rattle.log_client.specs.Opening.{AreNewClients}
 use Rattle.fuzzy_run.specs.declared.serving.opened.Opened.{Opened}
 use Rattle.fuzzy_run.specs.declared.serving.served.Served.{Served}
-use Rattle.fuzzy_run.specs.Dealing.{AreReady, HasRoom, IsIdle}
+use Rattle.fuzzy_run.specs.Dealing.{AreFew, AreReady, HasRoom, IsIdle}
 use Rattle.fuzzy_run.specs.Opened.{AreOf}
 use Rattle.fuzzy_run.specs.Running.{CanRun}
 use Rattle.fuzzy_run.specs.Served.{CanServe, IsServable, IsServed}
@@ -45,6 +46,21 @@ whole script dealt can = subst (λ (s : Script). CanRun s dealt) can.is.header c
 pub many_shares : (script : Script) (dealt : DealtScript) (s : Store) (clients : List Client) → CanRun script dealt
     → AreNewClients script.shape s clients → length dealt.shares.items ≡ length clients
 many_shares script dealt s clients can new = can.is.many ∙ (can.fits.clients ∙ sym new.0)
+
+-- no share has more commands than the script
+pub few_shares : (script : Script) (dealt : DealtScript) → CanRun script dealt
+    → All (λ (share : Vec (Vec Command Global) Global). AreFew share.items) dealt.shares.items
+few_shares script dealt can n share lt =
+    let shares = dealt.shares.items in
+    let here = slice_index_or shares n share in
+    let own : ℕ → Command → Bool = λ k c. c.client == k in
+    let is = ap (λ (l : List Command). length l) (can.is.each n here (there shares n share lt)) in
+    let kept = length-filter (own n) script.commands in
+    let less = count_by-le-length (own n) script.commands in
+    let few = can.fits.few in
+    omega (arith, is, kept, less, few) where
+      there : {A : Type 0} (l : List A) (k : ℕ) (d : A) → k < length l → slice_get l k ≡ Some (slice_index_or l k d)
+      there l k d low = let r = got l k low in r.1 ∙ ap Some (sym (get_or_from_slice_get l k r.0 d r.1))
 
 module _ (script : Script) (dealt : DealtScript) (can : CanRun script dealt) (s : Store)
     (size : s.size ≡ size_of script.shape) (regions : length s.regions ≡ script.shape.regions) (clients : List Client)

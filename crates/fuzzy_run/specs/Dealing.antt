@@ -1,5 +1,5 @@
 -- The clients of a script with their shares of the commands, before they are served.
-use Rattle.std.specs.Prelude.{◌≡◌, ℕ, ◌<◌, ◌≤◌, List, [], length, map, slice_index_or, Vec, vec_capacity}
+use Rattle.std.specs.Prelude.{◌≡◌, ℕ, ◌^◌, ◌<◌, ◌≤◌, List, [], length, map, slice_index_or, Vec, vec_capacity}
 use Rattle.std.specs.Global.{Global}
 use Rattle.std.specs.List.{All}
 use Rattle.script_text.specs.declared.script.Command.{Command}
@@ -21,6 +21,10 @@ pub record AreIdle (objects : List Object) (clients : List Client) (shares : Lis
   pub clients_are : map (λ (x : Served). x.client) served ≡ clients
   pub shares_are : map (λ (x : Served). x.commands) served ≡ shares
   pub idle : All (IsIdle objects) served
+
+-- no more commands than a script has
+abbrev pub AreFew : List (Vec Command Global) → Type 0
+AreFew pieces = length (commands_in pieces) < 2 ^ 15
 
 -- there is room for the replies to all commands
 abbrev pub HasRoom : Served → Type 0

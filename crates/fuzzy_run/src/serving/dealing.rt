@@ -1,7 +1,9 @@
 // Each client of a script with its share of the commands, before it is served.
-ghost use Rattle.std.specs.Prelude.{◌≡◌, length, IfOk, IfSome};
+ghost use Rattle.std.specs.Prelude.{◌≡◌, length, IfOk};
+ghost use Rattle.std.specs.List.{All};
 ghost use Rattle.script_beside.specs.Dealt.{commands_in};
-ghost use Rattle.fuzzy_run.specs.Dealing.{AreIdle, AreReady, HaveRoom};
+ghost use Rattle.fuzzy_run.specs.declared.serving.served.Served.{Served};
+ghost use Rattle.fuzzy_run.specs.Dealing.{AreFew, AreIdle, AreReady, HaveRoom};
 
 use crate::serving::opened::open_all;
 use crate::serving::served::Served;
@@ -34,27 +36,26 @@ fn idle(
     Ok(served)
 }
 
-// How many commands there are in the pieces, where a number tells.
-fn count(pieces: &[Vec<Command>]) -> Option<usize>
-    ensures { IfSome result (λ n. n ≡ length (commands_in pieces.now)) }
+// How many commands there are in the pieces.
+fn count(pieces: &[Vec<Command>]) -> usize
+    requires { AreFew pieces.now }
+    ensures { result ≡ length (commands_in pieces.now) }
 {
-    let mut count: usize = 0;
+    let mut count = 0;
     for piece in pieces {
-        count = count.checked_add(piece.len())?;
+        count += piece.len();
     }
-    Some(count)
+    count
 }
 
 // Takes the room for the replies to all commands.
 fn make_room(alloc: Global, served: &mut Vec<Served>) -> Result<(), AllocError>
+    requires { All (λ (x : Served). AreFew x.commands.items) served.old.items }
     ensures { IfOk result (λ _. HaveRoom served.old.items served.new.items (length served.old.items)) }
 {
     for number in 0..served.len() {
         let one = &mut served[number];
-        let Some(count) = count(one.commands.as_slice()) else {
-            return Err(AllocError);
-        };
-        one.replies = Vec::with_capacity(alloc, count)?;
+        one.replies = Vec::with_capacity(alloc, count(one.commands.as_slice()))?;
     }
     Ok(())
 }
@@ -66,7 +67,8 @@ pub fn make_ready(
     objects: &[Object],
     shares: Vec<Share>,
 ) -> Result<Vec<Served>, AllocError>
-    requires { length shares.items ≡ length clients }
+    requires shares { length shares.items ≡ length clients }
+    requires few { All (λ share. AreFew share.items) shares.items }
     ensures { IfOk result (λ served. AreReady objects.now clients shares.items served.items) }
 {
     let mut served = idle(alloc, objects, clients.into_vec(), shares)?;

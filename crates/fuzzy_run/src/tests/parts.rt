@@ -17,24 +17,25 @@ fn with_lines(alloc: Global, lines: &str) -> Result<String, AllocError> {
     Ok(script)
 }
 
-/// Lines in the middle; line 2,008 is the first of them.
-const IN_THE_MIDDLE: &[&str] = &[
-    "a append x whole\n",
+/// Lines in the middle, of which line 2,008 is the first, and what comes of the script.
+const IN_THE_MIDDLE: [(&str, Status); 5] = [
+    ("a append x whole\n", Status::Done),
     // Its client has no command behind it.
-    "a enq q job\na stop 0 x,y left\n",
+    ("a enq q job\na stop 0 x,y left\n", Status::Done),
     // It has one.
-    "a stop 0 x,y left\na append x more\n",
-    "b append x,z far\n",
-    "b sync x y\nb dance\n",
+    ("a stop 0 x,y left\na append x more\n", Status::Refused),
+    ("b append x,z far\n", Status::Refused),
+    ("b sync x y\nb dance\n", Status::Refused),
 ];
 
 #[test]
 fn what_a_long_script_comes_to_is_the_same_on_threads(rt: HostRuntime) -> Result<(), Fail> {
-    for lines in IN_THE_MIDDLE {
+    for (lines, wanted) in IN_THE_MIDDLE.iter() {
         let script = with_lines(rt.alloc(), lines)?;
-        let (wanted, report) = step_on(rt.alloc(), &rt, script.as_bytes())?;
+        let (status, report) = step_on(rt.alloc(), &rt, script.as_bytes())?;
+        assert_eq!(rt; status, *wanted);
         let (status, sink) = run_at(rt.alloc(), &rt, script.as_bytes(), &OpenGate)?;
-        assert!(rt; status == wanted);
+        assert_eq!(rt; status, *wanted);
         assert_eq!(rt; sink.bytes(), report.bytes());
     }
     Ok(())

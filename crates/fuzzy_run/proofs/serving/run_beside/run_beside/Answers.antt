@@ -6,7 +6,7 @@ use Rattle.log_client.specs.declared.client.Client.{Client}
 use Rattle.fuzzy_run.specs.declared.serving.served.Served.{Served}
 use Rattle.fuzzy_run.specs.Dealing.{AreReady}
 use Rattle.fuzzy_run.proofs.ClosingRuns.{can_be_shown, runs_end_lawfully}
-use Rattle.fuzzy_run.proofs.RunningBeside.{are_clients, can_serve, lawful_if, many_shares, script_of, were_served, whole}
+use Rattle.fuzzy_run.proofs.RunningBeside.{are_clients, can_serve, few_shares, lawful_if, many_shares, script_of, were_served, whole}
 use Rattle.fuzzy_run.proofs.serving.run_beside.run_beside.Goals as goal
 
 -- the clients have opened the script's own objects
@@ -30,10 +30,14 @@ open-requires-clause-size g c =
       (omega (arith, few_rows)),
     )
 
-pub make_ready-requires : goal.make_ready-requires
-make_ready-requires g c =
+pub make_ready-requires-clause-shares : goal.make_ready-requires-clause-shares
+make_ready-requires-clause-shares g c =
     many_shares (script_of c.args.dealt c.requires.0.commands) c.args.dealt c.in_ok-store.store c.in_ok-store.clients
     (whole c.requires.0 c.args.dealt c.requires.1) c.in_ok-store.ensures.clients
+
+pub make_ready-requires-clause-few : goal.make_ready-requires-clause-few
+make_ready-requires-clause-few g c =
+    few_shares (script_of c.args.dealt c.requires.0.commands) c.args.dealt (whole c.requires.0 c.args.dealt c.requires.1)
 
 pub serve_beside-requires-after_bounds : goal.serve_beside-requires-after_bounds
 serve_beside-requires-after_bounds g c κs within = λ n x at.
