@@ -2,6 +2,7 @@
 #![tactic(auto)]
 
 mod made;
+mod parts;
 mod printing;
 
 pub use printing::print_beside;

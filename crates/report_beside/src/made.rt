@@ -6,7 +6,6 @@ ghost use Rattle.report_text.specs.Output.{Adds};
 ghost use Rattle.report_beside.specs.Made.{IsMade, AreMade};
 
 use fuzzy_io::{Failed, MemorySink, Sink};
-use log_node::ListOf;
 use report_text::{NameIndex, Output, Page, Printed};
 use std::alloc::Global;
 use std::thread;
@@ -95,7 +94,7 @@ fn put_made<T: Printed, O: Output>(
 
 /// The items one after another, by the texts that were made for them.
 pub fn put_each<T: Printed, O: Output>(
-    items: &ListOf<T>,
+    items: &[T],
     texts: &[Option<MemorySink>],
     names: &NameIndex<'_>,
     out: &mut O,
@@ -103,7 +102,7 @@ pub fn put_each<T: Printed, O: Output>(
     requires { AreMade (T.text names.now) items.now texts.now }
     ensures { Adds (O.state out.old) (O.state out.new) (flat_map (T.text names.now) items.now) }
 {
-    for (place, item) in items.as_slice().iter().enumerate() {
+    for (place, item) in items.iter().enumerate() {
         match texts.get(place) {
             Some(text) => put_made(item, text, names, out),
             None => item.print(names, out),

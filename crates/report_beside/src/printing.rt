@@ -4,37 +4,35 @@ ghost use Rattle.std.specs.Io.KnownBytes.{Appends};
 ghost use Rattle.fuzzy_io.specs.Causes.{CountsFaults, AppendsFront};
 ghost use Rattle.report_text.specs.Output.{Adds};
 ghost use Rattle.report_text.specs.ReportText.{report_bytes};
-ghost use Rattle.report_text.specs.Replies.{client_lines};
-ghost use Rattle.report_text.specs.Columns.{column_lines};
 ghost use Rattle.report_beside.specs.Made.{AreMade};
+ghost use Rattle.report_beside.specs.Parts.{part_text, AreParts};
 
 use crate::made::{made_texts, put_each};
+use crate::parts::{Part, parts_of};
 use fuzzy_io::{Failed, MemorySink, Sink};
-use report_text::{NameIndex, Output, Page, Report, print_each};
+use report_text::{NameIndex, Output, Page, Report, print};
 use std::alloc::Global;
 use std::thread::Threads;
 
-// The report to an output, by the texts that were made of its clients and columns.
+// The report to an output, by the texts that were made of its parts.
 fn put_report<O: Output>(
     report: &Report,
     names: &NameIndex<'_>,
-    clients: &[Option<MemorySink>],
-    columns: &[Option<MemorySink>],
+    parts: &[Part<'_>],
+    texts: &[Option<MemorySink>],
     out: &mut O,
 )
     requires names { names.now ≡ report.now }
-    requires clients { AreMade (client_lines report.now) report.now.clients clients.now }
-    requires columns { AreMade (column_lines report.now) report.now.columns columns.now }
+    requires parts { AreParts report.now parts.now }
+    requires texts { AreMade (part_text report.now) parts.now texts.now }
     ensures { Adds (O.state out.old) (O.state out.new) (report_bytes report.now) }
 {
     out.put(b"report 1\n");
-    put_each(&report.clients, clients, names, out);
-    print_each(&report.rows, names, out);
-    put_each(&report.columns, columns, names, out);
+    put_each(parts, texts, names, out);
 }
 
-/// Writes the text of the report, of which the parts for clients and columns are made on threads first. At `Err` a front of
-/// it went out. A part for whose text there is no memory is printed as it is written.
+/// Writes the text of the report, of which the parts are made on threads first. At `Err` a front of it went out. A part for
+/// whose text there is no memory is printed as it is written.
 pub fn print_beside<K: Sink, R: Threads + Sync>(
     rt: &R,
     alloc: Global,
@@ -45,15 +43,17 @@ pub fn print_beside<K: Sink, R: Threads + Sync>(
     ensures front { OnErr result (AppendsFront (K.holds sink.old) (K.holds sink.new) (report_bytes report.now)) }
     ensures cause { CountsFaults (K.faults sink.old) (K.faults sink.new) result }
 {
+    let Ok(parts) = parts_of(alloc, report) else {
+        return print(report, sink);
+    };
     let names = NameIndex::of(report);
-    let clients = made_texts(rt, alloc, report.clients.as_slice(), &names);
-    let columns = made_texts(rt, alloc, report.columns.as_slice(), &names);
+    let texts = made_texts(rt, alloc, parts.as_slice(), &names);
     let mut page = Page::over(sink);
     put_report(
         report,
         &names,
-        clients.as_slice(),
-        columns.as_slice(),
+        parts.as_slice(),
+        texts.as_slice(),
         &mut page,
     );
     page.finish()

@@ -1,0 +1,71 @@
+-- How the parts of a report come behind one another.
+use Rattle.std.proofs.Common.{◌≡◌, Bool, true, ℕ, ◌+◌, ◌<◌, List, [], ◌∷◌, ◌++◌, take, length, get_or, ap, refl, sym, ◌∙◌, arith, append_assoc, append-nil}
+use Rattle.std.specs.Prelude.{◌==◌}
+use Rattle.std.specs.List.{flat_map}
+use Rattle.std.proofs.lemmas.List.{take_all, take_more, flat_map_more}
+use Rattle.std.proofs.lemmas.List.Concat.{flat_map-append}
+use Rattle.report_text.specs.declared.report.Report.{Report}
+use Rattle.report_text.specs.declared.report.RowReport.{RowReport}
+use Rattle.report_text.specs.Rows.{row_line}
+use Rattle.report_beside.specs.declared.parts.Part.{Part}
+use Rattle.report_beside.specs.Parts.{part_text, HaveMore}
+
+-- no parts more
+pub no_more : (parts : List Part) → HaveMore (λ r. []) parts parts
+no_more parts report = sym (append-nil (flat_map (part_text report) parts))
+
+-- one part more
+pub one_more : (text : Report → List ℕ) (old new after : List Part) (part : Part) → HaveMore text old new → after ≡ new ++ part ∷ []
+    → HaveMore (λ r. text r ++ part_text r part) old after
+one_more text old new after part more is report =
+    ap (λ (l : List Part). flat_map (part_text report) l) is
+    ∙ (sym (flat_map_more (part_text report) [] new part)
+    ∙ (ap (λ (l : List ℕ). l ++ part_text report part) (more report)
+    ∙ append_assoc (flat_map (part_text report) old) (text report) (part_text report part)))
+
+-- one item more, whose text is that of its part
+pub next_item : {A : Type 0} (texts : Report → A → List ℕ) (items : List A) (n : ℕ) (old new after : List Part) (x : A) (part : Part) → n < length items
+    → x ≡ get_or items n x → ((r : Report) → part_text r part ≡ texts r x) → HaveMore (λ r. flat_map (texts r) (take n items)) old new
+    → after ≡ new ++ part ∷ [] → HaveMore (λ r. flat_map (texts r) (take (n + 1) items)) old after
+next_item {A} texts items n old new after x part lt at same more is report =
+    one_more (λ r. flat_map (texts r) (take n items)) old new after part more is report
+    ∙ ap (λ (l : List ℕ). flat_map (part_text report) old ++ l)
+    (ap (λ (l : List ℕ). flat_map (texts report) (take n items) ++ l) (same report)
+    ∙ (flat_map_more (texts report) [] (take n items) x
+    ∙ (ap (λ (y : A). flat_map (texts report) (take n items ++ y ∷ [])) at ∙ ap (flat_map (texts report)) (sym (take_more items n x lt)))))
+
+-- some of the rows stand behind the parts, and the rest does not
+pub record RowsSoFar (rows rest : List RowReport) (old new : List Part) : Type 0 where
+  pub front : List RowReport
+  pub whole : rows ≡ front ++ rest
+  pub more : HaveMore (λ r. flat_map (row_line r) front) old new
+
+pub no_rows : (rows : List RowReport) (parts : List Part) → RowsSoFar rows rows parts parts
+no_rows rows parts = record { front = []; whole = refl; more = no_more parts }
+
+-- some rows more
+pub some_rows : (rows rest some later : List RowReport) (old new after : List Part) (part : Part) → RowsSoFar rows rest old new
+    → ((r : Report) → part_text r part ≡ flat_map (row_line r) some) → rest ≡ some ++ later → after ≡ new ++ part ∷ []
+    → RowsSoFar rows later old after
+some_rows rows rest some later old new after part so same cut is = record {
+  front = so.front ++ some;
+  whole = so.whole ∙ (ap (λ (l : List RowReport). so.front ++ l) cut ∙ sym (append_assoc so.front some later));
+  more = λ report.
+      one_more (λ r. flat_map (row_line r) so.front) old new after part so.more is report
+      ∙ ap (λ (l : List ℕ). flat_map (part_text report) old ++ l)
+      (ap (λ (l : List ℕ). flat_map (row_line report) so.front ++ l) (same report)
+      ∙ sym (flat_map-append (row_line report) so.front some));
+}
+
+-- an empty list of rows, as it is told
+pub is_none : (rest : List RowReport) (empty : Bool) → empty ≡ (length rest == 0) → empty ≡ true → rest ≡ []
+is_none [] empty told is = refl
+is_none (row ∷ rest) empty told is = absurd (let f : ⊥ = grind (arith, told, is) in f)
+
+-- all rows
+pub all_rows : (rows rest : List RowReport) (old new : List Part) → RowsSoFar rows rest old new → rest ≡ []
+    → HaveMore (λ r. flat_map (row_line r) rows) old new
+all_rows rows rest old new so none report =
+    so.more report
+    ∙ ap (λ (l : List RowReport). flat_map (part_text report) old ++ flat_map (row_line report) l)
+    (sym (so.whole ∙ (ap (λ (l : List RowReport). so.front ++ l) none ∙ append-nil so.front)))

@@ -1,0 +1,10 @@
+use Rattle.std.proofs.Common.{length}
+use Rattle.report_beside.proofs.PartLemmas.{RowsSoFar}
+use Rattle.report_beside.proofs.parts.push_rows.Given as goal
+
+-- the rows so far stand behind the parts
+abbrev pub invariant-loop-rest : goal.invariant-loop-rest
+invariant-loop-rest l = RowsSoFar l.rows l.rest l.initial.parts.items l.parts.items
+
+abbrev pub decreases-loop-rest : goal.decreases-loop-rest
+decreases-loop-rest l = length l.rest

@@ -1,0 +1,93 @@
+// The parts of a report's text.
+ghost use Rattle.std.specs.Prelude.{◌≡◌, IfOk, OnOk};
+ghost use Rattle.std.specs.List.{flat_map};
+ghost use Rattle.report_text.specs.Replies.{client_lines};
+ghost use Rattle.report_text.specs.Output.{Adds};
+ghost use Rattle.report_text.specs.Rows.{row_line};
+ghost use Rattle.report_text.specs.Columns.{column_lines};
+ghost use Rattle.report_beside.specs.Parts.{part_text, HaveMore, AreParts};
+
+use report_text::{ClientReport, ColumnReport, NameIndex, Output, Printed, Report, RowReport};
+use std::alloc::{AllocError, Global};
+
+/// How many rows are one part.
+const ROWS: usize = 512;
+
+/// A part of a report: one of its clients or columns, or some rows.
+#[derive(Drop)]
+pub enum Part<'r> {
+    Client(&'r ClientReport),
+    Rows(&'r [RowReport]),
+    Column(&'r ColumnReport),
+}
+
+impl<'r> Printed for Part<'r> {
+    ghost text = { part_text };
+
+    fn print<O: Output>(&self, names: &NameIndex<'_>, out: &mut O) {
+        match self {
+            Part::Client(client) => client.print(names, out),
+            Part::Rows(rows) => print_all(rows, names, out),
+            Part::Column(column) => column.print(names, out),
+        }
+    }
+}
+
+// One item after another.
+fn print_all<T: Printed, O: Output>(items: &[T], names: &NameIndex<'_>, out: &mut O)
+    ensures { Adds (O.state out.old) (O.state out.new) (flat_map (T.text names.now) items.now) }
+{
+    for item in items {
+        item.print(names, out);
+    }
+}
+
+// Puts the clients behind the parts.
+fn push_clients<'r>(
+    parts: &mut Vec<Part<'r>>,
+    clients: &'r [ClientReport],
+) -> Result<(), AllocError>
+    ensures { OnOk result (HaveMore (λ r. flat_map (client_lines r) clients.now) parts.old.items parts.new.items) }
+{
+    for client in clients {
+        parts.push(Part::Client(client))?;
+    }
+    Ok(())
+}
+
+// Puts the rows behind the parts, so many at a time.
+fn push_rows<'r>(parts: &mut Vec<Part<'r>>, rows: &'r [RowReport]) -> Result<(), AllocError>
+    ensures { OnOk result (HaveMore (λ r. flat_map (row_line r) rows.now) parts.old.items parts.new.items) }
+{
+    let mut rest = rows;
+    while !rest.is_empty() {
+        let (some, after) = rest.split_at(rest.len().min(ROWS));
+        parts.push(Part::Rows(some))?;
+        rest = after;
+    }
+    Ok(())
+}
+
+// Puts the columns behind the parts.
+fn push_columns<'r>(
+    parts: &mut Vec<Part<'r>>,
+    columns: &'r [ColumnReport],
+) -> Result<(), AllocError>
+    ensures { OnOk result (HaveMore (λ r. flat_map (column_lines r) columns.now) parts.old.items parts.new.items) }
+{
+    for column in columns {
+        parts.push(Part::Column(column))?;
+    }
+    Ok(())
+}
+
+/// The parts of a report in their order: its clients, its rows, its columns.
+pub fn parts_of(alloc: Global, report: &Report) -> Result<Vec<Part<'_>>, AllocError>
+    ensures { IfOk result (λ parts. AreParts report.now parts.items) }
+{
+    let mut parts = Vec::new(alloc);
+    push_clients(&mut parts, report.clients.as_slice())?;
+    push_rows(&mut parts, report.rows.as_slice())?;
+    push_columns(&mut parts, report.columns.as_slice())?;
+    Ok(parts)
+}
