@@ -1,5 +1,6 @@
 // Reading a part of a script behind the script's header.
 ghost use Rattle.std.specs.Prelude.{◌≡◌, ◌++◌, IfOk, IfSome};
+ghost use Rattle.std.specs.Thread.{IsSync};
 ghost use Rattle.std.specs.List.{list_any};
 ghost use Rattle.script_text.specs.declared.script.Command.{Command};
 ghost use Rattle.script_text.specs.Items.{is_stop};
@@ -60,7 +61,24 @@ fn read_part(alloc: Global, header: &[u8], cut: &Cut<'_>) -> Option<ReadPart>
     }
 }
 
-/// The parts, each read on a thread of its own where one can be.
+// The parts, read by this thread.
+fn read_here(
+    alloc: Global,
+    header: &[u8],
+    cuts: &[Cut<'_>],
+) -> Result<Vec<Option<ReadPart>>, AllocError>
+    ensures { IfOk result (λ parts. AreRead header.now cuts.now parts.items) }
+{
+    let mut parts = Vec::new(alloc);
+    for cut in cuts {
+        parts.push(read_part(alloc, header, cut))?;
+    }
+    Ok(parts)
+}
+
+/// The parts, the last of which this thread reads, and each other a thread of its own where one can be. This thread makes
+/// all of them: one that began by making another would first have to find memory of its own.
+#[cycle(parts)]
 pub fn read_parts<R: Threads + Sync>(
     rt: &R,
     alloc: Global,
@@ -69,10 +87,20 @@ pub fn read_parts<R: Threads + Sync>(
 ) -> Result<Vec<Option<ReadPart>>, AllocError>
     ensures { IfOk result (λ parts. AreRead header.now cuts.now parts.items) }
 {
-    thread::map_indices(
-        rt,
-        alloc,
-        cuts.len(),
-        &|place| { read_part(alloc, header, &cuts[place]) },
-    )
+    if cuts.len() < 2 {
+        return read_here(alloc, header, cuts);
+    }
+    let (near, far) = cuts.split_at(1);
+    let mut one = || -> Result<Vec<Option<ReadPart>>, AllocError>
+        requires { IsSync R.row }
+        ensures { IfOk result (λ parts. AreRead header.entry.now near.entry.now parts.items) }
+    { read_parts(rt, alloc, header, near) };
+    let mut more = || -> Result<Vec<Option<ReadPart>>, AllocError>
+        requires { IsSync R.row }
+        ensures { IfOk result (λ parts. AreRead header.entry.now far.entry.now parts.items) }
+    { read_parts(rt, alloc, header, far) };
+    let (ones, others) = thread::join_mut(rt, &mut one, &mut more);
+    let mut parts = ones?;
+    parts.append(&mut others?)?;
+    Ok(parts)
 }

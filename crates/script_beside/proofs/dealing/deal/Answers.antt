@@ -13,6 +13,6 @@ returns c =
     (later_nothing c.replace-commands.result ∙ c.replace-commands.ensures.value) c.in_ok-lists.ensures in
     let shares = c.in_ok-shares.shares.items in
     let after = c.put_behind.new.shares in
-    all_dealt c.args.script _ after refl c.new.ensures
+    all_dealt c.args.script _ after refl (c.replace-commands.ensures.after ∙ c.new.ensures)
     (subst (λ (n : _). AreShares n commands after.items) c.len-clients.ensures
     (more_shares count [] commands lists shares after.items (no_shares count shares c.in_ok-shares.ensures) own c.in_ok-put_behind.ensures))
