@@ -1,0 +1,17 @@
+// How many rows a store needs for each client.
+ghost use Rattle.std.specs.Prelude.{◌≡◌, ◌⊎◌, ◌<◌, ◌≤◌};
+
+/// How many rows a store needs for each client, where each may begin so many and so many commands
+/// may begin one.
+pub fn rows_for(allowed: u32, begins: usize) -> u32
+    requires { 0 < allowed }
+    ensures some { 0 < result }
+    ensures few { result ≤ allowed }
+    ensures enough { (result ≡ allowed) ⊎ (begins ≤ result) }
+{
+    if begins < allowed as usize {
+        (begins as u32).max(1)
+    } else {
+        allowed
+    }
+}
