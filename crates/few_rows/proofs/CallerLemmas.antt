@@ -1,0 +1,1 @@
+-- What callers may cite of this crate's proofs; all else there is private.
