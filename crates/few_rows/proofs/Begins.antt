@@ -1,6 +1,6 @@
 -- A command begins one row at most, and none where it may begin none: so a client has begun no more rows than it has
 -- asked commands that may begin one.
-use Rattle.std.proofs.Common.{◌≡◌, ◌⊎◌, true, false, ℕ, nat_lt, ◌+◌, ◌≤◌, List, [], ◌∷◌, ◌++◌, length, Option, Some, None, inl, inr, refl, ap, sym, subst, ◌∙◌, arith, cond}
+use Rattle.std.proofs.Common.{◌≡◌, ◌⊎◌, true, ℕ, nat_lt, ◌+◌, ◌≤◌, List, [], ◌∷◌, ◌++◌, length, Option, Some, None, inl, inr, refl, ap, sym, subst, ◌∙◌, arith, cond}
 use Rattle.std.specs.List.{count_by}
 use Rattle.std.proofs.lemmas.List.Sums.{sum_by_push}
 use Rattle.log_node.specs.declared.ids.Colours.{Colours}
@@ -52,15 +52,15 @@ then_keeps : (what : What) (kept middle after : Kept) → BeginsOne what kept mi
 then_keeps what kept middle after (inl r) s = inl (s ∙ r)
 then_keeps what kept middle after (inr (may, one)) s = inr (may, s ∙ one)
 
-several_below : (n : ℕ) → 2 ≤ n → nat_lt 1 n ≡ true
-several_below n two = grind (arith, two)
+two_or_more : (n : ℕ) → 2 ≤ n → nat_lt 1 n ≡ true
+two_or_more n two = grind (arith, two)
 
 -- a command that asks for a node of several colours may begin a row
 pub several_may : (caller : Caller) (kept : Kept) (what : What) (colours : Colours) (text : List ℕ)
     → AsksToAppend caller kept what colours text → 2 ≤ length (members colours) → may_begin what ≡ true
 several_may caller kept (whats.Append asked given) colours text asks two =
     subst (λ (c : Colours). nat_lt 1 (length (members c)) ≡ true) asks.0
-    (several_below (length (members colours)) two)
+    (two_or_more (length (members colours)) two)
 several_may caller kept (whats.Stop steps asked given) colours text asks two = refl
 several_may caller kept (whats.Sync colour) colours text asks two = absurd asks
 several_may caller kept (whats.Scan asked) colours text asks two = absurd asks
@@ -243,7 +243,7 @@ answer_begins log caller kept command reply after a =
 abbrev pub that_begin : List Command → ℕ
 that_begin commands = count_by (λ (c : Command). may_begin c.what) commands
 
-pub one_more : (commands : List Command) (command : Command)
+one_more : (commands : List Command) (command : Command)
     → that_begin (commands ++ command ∷ []) ≡ that_begin commands + cond (may_begin command.what) 1 0
 one_more commands command = sum_by_push (λ (c : Command). cond (may_begin c.what) 1 0) commands command
 

@@ -12,10 +12,10 @@ use Rattle.lawful_run.specs.Stops.{Stops, stopped_at_once, stopped_after}
 use Rattle.few_rows.proofs.MoreFacts.{limited}
 
 module _ (log : Log) (caller : Caller) (rows : ℕ) (few : rows ≤ caller.rows) (kept : Kept) where
-  one_more : (node : Node) (colour stamp place position : ℕ)
+  appends_one_more : (node : Node) (colour stamp place position : ℕ)
       → AppendsOne log (limited caller rows) kept node colour stamp place position
       → AppendsOne log caller kept node colour stamp place position
-  one_more node colour stamp place position a = record {
+  appends_one_more node colour stamp place position a = record {
     next = a.next;
     entered = a.entered;
     unseen = a.unseen;
@@ -74,7 +74,7 @@ module _ (log : Log) (caller : Caller) (rows : ℕ) (few : rows ≤ caller.rows)
       → Appends log caller kept node stamp row points after
   append_more node stamp None [] after a = absurd a
   append_more node stamp None (point ∷ []) after a =
-      (a.0, a.1, a.2, one_more node point.colour stamp a.1 point.position a.3, a.4)
+      (a.0, a.1, a.2, appends_one_more node point.colour stamp a.1 point.position a.3, a.4)
   append_more node stamp None (point ∷ other ∷ points) after a = absurd a
   append_more node stamp (Some number) points after a = (a.0, a.1, several_more node stamp points a.1 a.2, a.3)
 
@@ -82,7 +82,7 @@ module _ (log : Log) (caller : Caller) (rows : ℕ) (few : rows ≤ caller.rows)
       → AppendsUnshown log (limited caller rows) kept node stamp after
       → AppendsUnshown log caller kept node stamp after
   unshown_more node stamp after (one_unshown colour place position only a) =
-      one_unshown colour place position only (one_more node colour stamp place position a)
+      one_unshown colour place position only (appends_one_more node colour stamp place position a)
   unshown_more node stamp after (several_unshown places begins outcome stand above) =
       several_unshown places (begins_more node places begins) outcome stand above
 

@@ -1,6 +1,6 @@
 -- A lawful run of a script whose clients may begin fewer rows is a lawful run of the script itself, where no client has
 -- more commands that may begin a row than those.
-use Rattle.std.proofs.Common.{◌≡◌, ◌⊎◌, ℕ, ◌≤◌, List, Some, slice_get, inl, inr, refl, ap, subst}
+use Rattle.std.proofs.Common.{◌≡◌, ℕ, ◌≤◌, List, inl, inr, ap, subst}
 use Rattle.col_core.specs.Log.{Log}
 use Rattle.script_text.specs.declared.script.Script.{Script}
 use Rattle.report_text.specs.declared.report.ReplyLine.{ReplyLine}
@@ -9,7 +9,7 @@ use Rattle.report_text.specs.declared.report.RowReport.{RowReport}
 use Rattle.report_text.specs.declared.report.Report.{Report}
 use Rattle.lawful_run.specs.Callers.{caller_of, commands_of}
 use Rattle.lawful_run.specs.Columns.{IsColumnReport, AreColumns, AreRows}
-use Rattle.lawful_run.specs.Lawful.{IsClientRun, LeavesOpen, IsComplete, LawfulRun}
+use Rattle.lawful_run.specs.Lawful.{IsClientRun, LeavesOpen, LawfulRun}
 use Rattle.few_rows.specs.Needs.{with_rows, AreEnough}
 use Rattle.few_rows.proofs.Begins.{that_begin}
 use Rattle.few_rows.proofs.MoreReplies.{explained_more}

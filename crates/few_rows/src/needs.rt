@@ -8,10 +8,7 @@ pub fn rows_for(allowed: u32, begins: usize) -> u32
     ensures some { 0 < result }
     ensures few { result ≤ allowed }
     ensures enough { (result ≡ allowed) ⊎ (begins ≤ result) }
+    ensures no_more { (result ≡ 1) ⊎ (result ≤ begins) }
 {
-    if begins < allowed as usize {
-        (begins as u32).max(1)
-    } else {
-        allowed
-    }
+    begins.min(allowed as usize).max(1) as u32
 }
