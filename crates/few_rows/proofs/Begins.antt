@@ -209,7 +209,8 @@ module _ (log : Log) (caller : Caller) (kept : Kept) (what : What) where
   explained_begins answers.NoTx nodes after e = inl (same_rows kept kept after e.1 refl)
   explained_begins (answers.Took value point sync) nodes after e =
       let s = e.3.3 in
-      then_keeps what kept s.1 after (appends_begin log caller kept what e.3.0 e.3.1 e.3.2 s.0 None (point ∷ []) s.1 s.2)
+      then_keeps what kept s.1 after
+      (appends_begin log caller kept what e.3.0 e.3.1 e.3.2 s.0 None (point ∷ []) s.1 s.2)
       (same_rows s.1 _ after s.5 refl)
   explained_begins (answers.UnreadTrimmed stamp colour base) nodes after e =
       let s = e.3.3 in

@@ -1,5 +1,5 @@
--- What a log explains to a client that may begin few rows, it explains too where the client may begin more, if a row was
--- left for each command that may begin one.
+-- What a log explains to a client that may begin few rows, it explains too where the client may begin more, if a row
+-- was left for each command that may begin one.
 use Rattle.std.proofs.Common.{◌≡◌, true, ℕ, ◌<◌, ◌≤◌, List, [], ◌∷◌, None, sym, subst, ◌∙◌, arith}
 use Rattle.std.specs.List.{Contains}
 use Rattle.log_node.specs.declared.ids.Colours.{Colours}
