@@ -1,0 +1,270 @@
+-- A command begins one row at most, and none where it may begin none: so a client has begun no more rows than it has
+-- asked commands that may begin one.
+use Rattle.std.proofs.Common.{◌≡◌, ◌⊎◌, true, ℕ, nat_lt, ◌+◌, ◌≤◌, List, [], ◌∷◌, ◌++◌, length, Option, Some, None, inl, inr, refl, ap, sym, subst, ◌∙◌, arith, cond}
+use Rattle.std.specs.List.{count_by}
+use Rattle.std.proofs.lemmas.List.Sums.{sum_by_push}
+use Rattle.log_node.specs.declared.ids.Colours.{Colours}
+use Rattle.log_node.specs.declared.node.At.{At}
+use Rattle.log_node.specs.declared.node.At.TheVariants.{Event, Look}
+use Rattle.log_node.specs.Seen.{PlacedNode}
+use Rattle.log_node.specs.Sets.{members}
+use Rattle.col_core.specs.Log.{Log}
+use Rattle.col_core.specs.Keeping.{Kept, kept_after_point, kept_after_event}
+use Rattle.script_text.specs.declared.script.What.{What}
+use Rattle.script_text.specs.declared.script.What.TheVariants as whats
+use Rattle.script_text.specs.declared.script.Command.{Command}
+use Rattle.report_text.specs.declared.report.Answer.{Answer}
+use Rattle.report_text.specs.declared.report.Answer.TheVariants as answers
+use Rattle.report_text.specs.declared.report.PointPiece.{PointPiece}
+use Rattle.report_text.specs.declared.report.RaisePiece.{RaisePiece}
+use Rattle.report_text.specs.declared.report.ReplyLine.{ReplyLine}
+use Rattle.report_text.specs.declared.report.SyncPiece.{SyncPiece}
+use Rattle.lawful_run.proofs.CallerLemmas.{kept_after_hidden, before_is, behind_is}
+use Rattle.lawful_run.specs.Callers.{Caller, node_of}
+use Rattle.lawful_run.specs.Asks.{AsksToAppend, Manner, Appending, Stopping, Syncing, Moving, Getting, Reading, Committing, Dequeuing, colours_synced, manner_of}
+use Rattle.lawful_run.specs.Appends.{Appends, AppendsUnshown, one_unshown, several_unshown, kept_after_points, HasNoStamp, none_for_one, none_for_several}
+use Rattle.lawful_run.specs.Moves.{with_places, kept_after_pull}
+use Rattle.lawful_run.specs.Reads.{kept_after_place, kept_after_piece, Raises, ClearSyncs, ReadsAt, HidesSyncs, HidesRead}
+use Rattle.lawful_run.specs.Refusals.{Hides, FindsNoMemory, nothing, gone, gave, hidden, kept_before, kept_behind}
+use Rattle.lawful_run.specs.Stops.{Stops, stopped_at_once, stopped_after}
+use Rattle.lawful_run.specs.Explains.{Explains, Answers, Explained, start, next}
+use Rattle.few_rows.specs.Needs.{may_begin}
+
+-- as many rows are begun
+abbrev pub KeepsRows : Kept → Kept → Type 0
+KeepsRows kept after = after.rows ≡ kept.rows
+
+-- as many rows are begun, or one more by a command that may begin one
+abbrev pub BeginsOne : What → Kept → Kept → Type 0
+BeginsOne what kept after = KeepsRows kept after ⊎ ((may_begin what ≡ true) × (after.rows ≡ kept.rows + 1))
+
+same_rows : (kept middle after : Kept) → after ≡ middle → KeepsRows kept middle → KeepsRows kept after
+same_rows kept middle after e r = ap (λ (k : Kept). k.rows) e ∙ r
+
+-- no row is begun before a beginning, or after it
+keeps_then : (what : What) (kept middle after : Kept) → KeepsRows kept middle → BeginsOne what middle after
+    → BeginsOne what kept after
+keeps_then what kept middle after r (inl s) = inl (s ∙ r)
+keeps_then what kept middle after r (inr (may, one)) = inr (may, one ∙ ap (λ n. n + 1) r)
+
+then_keeps : (what : What) (kept middle after : Kept) → BeginsOne what kept middle → KeepsRows middle after
+    → BeginsOne what kept after
+then_keeps what kept middle after (inl r) s = inl (s ∙ r)
+then_keeps what kept middle after (inr (may, one)) s = inr (may, s ∙ one)
+
+two_or_more : (n : ℕ) → 2 ≤ n → nat_lt 1 n ≡ true
+two_or_more n two = grind (arith, two)
+
+-- a command that asks for a node of several colours may begin a row
+pub several_may : (caller : Caller) (kept : Kept) (what : What) (colours : Colours) (text : List ℕ)
+    → AsksToAppend caller kept what colours text → 2 ≤ length (members colours) → may_begin what ≡ true
+several_may caller kept (whats.Append asked given) colours text asks two =
+    subst (λ (c : Colours). nat_lt 1 (length (members c)) ≡ true) asks.0
+    (two_or_more (length (members colours)) two)
+several_may caller kept (whats.Stop steps asked given) colours text asks two = refl
+several_may caller kept (whats.Sync colour) colours text asks two = absurd asks
+several_may caller kept (whats.Scan asked) colours text asks two = absurd asks
+several_may caller kept (whats.Pull region colour) colours text asks two = absurd asks
+several_may caller kept (whats.Trim colour) colours text asks two = absurd asks
+several_may caller kept (whats.Put object key value) colours text asks two = refl
+several_may caller kept (whats.Get object key) colours text asks two = absurd asks
+several_may caller kept (whats.Del object key) colours text asks two = refl
+several_may caller kept (whats.PutAll object pairs) colours text asks two = refl
+several_may caller kept (whats.GetAll object keys) colours text asks two = absurd asks
+several_may caller kept (whats.Read object keys) colours text asks two = absurd asks
+several_may caller kept (whats.Commit object pairs) colours text asks two = refl
+several_may caller kept (whats.Enq object value) colours text asks two = refl
+several_may caller kept (whats.Deq object) colours text asks two = refl
+
+-- READS
+place_rows : (kept : Kept) (region colour : ℕ) (at : At) → KeepsRows kept (kept_after_place kept region colour at)
+place_rows kept region colour (Event place) = refl
+place_rows kept region colour (Look events) = refl
+
+raises_rows : (log : Log) (caller : Caller) (stamp : ℕ) (kept : Kept) (raises : List RaisePiece) (after : Kept)
+    → Raises log caller stamp kept raises after → KeepsRows kept after
+raises_rows log caller stamp kept [] after r = same_rows kept kept after r refl
+raises_rows log caller stamp kept (raise ∷ raises) after r =
+    raises_rows log caller stamp (kept_after_place kept caller.own raise.colour raise.at) raises after r.1
+    ∙ place_rows kept caller.own raise.colour raise.at
+
+clears_rows : (log : Log) (caller : Caller) (stamp : ℕ) (kept : Kept) (syncs : List SyncPiece) (after : Kept)
+    → ClearSyncs log caller stamp kept syncs after → KeepsRows kept after
+clears_rows log caller stamp kept [] after r = same_rows kept kept after r refl
+clears_rows log caller stamp kept (sync ∷ syncs) after r =
+    clears_rows log caller stamp (kept_after_piece log caller kept sync) syncs after r.2
+
+reads_rows : (log : Log) (caller : Caller) (kept : Kept) (colours : List ℕ) (stamp : ℕ) (raises : List RaisePiece)
+    (syncs : List SyncPiece) (after : Kept) → ReadsAt log caller kept colours stamp raises syncs after
+    → KeepsRows kept after
+reads_rows log caller kept colours stamp raises syncs after r =
+    ap (λ (k : Kept). k.rows) r.after_is
+    ∙ (clears_rows log caller stamp r.raised syncs r.synced r.syncing
+    ∙ raises_rows log caller stamp kept raises r.raised r.raising)
+
+syncs_rows : (log : Log) (caller : Caller) (kept : Kept) (colours : List ℕ) (after : Kept)
+    → HidesSyncs log caller kept colours after → KeepsRows kept after
+syncs_rows log caller kept [] after h = same_rows kept kept after h refl
+syncs_rows log caller kept (colour ∷ colours) after h =
+    syncs_rows log caller (kept_after_hidden kept colour h.0 h.1) colours after h.3
+
+hidden_rows : (log : Log) (caller : Caller) (kept : Kept) (colours : List ℕ) (after : Kept)
+    → HidesRead log caller kept colours after → KeepsRows kept after
+hidden_rows log caller kept colours after h =
+    let synced = syncs_rows log caller kept colours h.synced h.syncing in
+    elim h.after_is [
+      | inl e ↦ same_rows kept _ after e synced
+      | inr e ↦ same_rows kept _ after e synced
+    ]
+
+hides_rows : (log : Log) (caller : Caller) (kept : Kept) (colours : List ℕ) (manner : Manner) (after : Kept)
+    → Hides log caller kept colours manner after → KeepsRows kept after
+hides_rows log caller kept colours Appending after h = same_rows kept kept after h refl
+hides_rows log caller kept colours Stopping after h = same_rows kept kept after h refl
+hides_rows log caller kept colours Syncing after h = same_rows kept kept after h refl
+hides_rows log caller kept colours Moving after h = same_rows kept kept after h refl
+hides_rows log caller kept colours Getting after h = syncs_rows log caller kept colours after h
+hides_rows log caller kept colours Reading after h = hidden_rows log caller kept colours after h
+hides_rows log caller kept colours Committing after h = hidden_rows log caller kept colours after h
+hides_rows log caller kept colours Dequeuing after h = syncs_rows log caller kept colours after h
+
+-- APPENDS
+points_rows : (own : ℕ) (kept : Kept) (points : List PointPiece) → KeepsRows kept (kept_after_points kept own points)
+points_rows own kept [] = refl
+points_rows own kept (p ∷ points) = points_rows own (kept_after_point kept own p.colour p.at p.position) points
+
+module _ (log : Log) (caller : Caller) (kept : Kept) (what : What) (colours : Colours) (text : List ℕ)
+    (asks : AsksToAppend caller kept what colours text) where
+  appends_begin : (stamp : ℕ) (row : Option ℕ) (points : List PointPiece) (after : Kept)
+      → Appends log caller kept (node_of caller kept colours text) stamp row points after → BeginsOne what kept after
+  appends_begin stamp None [] after a = absurd a
+  appends_begin stamp None (p ∷ []) after a = inl (same_rows kept _ after a.4 refl)
+  appends_begin stamp None (p ∷ q ∷ points) after a = absurd a
+  appends_begin stamp (Some number) points after a =
+      inr (
+        several_may caller kept what colours text asks a.2.begins.several,
+        ap (λ (k : Kept). k.rows) a.3 ∙ ap (λ n. n + 1) (points_rows caller.own kept points),
+      )
+
+  unshown_begins : (stamp : ℕ) (after : Kept)
+      → AppendsUnshown log caller kept (node_of caller kept colours text) stamp after → BeginsOne what kept after
+  unshown_begins stamp after (one_unshown colour place position only a) = inl refl
+  unshown_begins stamp after (several_unshown places begins outcome stand above) =
+      inr (several_may caller kept what colours text asks begins.several, refl)
+
+  no_stamp_begins : (colour : ℕ) (after : Kept)
+      → HasNoStamp log caller kept (node_of caller kept colours text) colour after → BeginsOne what kept after
+  no_stamp_begins colour after (none_for_one only h) = inl refl
+  no_stamp_begins colour after (none_for_several places g) =
+      inr (several_may caller kept what colours text asks g.begins.several, refl)
+
+  stop_begins : (steps : ℕ) (after : Kept) → Stops log caller kept (node_of caller kept colours text) steps after
+      → BeginsOne what kept after
+  stop_begins steps after stopped_at_once = inl refl
+  stop_begins steps after (stopped_after n places s) =
+      inr (several_may caller kept what colours text asks s.begins.several, refl)
+
+module _ (log : Log) (caller : Caller) (kept : Kept) (what : What) where
+  memory_begins : (after : Kept) → FindsNoMemory log caller kept what after → BeginsOne what kept after
+  memory_begins after nothing = inl refl
+  memory_begins after (gone colours text places asks g) =
+      inr (several_may caller kept what colours text asks g.begins.several, refl)
+  memory_begins after (gave region colour too_low gives is low few all) = inl refl
+  memory_begins after (hidden other h) =
+      inl (hides_rows log caller kept (colours_synced caller what) (manner_of what) other h)
+
+  -- Whatever an answer says, the command began one row at most, and none where it may begin none.
+  pub explained_begins : (answer : Answer) (nodes : List PlacedNode) (after : Kept)
+      → Explains log caller kept what answer nodes after → BeginsOne what kept after
+  explained_begins answers.NoMemory nodes after e = memory_begins after e.1
+  explained_begins (answers.Stood stamp row points) nodes after e =
+      appends_begin log caller kept what e.2.0 e.2.1 e.2.2 stamp row points after e.2.3
+  explained_begins (answers.StampEnd colour) nodes after e =
+      no_stamp_begins log caller kept what e.2.0 e.2.1 e.2.2 colour after e.2.3
+  explained_begins (answers.Full used) nodes after e = inl (same_rows kept kept after e.2 refl)
+  explained_begins (answers.Stopped steps) nodes after e =
+      stop_begins log caller kept what e.1 e.2
+      (subst (λ (w : What). AsksToAppend caller kept w e.1 e.2) (sym e.3) (refl, refl)) steps after e.4
+  explained_begins (answers.Synced sync plays) nodes after e = inl (same_rows kept _ after e.4 refl)
+  explained_begins (answers.Scanned stamp count raises syncs) nodes after e =
+      inl (reads_rows log caller kept (members e.0) stamp raises syncs after e.3)
+  explained_begins (answers.Pulled count give carry) nodes after e =
+      inl
+      (same_rows kept (kept_after_pull kept caller.own e.1 e.2 e.4 carry e.6) after e.8
+      (place_rows (kept_after_event (with_places kept e.1 e.2 e.6) e.1 e.2 e.4) caller.own e.2 carry))
+  explained_begins answers.SameRegion nodes after e = inl (same_rows kept kept after e.1 refl)
+  explained_begins (answers.Based at base) nodes after e = inl (same_rows kept _ after e.6 refl)
+  explained_begins (answers.Got value sync) nodes after e = inl (same_rows kept _ after e.10 refl)
+  explained_begins (answers.GotMany values sync) nodes after e = inl (same_rows kept _ after e.7 refl)
+  explained_begins (answers.GotKeys stamp shown raises syncs) nodes after e =
+      let read = reads_rows log caller kept (colours_synced caller what) stamp raises syncs e.1 e.2 in
+      elim e.7 [
+        | inl g ↦ inl (same_rows kept e.1 after g.4 read)
+        | inr g ↦ inl (same_rows kept _ after g.4 read)
+      ]
+  explained_begins (answers.Ruled conflict stamp row points read_stamp raises syncs) nodes after e =
+      let s = e.2.3 in
+      then_keeps what kept s.1 after (appends_begin log caller kept what e.2.0 e.2.1 e.2.2 s.0 row points s.1 s.2)
+      (reads_rows log caller s.1 (colours_synced caller what) read_stamp raises syncs after s.3)
+  explained_begins answers.NoTx nodes after e = inl (same_rows kept kept after e.1 refl)
+  explained_begins (answers.Took value point sync) nodes after e =
+      let s = e.3.3 in
+      then_keeps what kept s.1 after
+      (appends_begin log caller kept what e.3.0 e.3.1 e.3.2 s.0 None (point ∷ []) s.1 s.2)
+      (same_rows s.1 _ after s.5 refl)
+  explained_begins (answers.UnreadTrimmed stamp colour base) nodes after e =
+      let s = e.3.3 in
+      then_keeps what kept s.0 after (unshown_begins log caller kept what e.3.0 e.3.1 e.3.2 stamp s.0 s.1)
+      (hides_rows log caller s.0 (colours_synced caller what) (manner_of what) after s.3)
+  explained_begins (answers.UnreadNoMemory stamp) nodes after e =
+      let s = e.2.3 in
+      then_keeps what kept s.0 after (unshown_begins log caller kept what e.2.0 e.2.1 e.2.2 stamp s.0 s.1)
+      (hides_rows log caller s.0 (colours_synced caller what) (manner_of what) after s.2)
+  explained_begins (answers.Trimmed colour base) nodes after e =
+      inl (hides_rows log caller kept (colours_synced caller what) (manner_of what) after e.4)
+  explained_begins (answers.NotHome home) nodes after e = inl (same_rows kept kept after e.1 refl)
+
+pub before_rows : (what : What) (kept : Kept) → KeepsRows kept (kept_before what kept)
+before_rows what kept = before_is (KeepsRows kept) what kept refl (λ _. refl)
+
+behind_rows : (what : What) (kept : Kept) → KeepsRows kept (kept_behind what kept)
+behind_rows what kept = behind_is (KeepsRows kept) what kept refl (λ _. refl)
+
+answer_begins : (log : Log) (caller : Caller) (kept : Kept) (command : Command) (reply : ReplyLine) (after : Kept)
+    → Answers log caller kept command reply after → BeginsOne command.what kept after
+answer_begins log caller kept command reply after a =
+    then_keeps command.what kept a.answered after
+    (keeps_then command.what kept (kept_before command.what kept) a.answered (before_rows command.what kept)
+    (explained_begins log caller (kept_before command.what kept) command.what reply.answer reply.nodes a.answered
+    a.explained))
+    (same_rows a.answered _ after a.after_is (behind_rows command.what a.answered))
+
+-- COMMANDS
+-- how many of the commands may begin a row
+abbrev pub that_begin : List Command → ℕ
+that_begin commands = count_by (λ (c : Command). may_begin c.what) commands
+
+one_more : (commands : List Command) (command : Command)
+    → that_begin (commands ++ command ∷ []) ≡ that_begin commands + cond (may_begin command.what) 1 0
+one_more commands command = sum_by_push (λ (c : Command). cond (may_begin c.what) 1 0) commands command
+
+-- a command that may begin a row is one more
+pub one_that_begins : (commands : List Command) (command : Command) → may_begin command.what ≡ true
+    → that_begin (commands ++ command ∷ []) ≡ that_begin commands + 1
+one_that_begins commands command may =
+    one_more commands command ∙ ap (λ b. that_begin commands + cond b 1 0) may
+
+pub no_fewer : (commands : List Command) (command : Command)
+    → that_begin commands ≤ that_begin (commands ++ command ∷ [])
+no_fewer commands command = let total = one_more commands command in omega (arith, total)
+
+-- a client has begun no more rows than it has asked commands that may begin one
+pub begun_rows : {log : Log} {caller : Caller} {commands : List Command} {replies : List ReplyLine} {kept : Kept}
+    → Explained log caller commands replies kept → kept.rows ≤ that_begin commands
+begun_rows start = omega arith
+begun_rows {log} {caller} (next {commands} {replies} {kept} {after} command reply before answers) =
+    let r = begun_rows before in
+    elim (answer_begins log caller kept command reply after answers) [
+      | inl s ↦ let more = no_fewer commands command in omega (arith, r, more, s)
+      | inr s ↦ let more = one_that_begins commands command s.0 in let one = s.1 in omega (arith, r, more, one)
+    ]

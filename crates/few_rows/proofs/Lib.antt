@@ -1,0 +1,7 @@
+mod Begins
+mod MoreFacts
+mod MoreReads
+mod MoreAppends
+mod MoreReplies
+mod MoreRows
+pub mod CallerLemmas

@@ -1,0 +1,297 @@
+-- What a log explains to a client that may begin few rows, it explains too where the client may begin more, if a row
+-- was left for each command that may begin one.
+use Rattle.std.proofs.Common.{◌≡◌, true, ℕ, ◌<◌, ◌≤◌, List, [], ◌∷◌, None, sym, subst, ◌∙◌, arith}
+use Rattle.std.specs.List.{Contains}
+use Rattle.log_node.specs.declared.ids.Colours.{Colours}
+use Rattle.log_node.specs.declared.ids.Counts.{Counts}
+use Rattle.log_node.specs.declared.node.At.{At}
+use Rattle.log_node.specs.declared.node.At.TheVariants.{Event, Look}
+use Rattle.log_node.specs.Seen.{PlacedNode}
+use Rattle.log_node.specs.Sets.{members}
+use Rattle.object_fold.specs.Maps.{Value}
+use Rattle.col_core.specs.Log.{Log}
+use Rattle.col_core.specs.Keeping.{Kept}
+use Rattle.script_text.specs.declared.script.What.{What}
+use Rattle.script_text.specs.declared.script.Command.{Command}
+use Rattle.report_text.specs.declared.report.Answer.{Answer}
+use Rattle.report_text.specs.declared.report.Answer.TheVariants as answers
+use Rattle.report_text.specs.declared.report.PointPiece.{PointPiece}
+use Rattle.report_text.specs.declared.report.ReplyLine.{ReplyLine}
+use Rattle.report_text.specs.declared.report.SyncPiece.{SyncPiece}
+use Rattle.lawful_run.specs.Callers.{Caller, node_of}
+use Rattle.lawful_run.specs.Asks.{AsksToAppend, colours_synced, manner_of}
+use Rattle.lawful_run.specs.Appends.{IsFull}
+use Rattle.lawful_run.specs.Reads.{ReadsAt}
+use Rattle.lawful_run.specs.Moves.{CarriesAt, Pulls, Trims}
+use Rattle.lawful_run.specs.Objects.{GetsValue, GetsValues, Takes}
+use Rattle.lawful_run.specs.Refusals.{Hides, FindsNoMemory, nothing, gone, gave, hidden, kept_before}
+use Rattle.lawful_run.specs.Explains.{Explains, Answers, Explained, start, next}
+use Rattle.few_rows.specs.Needs.{may_begin}
+use Rattle.few_rows.proofs.Begins.{several_may, before_rows, that_begin, one_that_begins, no_fewer, begun_rows}
+use Rattle.few_rows.proofs.MoreFacts.{limited, home_same, synced_same, asks_more, away_fewer}
+use Rattle.few_rows.proofs.MoreReads.{syncs_more, played_more, trimmed_more, read_more, hides_more}
+use Rattle.few_rows.proofs.MoreAppends.{append_more, unshown_more, has_no_stamp_more, stops_more, for_memory_more}
+
+module _ (log : Log) (caller : Caller) (rows : ℕ) (few : rows ≤ caller.rows) where
+  carries_more : (kept : Kept) (region colour nodes : ℕ) (at : At)
+      → CarriesAt log (limited caller rows) kept region colour nodes at
+      → CarriesAt log caller kept region colour nodes at
+  carries_more kept region colour nodes (Event place) c = c
+  carries_more kept region colour nodes (Look events) c = c
+
+  pulls_more : (kept : Kept) (region colour nodes place : ℕ) (carry : At) (too_low : List ℕ)
+      → Pulls log (limited caller rows) kept region colour nodes place carry too_low
+      → Pulls log caller kept region colour nodes place carry too_low
+  pulls_more kept region colour nodes place carry too_low p = record {
+    another = p.another;
+    made_again = p.made_again;
+    unseen = p.unseen;
+    from = p.from;
+    gives = p.gives;
+    asks_on = p.asks_on;
+    carries = carries_more kept region colour nodes carry p.carries;
+    holds = p.holds;
+  }
+
+  trims_more : (kept : Kept) (colour place : ℕ) (shown : Counts)
+      → Trims log (limited caller rows) kept colour place shown → Trims log caller kept colour place shown
+  trims_more kept colour place shown t = record { unseen = t.unseen; trimmed = t.trimmed; is_base = t.is_base }
+
+  -- OBJECTS
+  gets_more : (colours : List ℕ) (sync : SyncPiece) (key : List ℕ) (value : Value)
+      → GetsValue log (limited caller rows) colours sync key value → GetsValue log caller colours sync key value
+  gets_more colours sync key value g = record { nodes = g.nodes; played = g.played; value_is = g.value_is }
+
+  gets_values_more : (sync : SyncPiece) (key : List ℕ) (values : List (List ℕ))
+      → GetsValues log (limited caller rows) sync key values → GetsValues log caller sync key values
+  gets_values_more sync key values g = record { nodes = g.nodes; played = g.played; answer = g.answer }
+
+  takes_more : (point : PointPiece) (value : Value) → Takes log (limited caller rows) point value
+      → Takes log caller point value
+  takes_more point value t = record { nodes = t.nodes; before = t.before; value_is = t.value_is }
+
+  -- ANSWERS
+  -- where a row is left for what may begin one, no append finds that all are begun
+  never_full : (kept : Kept) (what : What) (colours : Colours) (text : List ℕ) (used : ℕ)
+      → (may_begin what ≡ true → kept.rows < rows) → AsksToAppend (limited caller rows) kept what colours text
+      → IsFull (limited caller rows) kept colours used → ⊥
+  never_full kept what colours text used left asks full =
+      let l = left (several_may (limited caller rows) kept what colours text asks full.several) in
+      let all = full.all in
+      omega (arith, l, all)
+
+  hidden_more : (kept : Kept) (what : What) (after : Kept)
+      → Hides log (limited caller rows) kept (colours_synced (limited caller rows) what) (manner_of what) after
+      → Hides log caller kept (colours_synced caller what) (manner_of what) after
+  hidden_more kept what after h =
+      subst (λ (colours : List ℕ). Hides log caller kept colours (manner_of what) after) (synced_same caller rows what)
+      (hides_more log caller rows kept (colours_synced (limited caller rows) what) (manner_of what) after h)
+
+  memory_more : (kept : Kept) (what : What) (after : Kept) → FindsNoMemory log (limited caller rows) kept what after
+      → FindsNoMemory log caller kept what after
+  memory_more kept what after nothing = nothing
+  memory_more kept what after (gone colours text places asks g) =
+      gone colours text places (asks_more caller rows kept what colours text asks)
+      (for_memory_more log caller rows few kept (node_of caller kept colours text) places g)
+  memory_more kept what after (gave region colour too_low gives is low few_gives all) =
+      gave region colour too_low gives is low few_gives all
+  memory_more kept what after (hidden then h) = hidden then (hidden_more kept what then h)
+
+  explains_more : (kept : Kept) (what : What) (answer : Answer) (nodes : List PlacedNode) (after : Kept)
+      → (may_begin what ≡ true → kept.rows < rows)
+      → Explains log (limited caller rows) kept what answer nodes after
+      → Explains log caller kept what answer nodes after
+  explains_more kept what answers.NoMemory nodes after left e = (e.0, memory_more kept what after e.1)
+  explains_more kept what (answers.Stood stamp row points) nodes after left e = (
+    e.0,
+    e.1,
+    (
+      e.2.0,
+      e.2.1,
+      asks_more caller rows kept what e.2.0 e.2.1 e.2.2,
+      append_more log caller rows few kept (node_of caller kept e.2.0 e.2.1) stamp row points after e.2.3,
+    ),
+  )
+  explains_more kept what (answers.StampEnd colour) nodes after left e = (
+    e.0,
+    e.1,
+    (
+      e.2.0,
+      e.2.1,
+      asks_more caller rows kept what e.2.0 e.2.1 e.2.2,
+      has_no_stamp_more log caller rows few kept (node_of caller kept e.2.0 e.2.1) colour after e.2.3,
+    ),
+  )
+  explains_more kept what (answers.Full used) nodes after left e =
+      absurd (never_full kept what e.3.0 e.3.1 used left e.3.2 e.3.3)
+  explains_more kept what (answers.Stopped steps) nodes after left e =
+      (e.0, e.1, e.2, e.3, stops_more log caller rows few kept (node_of caller kept e.1 e.2) steps after e.4)
+  explains_more kept what (answers.Synced sync plays) nodes after left e = (
+    e.0,
+    e.1,
+    syncs_more log caller rows kept sync.colour sync.events sync.counts e.2,
+    played_more log caller rows kept sync.colour sync.events sync.counts nodes e.3,
+    e.4,
+  )
+  explains_more kept what (answers.Scanned stamp count raises syncs) nodes after left e = (
+    e.0,
+    e.1,
+    e.2,
+    read_more log caller rows kept (members e.0) stamp raises syncs after e.3,
+    e.4,
+    e.5,
+    e.6,
+  )
+  explains_more kept what (answers.Pulled count give carry) nodes after left e =
+      (e.0, e.1, e.2, e.3, e.4, e.5, e.6, pulls_more kept e.1 e.2 count e.4 carry e.6 e.7, e.8)
+  explains_more kept what answers.SameRegion nodes after left e = e
+  explains_more kept what (answers.Based shown base) nodes after left e =
+      (e.0, e.1, e.2, e.3, e.4, trims_more kept e.1 e.3 base e.5, e.6)
+  explains_more kept what (answers.Got value sync) nodes after left e = (
+    e.0,
+    e.1,
+    e.2,
+    e.3,
+    e.4,
+    e.5,
+    e.6,
+    sym (synced_same caller rows what) ∙ e.7,
+    syncs_more log caller rows kept sync.colour sync.events sync.counts e.8,
+    gets_more e.5 sync e.2 value e.9,
+    e.10,
+  )
+  explains_more kept what (answers.GotMany values sync) nodes after left e = (
+    e.0,
+    e.1,
+    e.2,
+    e.3,
+    e.4,
+    syncs_more log caller rows kept sync.colour sync.events sync.counts e.5,
+    gets_values_more sync e.2 values e.6,
+    e.7,
+  )
+  explains_more kept what (answers.GotKeys stamp shown raises syncs) nodes after left e = (
+    e.0,
+    e.1,
+    subst (λ (colours : List ℕ). ReadsAt log caller kept colours stamp raises syncs e.1) (synced_same caller rows what)
+        (read_more log caller rows kept (colours_synced (limited caller rows) what) stamp raises syncs e.1 e.2),
+    e.3,
+    e.4,
+    e.5,
+    e.6,
+    e.7,
+  )
+  explains_more kept what (answers.Ruled conflict stamp row points read_stamp raises syncs) nodes after left e =
+      let a = e.2 in
+      let s = a.3 in (
+        e.0,
+        e.1,
+        (
+          a.0,
+          a.1,
+          asks_more caller rows kept what a.0 a.1 a.2,
+          (
+            s.0,
+            s.1,
+            append_more log caller rows few kept (node_of caller kept a.0 a.1) s.0 row points s.1 s.2,
+            subst (λ (colours : List ℕ). ReadsAt log caller s.1 colours read_stamp raises syncs after)
+                (synced_same caller rows what)
+                (read_more log caller rows s.1 (colours_synced (limited caller rows) what) read_stamp raises syncs after
+                s.3),
+            s.4,
+            s.5,
+            s.6,
+            s.7,
+            s.8,
+          ),
+        ),
+      )
+  explains_more kept what answers.NoTx nodes after left e = e
+  explains_more kept what (answers.Took value point sync) nodes after left e =
+      let a = e.3 in
+      let s = a.3 in (
+        e.0,
+        e.1,
+        e.2,
+        (
+          a.0,
+          a.1,
+          asks_more caller rows kept what a.0 a.1 a.2,
+          (
+            s.0,
+            s.1,
+            append_more log caller rows few kept (node_of caller kept a.0 a.1) s.0 None (point ∷ []) s.1 s.2,
+            syncs_more log caller rows s.1 sync.colour sync.events sync.counts s.3,
+            takes_more point value s.4,
+            s.5,
+          ),
+        ),
+      )
+  explains_more kept what (answers.UnreadTrimmed stamp colour base) nodes after left e =
+      let a = e.3 in
+      let s = a.3 in (
+        e.0,
+        e.1,
+        subst (λ (colours : List ℕ). Contains colours colour) (synced_same caller rows what) e.2,
+        (
+          a.0,
+          a.1,
+          asks_more caller rows kept what a.0 a.1 a.2,
+          (
+            s.0,
+            unshown_more log caller rows few kept (node_of caller kept a.0 a.1) stamp s.0 s.1,
+            trimmed_more log caller rows s.0 colour base s.2,
+            hidden_more s.0 what after s.3,
+          ),
+        ),
+      )
+  explains_more kept what (answers.UnreadNoMemory stamp) nodes after left e =
+      let a = e.2 in
+      let s = a.3 in (
+        e.0,
+        e.1,
+        (
+          a.0,
+          a.1,
+          asks_more caller rows kept what a.0 a.1 a.2,
+          (
+            s.0,
+            unshown_more log caller rows few kept (node_of caller kept a.0 a.1) stamp s.0 s.1,
+            hidden_more s.0 what after s.2,
+          ),
+        ),
+      )
+  explains_more kept what (answers.Trimmed colour base) nodes after left e = (
+    e.0,
+    e.1,
+    subst (λ (colours : List ℕ). Contains colours colour) (synced_same caller rows what) e.2,
+    trimmed_more log caller rows kept colour base e.3,
+    hidden_more kept what after e.4,
+  )
+  explains_more kept what (answers.NotHome home) nodes after left e =
+      (e.0, e.1, sym (home_same caller rows what) ∙ e.2, e.3)
+
+  answers_more : (kept : Kept) (command : Command) (reply : ReplyLine) (after : Kept)
+      → (may_begin command.what ≡ true → kept.rows < rows)
+      → Answers log (limited caller rows) kept command reply after → Answers log caller kept command reply after
+  answers_more kept command reply after left a = record {
+    line = a.line;
+    word = a.word;
+    answered = a.answered;
+    explained = explains_more (kept_before command.what kept) command.what reply.answer reply.nodes a.answered
+        (λ may. let l = left may in let same = before_rows command.what kept in omega (arith, l, same)) a.explained;
+    after_is = a.after_is;
+    away = λ away. a.away (away_fewer caller rows command.what away);
+  }
+
+  -- what is explained stays so, where there are as many rows as commands that may begin one
+  pub explained_more : {commands : List Command} {replies : List ReplyLine} {kept : Kept}
+      → that_begin commands ≤ rows → Explained log (limited caller rows) commands replies kept
+      → Explained log caller commands replies kept
+  explained_more enough start = start
+  explained_more enough (next {commands} {replies} {kept} {after} command reply before last) =
+      let fewer = no_fewer commands command in
+      let begun = begun_rows before in
+      next command reply (explained_more (omega (arith, enough, fewer)) before)
+      (answers_more kept command reply after
+      (λ may. let more = one_that_begins commands command may in omega (arith, enough, more, begun)) last)
