@@ -28,7 +28,7 @@ use Rattle.lawful_run.specs.Reads.{kept_after_place, kept_after_piece, Raises, C
 use Rattle.lawful_run.specs.Refusals.{Hides, FindsNoMemory, nothing, gone, gave, hidden, kept_before, kept_behind}
 use Rattle.lawful_run.specs.Stops.{Stops, stopped_at_once, stopped_after}
 use Rattle.lawful_run.specs.Explains.{Explains, Answers, Explained, start, next}
-use Rattle.few_rows.specs.Needs.{may_begin}
+use Rattle.script_beside.specs.Begins.{may_begin}
 
 -- as many rows are begun
 abbrev pub KeepsRows : Kept → Kept → Type 0

@@ -26,7 +26,7 @@ use Rattle.lawful_run.specs.Moves.{CarriesAt, Pulls, Trims}
 use Rattle.lawful_run.specs.Objects.{GetsValue, GetsValues, Takes}
 use Rattle.lawful_run.specs.Refusals.{Hides, FindsNoMemory, nothing, gone, gave, hidden, kept_before}
 use Rattle.lawful_run.specs.Explains.{Explains, Answers, Explained, start, next}
-use Rattle.few_rows.specs.Needs.{may_begin}
+use Rattle.script_beside.specs.Begins.{may_begin}
 use Rattle.few_rows.proofs.Begins.{several_may, before_rows, that_begin, one_that_begins, no_fewer, begun_rows}
 use Rattle.few_rows.proofs.MoreFacts.{limited, home_same, synced_same, asks_more, away_fewer}
 use Rattle.few_rows.proofs.MoreReads.{syncs_more, played_more, trimmed_more, read_more, hides_more}

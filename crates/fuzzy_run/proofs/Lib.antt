@@ -11,6 +11,7 @@ mod GivingPuts
 mod ReplyRoom
 mod GivingGets
 mod FewShown
+mod FewerRows
 mod ReadKeys
 mod GivingReads
 mod ReadsFound

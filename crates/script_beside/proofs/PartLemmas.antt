@@ -6,7 +6,7 @@ use Rattle.std.proofs.Math.Seq.{take-add}
 use Rattle.std.proofs.lemmas.Bool.{or_parts, cases_lt}
 use Rattle.std.proofs.lemmas.List.{flat_map_more, take_more, take_all, take_at, take-append-le, get_or_append_left, get_or_push, length_push}
 use Rattle.std.proofs.lemmas.List.Elements.{All-nil, All-cons, All-head, All-tail, All-append, All-map, All-filter, All-weaker}
-use Rattle.std.proofs.lemmas.List.Sums.{sum_by-append, count_by-le-length}
+use Rattle.std.proofs.lemmas.List.Sums.{sum_by-append, sum_by-cons, count_by-le-length}
 use Rattle.std.proofs.lemmas.Grind.{flat_map-append}
 use Rattle.std.proofs.lemmas.Option.{get_or_from_slice_get, slice_get_within, slice_get_read, slice_get-get_or}
 use Rattle.memchr.specs.Find.{OccursAt}
@@ -27,6 +27,7 @@ use Rattle.script_beside.specs.declared.dealt.DealtScript.{DealtScript}
 use Rattle.script_beside.specs.declared.cuts.Cut.{Cut}
 use Rattle.script_beside.specs.declared.cuts.Parted.{Parted}
 use Rattle.script_beside.specs.declared.part.ReadPart.{ReadPart}
+use Rattle.script_beside.specs.Begins.{may_begin, begins_in}
 use Rattle.script_beside.specs.Dealt.{IsDealt, GivesDealt}
 use Rattle.script_beside.specs.Joining.{later, EndsALine, IsHeader, NoneStops}
 use Rattle.script_beside.specs.Lists.{AreEmpty, AreOwn, AreBehind, AreShares}
@@ -112,15 +113,35 @@ later_stop : (k : ℕ) (asked : List Command) → NoneStops asked → NoneStops 
 later_stop k asked none = All-map (λ (c : Command). is_stop c.what ≡ false) (later k) asked none
 
 -- what was read of a part
-pub is_read : (header : List ℕ) (cut : Cut) (s : Script) (stops : Bool) (count : ℕ) (part : ReadPart) → IsScript (header ++ cut.bytes.now) s
+pub is_read : (header : List ℕ) (cut : Cut) (s : Script) (stops : Bool) (begins count : ℕ) (part : ReadPart) → IsScript (header ++ cut.bytes.now) s
     → count ≡ length s.clients → AreOwn count (map (later cut.before) s.commands) part.lists.items
-    → part.stops ≡ list_any (λ (c : Command). is_stop c.what) s.commands → IsRead header cut part
-is_read header cut s stops count part is many own stop = record {
+    → part.stops ≡ list_any (λ (c : Command). is_stop c.what) s.commands → part.begins ≡ begins_in s.commands → IsRead header cut part
+is_read header cut s stops begins count part is many own stop counted = record {
   script = s;
   is = is;
   lists = subst (λ (n : ℕ). AreOwn n (map (later cut.before) s.commands) part.lists.items) many own;
   stops = λ none. none_stops s.commands (sym stop ∙ none);
+  begins = counted;
 }
+
+-- ---- commands that may begin a row
+
+-- they are the same further down
+begins_later : (k : ℕ) (asked : List Command) → begins_in (map (later k) asked) ≡ begins_in asked
+begins_later k [] = refl
+begins_later k (c ∷ asked) =
+    let one : Command → ℕ = λ d. cond (may_begin d.what) 1 0 in
+    sum_by-cons one (later k c) (map (later k) asked) ∙ (ap (λ (n : ℕ). one c + n) (begins_later k asked) ∙ sym (sum_by-cons one c asked))
+
+begins_both : (front back : List Command) → begins_in (front ++ back) ≡ begins_in front + begins_in back
+begins_both front back = sum_by-append (λ (c : Command). cond (may_begin c.what) 1 0) front back
+
+-- a script has few of them
+begin_few : (bytes : List ℕ) (s : Script) → IsScript bytes s → begins_in s.commands < 2 ^ 15
+begin_few bytes s is =
+    let few = (script_fits bytes s is).few in
+    let less = count_by-le-length (λ (c : Command). may_begin c.what) s.commands in
+    omega (arith, few, less)
 
 -- ---- cuts
 
@@ -248,14 +269,15 @@ last_cut lines cuts all rest before cut so is left same =
 -- ---- putting together
 
 -- some of the bytes behind the header are a script with it, and its commands are in the shares
-pub record Gathers (h : List ℕ) (s0 : Script) (behind : List ℕ) (stops : Bool) (shares : List (Vec (Vec Command Global) Global)) : Type 0 where
+pub record Gathers (h : List ℕ) (s0 : Script) (behind : List ℕ) (stops : Bool) (begins : ℕ) (shares : List (Vec (Vec Command Global) Global)) : Type 0 where
   pub script : Script
   pub is : IsScript (h ++ behind) script
   pub shared : AreShares (length s0.clients) script.commands shares
   pub quiet : stops ≡ false → NoneStops script.commands
+  pub counted : begins ≡ begins_in script.commands
 
 pub none_yet : (p : Parted) (count : ℕ) (shares : List (Vec (Vec Command Global) Global)) → IsParted p → count ≡ length p.script.clients
-    → AreEmpty count shares → Gathers p.header.now p.script [] false shares
+    → AreEmpty count shares → Gathers p.header.now p.script [] false 0 shares
 none_yet p count shares parted many none =
     let idle = parted.header.idle in record {
       script = p.script;
@@ -263,16 +285,17 @@ none_yet p count shares parted many none =
       shared = subst (λ (n : ℕ). AreShares n p.script.commands shares) many
           (subst (λ (l : List Command). AreShares count l shares) (sym idle) (no_shares count shares none));
       quiet = λ still. subst (λ (l : List Command). NoneStops l) (sym idle) (All-nil (λ (c : Command). is_stop c.what ≡ false));
+      counted = ap begins_in (sym idle);
     }
 
 same_clients : (h a : List ℕ) (s0 s : Script) → IsHeader h s0 → IsScript (h ++ a) s → length s.clients ≡ length s0.clients
 same_clients h a s0 s header is = ap (λ (t : Script). length t.clients) (same_header h a s0 s header is)
 
-gathers_more : (h a : List ℕ) (s0 : Script) (cut : Cut) (part : ReadPart) (stops : Bool) (before after : List (Vec (Vec Command Global) Global))
-    → IsHeader h s0 → IsBehind a cut → Gathers h s0 a stops before → stops ≡ false → IsRead h cut part → AreBehind part.lists.items before after
+gathers_more : (h a : List ℕ) (s0 : Script) (cut : Cut) (part : ReadPart) (stops : Bool) (begins : ℕ) (before after : List (Vec (Vec Command Global) Global))
+    → IsHeader h s0 → IsBehind a cut → Gathers h s0 a stops begins before → stops ≡ false → IsRead h cut part → AreBehind part.lists.items before after
     → length (h ++ (a ++ cut.bytes.now)) ≤ MAX_BYTES → length (lines_of (h ++ (a ++ cut.bytes.now))) ≤ MAX_LINES
-    → Gathers h s0 (a ++ cut.bytes.now) part.stops after
-gathers_more h a s0 cut part stops before after header behind so still read put short few =
+    → Gathers h s0 (a ++ cut.bytes.now) part.stops (begins + part.begins) after
+gathers_more h a s0 cut part stops begins before after header behind so still read put short few =
     let first = so.script.commands in
     let second = map (later (length (lines_of a))) read.script.commands in
     let own : AreOwn (length s0.clients) second part.lists.items =
@@ -283,12 +306,28 @@ gathers_more h a s0 cut part stops before after header behind so still read put 
       shared = more_shares (length s0.clients) first second part.lists.items before after so.shared own put;
       quiet = λ none. All-append (λ (c : Command). is_stop c.what ≡ false) first second (so.quiet still)
           (later_stop (length (lines_of a)) read.script.commands (read.stops none));
+      counted =
+          let both = begins_both first second in
+          let same = begins_later (length (lines_of a)) read.script.commands in
+          let old = so.counted in
+          let new = read.begins in
+          omega (arith, both, same, old, new);
     }
 
+-- so many commands can be counted
+pub both_few : (h a : List ℕ) (s0 : Script) (cut : Cut) (part : ReadPart) (stops : Bool) (begins : ℕ) (shares : List (Vec (Vec Command Global) Global))
+    → Gathers h s0 a stops begins shares → IsRead h cut part → begins + part.begins < 2 ^ 16
+both_few h a s0 cut part stops begins shares so read =
+    let old = begin_few (h ++ a) so.script so.is in
+    let new = begin_few (h ++ cut.bytes.now) read.script read.is in
+    let counted = so.counted in
+    let more = read.begins in
+    omega (arith, old, new, counted, more)
+
 -- the lists of a part fit the shares
-pub lists_fit : (h a : List ℕ) (s0 : Script) (cut : Cut) (part : ReadPart) (stops : Bool) (shares : List (Vec (Vec Command Global) Global))
-    → IsHeader h s0 → Gathers h s0 a stops shares → IsRead h cut part → length part.lists.items ≤ length shares
-lists_fit h a s0 cut part stops shares header so read =
+pub lists_fit : (h a : List ℕ) (s0 : Script) (cut : Cut) (part : ReadPart) (stops : Bool) (begins : ℕ) (shares : List (Vec (Vec Command Global) Global))
+    → IsHeader h s0 → Gathers h s0 a stops begins shares → IsRead h cut part → length part.lists.items ≤ length shares
+lists_fit h a s0 cut part stops begins shares header so read =
     let same = same_clients h cut.bytes.now s0 read.script header read.is in
     let many = read.lists.many in
     let have = so.shared.many in
@@ -315,11 +354,11 @@ cut_at p parts n part read at =
     (cut, is, read.each n cut part is at)
 
 -- one part more
-pub next_part : (p : Parted) (parts : List (Option ReadPart)) (n : ℕ) (part : ReadPart) (stops : Bool) (before after : List (Vec (Vec Command Global) Global))
+pub next_part : (p : Parted) (parts : List (Option ReadPart)) (n : ℕ) (part : ReadPart) (stops : Bool) (begins : ℕ) (before after : List (Vec (Vec Command Global) Global))
     → IsParted p → AreRead p.header.now p.cuts.items parts → slice_get parts n ≡ Some (Some part)
-    → Gathers p.header.now p.script (bytes_of (take n p.cuts.items)) stops before → stops ≡ false → AreBehind part.lists.items before after
-    → Gathers p.header.now p.script (bytes_of (take (n + 1) p.cuts.items)) part.stops after
-next_part p parts n part stops before after parted read at so still put =
+    → Gathers p.header.now p.script (bytes_of (take n p.cuts.items)) stops begins before → stops ≡ false → AreBehind part.lists.items before after
+    → Gathers p.header.now p.script (bytes_of (take (n + 1) p.cuts.items)) part.stops (begins + part.begins) after
+next_part p parts n part stops begins before after parted read at so still put =
     let h = p.header.now in
     let found = cut_at p parts n part read at in
     let cut = found.0 in
@@ -335,24 +374,25 @@ next_part p parts n part stops before after parted read at so still put =
     let all_lines = ap (λ (l : List ℕ). length (lines_of l)) whole in
     let short = parted.short in
     let few = parted.few in
-    subst (λ (l : List ℕ). Gathers h p.script l part.stops after) (sym next)
-    (gathers_more h a p.script cut part stops before after parted.header (parted.cuts n cut found.1) so still found.2 put
+    subst (λ (l : List ℕ). Gathers h p.script l part.stops (begins + part.begins) after) (sym next)
+    (gathers_more h a p.script cut part stops begins before after parted.header (parted.cuts n cut found.1) so still found.2 put
     (omega (arith, lengths, all, short)) (omega (arith, lines, all_lines, few)))
 
 -- all parts
-pub all_gathered : (p : Parted) (parts : List (Option ReadPart)) (n : ℕ) (stops : Bool) (shares : Vec (Vec (Vec Command Global) Global) Global)
+pub all_gathered : (p : Parted) (parts : List (Option ReadPart)) (n : ℕ) (stops : Bool) (begins : ℕ) (shares : Vec (Vec (Vec Command Global) Global) Global)
     → IsParted p → AreRead p.header.now p.cuts.items parts → n ≡ length parts
-    → Gathers p.header.now p.script (bytes_of (take n p.cuts.items)) stops shares.items
-    → (script : Script) × IsScript (all_bytes p) script × IsDealt script (record { header = p.script; shares = shares })
-all_gathered p parts n stops shares parted read end so =
+    → Gathers p.header.now p.script (bytes_of (take n p.cuts.items)) stops begins shares.items
+    → (script : Script) × IsScript (all_bytes p) script × IsDealt script (record { header = p.script; shares = shares; begins = begins })
+all_gathered p parts n stops begins shares parted read end so =
     let many = read.many in
     let all : take n p.cuts.items ≡ p.cuts.items = take_all n p.cuts.items (omega (arith, end, many)) in
     let h = p.header.now in
     let same = same_header h (bytes_of (take n p.cuts.items)) p.script so.script parted.header so.is in (
       so.script,
       subst (λ (l : List Cut). IsScript (h ++ bytes_of l) so.script) all so.is,
-      all_dealt so.script p.script shares same parted.header.idle
-          (subst (λ (k : ℕ). AreShares k so.script.commands shares.items) (sym (ap (λ (t : Script). length t.clients) same)) so.shared),
+      all_dealt so.script p.script shares begins same parted.header.idle
+          (subst (λ (k : ℕ). AreShares k so.script.commands shares.items) (sym (ap (λ (t : Script). length t.clients) same)) so.shared)
+          so.counted,
     )
 
 -- ---- the whole

@@ -7,18 +7,21 @@ use Rattle.script_text.specs.declared.script.Script.{Script}
 use Rattle.script_text.specs.declared.reading.ScriptFault.{ScriptFault}
 use Rattle.script_text.specs.declared.reading.ScriptFault.TheVariants.{Refused, NoMemory}
 use Rattle.script_beside.specs.declared.dealt.DealtScript.{DealtScript}
+use Rattle.script_beside.specs.Begins.{begins_in}
 
 -- the commands of a share, in order
 abbrev pub commands_in : List (Vec Command Global) → List Command
 commands_in pieces = flat_map (λ (piece : Vec Command Global). piece.items) pieces
 
--- The header is the script without its commands, and each client has its own of them, in their order.
+-- The header is the script without its commands, and each client has its own of them, in their order; and as many may begin
+-- a row as is told.
 pub record IsDealt (script : Script) (d : DealtScript) : Type 0 where
   pub header : script ≡ record d.header { commands = script.commands }
   pub without : d.header.commands ≡ []
   pub many : length d.shares.items ≡ length script.clients
   pub each : (n : ℕ) (share : Vec (Vec Command Global) Global) → slice_get d.shares.items n ≡ Some share
       → commands_in share.items ≡ filter (λ (c : Command). c.client == n) script.commands
+  pub begins : d.begins ≡ begins_in script.commands
 
 -- the script was given, dealt out, unless memory ran out
 abbrev pub GivesDealt : Result DealtScript ScriptFault → Script → Type 0

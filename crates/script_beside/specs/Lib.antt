@@ -1,3 +1,4 @@
+pub mod Begins
 pub mod Dealt
 pub mod Joining
 pub mod Lists

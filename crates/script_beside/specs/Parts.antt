@@ -8,6 +8,7 @@ use Rattle.script_text.specs.Grammar.{IsScript}
 use Rattle.script_beside.specs.declared.cuts.Cut.{Cut}
 use Rattle.script_beside.specs.declared.cuts.Parted.{Parted}
 use Rattle.script_beside.specs.declared.part.ReadPart.{ReadPart}
+use Rattle.script_beside.specs.Begins.{begins_in}
 use Rattle.script_beside.specs.Joining.{later, EndsALine, IsHeader, NoneStops}
 use Rattle.script_beside.specs.Lists.{AreOwn}
 
@@ -46,6 +47,7 @@ pub record IsRead (header : List ℕ) (cut : Cut) (part : ReadPart) : Type 0 whe
   pub is : IsScript (header ++ cut.bytes.now) script
   pub lists : AreOwn (length script.clients) (map (later cut.before) script.commands) part.lists.items
   pub stops : part.stops ≡ false → NoneStops script.commands
+  pub begins : part.begins ≡ begins_in script.commands
 
 -- as many as there are parts, each read or not
 pub record AreRead (header : List ℕ) (cuts : List Cut) (parts : List (Option ReadPart)) : Type 0 where

@@ -4,6 +4,7 @@ ghost use Rattle.std.specs.List.{All};
 ghost use Rattle.script_text.specs.declared.script.Command.{Command};
 ghost use Rattle.script_beside.specs.Dealt.{IsDealt};
 
+use crate::begins::begins_in;
 use crate::dealt::DealtScript;
 use crate::lists::{empty_lists, own_lists, put_behind};
 use log_node::ListOf;
@@ -17,6 +18,7 @@ pub fn deal(alloc: Global, mut script: Script) -> Result<DealtScript, AllocError
     ensures { IfOk result (IsDealt script) }
 {
     let clients = script.clients.len();
+    let begins = begins_in(script.commands.as_slice());
     let commands = mem::replace(&mut script.commands, ListOf::new(alloc));
     let lists = own_lists(alloc, clients, commands, 0)?;
     let mut shares = empty_lists(alloc, clients, 1)?;
@@ -24,5 +26,6 @@ pub fn deal(alloc: Global, mut script: Script) -> Result<DealtScript, AllocError
     Ok(DealtScript {
         header: script,
         shares,
+        begins,
     })
 }

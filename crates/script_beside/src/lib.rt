@@ -1,6 +1,7 @@
 //! Reads a script on threads, and deals its commands out to its clients.
 #![tactic(auto)]
 
+mod begins;
 mod cuts;
 mod cutting;
 mod dealing;

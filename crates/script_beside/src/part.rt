@@ -6,6 +6,7 @@ ghost use Rattle.script_text.specs.declared.script.Command.{Command};
 ghost use Rattle.script_text.specs.Items.{is_stop};
 ghost use Rattle.script_beside.specs.Parts.{IsRead, AreRead};
 
+use crate::begins::begins_in;
 use crate::cuts::Cut;
 use crate::lists::own_lists;
 use script_text::{Command, ScriptFault, What, parse};
@@ -20,6 +21,8 @@ pub struct ReadPart {
     pub lists: Vec<Vec<Command>>,
     /// Whether one of them stops its client.
     pub stops: bool,
+    /// How many of them may begin a row.
+    pub begins: usize,
 }
 
 // The part's bytes behind the header's.
@@ -47,8 +50,13 @@ fn read(alloc: Global, header: &[u8], cut: &Cut<'_>) -> Result<ReadPart, ScriptF
     let all = behind(alloc, header, cut.bytes)?;
     let script = parse(alloc, all.as_slice())?;
     let stops = has_stop(script.commands.as_slice());
+    let begins = begins_in(script.commands.as_slice());
     let lists = own_lists(alloc, script.clients.len(), script.commands, cut.before)?;
-    Ok(ReadPart { lists, stops })
+    Ok(ReadPart {
+        lists,
+        stops,
+        begins,
+    })
 }
 
 // A part, where its lines are a script's behind the header and there is memory.

@@ -28,6 +28,7 @@ fn put_together(
 {
     let mut shares = empty_lists(alloc, parted.script.clients.len(), PARTS)?;
     let mut stops = false;
+    let mut begins = 0;
     for part in parts {
         let Some(part) = part else {
             return Ok(None);
@@ -36,11 +37,13 @@ fn put_together(
             return Ok(None);
         }
         stops = part.stops;
+        begins += part.begins;
         put_behind(&mut shares, part.lists)?;
     }
     Ok(Some(DealtScript {
         header: parted.script,
         shares,
+        begins,
     }))
 }
 

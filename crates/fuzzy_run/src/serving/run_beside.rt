@@ -9,6 +9,7 @@ use crate::serving::beside::serve_beside;
 use crate::serving::dealing::make_ready;
 use crate::serving::ending::end_report;
 use crate::serving::served::Served;
+use few_rows::rows_for;
 use fuzzy_io::Gate;
 use log_client::{Client, Store};
 use log_node::ListOf;
@@ -35,10 +36,8 @@ fn parted(
     Ok((clients, replies))
 }
 
-/// Serves the clients of a script beside one another, each on a thread of its own where one can be made. A command that
-/// finds no memory is answered so, and the run goes on; `Err` means that there was no memory before the first command, or
-/// none after the last. The report is that of a lawful run.
-pub fn run_beside<R: Threads + Wait + Sync, G: Gate>(
+// The run over a store of as many rows as the script has.
+fn run_in_store<R: Threads + Wait + Sync, G: Gate>(
     rt: &R,
     alloc: Global,
     gate: &G,
@@ -47,11 +46,32 @@ pub fn run_beside<R: Threads + Wait + Sync, G: Gate>(
     requires { (script : Script) × CanRun script dealt }
     ensures { IfOk result (λ report. (script : Script) → CanRun script dealt → LawfulRun script report) }
 {
-    let DealtScript { header, shares } = dealt;
+    let DealtScript {
+        header,
+        shares,
+        begins: _,
+    } = dealt;
     let (store, clients) = Store::open(alloc, &header.shape)?;
     let mut served = make_ready(alloc, clients, header.objects.as_slice(), shares)?;
     serve_beside(rt, alloc, &store, gate, served.as_mut_slice());
     let (clients, replies) = parted(alloc, served)?;
     let closed = store.close(rt, alloc, clients.into())?;
     end_report(alloc, &header, closed, replies)
+}
+
+/// Serves the clients of a script beside one another, each on a thread of its own where one can be made. A command that
+/// finds no memory is answered so, and the run goes on; `Err` means that there was no memory before the first command, or
+/// none after the last. The report is that of a lawful run. The store has no more rows than the commands may begin, however
+/// many the script allows.
+pub fn run_beside<R: Threads + Wait + Sync, G: Gate>(
+    rt: &R,
+    alloc: Global,
+    gate: &G,
+    mut dealt: DealtScript,
+) -> Result<Report, AllocError>
+    requires { (script : Script) × CanRun script dealt }
+    ensures { IfOk result (λ report. (script : Script) → CanRun script dealt → LawfulRun script report) }
+{
+    dealt.header.shape.rows = rows_for(dealt.header.shape.rows, dealt.begins);
+    run_in_store(rt, alloc, gate, dealt)
 }

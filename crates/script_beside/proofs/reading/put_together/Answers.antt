@@ -1,10 +1,10 @@
-use Rattle.std.proofs.Common.{◌∙◌, ℕ, Some, length, take, refl, sym, ap, subst}
+use Rattle.std.proofs.Common.{◌∙◌, ℕ, ◌+◌, arith, Some, length, take, refl, sym, ap, subst}
 use Rattle.std.proofs.lemmas.List.{length_push}
 use Rattle.std.proofs.lemmas.Option.{slice_get_read}
 use Rattle.std.proofs.lemmas.Iterator.Adapters.{YieldsList-from_vec}
 use Rattle.std.proofs.lemmas.Iterator.Consumers.{YieldsList-turn, YieldsList-end}
 use Rattle.script_beside.specs.Parts.{bytes_of}
-use Rattle.script_beside.proofs.PartLemmas.{Gathers, none_yet, cut_at, lists_fit, next_part, all_gathered}
+use Rattle.script_beside.proofs.PartLemmas.{Gathers, none_yet, cut_at, both_few, lists_fit, next_part, all_gathered}
 use Rattle.script_beside.proofs.reading.put_together.Goals as goal
 
 pub loop-part-init : goal.loop-part-init
@@ -20,8 +20,22 @@ put_behind-requires c =
     let t = YieldsList-turn all c.loop-part.yielded _ c.loop-part.yielded_by _ c.next.new.self c.in-Some.part c.in-Some.is c.next.ensures.steps in
     let at = slice_get_read parts (length parts) n c.in-Some.part refl t.0 t.1 ∙ ap (λ x. Some x) c.in-Some-part.is in
     let found = cut_at p parts n c.in-Some-part.part c.requires.read at in
-    lists_fit p.header.now (bytes_of (take n p.cuts.items)) p.script found.0 c.in-Some-part.part c.loop-part.stops c.loop-part.shares.items
-    c.requires.parted.header c.loop-part.invariant found.2
+    lists_fit p.header.now (bytes_of (take n p.cuts.items)) p.script found.0 c.in-Some-part.part c.loop-part.stops c.loop-part.begins
+    c.loop-part.shares.items c.requires.parted.header c.loop-part.invariant found.2
+
+pub overflow_add-begins : goal.overflow_add-begins
+overflow_add-begins c =
+    let p = c.args.parted in
+    let parts = c.args.parts.items in
+    let n = length c.loop-part.yielded in
+    let gives = c.into_iter-part-iterator.ensures.into_iter_gives in
+    let all = YieldsList-from_vec {s = c.into_iter-part-iterator.result} parts gives.0 (gives.1 ∙ c.args.parts.ok.0) in
+    let t = YieldsList-turn all c.loop-part.yielded _ c.loop-part.yielded_by _ c.next.new.self c.in-Some.part c.in-Some.is c.next.ensures.steps in
+    let at = slice_get_read parts (length parts) n c.in-Some.part refl t.0 t.1 ∙ ap (λ x. Some x) c.in-Some-part.is in
+    let found = cut_at p parts n c.in-Some-part.part c.requires.read at in
+    let few = both_few p.header.now (bytes_of (take n p.cuts.items)) p.script found.0 c.in-Some-part.part c.loop-part.stops c.loop-part.begins
+    c.loop-part.shares.items c.loop-part.invariant found.2 in
+    record { fits = omega (arith, few) }
 
 pub loop-part-preserved : goal.loop-part-preserved
 loop-part-preserved c =
@@ -32,9 +46,10 @@ loop-part-preserved c =
     let all = YieldsList-from_vec {s = c.into_iter-part-iterator.result} parts gives.0 (gives.1 ∙ c.args.parts.ok.0) in
     let t = YieldsList-turn all c.loop-part.yielded _ c.loop-part.yielded_by _ c.next.new.self c.in-Some.part c.in-Some.is c.next.ensures.steps in
     let at = slice_get_read parts (length parts) n c.in-Some.part refl t.0 t.1 ∙ ap (λ x. Some x) c.in-Some-part.is in
-    subst (λ (k : ℕ). Gathers p.header.now p.script (bytes_of (take k p.cuts.items)) c.in-Some-part.part.stops c.put_behind.new.shares.items)
+    subst (λ (k : ℕ). Gathers p.header.now p.script (bytes_of (take k p.cuts.items)) c.in-Some-part.part.stops (c.loop-part.begins + c.in-Some-part.part.begins)
+    c.put_behind.new.shares.items)
     (sym (length_push c.loop-part.yielded c.in-Some.part))
-    (next_part p parts n c.in-Some-part.part c.loop-part.stops c.loop-part.shares.items c.put_behind.new.shares.items
+    (next_part p parts n c.in-Some-part.part c.loop-part.stops c.loop-part.begins c.loop-part.shares.items c.put_behind.new.shares.items
     c.requires.parted c.requires.read at c.loop-part.invariant c.if-stops.false c.in_ok-put_behind.ensures)
 
 pub returns : goal.returns
@@ -43,5 +58,5 @@ returns c =
     let gives = c.into_iter-part-iterator.ensures.into_iter_gives in
     let all = YieldsList-from_vec {s = c.into_iter-part-iterator.result} parts gives.0 (gives.1 ∙ c.args.parts.ok.0) in
     let t = YieldsList-end all c.loop-part.yielded _ c.loop-part.yielded_by _ c.next.new.self c.in-None.is c.next.ensures.steps in
-    all_gathered c.args.parted parts (length c.loop-part.yielded) c.loop-part.stops c.loop-part.shares c.requires.parted c.requires.read t.1
+    all_gathered c.args.parted parts (length c.loop-part.yielded) c.loop-part.stops c.loop-part.begins c.loop-part.shares c.requires.parted c.requires.read t.1
     c.loop-part.invariant
