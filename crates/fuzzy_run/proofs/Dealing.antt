@@ -1,5 +1,5 @@
 -- How clients get ready to be served.
-use Rattle.std.proofs.Common.{◌≡◌, ℕ, suc, ◌+◌, ◌<◌, ◌≤◌, List, [], ◌∷◌, ◌++◌, ◌^◌, length, map, take, drop, zip, get_or, Global, Vec, ap, refl, sym, subst, ◌∙◌, arith, length-append}
+use Rattle.std.proofs.Common.{◌≡◌, ℕ, zero, suc, ◌+◌, ◌<◌, ◌≤◌, List, [], ◌∷◌, ◌++◌, ◌^◌, length, map, take, drop, zip, get_or, Global, Vec, ap, refl, sym, subst, ◌∙◌, arith, length-append}
 use Rattle.std.specs.Prelude.{slice_index_or}
 use Rattle.std.specs.List.{All}
 use Rattle.std.proofs.lemmas.List.{map_push, take_all, take_more, take-append-drop}
@@ -61,6 +61,16 @@ map_same f (x ∷ xs) [] long each = absurd (let e : ⊥ = omega (arith, long) i
 map_same {A} {B} f (x ∷ xs) (y ∷ ys) long each =
     ap (λ (b : B). b ∷ map f xs) (each 0 x (omega arith))
     ∙ ap (λ (l : List B). f y ∷ l) (map_same f xs ys (omega (arith, long)) (λ n d lt. each (suc n) d (omega (arith, lt))))
+
+-- the shares of idle clients are those that were dealt
+pub few_served : (objects : List Object) (clients : List Client) (shares : List Share) (served : List Served)
+    → AreIdle objects clients shares served → All (λ share. AreFew share.items) shares → All (λ x. AreFew x.commands.items) served
+few_served objects clients shares served idle few =
+    of served (subst (All (λ (s : Share). AreFew s.items)) (sym idle.shares_are) few) where
+      of : (xs : List Served) → All (λ (s : Share). AreFew s.items) (map (λ x. x.commands) xs) → All (λ x. AreFew x.commands.items) xs
+      of [] all n d lt = absurd (let e : ⊥ = omega (arith, lt) in e)
+      of (x ∷ xs) all zero d lt = all 0 x.commands (omega arith)
+      of (x ∷ xs) all (suc n) d lt = of xs (λ k e low. all (suc k) e (omega (arith, low))) n d (omega (arith, lt))
 
 -- clients who were idle, and have got room
 pub ready : (objects : List Object) (clients : List Client) (shares : List Share) (idle served : List Served) → AreIdle objects clients shares idle → HaveRoom idle served (length idle)

@@ -1,5 +1,5 @@
 -- A run over a store with fewer rows than the script allows, where no more are needed.
-use Rattle.std.proofs.Common.{◌≡◌, ◌⊎◌, inl, inr, ℕ, ◌+◌, ◌<◌, ◌≤◌, Bool, true, false, cond, List, [], ◌∷◌, Ok, Err, Result, ap, sym, subst, ◌∙◌, arith}
+use Rattle.std.proofs.Common.{◌≡◌, ◌⊎◌, inl, inr, ℕ, ◌+◌, ◌<◌, ◌≤◌, Bool, true, false, cond, List, [], ◌∷◌, Ok, Err, Result, ap, sym, ◌∙◌, arith}
 use Rattle.std.specs.Prelude.{IfOk, ◌==◌}
 use Rattle.std.specs.List.{filter}
 use Rattle.std.proofs.lemmas.List.Sums.{sum_by-cons}
@@ -8,7 +8,6 @@ use Rattle.script_text.specs.declared.script.Script.{Script}
 use Rattle.script_beside.specs.declared.dealt.DealtScript.{DealtScript}
 use Rattle.script_beside.specs.Begins.{may_begin, begins_in}
 use Rattle.report_text.specs.declared.report.Report.{Report}
-use Rattle.lawful_run.specs.Callers.{commands_of}
 use Rattle.lawful_run.specs.Lawful.{LawfulRun}
 use Rattle.few_rows.specs.Needs.{with_rows, AreEnough}
 use Rattle.few_rows.proofs.CallerLemmas.{fewer_rows}

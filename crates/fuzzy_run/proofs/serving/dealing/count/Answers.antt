@@ -1,4 +1,4 @@
-use Rattle.std.proofs.Common.{ℕ, ◌+◌, ◌∙◌, ap}
+use Rattle.std.proofs.Common.{ℕ, ◌+◌, ◌∙◌, ap, arith}
 use Rattle.fuzzy_run.proofs.Dealing.{counted_all, counted_more, few_counted}
 use Rattle.fuzzy_run.proofs.serving.dealing.count.Goals as goal
 
@@ -6,7 +6,14 @@ pub loop-piece-preserved : goal.loop-piece-preserved
 loop-piece-preserved c =
     counted_more c.args.pieces.now c.loop-piece.piece-index c.loop-piece.count _ c.piece-item.result
     c.loop-piece-test.true c.piece-item.is c.loop-piece.invariant
-    (ap (λ (k : ℕ). c.loop-piece.count + k) (c.len.ensures ∙ c.piece-item.result.ok.0))
+    (ap (λ (k : ℕ). c.loop-piece.count + k) (c.len-count.ensures ∙ c.piece-item.result.ok.0))
+
+pub overflow_add-count : goal.overflow_add-count
+overflow_add-count c =
+    let few = few_counted c.args.pieces.now c.loop-piece.piece-index c.loop-piece.count c.piece-item.result c.requires c.loop-piece-test.true
+    c.piece-item.is c.loop-piece.invariant in
+    let long = c.len-count.ensures ∙ c.piece-item.result.ok.0 in
+    record { fits = omega (arith, few, long) }
 
 pub returns : goal.returns
 returns c =
