@@ -1,12 +1,14 @@
 -- How the parts of a report come behind one another.
-use Rattle.std.proofs.Common.{◌≡◌, Bool, true, ℕ, ◌+◌, ◌<◌, List, [], ◌∷◌, ◌++◌, take, length, get_or, ap, refl, sym, ◌∙◌, arith, append_assoc, append-nil}
+use Rattle.std.proofs.Common.{◌≡◌, Bool, true, ℕ, List, [], ◌∷◌, ◌++◌, length, ap, subst, refl, sym, ◌∙◌, arith, append_assoc, append-nil}
 use Rattle.std.specs.Prelude.{◌==◌}
 use Rattle.std.specs.List.{flat_map}
-use Rattle.std.proofs.lemmas.List.{take_more, flat_map_more}
+use Rattle.std.proofs.lemmas.List.{flat_map_more}
 use Rattle.std.proofs.lemmas.List.Concat.{flat_map-append}
 use Rattle.report_text.specs.declared.report.Report.{Report}
 use Rattle.report_text.specs.declared.report.RowReport.{RowReport}
+use Rattle.report_text.specs.Output.{OutputState, Adds}
 use Rattle.report_text.specs.Rows.{row_line}
+use Rattle.report_text.proofs.CallerLemmas.{adds_then}
 use Rattle.report_beside.specs.declared.parts.Part.{Part}
 use Rattle.report_beside.specs.Parts.{part_text, HaveMore}
 
@@ -22,17 +24,6 @@ one_more text old new after part more is report =
     ∙ (sym (flat_map_more (part_text report) [] new part)
     ∙ (ap (λ (l : List ℕ). l ++ part_text report part) (more report)
     ∙ append_assoc (flat_map (part_text report) old) (text report) (part_text report part)))
-
--- one item more, whose text is that of its part
-pub next_item : {A : Type 0} (texts : Report → A → List ℕ) (items : List A) (n : ℕ) (old new after : List Part) (x : A) (part : Part) → n < length items
-    → x ≡ get_or items n x → ((r : Report) → part_text r part ≡ texts r x) → HaveMore (λ r. flat_map (texts r) (take n items)) old new
-    → after ≡ new ++ part ∷ [] → HaveMore (λ r. flat_map (texts r) (take (n + 1) items)) old after
-next_item {A} texts items n old new after x part lt at same more is report =
-    one_more (λ r. flat_map (texts r) (take n items)) old new after part more is report
-    ∙ ap (λ (l : List ℕ). flat_map (part_text report) old ++ l)
-    (ap (λ (l : List ℕ). flat_map (texts report) (take n items) ++ l) (same report)
-    ∙ (flat_map_more (texts report) [] (take n items) x
-    ∙ (ap (λ (y : A). flat_map (texts report) (take n items ++ y ∷ [])) at ∙ ap (flat_map (texts report)) (sym (take_more items n x lt)))))
 
 -- some of the rows stand behind the parts, and the rest does not
 pub record RowsSoFar (rows rest : List RowReport) (old new : List Part) : Type 0 where
@@ -69,3 +60,10 @@ all_rows rows rest old new so none report =
     so.more report
     ∙ ap (λ (l : List RowReport). flat_map (part_text report) old ++ flat_map (row_line report) l)
     (sym (so.whole ∙ (ap (λ (l : List RowReport). so.front ++ l) none ∙ append-nil so.front)))
+
+-- a beginning, then clients and rows, then columns
+pub put_all : (a b c d : OutputState) (head front clients rows columns : List ℕ) → Adds a b head → Adds b c front → Adds c d columns
+    → front ≡ clients ++ rows → Adds a d (head ++ ((clients ++ rows) ++ columns))
+put_all a b c d head front clients rows columns first next last is =
+    subst (Adds a d) (ap (λ (l : List ℕ). head ++ (l ++ columns)) is)
+    (adds_then a b d head (front ++ columns) first (adds_then b c d front columns next last))

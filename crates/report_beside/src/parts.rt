@@ -1,24 +1,22 @@
-// The parts of a report's text.
+// The parts of a report's text before its columns.
 ghost use Rattle.std.specs.Prelude.{◌≡◌, IfOk, OnOk};
 ghost use Rattle.std.specs.List.{flat_map};
 ghost use Rattle.report_text.specs.Replies.{client_lines};
 ghost use Rattle.report_text.specs.Output.{Adds};
 ghost use Rattle.report_text.specs.Rows.{row_line};
-ghost use Rattle.report_text.specs.Columns.{column_lines};
-ghost use Rattle.report_beside.specs.Parts.{part_text, HaveMore, AreParts};
+ghost use Rattle.report_beside.specs.Parts.{part_text, HaveMore, AreFront};
 
-use report_text::{ClientReport, ColumnReport, NameIndex, Output, Printed, Report, RowReport};
+use report_text::{ClientReport, NameIndex, Output, Printed, Report, RowReport};
 use std::alloc::{AllocError, Global};
 
 /// How many rows are one part.
 const ROWS: usize = 512;
 
-/// A part of a report: one of its clients or columns, or some rows.
+/// A part of a report: one of its clients, or some of its rows.
 #[derive(Drop)]
 pub enum Part<'r> {
     Client(&'r ClientReport),
     Rows(&'r [RowReport]),
-    Column(&'r ColumnReport),
 }
 
 impl<'r> Printed for Part<'r> {
@@ -28,7 +26,6 @@ impl<'r> Printed for Part<'r> {
         match self {
             Part::Client(client) => client.print(names, out),
             Part::Rows(rows) => print_all(rows, names, out),
-            Part::Column(column) => column.print(names, out),
         }
     }
 }
@@ -68,26 +65,12 @@ fn push_rows<'r>(parts: &mut Vec<Part<'r>>, rows: &'r [RowReport]) -> Result<(),
     Ok(())
 }
 
-// Puts the columns behind the parts.
-fn push_columns<'r>(
-    parts: &mut Vec<Part<'r>>,
-    columns: &'r [ColumnReport],
-) -> Result<(), AllocError>
-    ensures { OnOk result (HaveMore (λ r. flat_map (column_lines r) columns.now) parts.old.items parts.new.items) }
-{
-    for column in columns {
-        parts.push(Part::Column(column))?;
-    }
-    Ok(())
-}
-
-/// The parts of a report in their order: its clients, its rows, its columns.
-pub fn parts_of(alloc: Global, report: &Report) -> Result<Vec<Part<'_>>, AllocError>
-    ensures { IfOk result (λ parts. AreParts report.now parts.items) }
+/// What stands before a report's columns, in parts: its clients, then its rows.
+pub fn front_of(alloc: Global, report: &Report) -> Result<Vec<Part<'_>>, AllocError>
+    ensures { IfOk result (λ parts. AreFront report.now parts.items) }
 {
     let mut parts = Vec::new(alloc);
     push_clients(&mut parts, report.clients.as_slice())?;
     push_rows(&mut parts, report.rows.as_slice())?;
-    push_columns(&mut parts, report.columns.as_slice())?;
     Ok(parts)
 }

@@ -5,30 +5,34 @@ ghost use Rattle.fuzzy_io.specs.Causes.{CountsFaults, AppendsFront};
 ghost use Rattle.report_text.specs.Output.{Adds};
 ghost use Rattle.report_text.specs.ReportText.{report_bytes};
 ghost use Rattle.report_beside.specs.Made.{AreMade};
-ghost use Rattle.report_beside.specs.Parts.{part_text, AreParts};
+ghost use Rattle.report_text.specs.Columns.{column_lines};
+ghost use Rattle.report_beside.specs.Parts.{part_text, AreFront};
 
 use crate::made::{made_texts, put_each};
-use crate::parts::{Part, parts_of};
+use crate::parts::{Part, front_of};
 use fuzzy_io::{Failed, MemorySink, Sink};
 use report_text::{NameIndex, Output, Page, Report, print};
 use std::alloc::Global;
 use std::thread::Threads;
 
-// The report to an output, by the texts that were made of its parts.
+// The report to an output, by the texts that were made of what stands before its columns, and of its columns.
 fn put_report<O: Output>(
     report: &Report,
     names: &NameIndex<'_>,
-    parts: &[Part<'_>],
-    texts: &[Option<MemorySink>],
+    front: &[Part<'_>],
+    parts: &[Option<MemorySink>],
+    columns: &[Option<MemorySink>],
     out: &mut O,
 )
     requires names { names.now ≡ report.now }
-    requires parts { AreParts report.now parts.now }
-    requires texts { AreMade (part_text report.now) parts.now texts.now }
+    requires front { AreFront report.now front.now }
+    requires parts { AreMade (part_text report.now) front.now parts.now }
+    requires columns { AreMade (column_lines report.now) report.now.columns columns.now }
     ensures { Adds (O.state out.old) (O.state out.new) (report_bytes report.now) }
 {
     out.put(b"report 1\n");
-    put_each(parts, texts, names, out);
+    put_each(front, parts, names, out);
+    put_each(report.columns.as_slice(), columns, names, out);
 }
 
 /// Writes the text of the report, of which the parts are made on threads first. At `Err` a front of it went out. A part for
@@ -43,17 +47,19 @@ pub fn print_beside<K: Sink, R: Threads + Sync>(
     ensures front { OnErr result (AppendsFront (K.holds sink.old) (K.holds sink.new) (report_bytes report.now)) }
     ensures cause { CountsFaults (K.faults sink.old) (K.faults sink.new) result }
 {
-    let Ok(parts) = parts_of(alloc, report) else {
+    let Ok(front) = front_of(alloc, report) else {
         return print(report, sink);
     };
     let names = NameIndex::of(report);
-    let texts = made_texts(rt, alloc, parts.as_slice(), &names);
+    let parts = made_texts(rt, alloc, front.as_slice(), &names);
+    let columns = made_texts(rt, alloc, report.columns.as_slice(), &names);
     let mut page = Page::over(sink);
     put_report(
         report,
         &names,
+        front.as_slice(),
         parts.as_slice(),
-        texts.as_slice(),
+        columns.as_slice(),
         &mut page,
     );
     page.finish()
