@@ -1,5 +1,5 @@
 -- What a report shows of a column in the end.
-use Rattle.std.specs.Prelude.{◌≡◌, ℕ, List, [], Some, map, unwrap_or, slice_get}
+use Rattle.std.specs.Prelude.{◌≡◌, ℕ, ◌<◌, List, [], length, map, unwrap_or, slice_get}
 use Rattle.log_node.specs.Standings.{Standing, queue_of}
 use Rattle.col_core.specs.History.{clock, entries, line}
 use Rattle.column.specs.Columns.{ColumnState, cut_of, base_of}
@@ -25,8 +25,6 @@ column_shown regions colours column = record {
   base = base_of column;
 }
 
--- they are columns of a region, by colour
-abbrev pub AreOfRegion : ℕ → List ColumnState → Type 0
-AreOfRegion region columns =
-    (colour : ℕ) (column : ColumnState) → slice_get columns colour ≡ Some column
-    → (column.region ≡ region) × (column.colour ≡ colour)
+-- its region and its colour have names
+abbrev pub HasNames : List (List ℕ) → List (List ℕ) → ColumnState → Type 0
+HasNames regions colours column = (column.region < length regions) × (column.colour < length colours)

@@ -1,11 +1,12 @@
 // Columns in the end.
-ghost use Rattle.std.specs.Prelude.{◌≡◌, ◌<◌, ◌≤◌, ◌++◌, [], length, map, unwrap_or, slice_get, IfOk, OnOk};
+ghost use Rattle.std.specs.Prelude.{◌≡◌, ◌<◌, ◌++◌, [], length, map, unwrap_or, slice_get, IfOk, OnOk};
+ghost use Rattle.std.specs.List.{All};
 ghost use Rattle.log_node.specs.Standings.{queue_of};
 ghost use Rattle.col_core.specs.History.{entries};
-ghost use Rattle.closing_report.specs.Columns.{waiting_shown, column_shown, AreOfRegion};
+ghost use Rattle.closing_report.specs.Columns.{waiting_shown, column_shown, HasNames};
 
 use column::Column;
-use log_node::{Key, ListOf, MAX_COLOURS, Names, Text};
+use log_node::{Key, ListOf, Names, Text};
 use report_text::{ColumnReport, QueueKey};
 use std::alloc::{AllocError, Global};
 
@@ -35,19 +36,17 @@ fn name_at(alloc: Global, names: &Names, at: u8) -> Result<Text, AllocError>
     Text::copied(alloc, names.as_slice()[at as usize].as_bytes())
 }
 
-// The column of a region and a colour.
-fn column_report(
+/// What is shown of a column.
+pub(crate) fn column_report(
     alloc: Global,
     regions: &Names,
     colours: &Names,
-    region: u8,
-    colour: u8,
     column: Column,
 ) -> Result<ColumnReport, AllocError>
-    requires region { (column.region ≡ region) × (region < length regions.now) }
-    requires colour { (column.colour ≡ colour) × (colour < length colours.now) }
+    requires { HasNames regions.now colours.now column }
     ensures { IfOk result (λ shown. shown ≡ column_shown regions.now colours.now column) }
 {
+    let (region, colour) = (column.region(), column.colour());
     Ok(ColumnReport {
         region,
         colour,
@@ -62,26 +61,20 @@ fn column_report(
     })
 }
 
-/// Takes the columns of a region, by colour, into the reports, under the names of regions and colours. Where memory is
-/// refused, some may have been taken.
+/// Takes columns into the reports, under the names of regions and colours. Where memory is refused, some may have been
+/// taken.
 pub fn push_columns(
     alloc: Global,
     regions: &Names,
     colours: &Names,
-    region: u8,
     columns: Vec<Column>,
     reports: &mut ListOf<ColumnReport>,
 ) -> Result<(), AllocError>
-    requires region { region < length regions.now }
-    requires colours { length columns.items ≤ length colours.now }
-    requires few { length columns.items ≤ MAX_COLOURS }
-    requires placed { AreOfRegion region columns.items }
+    requires { All (HasNames regions.now colours.now) columns.items }
     ensures { OnOk result (reports.new ≡ reports.old ++ map (column_shown regions.now colours.now) columns.items) }
 {
-    let mut colour = 0;
     for column in columns {
-        reports.push(column_report(alloc, regions, colours, region, colour, column)?)?;
-        colour += 1;
+        reports.push(column_report(alloc, regions, colours, column)?)?;
     }
     Ok(())
 }

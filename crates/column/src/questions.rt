@@ -84,6 +84,20 @@ impl Column {
         self.contents.place(key)
     }
 
+    /// The region whose copy it is.
+    pub fn region(&self) -> u8
+        ensures { result ≡ self.now.region }
+    {
+        self.contents.own_region()
+    }
+
+    /// The colour of which it is a copy.
+    pub fn colour(&self) -> u8
+        ensures { result ≡ self.now.colour }
+    {
+        self.contents.own_colour()
+    }
+
     /// The clock: no entry has a greater stamp.
     pub fn clock(&self) -> u64
         ensures { result ≡ clock self.now.journal }

@@ -41,7 +41,7 @@ use Rattle.chain_store.specs.declared.closed.ClosedRegion.{ClosedRegion}
 use Rattle.chain_store.specs.declared.hold.Hold.{Hold}
 use Rattle.chain_store.specs.Closing.{closed_of}
 use Rattle.chain_store.proofs.CallerLemmas.{all_by, got}
-use Rattle.closing_report.specs.Columns.{column_shown, waiting_shown}
+use Rattle.closing_report.specs.Columns.{HasNames, column_shown, waiting_shown}
 use Rattle.log_client.specs.declared.client.Client.{Client}
 use Rattle.log_client.specs.declared.closed.Closed.{Closed}
 use Rattle.log_client.specs.declared.store.Store.{Store}
@@ -501,12 +501,18 @@ module _ (script : Script) (fits : IsFitting script) (s : Store) (clients : List
   can_be_shown = record {
     many = many_regions ∙ sym fits.regions;
     few = let a = fits.regions in let b = fits.shape.few_regions in omega (arith, a, b);
-    wide = let a = fits.colours in let b = fits.shape.few_colours in omega (arith, a, b);
     columns = λ n e at.
-        let r = (region_at n e at).2 in (
-          r.count ∙ sym fits.colours,
-          λ colour column there.
-              let is = r.columns colour column there in (is.of_region, is.of_colour),
-        );
+        let r = (region_at n e at).2 in
+        let region = slice_get_within closed.regions n e at in
+        let regions_are = many_regions in
+        let named = fits.regions in
+        let count = r.count in
+        let coloured = fits.colours in
+        all_by (HasNames script.regions script.colours) e.columns (λ colour column there.
+        let is = r.columns colour column there in
+        let lt = slice_get_within e.columns colour column there in
+        let of_region = is.of_region in
+        let of_colour = is.of_colour in
+        (omega (arith, region, regions_are, named, of_region), omega (arith, lt, count, coloured, of_colour)));
     rows = row_nodes_there;
   }

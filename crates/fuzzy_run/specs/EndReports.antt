@@ -1,8 +1,8 @@
 -- What a report shows of a store in the end, and of the replies to its clients.
 use Rattle.std.specs.Prelude.{◌≡◌, ℕ, ◌≤◌, List, [], length, map, Option, Some, None, slice_get, slice_index_or}
-use Rattle.std.specs.List.{flat_map, enumerate_from}
+use Rattle.std.specs.List.{All, flat_map, enumerate_from}
 use Rattle.std.specs.declared.sync.Arc.{Arc}
-use Rattle.log_node.specs.declared.limits.TheConstants.{MAX_REGIONS, MAX_COLOURS}
+use Rattle.log_node.specs.declared.limits.TheConstants.{MAX_REGIONS}
 use Rattle.log_node.specs.declared.ids.Id.{Id}
 use Rattle.log_node.specs.declared.ids.Row.{Row}
 use Rattle.log_node.specs.declared.node.Node.{Node}
@@ -14,7 +14,7 @@ use Rattle.report_text.specs.declared.report.ClientReport.{ClientReport}
 use Rattle.report_text.specs.declared.report.RowReport.{RowReport}
 use Rattle.report_text.specs.declared.report.Report.{Report}
 use Rattle.report_text.specs.declared.report.ColumnReport.{ColumnReport}
-use Rattle.closing_report.specs.Columns.{column_shown, AreOfRegion}
+use Rattle.closing_report.specs.Columns.{column_shown, HasNames}
 use Rattle.log_client.specs.declared.closed.Closed.{Closed}
 
 -- the nodes of each client's rows
@@ -55,14 +55,12 @@ rows_shown nodes e = map (row_shown nodes e.0) e.1.rows
 abbrev pub columns_shown : List (List ℕ) → List (List ℕ) → ClosedRegion → List ColumnReport
 columns_shown regions colours e = map (column_shown regions colours) e.columns
 
--- Under these names of regions and colours the store in the end can be shown: its regions, their columns and rows are all
--- in their places, and each row has its node.
+-- Under these names of regions and colours the store in the end can be shown: it has so many regions, their columns are of
+-- regions and colours that have names, and each row has its node.
 pub record CanShow (regions colours : List (List ℕ)) (closed : Closed) : Type 0 where
   pub many : length closed.regions ≡ length regions
   pub few : length regions ≤ MAX_REGIONS
-  pub wide : length colours ≤ MAX_COLOURS
-  pub columns : (n : ℕ) (e : ClosedRegion) → slice_get closed.regions n ≡ Some e
-      → (length e.columns ≡ length colours) × AreOfRegion n e.columns
+  pub columns : (n : ℕ) (e : ClosedRegion) → slice_get closed.regions n ≡ Some e → All (HasNames regions colours) e.columns
   pub rows : (n : ℕ) (e : ClosedRegion) → slice_get closed.regions n ≡ Some e → HaveNodes (nodes_of closed) e.rows
 
 -- the replies to a client, which stands at its number, under its name

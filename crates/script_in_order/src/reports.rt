@@ -50,17 +50,14 @@ fn column_reports(
     ensures { IfOk result (λ reports. reports ≡ columns_shown script.now regions.items) }
 {
     let mut reports = ListOf::new(alloc);
-    let mut region = 0;
     for columns in regions {
         push_columns(
             alloc,
             &script.regions,
             &script.colours,
-            region,
             columns.into_columns(),
             &mut reports,
         )?;
-        region += 1;
     }
     Ok(reports)
 }

@@ -4,7 +4,7 @@ ghost use Rattle.std.specs.List.{flat_map, enumerate_from};
 ghost use Rattle.fuzzy_run.specs.EndReports.{nodes_in, nodes_of, HaveNodes, row_shown, rows_shown, columns_shown, client_shown, CanShow, end_report};
 
 use chain_store::ClosedRegion;
-use closing_report::push_columns;
+use closing_report::columns_beside;
 use log_client::{Closed, RowNodes};
 use log_node::{ListOf, Names, Text};
 use report_text::{ClientReport, ColumnReport, ReplyLine, Report, RowReport};
@@ -12,6 +12,7 @@ use script_text::Script;
 use stamp_board::ClosedRows;
 use std::alloc::{AllocError, Global};
 use std::mem;
+use std::thread::Threads;
 
 // The replies to each client under its name.
 fn client_reports(
@@ -58,7 +59,8 @@ fn push_rows(
 }
 
 // The rows and the columns of all regions; the nodes are those of each client's rows.
-fn region_reports(
+fn region_reports<R: Threads + Sync>(
+    rt: &R,
     alloc: Global,
     regions: &Names,
     colours: &Names,
@@ -70,7 +72,7 @@ fn region_reports(
     ensures columns { IfOk result (λ r. r.1 ≡ flat_map (columns_shown regions.now colours.now) ends.items) }
 {
     let mut rows = ListOf::new(alloc);
-    let mut columns = ListOf::new(alloc);
+    let mut columns = Vec::new(alloc);
     let mut region = 0;
     for end in ends {
         let ClosedRegion {
@@ -78,21 +80,16 @@ fn region_reports(
             rows: begun,
         } = end;
         push_rows(nodes, region, begun, &mut rows)?;
-        push_columns(
-            alloc,
-            regions,
-            colours,
-            region,
-            own.into_vec(),
-            &mut columns,
-        )?;
+        columns.append(&mut own.into_vec())?;
         region += 1;
     }
+    let columns = columns_beside(rt, alloc, regions, colours, columns)?;
     Ok((rows, columns))
 }
 
-/// The report of all clients, rows and columns.
-pub fn end_report(
+/// The report of all clients, rows and columns; the columns are shown beside one another.
+pub fn end_report<R: Threads + Sync>(
+    rt: &R,
     alloc: Global,
     script: &Script,
     closed: Closed,
@@ -107,6 +104,7 @@ pub fn end_report(
         nodes,
     } = closed;
     let (rows, columns) = region_reports(
+        rt,
         alloc,
         &script.regions,
         &script.colours,

@@ -56,7 +56,7 @@ fn run_in_store<R: Threads + Wait + Sync, G: Gate>(
     serve_beside(rt, alloc, &store, gate, served.as_mut_slice());
     let (clients, replies) = parted(alloc, served)?;
     let closed = store.close(rt, alloc, clients.into())?;
-    end_report(alloc, &header, closed, replies)
+    end_report(rt, alloc, &header, closed, replies)
 }
 
 /// Serves the clients of a script beside one another, each on a thread of its own where one can be made. A command that

@@ -1,10 +1,7 @@
-use Rattle.std.proofs.Common.{◌≡◌, length}
+use Rattle.std.proofs.Common.{◌≡◌}
 use Rattle.script_in_order.specs.Reports.{columns_shown}
 use Rattle.script_in_order.proofs.reports.column_reports.Given as goal
 
 -- the columns of the regions so far
 abbrev pub invariant-loop-columns : goal.invariant-loop-columns
-invariant-loop-columns l = record {
-  place : l.region ≡ length l.yielded;
-  reports_are : l.reports ≡ columns_shown l.script l.yielded;
-}
+invariant-loop-columns l = l.reports ≡ columns_shown l.script l.yielded
