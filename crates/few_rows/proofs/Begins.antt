@@ -1,7 +1,6 @@
 -- A command begins one row at most, and none where it may begin none: so a client has begun no more rows than it has
 -- asked commands that may begin one.
 use Rattle.std.proofs.Common.{◌≡◌, ◌⊎◌, true, ℕ, nat_lt, ◌+◌, ◌≤◌, List, [], ◌∷◌, ◌++◌, length, Option, Some, None, inl, inr, refl, ap, sym, subst, ◌∙◌, arith, cond}
-use Rattle.std.specs.List.{count_by}
 use Rattle.std.proofs.lemmas.List.Sums.{sum_by_push}
 use Rattle.log_node.specs.declared.ids.Colours.{Colours}
 use Rattle.log_node.specs.declared.node.At.{At}
@@ -28,7 +27,7 @@ use Rattle.lawful_run.specs.Reads.{kept_after_place, kept_after_piece, Raises, C
 use Rattle.lawful_run.specs.Refusals.{Hides, FindsNoMemory, nothing, gone, gave, hidden, kept_before, kept_behind}
 use Rattle.lawful_run.specs.Stops.{Stops, stopped_at_once, stopped_after}
 use Rattle.lawful_run.specs.Explains.{Explains, Answers, Explained, start, next}
-use Rattle.script_beside.specs.Begins.{may_begin}
+use Rattle.script_beside.specs.Begins.{may_begin, begins_in}
 
 -- as many rows are begun
 abbrev pub KeepsRows : Kept → Kept → Type 0
@@ -240,27 +239,23 @@ answer_begins log caller kept command reply after a =
     (same_rows a.answered _ after a.after_is (behind_rows command.what a.answered))
 
 -- COMMANDS
--- how many of the commands may begin a row
-abbrev pub that_begin : List Command → ℕ
-that_begin commands = count_by (λ (c : Command). may_begin c.what) commands
-
 one_more : (commands : List Command) (command : Command)
-    → that_begin (commands ++ command ∷ []) ≡ that_begin commands + cond (may_begin command.what) 1 0
+    → begins_in (commands ++ command ∷ []) ≡ begins_in commands + cond (may_begin command.what) 1 0
 one_more commands command = sum_by_push (λ (c : Command). cond (may_begin c.what) 1 0) commands command
 
 -- a command that may begin a row is one more
 pub one_that_begins : (commands : List Command) (command : Command) → may_begin command.what ≡ true
-    → that_begin (commands ++ command ∷ []) ≡ that_begin commands + 1
+    → begins_in (commands ++ command ∷ []) ≡ begins_in commands + 1
 one_that_begins commands command may =
-    one_more commands command ∙ ap (λ b. that_begin commands + cond b 1 0) may
+    one_more commands command ∙ ap (λ b. begins_in commands + cond b 1 0) may
 
 pub no_fewer : (commands : List Command) (command : Command)
-    → that_begin commands ≤ that_begin (commands ++ command ∷ [])
+    → begins_in commands ≤ begins_in (commands ++ command ∷ [])
 no_fewer commands command = let total = one_more commands command in omega (arith, total)
 
 -- a client has begun no more rows than it has asked commands that may begin one
 pub begun_rows : {log : Log} {caller : Caller} {commands : List Command} {replies : List ReplyLine} {kept : Kept}
-    → Explained log caller commands replies kept → kept.rows ≤ that_begin commands
+    → Explained log caller commands replies kept → kept.rows ≤ begins_in commands
 begun_rows start = omega arith
 begun_rows {log} {caller} (next {commands} {replies} {kept} {after} command reply before answers) =
     let r = begun_rows before in

@@ -26,8 +26,8 @@ use Rattle.lawful_run.specs.Moves.{CarriesAt, Pulls, Trims}
 use Rattle.lawful_run.specs.Objects.{GetsValue, GetsValues, Takes}
 use Rattle.lawful_run.specs.Refusals.{Hides, FindsNoMemory, nothing, gone, gave, hidden, kept_before}
 use Rattle.lawful_run.specs.Explains.{Explains, Answers, Explained, start, next}
-use Rattle.script_beside.specs.Begins.{may_begin}
-use Rattle.few_rows.proofs.Begins.{several_may, before_rows, that_begin, one_that_begins, no_fewer, begun_rows}
+use Rattle.script_beside.specs.Begins.{may_begin, begins_in}
+use Rattle.few_rows.proofs.Begins.{several_may, before_rows, one_that_begins, no_fewer, begun_rows}
 use Rattle.few_rows.proofs.MoreFacts.{limited, home_same, synced_same, asks_more, away_fewer}
 use Rattle.few_rows.proofs.MoreReads.{syncs_more, played_more, trimmed_more, read_more, hides_more}
 use Rattle.few_rows.proofs.MoreAppends.{append_more, unshown_more, has_no_stamp_more, stops_more, for_memory_more}
@@ -286,7 +286,7 @@ module _ (log : Log) (caller : Caller) (rows : ℕ) (few : rows ≤ caller.rows)
 
   -- what is explained stays so, where there are as many rows as commands that may begin one
   pub explained_more : {commands : List Command} {replies : List ReplyLine} {kept : Kept}
-      → that_begin commands ≤ rows → Explained log (limited caller rows) commands replies kept
+      → begins_in commands ≤ rows → Explained log (limited caller rows) commands replies kept
       → Explained log caller commands replies kept
   explained_more enough start = start
   explained_more enough (next {commands} {replies} {kept} {after} command reply before last) =

@@ -10,13 +10,13 @@ use Rattle.report_text.specs.declared.report.Report.{Report}
 use Rattle.lawful_run.specs.Callers.{caller_of, commands_of}
 use Rattle.lawful_run.specs.Columns.{IsColumnReport, AreColumns, AreRows}
 use Rattle.lawful_run.specs.Lawful.{IsClientRun, LeavesOpen, LawfulRun}
+use Rattle.script_beside.specs.Begins.{begins_in}
 use Rattle.few_rows.specs.Needs.{with_rows, AreEnough}
-use Rattle.few_rows.proofs.Begins.{that_begin}
 use Rattle.few_rows.proofs.MoreReplies.{explained_more}
 
 module _ (script : Script) (rows : ℕ) where
   client_more : rows ≤ script.shape.rows → (log : Log) (client : ℕ) (replies : List ReplyLine)
-      → that_begin (commands_of script client) ≤ rows → IsClientRun log (with_rows script rows) client replies
+      → begins_in (commands_of script client) ≤ rows → IsClientRun log (with_rows script rows) client replies
       → IsClientRun log script client replies
   client_more few log client replies enough c = record {
     kept = c.kept;
@@ -56,7 +56,7 @@ module _ (script : Script) (rows : ℕ) where
   left_more log report l = record { ids = l.ids; rows = l.rows }
 
   run_more : (report : Report) → rows ≤ script.shape.rows
-      → ((client : ℕ) → that_begin (commands_of script client) ≤ rows) → LawfulRun (with_rows script rows) report
+      → ((client : ℕ) → begins_in (commands_of script client) ≤ rows) → LawfulRun (with_rows script rows) report
       → LawfulRun script report
   run_more report few enough run = record {
     log = run.log;

@@ -12,7 +12,6 @@ mod ReplyRoom
 mod GivingGets
 mod FewShown
 mod FewerRows
-mod ReadKeys
 mod GivingReads
 mod ReadsFound
 mod ObjectFrames

@@ -1,6 +1,5 @@
 -- A client that has forgotten what it played rests as before.
-use Rattle.std.proofs.Common.{◌≡◌, ℕ, ◌<◌, length, Some, Vec, Global, refl, sym, subst, ◌∙◌, arith}
-use Rattle.std.specs.Prelude.{slice_get}
+use Rattle.std.proofs.Common.{ℕ, ◌<◌, length, Vec, Global, refl, sym, subst, ◌∙◌, arith}
 use Rattle.log_node.specs.Reach.{nothing}
 use Rattle.log_node.proofs.CallerLemmas.{at-zeros}
 use Rattle.col_core.specs.Cuts.{chain}

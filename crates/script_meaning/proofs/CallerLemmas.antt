@@ -27,6 +27,7 @@ pub use Rattle.script_meaning.proofs.StampedEnds.{rising_line, keys_listed, keys
 pub use Rattle.script_meaning.proofs.StampedReads.{stamp_low}
 pub use Rattle.script_meaning.proofs.ShardSets.{keys_set, set_one, shard_members, set_has, shard_below, shards_below, shards_has, key_in, rising_members, rising_some, rising_below, own_below}
 pub use Rattle.script_meaning.proofs.GrantedSteps.{RunsTo, stays_there}
+pub use Rattle.script_meaning.proofs.VersionsFit.{can_read}
 pub use Rattle.script_meaning.proofs.GrantedReads.{read_runs}
 pub use Rattle.script_meaning.proofs.LaterNodes.{line_longer, nodes_stay, new_behind, whole_stamp, read_behind}
 pub use Rattle.script_meaning.proofs.ObjectKinds.{object_has, queue_colour, queue_one, some_of}

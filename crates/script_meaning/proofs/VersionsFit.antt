@@ -119,7 +119,7 @@ module _ (w : World) (reached : IsReached w) (commands : List Command) (clients 
 -- READS
 
 -- the keys of a script's read are such as a transaction can name
-can_read : (keys : List (List ℕ)) → are_keys 2 keys ≡ true → CanRead keys
+pub can_read : (keys : List (List ℕ)) → are_keys 2 keys ≡ true → CanRead keys
 can_read keys e =
     let a = both _ _ e in
     let n = both _ _ a.0 in record {

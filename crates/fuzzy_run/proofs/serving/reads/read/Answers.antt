@@ -15,7 +15,7 @@ use Rattle.fuzzy_run.specs.Replying.{ShowsFew, ShowsKeys}
 use Rattle.fuzzy_run.specs.Serving.{GivesTo}
 use Rattle.fuzzy_run.proofs.FewShown.{shows_few_found, versions_found}
 use Rattle.fuzzy_run.proofs.GivingReads.{gives_read, gives_unread}
-use Rattle.fuzzy_run.proofs.ReadKeys.{can_read}
+use Rattle.script_meaning.proofs.CallerLemmas.{can_read}
 use Rattle.fuzzy_run.proofs.serving.reads.read.Goals as goal
 
 pub returns-in_default-clause-gives : goal.returns-in_default-clause-gives
