@@ -3,21 +3,16 @@
 
 ghost use Rattle.std.specs.Prelude.{◌≡◌, ◌≢◌};
 ghost use Rattle.std.specs.IoError.{error_kind};
+ghost use Rattle.run_script.specs.declared.status.Status.{Status};
 
-mod asked;
-mod reading;
-mod serving;
-mod status;
 #[cfg(test)]
 mod tests;
-mod top;
 
 use fuzzy_io::{OpenGate, ReadSource, WriteSink};
-use status::Status;
+use run_script::{Status, run};
 use std::io::ErrorKind;
 use std::process::ExitCode;
 use std::{env, io};
-use top::run;
 
 // The words of the command line without the program's name.
 fn words_of(rt: &HostRuntime) -> io::Result<Vec<String>> {

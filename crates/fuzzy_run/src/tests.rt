@@ -1,7 +1,6 @@
 // Whole runs, from the bytes of a script to the bytes of a report.
-use crate::status::Status;
-use crate::top::run;
 use fuzzy_io::{MemorySink, MemorySource, OpenGate};
+use run_script::{Status, run};
 use std::alloc::{AllocError, Global};
 use std::process::Abort;
 use std::sync::Wait;

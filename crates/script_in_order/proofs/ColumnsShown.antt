@@ -3,7 +3,7 @@ use Rattle.std.proofs.Common.{◌≡◌, ◌∙◌, refl, ap, sym, subst, ℕ, s
 use Rattle.std.proofs.Common.{map, get_or, arith, zero-add}
 use Rattle.std.specs.Prelude.{slice_get, slice_index_or}
 use Rattle.std.specs.List.{All, flat_map, range_with_len, enumerate_from}
-use Rattle.std.proofs.lemmas.Option.{get_or_from_slice_get, slice_get_within}
+use Rattle.std.proofs.lemmas.Option.{get_or_from_slice_get, slice_get-get_or, slice_get_within}
 use Rattle.script_text.specs.declared.script.Script.{Script}
 use Rattle.report_text.specs.declared.report.ClientReport.{ClientReport}
 use Rattle.report_text.specs.declared.report.RowReport.{RowReport}
@@ -13,7 +13,7 @@ use Rattle.column.specs.Columns.{ColumnState}
 use Rattle.log_node.specs.declared.node.Shape.{Shape}
 use Rattle.world_laws.specs.Worlds.{World}
 use Rattle.world_code.specs.WorldView.{WorldView, no_column, IsPlaced, IsWhole, column_at, world_of}
-use Rattle.closing_report.specs.Columns.{column_shown}
+use Rattle.closing_report.specs.Columns.{column_shown, HasNames}
 use Rattle.script_meaning.specs.Meaning.{column_report, report_of}
 use Rattle.script_in_order.specs.Runs.{RunView, state_of}
 use Rattle.script_in_order.specs.Reports.{client_shown, columns_shown, region_rows_shown}
@@ -44,6 +44,21 @@ region_placed regions region many wide columns is low all each placed colour col
     ∙ get_or_from_slice_get columns colour column no_column at in
     subst (λ (q : ColumnState). IsPlaced q region colour many) here
     (placed region colour (omega (arith, low, all)) (omega (arith, lt, long)))
+
+-- so their regions and colours have names
+pub region_named : (names colours : List (List ℕ)) (regions : List (List ColumnState)) (region many wide : ℕ) (columns : List ColumnState)
+    → many ≡ length names → wide ≡ length colours
+    → columns ≡ slice_index_or regions region [] → region < length regions → length regions ≡ many
+    → All (λ (cs : List ColumnState). length cs ≡ wide) regions
+    → ((r colour : ℕ) → r < many → colour < wide → IsPlaced (column_at regions r colour) r colour many)
+    → All (HasNames names colours) columns
+region_named names colours regions region many wide columns named coloured is low all each placed colour d lt =
+    let long : length columns ≡ wide = ap (λ (cs : List ColumnState). length cs) is ∙ each region [] low in
+    let p = region_placed regions region many wide columns is low all each placed colour (get_or columns colour d)
+    (slice_get-get_or columns colour d lt) in
+    let of_region = p.in_region in
+    let of_colour = p.of_colour in
+    (omega (arith, of_region, low, all, named), omega (arith, of_colour, lt, long, coloured))
 
 -- lists made of items, and over the range of their places
 map_range : {A B : Type 0} (f : A → B) (g : ℕ → B) (xs : List A) (a : ℕ)

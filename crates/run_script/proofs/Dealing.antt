@@ -1,0 +1,141 @@
+-- How clients get ready to be served.
+use Rattle.std.proofs.Common.{◌≡◌, ℕ, zero, suc, ◌+◌, ◌<◌, ◌≤◌, List, [], ◌∷◌, ◌++◌, ◌^◌, length, map, take, drop, zip, get_or, Global, Vec, ap, refl, sym, subst, ◌∙◌, arith, length-append}
+use Rattle.std.specs.Prelude.{slice_index_or}
+use Rattle.std.specs.List.{All}
+use Rattle.std.proofs.lemmas.List.{map_push, take_all, take_more, take-append-drop}
+use Rattle.std.proofs.lemmas.List.Concat.{flat_map-append}
+use Rattle.std.proofs.lemmas.List.Elements.{All-push}
+use Rattle.std.proofs.lemmas.Slice.Zip.{firsts-zip, seconds-zip}
+use Rattle.script_text.specs.declared.script.Kind.{Kind}
+use Rattle.script_text.specs.declared.script.Command.{Command}
+use Rattle.script_text.specs.declared.script.Object.{Object}
+use Rattle.script_beside.specs.Dealt.{commands_in}
+use Rattle.log_client.specs.declared.client.Client.{Client}
+use Rattle.run_script.specs.declared.serving.opened.Opened.{Opened}
+use Rattle.run_script.specs.declared.serving.served.Served.{Served}
+use Rattle.run_script.specs.Dealing.{AreFew, AreIdle, AreReady, GetsRoom, HaveRoom, IsIdle}
+use Rattle.run_script.specs.Opened.{IsUnfolded, kind_opened}
+use Rattle.run_script.proofs.EndsShown.{flat_more}
+
+-- one more object is opened
+pub opened_more : (objects : List Object) (n : ℕ) (o : Object) (old new : List Opened) (x : Opened) → n < length objects
+    → o ≡ get_or objects n o → map (λ (o : Object). o.kind) (take n objects) ≡ map kind_opened old
+    → kind_opened x ≡ o.kind → new ≡ old ++ x ∷ []
+    → map (λ (o : Object). o.kind) (take (n + 1) objects) ≡ map kind_opened new
+opened_more objects n o old new x low at was is same =
+    ap (λ (l : List Object). map (λ (o : Object). o.kind) l) (take_more objects n o low)
+    ∙ (map_push (λ (o : Object). o.kind) (take n objects) (get_or objects n o)
+    ∙ (ap (λ (l : List Kind). l ++ (get_or objects n o).kind ∷ []) was
+    ∙ (ap (λ (k : Kind). map kind_opened old ++ k ∷ []) (ap (λ (o : Object). o.kind) (sym at) ∙ sym is)
+    ∙ (sym (map_push kind_opened old x) ∙ ap (λ (l : List Opened). map kind_opened l) (sym same)))))
+
+pub unfolded_more : (old new : List Opened) (x : Opened) → All IsUnfolded old → IsUnfolded x → new ≡ old ++ x ∷ []
+    → All IsUnfolded new
+unfolded_more old new x was is same = subst (All IsUnfolded) (sym same) (All-push IsUnfolded old x was is)
+
+abbrev Share : Type 0
+Share = Vec (Vec Command Global) Global
+
+-- one more client is idle
+pub idle_more : (objects : List Object) (pairs : List (Client × Share)) (old new : List Served)
+    (x : Served) → AreIdle objects (map (λ p. p.0) pairs) (map (λ p. p.1) pairs) old → IsIdle objects x → new ≡ old ++ x ∷ []
+    → AreIdle objects (map (λ p. p.0) (pairs ++ (x.client, x.commands) ∷ [])) (map (λ p. p.1) (pairs ++ (x.client, x.commands) ∷ [])) new
+idle_more objects pairs old new x was is same =
+    let pair : Client × Share = (x.client, x.commands) in
+    subst (AreIdle objects (map (λ p. p.0) (pairs ++ pair ∷ [])) (map (λ p. p.1) (pairs ++ pair ∷ []))) (sym same) (record {
+      clients_are = map_push (λ (y : Served). y.client) old x
+          ∙ (ap (λ (l : List Client). l ++ x.client ∷ []) was.clients_are
+          ∙ sym (map_push (λ (p : Client × Share). p.0) pairs pair));
+      shares_are = map_push (λ (y : Served). y.commands) old x
+          ∙ (ap (λ (l : List Share). l ++ x.commands ∷ []) was.shares_are
+          ∙ sym (map_push (λ (p : Client × Share). p.1) pairs pair));
+      idle = All-push (IsIdle objects) old x was.idle is;
+    })
+
+-- lists that are alike place by place
+map_same : {A B : Type 0} (f : A → B) (xs ys : List A) → length xs ≡ length ys
+    → ((n : ℕ) (d : A) → n < length xs → f (slice_index_or xs n d) ≡ f (slice_index_or ys n d)) → map f xs ≡ map f ys
+map_same f [] [] long each = refl
+map_same f [] (y ∷ ys) long each = absurd (let e : ⊥ = omega (arith, long) in e)
+map_same f (x ∷ xs) [] long each = absurd (let e : ⊥ = omega (arith, long) in e)
+map_same {A} {B} f (x ∷ xs) (y ∷ ys) long each =
+    ap (λ (b : B). b ∷ map f xs) (each 0 x (omega arith))
+    ∙ ap (λ (l : List B). f y ∷ l) (map_same f xs ys (omega (arith, long)) (λ n d lt. each (suc n) d (omega (arith, lt))))
+
+-- the shares of idle clients are those that were dealt
+pub few_served : (objects : List Object) (clients : List Client) (shares : List Share) (served : List Served)
+    → AreIdle objects clients shares served → All (λ share. AreFew share.items) shares → All (λ x. AreFew x.commands.items) served
+few_served objects clients shares served idle few =
+    of served (subst (All (λ (s : Share). AreFew s.items)) (sym idle.shares_are) few) where
+      of : (xs : List Served) → All (λ (s : Share). AreFew s.items) (map (λ x. x.commands) xs) → All (λ x. AreFew x.commands.items) xs
+      of [] all n d lt = absurd (let e : ⊥ = omega (arith, lt) in e)
+      of (x ∷ xs) all zero d lt = all 0 x.commands (omega arith)
+      of (x ∷ xs) all (suc n) d lt = of xs (λ k e low. all (suc k) e (omega (arith, low))) n d (omega (arith, lt))
+
+-- clients who were idle, and have got room
+pub ready : (objects : List Object) (clients : List Client) (shares : List Share) (idle served : List Served) → AreIdle objects clients shares idle → HaveRoom idle served (length idle)
+    → AreReady objects clients shares served
+ready objects clients shares idle served none room = record {
+  idle = record {
+    clients_are = map_same (λ (x : Served). x.client) served idle room.many
+        (λ n d lt. (got n d lt).client) ∙ none.clients_are;
+    shares_are = map_same (λ (x : Served). x.commands) served idle room.many
+        (λ n d lt. (got n d lt).commands) ∙ none.shares_are;
+    idle = λ n d lt.
+        let g = got n d lt in
+        let i = none.idle n d (low n lt) in record {
+          opened = i.opened ∙ ap (λ (v : Vec Opened Global). map kind_opened v.items) (sym g.objects);
+          unfolded = subst (λ (v : Vec Opened Global). All IsUnfolded v.items) (sym g.objects) i.unfolded;
+          replies = g.replies;
+        };
+  };
+  room = λ n d lt. (got n d lt).room;
+} where
+  low : (n : ℕ) → n < length served → n < length idle
+  low n lt = let many = room.many in omega (arith, lt, many)
+
+  got : (n : ℕ) (d : Served) → n < length served → GetsRoom (slice_index_or idle n d) (slice_index_or served n d)
+  got n d lt = room.each n d (low n lt) (low n lt)
+
+-- one piece more
+pub counted_more : (pieces : List (Vec Command Global)) (n count more : ℕ) (piece : Vec Command Global) → n < length pieces
+    → piece ≡ get_or pieces n piece → count ≡ length (commands_in (take n pieces)) → more ≡ count + length piece.items
+    → more ≡ length (commands_in (take (n + 1) pieces))
+counted_more pieces n count more piece lt at was is =
+    let here : commands_in (take (n + 1) pieces) ≡ commands_in (take n pieces) ++ piece.items =
+    ap commands_in (take_more pieces n piece lt)
+    ∙ (ap (λ (p : Vec Command Global). commands_in (take n pieces ++ p ∷ [])) (sym at)
+    ∙ flat_more (λ (p : Vec Command Global). p.items) (take n pieces) piece) in
+    let long = ap length here in
+    let parts = length-append (commands_in (take n pieces)) piece.items in
+    omega (arith, is, was, long, parts)
+
+-- so many pieces, and the next, have no more commands than all
+pub few_counted : (pieces : List (Vec Command Global)) (n count : ℕ) (piece : Vec Command Global) → AreFew pieces → n < length pieces
+    → piece ≡ get_or pieces n piece → count ≡ length (commands_in (take n pieces)) → count + length piece.items < 2 ^ 15
+few_counted pieces n count piece few lt at was =
+    let here = counted_more pieces n count (count + length piece.items) piece lt at was refl in
+    let less = parts_few pieces (n + 1) in
+    omega (arith, few, here, less) where
+      parts_few : (l : List (Vec Command Global)) (k : ℕ) → length (commands_in (take k l)) ≤ length (commands_in l)
+      parts_few l k =
+          let all = ap (λ (m : List (Vec Command Global)). length (commands_in m)) (take-append-drop k l) in
+          let both = ap length (flat_map-append (λ (p : Vec Command Global). p.items) (take k l) (drop k l)) in
+          let long = length-append (commands_in (take k l)) (commands_in (drop k l)) in
+          omega (arith, all, both, long)
+
+-- all pieces
+pub counted_all : (pieces : List (Vec Command Global)) (n count : ℕ) → length pieces ≤ n
+    → count ≡ length (commands_in (take n pieces)) → count ≡ length (commands_in pieces)
+counted_all pieces n count long is =
+    is ∙ ap (λ (l : List (Vec Command Global)). length (commands_in l)) (take_all n pieces long)
+
+-- clients and shares beside one another
+pub idle_zip : (objects : List Object) (clients : List Client) (shares : List Share) (pairs : List (Client × Share))
+    (served : List Served) → length shares ≡ length clients → pairs ≡ zip clients shares
+    → AreIdle objects (map (λ p. p.0) pairs) (map (λ p. p.1) pairs) served → AreIdle objects clients shares served
+idle_zip objects clients shares pairs served long is idle =
+    subst (λ (l : List Client). AreIdle objects l shares served)
+    (ap (map (λ (p : Client × Share). p.0)) is ∙ firsts-zip clients shares long)
+    (subst (λ (l : List Share). AreIdle objects (map (λ p. p.0) pairs) l served)
+    (ap (map (λ (p : Client × Share). p.1)) is ∙ seconds-zip clients shares long) idle)

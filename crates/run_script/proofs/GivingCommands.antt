@@ -1,0 +1,272 @@
+-- What a client gives to appends, stops, pulls and trims, by what its calls left.
+use Rattle.std.proofs.Common.{◌≡◌, ◌≢◌, ◌⊎◌, ℕ, zero, suc, ◌+◌, ◌*◌, ◌^◌, ◌<◌, ◌≤◌, List, [], map, true, Some, None, Err, refl, ap, sym, subst, ◌∙◌, inl, inr, arith, append-nil, eqb-true}
+use Rattle.std.specs.Prelude.{IsTrue, Result, ◌-◌}
+use Rattle.std.specs.Int.{bit_at}
+use Rattle.std.specs.List.{range_with_len}
+use Rattle.std.proofs.lemmas.Bool.{cases_eq, cases_lt}
+use Rattle.std.proofs.lemmas.List.Elements.{All-contains}
+use Rattle.std.proofs.lemmas.Nat.Bits.{bit_at_cat_high, bit_at-zero}
+use Rattle.log_node.specs.declared.ids.Colours.{Colours}
+use Rattle.log_node.specs.declared.ids.Counts.{Counts}
+use Rattle.log_node.specs.declared.node.At.{At}
+use Rattle.log_node.specs.Sets.{has, members}
+use Rattle.col_core.specs.Keeping.{Kept}
+use Rattle.col_core.specs.Log.{Log}
+use Rattle.col_core.proofs.CallerLemmas.{In, in_filter-back, contains_in}
+use Rattle.script_text.specs.Fitting.{AreBelow, HasColours}
+use Rattle.script_text.specs.Items.{is_stop}
+use Rattle.script_text.specs.declared.script.What.{What}
+use Rattle.script_text.specs.declared.script.What.TheVariants as whats
+use Rattle.report_text.specs.declared.report.Answer.{Answer}
+use Rattle.report_text.specs.declared.report.Answer.TheVariants as answers
+use Rattle.lawful_run.specs.Asks.{manner_of, may_help}
+use Rattle.lawful_run.specs.Callers.{Caller, node_of}
+use Rattle.lawful_run.specs.Appends.{HasNoStamp, IsFull}
+use Rattle.lawful_run.specs.Explains.{Explains}
+use Rattle.lawful_run.specs.Stops.{Stops}
+use Rattle.client_law.specs.Knowing.{log_of}
+use Rattle.chain_store.specs.declared.hold.Hold.{Hold}
+use Rattle.append_core.specs.declared.several.MultiFault.{MultiFault}
+use Rattle.append_core.specs.declared.several.MultiFault.TheVariants as faults
+use Rattle.region_pull.specs.declared.pulled.Pulled.{Pulled}
+use Rattle.region_pull.specs.declared.pulled.PullFault.TheVariants as pull_faults
+use Rattle.log_client.specs.declared.store.Store.{Store}
+use Rattle.log_client.specs.declared.client.Client.{Client}
+use Rattle.log_client.specs.declared.answers.Appended.{Appended}
+use Rattle.log_client.specs.Fits.{HasGoneOn, HaveGoneOn}
+use Rattle.log_client.specs.Growing.{HasGrown}
+use Rattle.log_client.specs.Clients.{IsClient, Finished, Helps, Keeps, caller_of, holds_of, seen_of, starts_of}
+use Rattle.log_client.specs.Calls.{IsExplained, IsSame, PullsAs, PullRefused, GaveAlone, TrimsAs}
+use Rattle.log_client.specs.Appends.{AppendsAs, AppendRefused, AreColoursOf, FindsNoMemory, HasStopped, piece_of}
+use Rattle.log_client.proofs.CallerLemmas.{grown_same}
+use Rattle.run_script.specs.Serving.{Gives, IsStopped}
+use Rattle.run_script.proofs.CommandAnswers as commands
+use Rattle.run_script.proofs.Giving.{gives}
+
+-- SETS OF COLOURS
+
+in_range : (a n c : ℕ) → a ≤ c → c < a + n → In c (range_with_len a n)
+in_range a zero c lo hi = absurd (let f : ⊥ = omega (arith, lo, hi) in f)
+in_range a (suc n) c lo hi = elim (cases_eq c a) [
+  | inl same ↦ inl (sym same)
+  | inr ne ↦ inr (in_range (a + 1) n c (above a c lo ne) (omega (arith, hi)))
+] where
+  above : (a c : ℕ) → a ≤ c → c ≢ a → a + 1 ≤ c
+  above a c lo ne = elim (cases_lt a c) [
+    | inl less ↦ omega (arith, less)
+    | inr more ↦ absurd (ne (omega (arith, lo, more)))
+  ]
+
+-- a set of few bits has small members
+low_bit : (set : Colours) (c : ℕ) → set.0 < 2 ^ 64 → has set c ≡ true → c < 64
+low_bit set c few is = elim (cases_lt c 64) [
+  | inl low ↦ low
+  | inr high ↦ absurd (
+      let z : set.0 ≡ 0 * 2 ^ 64 + set.0 = omega arith in
+      let none : bit_at set.0 c ≡ 0 =
+      ap (λ (n : ℕ). bit_at n c) z ∙ (bit_at_cat_high 0 64 set.0 c few high ∙ bit_at-zero (c - 64)) in
+      let one : bit_at set.0 c ≡ 1 = eqb-true (bit_at set.0 c) 1 is in
+      let f : ⊥ = omega (arith, none, one) in f)
+]
+
+-- what a set has is below what its members are below
+pub has_below : (set : Colours) (n : ℕ) → AreBelow n set → set.0 < 2 ^ 64 → (c : ℕ) → has set c ≡ true → c < n
+has_below set n all few c is =
+    let low = low_bit set c few is in
+    All-contains (λ k. k < n) (members set) c all
+    (contains_in (members set) c (in_filter-back (has set) c (range_with_len 0 64)
+    (in_range 0 64 c (omega arith) (omega (arith, low))) is))
+
+-- a set of so many colours, all of the store
+pub colours_of : (s : Store) (colours : Colours) (least : ℕ) → 1 ≤ least → HasColours least colours
+    → AreBelow s.size.colours colours → AreColoursOf s colours
+colours_of s colours least some has below =
+    let many = has.many in record {
+      some = omega (arith, some, many);
+      within = has_below colours s.size.colours below has.bits;
+    }
+
+-- APPENDS
+
+-- a client of which nothing was asked has gone on
+gone_same : (hs : List Hold) → HaveGoneOn hs hs
+gone_same hs = (
+  refl,
+  λ region g h at later.
+      let same : g ≡ h = (let both : Some g ≡ Some h = sym at ∙ later in cc (both)) in
+      subst (HasGoneOn g) same (record {
+        number = refl;
+        more = λ colour. ([], append-nil _);
+        size = refl;
+        learns = record { known = λ i n k. k; begun = λ r x k. k };
+      }),
+)
+
+-- memory was refused before anything was asked of the client
+pub gives_unasked : (s : Store) (c : Client) (what : What) → IsClient s c → Gives s c c what answers.NoMemory []
+gives_unasked s c what rests = record {
+  rests = rests;
+  same = (refl, refl);
+  goes = gone_same (holds_of c);
+  grows = grown_same c c refl;
+  explained = λ objects kept done keeps. (
+    kept,
+    keeps,
+    λ rest fits. commands.no_memory (log_of (seen_of c) rest) (caller_of s c objects) kept kept what refl,
+  );
+  finished = λ done. inl done;
+  helps = λ helps. inl helps;
+}
+
+-- an append that answered otherwise than that it stopped has left its client finished
+pub not_stopped : (c d : Client) (result : Result Appended MultiFault)
+    → ((steps : ℕ) → result ≢ Err (faults.Stopped steps)) → (Finished c → Finished d ⊎ HasStopped result)
+    → Finished c → Finished d
+not_stopped c d result other finished done = elim (finished done) [
+  | inl still ↦ still
+  | inr stop ↦ absurd (other stop.0 stop.2)
+]
+
+module _ (s : Store) (c d : Client) (rests : IsClient s d) (same : IsSame c d)
+    (goes : HaveGoneOn (holds_of c) (holds_of d)) (grows : HasGrown c d) where
+  -- a call that may have helped
+  pub gives_helping : (what : What) (answer : Answer) (Record : Log → Caller → Kept → Kept → Type 0)
+      → IsTrue (may_help (manner_of what))
+      → (Finished c → Finished d ⊎ (IsTrue (is_stop what) × IsStopped answer))
+      → IsExplained s c d Record
+      → ((log : Log) (caller : Caller) (kept after : Kept) → Record log caller kept after
+      → Explains log caller kept what answer [] after)
+      → Gives s c d what answer []
+  gives_helping what answer Record may finished is explains = record {
+    rests = rests;
+    same = same;
+    goes = goes;
+    grows = grows;
+    explained = λ objects kept done keeps.
+        let e = is objects kept done keeps in (e.0, e.1, λ rest fits. explains _ _ kept e.0 (e.2 rest fits));
+    finished = finished;
+    helps = λ helps. inr may;
+  }
+
+  module _ (colours : Colours) (text : List ℕ) where
+    pub gives_stood : (a : Appended) → (Finished c → Finished d) → IsExplained s c d (AppendsAs colours text a)
+        → Gives s c d (whats.Append colours text)
+        (answers.Stood a.stood.key.stamp a.row (map piece_of a.stood.points)) []
+    gives_stood a finished is =
+        gives_helping (whats.Append colours text) (answers.Stood a.stood.key.stamp a.row (map piece_of a.stood.points))
+        (AppendsAs colours text a) refl (λ done. inl (finished done)) is
+        (λ log caller kept after r.
+        commands.stood log caller kept after colours text a.stood.key.stamp a.row (map piece_of a.stood.points) r.2)
+
+    pub gives_full : (used : ℕ) → (Finished c → Finished d)
+        → AppendRefused s c d colours text None (faults.Full used)
+        → Gives s c d (whats.Append colours text) (answers.Full used) []
+    gives_full used finished is =
+        gives_helping (whats.Append colours text) (answers.Full used)
+        (λ log caller kept after. IsFull caller kept colours used × (after ≡ kept)) refl (λ done. inl (finished done)) is.1
+        (λ log caller kept after r. commands.full log caller kept after colours text used r.0 r.1)
+
+    pub gives_ended : (colour : ℕ) → (Finished c → Finished d)
+        → AppendRefused s c d colours text None (faults.StampEnd colour)
+        → Gives s c d (whats.Append colours text) (answers.StampEnd colour) []
+    gives_ended colour finished is =
+        gives_helping (whats.Append colours text) (answers.StampEnd colour)
+        (λ log caller kept after. HasNoStamp log caller kept (node_of caller kept colours text) colour after) refl (λ done. inl (finished done)) is.1
+        (λ log caller kept after r. commands.ended log caller kept after colours text colour r)
+
+    pub gives_gone : (Finished c → Finished d) → AppendRefused s c d colours text None faults.NoMemory
+        → Gives s c d (whats.Append colours text) answers.NoMemory []
+    gives_gone finished is =
+        gives_helping (whats.Append colours text) answers.NoMemory (FindsNoMemory colours text None) refl
+        (λ done. inl (finished done)) is
+        (λ log caller kept after r. elim r [
+          | inl none ↦ commands.no_memory log caller kept after (whats.Append colours text) none
+          | inr gone ↦ commands.gone_for_memory log caller kept after colours text gone.1 gone.2 gone.3
+        ])
+
+    -- STOPS
+
+    module _ (steps : ℕ) where
+      pub gives_full_stop : (used : ℕ) → steps ≢ 0 → (Finished c → Finished d)
+          → AppendRefused s c d colours text (Some steps) (faults.Full used)
+          → Gives s c d (whats.Stop steps colours text) (answers.Full used) []
+      gives_full_stop used later finished is =
+          gives_helping (whats.Stop steps colours text) (answers.Full used)
+          (λ log caller kept after. IsFull caller kept colours used × (after ≡ kept)) refl (λ done. inl (finished done)) is.1
+          (λ log caller kept after r. commands.full_stop log caller kept after colours text steps used later r.0 r.1)
+
+      pub gives_stopped : (shown : ℕ) → AppendRefused s c d colours text (Some steps) (faults.Stopped shown)
+          → Gives s c d (whats.Stop steps colours text) (answers.Stopped shown) []
+      gives_stopped shown is =
+          let so : steps ≡ shown = (let e = is.0 in cc (e)) in
+          subst (λ (k : ℕ). Gives s c d (whats.Stop k colours text) (answers.Stopped shown) []) (sym so)
+          (gives_helping (whats.Stop shown colours text) (answers.Stopped shown)
+          (λ log caller kept after. Stops log caller kept (node_of caller kept colours text) shown after) refl
+          (λ done. inr (refl, (shown, refl))) is.1
+          (λ log caller kept after r. commands.stopped log caller kept after colours text shown r))
+
+      pub gives_no_stop : (Finished c → Finished d) → AppendRefused s c d colours text (Some steps) faults.NoMemory
+          → Gives s c d (whats.Stop steps colours text) answers.NoMemory []
+      gives_no_stop finished is =
+          gives_helping (whats.Stop steps colours text) answers.NoMemory (FindsNoMemory colours text (Some steps)) refl
+          (λ done. inl (finished done)) is
+          (λ log caller kept after r. elim r [
+            | inl none ↦ commands.no_memory log caller kept after (whats.Stop steps colours text) none
+            | inr gone ↦ absurd (let e = gone.0 in let f : ⊥ = cc (e) in f)
+          ])
+
+  -- PULLS AND TRIMS
+
+  module _ (finished : Finished c → Finished d) (idle : Helps d → Helps c) where
+    pub gives_pulled : (region colour : ℕ) (p : Pulled) → IsExplained s c d (PullsAs region colour p)
+        → Gives s c d (whats.Pull region colour) (answers.Pulled p.nodes p.give p.carry) []
+    gives_pulled region colour p is =
+        gives s c d rests same goes grows finished idle (whats.Pull region colour)
+        (answers.Pulled p.nodes p.give p.carry) [] (PullsAs region colour p) is
+        (λ log caller kept after r.
+        commands.pulled log caller kept after region colour p.nodes r.0 p.give p.carry r.1 r.2 r.3 r.4)
+
+    pub gives_same_region : (region colour : ℕ) → PullRefused s c d region colour pull_faults.SameRegion
+        → Gives s c d (whats.Pull region colour) answers.SameRegion []
+    gives_same_region region colour is = record {
+      rests = rests;
+      same = same;
+      goes = goes;
+      grows = grows;
+      explained = λ objects kept done keeps. (
+        kept,
+        subst (λ (x : Client). Keeps s x objects kept) (sym is.1) keeps,
+        λ rest fits. commands.same_region (log_of (seen_of d) rest) (caller_of s d objects) kept kept region colour
+            (is.0 ∙ ap (λ (x : Client). x.region) (sym is.1)) refl,
+      );
+      finished = λ done. inl (finished done);
+      helps = λ helps. inl (idle helps);
+    }
+
+    pub gives_gave : (region colour : ℕ) → PullRefused s c d region colour pull_faults.NoMemory
+        → Gives s c d (whats.Pull region colour) answers.NoMemory []
+    gives_gave region colour is =
+        gives s c d rests same goes grows finished idle (whats.Pull region colour) answers.NoMemory []
+        (GaveAlone region colour) is.1
+        (λ log caller kept after r.
+        commands.pull_no_memory log caller kept after region colour r.0 r.1 r.2 r.3 r.4 r.5)
+
+    pub gives_trimmed : (colour : ℕ) (counts : Counts) (at : At) (base : Counts) → counts ≡ starts_of c colour
+        → IsExplained s c d (TrimsAs colour counts at base)
+        → Gives s c d (whats.Trim colour) (answers.Based at base) []
+    gives_trimmed colour counts at base own is = record {
+      rests = rests;
+      same = same;
+      goes = goes;
+      grows = grows;
+      explained = λ objects kept done keeps.
+          let e = is objects kept done keeps in (
+            e.0,
+            e.1,
+            λ rest fits.
+                let r = e.2 rest fits in
+                commands.trimmed (log_of (seen_of d) rest) (caller_of s d objects) kept e.0 colour r.0 at base r.1 (r.2 (own ∙ sym (keeps.starts colour))) r.3,
+          );
+      finished = λ done. inl (finished done);
+      helps = λ helps. inl (idle helps);
+    }

@@ -1,0 +1,88 @@
+-- The script of a load can be run on threads, and what its run shows.
+use Rattle.std.proofs.Common.{◌≡◌, ℕ, ◌<◌, ◌≤◌, false, List, length, refl, ap, sym, subst, ◌∙◌, ◌⊎◌, inl, inr, arith}
+use Rattle.std.specs.List.{All}
+use Rattle.log_node.specs.declared.limits.TheConstants.{MAX_ROWS}
+use Rattle.script_text.specs.declared.script.What.{What}
+use Rattle.script_text.specs.declared.script.What.TheVariants as whats
+use Rattle.script_text.specs.declared.script.Command.{Command}
+use Rattle.script_text.specs.declared.script.Script.{Script}
+use Rattle.script_text.specs.Items.{is_stop}
+use Rattle.script_text.specs.Fitting.{IsFitting}
+use Rattle.script_beside.specs.declared.dealt.DealtScript.{DealtScript}
+use Rattle.script_beside.specs.Dealt.{IsDealt}
+use Rattle.script_meaning.specs.States.{StopsAreLast}
+use Rattle.load_script.specs.declared.script.TheConstants.{MAX_LOAD}
+use Rattle.load_script.specs.Generated.{load_script}
+use Rattle.load_script.specs.Plain.{IsPlainWhat, IsUnwanting}
+use Rattle.load_script.specs.declared.summary.Summary.{Summary}
+use Rattle.load_script.specs.Summing.{summary_of, summary_text, load_summary}
+use Rattle.load_script.specs.Laws.{LoadsFit, LoadsComeToTheirSummary}
+use Rattle.report_text.specs.declared.report.Report.{Report}
+use Rattle.lawful_run.specs.Lawful.{LawfulRun}
+use Rattle.run_script.specs.declared.status.Status.{Status}
+use Rattle.run_script.specs.declared.status.Status.TheVariants.{Done, WriteFault, NoMemory}
+use Rattle.run_script.specs.Running.{CanRun}
+use Rattle.run_script.specs.TopCall.{IsLoaded}
+
+-- a command of a load is no stop
+no_stop : (what : What) → IsPlainWhat what → is_stop what ≡ false
+no_stop (whats.Append colours text) p = refl
+no_stop (whats.Stop steps colours text) p = absurd p
+no_stop (whats.Sync colour) p = refl
+no_stop (whats.Scan colours) p = absurd p
+no_stop (whats.Pull region colour) p = refl
+no_stop (whats.Trim colour) p = absurd p
+no_stop (whats.Put object key value) p = absurd p
+no_stop (whats.Get object key) p = absurd p
+no_stop (whats.Del object key) p = absurd p
+no_stop (whats.PutAll object pairs) p = absurd p
+no_stop (whats.GetAll object keys) p = absurd p
+no_stop (whats.Read object keys) p = absurd p
+no_stop (whats.Commit object pairs) p = absurd p
+no_stop (whats.Enq object value) p = absurd p
+no_stop (whats.Deq object) p = absurd p
+
+pub load_can_run : LoadsFit → (count : ℕ) → count ≤ MAX_LOAD → (script : Script) → script ≡ load_script count
+    → (dealt : DealtScript) → IsDealt script dealt → CanRun script dealt
+load_can_run fit count le script same dealt is = record {
+  is = is;
+  fits = subst IsFitting (sym same) (fit count le).0;
+  rows = subst (λ (s : Script). s.shape.rows ≤ MAX_ROWS) (sym same) (omega arith);
+  some_rows = subst (λ (s : Script). 0 < s.shape.rows) (sym same) (omega arith);
+  stops = subst StopsAreLast (sym same) (λ i j d lt within stop.
+      absurd (let f = no_stop _ (plain i d (omega (arith, lt, within))) in let g : ⊥ = cc (f, stop) in g));
+} where
+  plain : All (λ (c : Command). IsPlainWhat c.what) (let s : Script = load_script count in s.commands)
+  plain = (fit count le).1.plain
+
+-- the commands of a load are of clients who are there
+pub load_callers : LoadsFit → (count : ℕ) → count ≤ MAX_LOAD → (script : Script) → script ≡ load_script count
+    → All (λ (c : Command). c.client < length script.clients) script.commands
+load_callers fit count le script same n d lt =
+    let fits : IsFitting script = subst IsFitting (sym same) (fit count le).0 in
+    let less = fits.callers n d lt in
+    let many = fits.clients in
+    omega (arith, less, many)
+
+-- what was counted from the commands of the script is the load's summary
+pub summed : (count : ℕ) (script : Script) → script ≡ load_script count → (commands : List Command) → commands ≡ script.commands
+    → (summary : Summary) → summary ≡ summary_of count commands → (text : List ℕ) → text ≡ summary_text summary
+    → text ≡ summary_text (load_summary count)
+summed count script same commands all summary is text shown =
+    shown ∙ ap summary_text (is ∙ ap (summary_of count) (all ∙ ap (λ (s : Script). s.commands) same))
+
+-- a run that found memory is one of the load
+pub loaded : LoadsFit → LoadsComeToTheirSummary → (count : ℕ) → count ≤ MAX_LOAD → (script : Script) → script ≡ load_script count
+    → (dealt : DealtScript) → IsDealt script dealt → (report : Report)
+    → ((other : Script) → CanRun other dealt → LawfulRun other report) → IsUnwanting report → IsLoaded count
+loaded fit come count le script same dealt is report lawful found =
+    let of : LawfulRun (load_script count) report =
+    subst (λ (s : Script). LawfulRun s report) same (lawful script (load_can_run fit count le script same dealt is)) in
+    record { report = report; lawful = of; unwanting = found; shown = come count report le of found }
+
+-- with no fault of the sink a load is done, or memory was refused
+pub load_completes : (status : Status) (write_fault : Type 0) → (status ≡ Done) ⊎ (status ≡ WriteFault) ⊎ (status ≡ NoMemory)
+    → (status ≡ WriteFault → write_fault) → (write_fault → ⊥) → (status ≡ Done) ⊎ (status ≡ NoMemory)
+load_completes status write_fault (inl done) writing no_w = inl done
+load_completes status write_fault (inr (inl failed)) writing no_w = absurd (no_w (writing failed))
+load_completes status write_fault (inr (inr none)) writing no_w = inr none

@@ -1,0 +1,28 @@
+use Rattle.std.proofs.Common.{length, subst, arith}
+use Rattle.script_text.specs.Fitting.{IsWithin}
+use Rattle.run_script.proofs.GivingCommands.{colours_of}
+use Rattle.run_script.proofs.serving.answers.log_answer.Goals as goal
+
+pub append-answer-requires-clause-colours : goal.append-answer-requires-clause-colours
+append-answer-requires-clause-colours g c κs within =
+    let named = subst (IsWithin (length c.args.store.now.regions) c.args.store.now.size.colours) c.in-Append.is
+    c.requires.within in
+    colours_of c.args.store.now c.in-Append.colours 1 (omega arith) named.0 named.1
+
+pub scan-requires-clause-colours : goal.scan-requires-clause-colours
+scan-requires-clause-colours g c =
+    let named = subst (IsWithin (length c.args.store.now.regions) c.args.store.now.size.colours) c.in-Scan.is
+    c.requires.within in
+    colours_of c.args.store.now c.in-Scan.colours 1 (omega arith) named.0 named.1
+
+pub stop-answer-requires-clause-colours : goal.stop-answer-requires-clause-colours
+stop-answer-requires-clause-colours g c κs within =
+    let named = subst (IsWithin (length c.args.store.now.regions) c.args.store.now.size.colours) c.in-Stop.is
+    c.requires.within in
+    colours_of c.args.store.now c.in-Stop.colours 2 (omega arith) named.0 named.1
+
+pub stop-answer-requires-clause-steps : goal.stop-answer-requires-clause-steps
+stop-answer-requires-clause-steps g c κs within =
+    let named = subst (IsWithin (length c.args.store.now.regions) c.args.store.now.size.colours) c.in-Stop.is
+    c.requires.within in
+    (named.0.many, named.2)

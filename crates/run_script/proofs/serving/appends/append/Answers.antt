@@ -1,0 +1,7 @@
+use Rattle.script_text.specs.declared.script.What.TheVariants as whats
+use Rattle.run_script.proofs.GivingCommands.{gives_unasked}
+use Rattle.run_script.proofs.serving.appends.append.Goals as goal
+
+pub returns-in-Err : goal.returns-in-Err
+returns-in-Err g c =
+    gives_unasked c.args.store.now c.args.client.now (whats.Append c.args.colours c.args.text) c.requires.client

@@ -1,0 +1,53 @@
+use Rattle.std.proofs.Common.{◌≡◌, refl, subst, sym, ◌∙◌}
+use Rattle.log_client.specs.Objects.{AreColours}
+use Rattle.run_script.proofs.ObjectFrames.{map_colours, one_colour}
+use Rattle.run_script.proofs.serving.opened.open.Goals as goal
+
+pub returns-in_ok-again-in-Map-clause-unfolded : goal.returns-in_ok-again-in-Map-clause-unfolded
+returns-in_ok-again-in-Map-clause-unfolded c = (
+  refl,
+  λ client regions few within.
+      let one = c.in_ok-single-in-Map.ensures in
+      let all = c.open-several.ensures in
+      let copy : c.in_ok-copy-in-Map.copy ≡ c.in-Map.colours = c.in_ok-copy-in-Map.ensures ∙ c.as_slice.ensures in
+      let again : c.in_ok-again-in-Map.again ≡ c.in-Map.colours = c.in_ok-again-in-Map.ensures ∙ c.as_slice-in-Map.ensures in
+      let home : c.in_ok-single-in-Map.single.home ≡ c.in-Map.home = one.of.0 in
+      let its_home : c.open-several.result.home ≡ c.in-Map.home = all.of.0 in
+      let colours : c.in_ok-single-in-Map.single.colours ≡ c.in-Map.colours = one.of.1 ∙ copy in
+      let its_colours : c.open-several.result.colours ≡ c.in-Map.colours = all.of.1 ∙ again in
+      let are = map_colours client regions c.in_ok-single-in-Map.single.home c.in_ok-single-in-Map.single.colours few within in (
+        one.map client (subst (AreColours client) one.of.1 are),
+        all.map client (subst (AreColours client) (colours ∙ sym again) are),
+        its_home ∙ sym home,
+        its_colours ∙ sym colours,
+      ),
+)
+
+pub returns-in_ok-copy-in-Tx-clause-unfolded : goal.returns-in_ok-copy-in-Tx-clause-unfolded
+returns-in_ok-copy-in-Tx-clause-unfolded c = (
+  refl,
+  λ client regions few within.
+      let e = c.open-map.ensures in (
+        e.map client (subst (AreColours client) e.of.1
+            (map_colours client regions c.open-map.result.home c.open-map.result.colours few within)),
+        tt,
+      ),
+)
+
+pub returns-in_ok-map-in-Causal-clause-unfolded : goal.returns-in_ok-map-in-Causal-clause-unfolded
+returns-in_ok-map-in-Causal-clause-unfolded c = (
+  refl,
+  λ client regions few within.
+      let e = c.in_ok-map-in-Causal.ensures in
+      let one = one_colour client c.in_ok-map-in-Causal.map.colour c.in-Causal.colour e.of few within in
+      e.map client one.0 one.1,
+)
+
+pub returns-in_ok-queue-in-Queue-clause-unfolded : goal.returns-in_ok-queue-in-Queue-clause-unfolded
+returns-in_ok-queue-in-Queue-clause-unfolded c = (
+  refl,
+  λ client regions few within.
+      let e = c.in_ok-queue-in-Queue.ensures in
+      let one = one_colour client c.in_ok-queue-in-Queue.queue.colour c.in-Queue.colour e.of.1 few within.1 in
+      e.queue client one.0 one.1,
+)

@@ -1,0 +1,44 @@
+use Rattle.std.proofs.Common.{refl, ap, sym, subst, ◌∙◌, arith, ◌∷◌, []}
+use Rattle.object_form.specs.Forms.{form_text}
+use Rattle.log_node.specs.declared.forms.Form.TheVariants as forms
+use Rattle.script_text.specs.declared.script.Kind.TheVariants as kinds
+use Rattle.script_text.specs.declared.script.What.TheVariants as whats
+use Rattle.log_client.proofs.CallerLemmas.{rests_same}
+use Rattle.log_queue.specs.declared.queue.LogQueue.{LogQueue}
+use Rattle.run_script.specs.declared.serving.opened.Opened.{Opened}
+use Rattle.run_script.specs.Opened.{IsKept, kind_opened}
+use Rattle.run_script.specs.Serving.{GivesFor}
+use Rattle.run_script.proofs.GivingObjects.{gives_unasked_of}
+use Rattle.run_script.proofs.GivingPuts.{gives_enq, points_fit}
+use Rattle.run_script.proofs.serving.puts.enq.Goals as goal
+
+pub returns-in_default-clause-rests : goal.returns-in_default-clause-rests
+returns-in_default-clause-rests g c = rests_same c.args.store.now c.args.client.now c.requires.client
+
+pub returns-in_default-clause-gives : goal.returns-in_default-clause-gives
+returns-in_default-clause-gives g c = λ objects object at.
+    gives_unasked_of c.args.store.now c.args.client.now objects (whats.Enq object c.args.value) c.requires.client
+    (λ kept. (refl, refl))
+
+pub enq-enq-requires-clause-queue : goal.enq-enq-requires-clause-queue
+enq-enq-requires-clause-queue g c κs within = subst (IsKept c.args.client.now) c.in-Queue.is c.requires.kept
+
+pub appended-requires-clause-room : goal.appended-requires-clause-room
+appended-requires-clause-room g c =
+    let room = c.in-Ok.ensures.capacity in
+    points_fit c.args.store.now c.args.client.now c.enq-enq.new.client (c.in-Queue.queue.colour ∷ [])
+    (form_text (forms.Enqueue c.args.value)) c.enq-enq.result _ c.enq-enq.ensures.ok (omega (arith, room))
+
+pub returns-clause-stays : goal.returns-clause-stays
+returns-clause-stays g c = (
+  ap (λ (q : LogQueue). kinds.Queue q.home q.colour) c.enq-enq.ensures.same ∙ ap kind_opened (sym c.in-Queue.is),
+  c.enq-enq.ensures.queue,
+)
+
+pub returns-clause-gives : goal.returns-clause-gives
+returns-clause-gives g c =
+    let e = c.enq-enq.ensures in
+    subst (λ (x : Opened). GivesFor c.args.store.now c.args.client.now c.enq-enq.new.client (kind_opened x)
+    (λ object. whats.Enq object c.args.value) c.appended.result) (sym c.in-Queue.is)
+    (gives_enq c.args.store.now c.args.client.now c.enq-enq.new.client e.client c.enq-enq.result c.appended.result
+    c.appended.ensures c.in-Queue.queue.home c.in-Queue.queue.colour c.args.value e.away e.ok e.err)

@@ -1,0 +1,60 @@
+use Rattle.std.proofs.Common.{Option, None, sym, subst}
+use Rattle.script_text.specs.declared.script.What.TheVariants as whats
+use Rattle.report_text.specs.declared.report.Answer.TheVariants as answers
+use Rattle.tx_map.specs.declared.transactions.Tx.{Tx}
+use Rattle.run_script.specs.declared.serving.opened.Opened.{Opened}
+use Rattle.run_script.specs.declared.serving.opened.Opened.TheVariants as opened
+use Rattle.run_script.specs.Opened.{IsKept}
+use Rattle.run_script.specs.Serving.{GivesTo}
+use Rattle.run_script.proofs.FewShown.{points_few, shows_few_ruled}
+use Rattle.run_script.proofs.GivingReads.{gives_commit, gives_uncommitted}
+use Rattle.run_script.proofs.serving.reads.commit.Goals as goal
+
+pub returns-in_default-clause-gives : goal.returns-in_default-clause-gives
+returns-in_default-clause-gives g c =
+    subst (λ (x : Opened). GivesTo c.args.store.now c.args.client.now c.args.client.now x
+    (opened.Tx c.in-Tx.map c.replace-tx.new.dest) (λ object. whats.Commit object c.args.pairs) answers.NoMemory)
+    (sym c.in-Tx.is)
+    (subst (λ (o : Option Tx). GivesTo c.args.store.now c.args.client.now c.args.client.now
+    (opened.Tx c.in-Tx.map c.in-Tx.found) (opened.Tx c.in-Tx.map o) (λ object. whats.Commit object c.args.pairs)
+    answers.NoMemory) (sym c.replace-tx.ensures.after)
+    (gives_uncommitted c.args.store.now c.args.client.now c.requires.client c.in-Tx.map c.in-Tx.map c.in-Tx.found
+    c.args.pairs))
+
+pub returns-in_default-room_for-clause-gives : goal.returns-in_default-room_for-clause-gives
+returns-in_default-room_for-clause-gives g c =
+    subst (λ (x : Opened). GivesTo c.args.store.now c.args.client.now c.args.client.now x
+    (opened.Tx c.in-Tx.map c.replace-tx.new.dest) (λ object. whats.Commit object c.args.pairs) answers.NoMemory)
+    (sym c.in-Tx.is)
+    (subst (λ (o : Option Tx). GivesTo c.args.store.now c.args.client.now c.args.client.now
+    (opened.Tx c.in-Tx.map c.in-Tx.found) (opened.Tx c.in-Tx.map o) (λ object. whats.Commit object c.args.pairs)
+    answers.NoMemory) (sym c.replace-tx.ensures.after)
+    (gives_uncommitted c.args.store.now c.args.client.now c.requires.client c.in-Tx.map c.in-Tx.map c.in-Tx.found
+    c.args.pairs))
+
+pub ruled-requires-clause-points : goal.ruled-requires-clause-points
+ruled-requires-clause-points g c =
+    let kept = subst (IsKept c.args.client.now) c.in-Tx.is c.requires.kept in
+    points_few c.args.client.now c.in-Tx.map.colours kept.0.colours c.commit-commit.result c.replace-tx.result c.args.pairs _
+    c.in-Ok.ensures.capacity c.commit-commit.ensures.points
+
+pub ruled-requires-clause-few : goal.ruled-requires-clause-few
+ruled-requires-clause-few g c =
+    let kept = subst (IsKept c.args.client.now) c.in-Tx.is c.requires.kept in
+    let e = c.commit-commit.ensures in
+    shows_few_ruled c.args.client.now c.in-Tx.map.colours kept.0.colours c.commit-commit.result e.raises e.syncs
+
+pub returns-clause-gives : goal.returns-clause-gives
+returns-clause-gives g c =
+    let e = c.commit-commit.ensures in
+    subst (λ (x : Opened). GivesTo c.args.store.now c.args.client.now c.commit-commit.new.client x
+    (opened.Tx c.commit-commit.new.self c.replace-tx.new.dest) (λ object. whats.Commit object c.args.pairs) c.ruled.result)
+    (sym c.in-Tx.is)
+    (subst (λ (o : Option Tx). GivesTo c.args.store.now c.args.client.now c.commit-commit.new.client
+    (opened.Tx c.in-Tx.map c.in-Tx.found) (opened.Tx c.commit-commit.new.self o)
+    (λ object. whats.Commit object c.args.pairs) c.ruled.result) (sym c.replace-tx.ensures.after)
+    (subst (λ (o : Option Tx). GivesTo c.args.store.now c.args.client.now c.commit-commit.new.client
+    (opened.Tx c.in-Tx.map o) (opened.Tx c.commit-commit.new.self None)
+    (λ object. whats.Commit object c.args.pairs) c.ruled.result) c.replace-tx.ensures.value
+    (gives_commit c.args.store.now c.args.client.now c.commit-commit.new.client e.client c.ruled.result c.in-Tx.map
+    c.commit-commit.new.self c.replace-tx.result c.args.pairs c.commit-commit.result c.ruled.ensures e.away e.ok e.err)))

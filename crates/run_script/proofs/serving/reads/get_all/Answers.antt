@@ -1,0 +1,59 @@
+use Rattle.std.proofs.Common.{◌≡◌, ℕ, List, refl, ap, sym, subst, ◌∙◌}
+use Rattle.script_text.specs.declared.script.Kind.{Kind}
+use Rattle.script_text.specs.declared.script.Kind.TheVariants as kinds
+use Rattle.script_text.specs.declared.script.What.TheVariants as whats
+use Rattle.log_map.proofs.CallerLemmas.{map_later}
+use Rattle.run_script.specs.declared.serving.opened.Opened.{Opened}
+use Rattle.run_script.specs.Opened.{IsKept, kind_opened}
+use Rattle.run_script.specs.Serving.{GivesFor}
+use Rattle.run_script.proofs.FewShown.{shows_few_all}
+use Rattle.run_script.proofs.GivingObjects.{gives_unasked_of}
+use Rattle.run_script.proofs.GivingReads.{gives_map_get_all}
+use Rattle.run_script.proofs.serving.reads.get_all.Goals as goal
+
+pub returns-in_default-clause-gives : goal.returns-in_default-clause-gives
+returns-in_default-clause-gives g c = λ objects object at.
+    gives_unasked_of c.args.store.now c.args.client.now objects (whats.GetAll object c.args.keys) c.requires.client
+    (λ kept. (refl, refl))
+
+pub returns-in_default-room_for-clause-gives : goal.returns-in_default-room_for-clause-gives
+returns-in_default-room_for-clause-gives g c = λ objects object at.
+    gives_unasked_of c.args.store.now c.args.client.now objects (whats.GetAll object c.args.keys) c.requires.client
+    (λ kept. (refl, refl))
+
+pub got_keys-requires-clause-many : goal.got_keys-requires-clause-many
+got_keys-requires-clause-many g c = c.get_all-get.ensures.many
+
+pub got_keys-requires-clause-few : goal.got_keys-requires-clause-few
+got_keys-requires-clause-few g c =
+    let kept = subst (IsKept c.args.client.now) c.in-Map.is c.requires.kept in
+    let e = c.get_all-get.ensures in
+    shows_few_all c.args.client.now c.in-Map.several.colours kept.1.colours c.get_all-get.result c.args.keys e.raises e.syncs
+
+pub returns-clause-stays : goal.returns-clause-stays
+returns-clause-stays g c =
+    let kept = subst (IsKept c.args.client.now) c.in-Map.is c.requires.kept in
+    let e = c.get_all-get.ensures in (
+      ap kind_opened (sym c.in-Map.is),
+      (
+        map_later c.args.store.now c.args.client.now c.get_all-get.new.client c.in-Map.single c.requires.client e.client kept.0,
+        e.map,
+        e.same.0 ∙ kept.2,
+        e.same.1 ∙ kept.3,
+      ),
+    )
+
+pub returns-clause-gives : goal.returns-clause-gives
+returns-clause-gives g c =
+    let kept = subst (IsKept c.args.client.now) c.in-Map.is c.requires.kept in
+    let e = c.get_all-get.ensures in
+    let same : kinds.Map c.in-Map.several.home c.in-Map.several.colours
+    ≡ kinds.Map c.in-Map.single.home c.in-Map.single.colours =
+    ap (λ (home : ℕ). kinds.Map home c.in-Map.several.colours) kept.2
+    ∙ ap (λ (colours : List ℕ). kinds.Map c.in-Map.single.home colours) kept.3 in
+    subst (λ (x : Opened). GivesFor c.args.store.now c.args.client.now c.get_all-get.new.client (kind_opened x)
+    (λ object. whats.GetAll object c.args.keys) c.got_keys.result) (sym c.in-Map.is)
+    (subst (λ (k : Kind). GivesFor c.args.store.now c.args.client.now c.get_all-get.new.client k
+    (λ object. whats.GetAll object c.args.keys) c.got_keys.result) same
+    (gives_map_get_all c.args.store.now c.args.client.now c.get_all-get.new.client e.client c.got_keys.result
+    c.in-Map.several.home c.in-Map.several.colours c.args.keys c.get_all-get.result c.got_keys.ensures e.away e.ok e.err))

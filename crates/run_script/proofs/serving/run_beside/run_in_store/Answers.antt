@@ -1,0 +1,85 @@
+use Rattle.std.proofs.Common.{◌≡◌, ◌∙◌, subst, arith, List, Some, Global, Vec}
+use Rattle.std.specs.Prelude.{slice_get}
+use Rattle.script_text.specs.declared.script.Command.{Command}
+use Rattle.script_text.specs.declared.script.Object.{Object}
+use Rattle.log_client.specs.declared.client.Client.{Client}
+use Rattle.run_script.specs.declared.serving.served.Served.{Served}
+use Rattle.run_script.specs.Dealing.{AreReady}
+use Rattle.run_script.proofs.ClosingRuns.{can_be_shown, runs_end_lawfully}
+use Rattle.run_script.proofs.RunningBeside.{are_clients, can_serve, few_shares, lawful_if, many_shares, script_of, were_served, whole}
+use Rattle.run_script.proofs.serving.run_beside.run_in_store.Goals as goal
+
+-- the clients have opened the script's own objects
+objects_are : {given objects : List Object} {clients : List Client} {shares : List (Vec (Vec Command Global) Global)}
+    {served : List Served} → given ≡ objects → AreReady given clients shares served → AreReady objects clients shares served
+objects_are {given} {objects} {clients} {shares} {served} same ready =
+    subst (λ (l : List Object). AreReady l clients shares served) same ready
+
+pub open-requires-clause-size : goal.open-requires-clause-size
+open-requires-clause-size g c =
+    let can = whole c.requires.0 c.args.dealt c.requires.1 in
+    let f = can.fits.shape in
+    let few_clients = f.few_clients in
+    let few_colours = f.few_colours in
+    let few_rows = can.rows in (
+      f.a_client,
+      (omega (arith, few_clients)),
+      f.a_colour,
+      (omega (arith, few_colours)),
+      can.some_rows,
+      (omega (arith, few_rows)),
+    )
+
+pub make_ready-requires-clause-shares : goal.make_ready-requires-clause-shares
+make_ready-requires-clause-shares g c =
+    many_shares (script_of c.args.dealt c.requires.0.commands) c.args.dealt c.in_ok-store.store c.in_ok-store.clients
+    (whole c.requires.0 c.args.dealt c.requires.1) c.in_ok-store.ensures.clients
+
+pub make_ready-requires-clause-few : goal.make_ready-requires-clause-few
+make_ready-requires-clause-few g c =
+    few_shares (script_of c.args.dealt c.requires.0.commands) c.args.dealt (whole c.requires.0 c.args.dealt c.requires.1)
+
+pub serve_beside-requires-after_bounds : goal.serve_beside-requires-after_bounds
+serve_beside-requires-after_bounds g c κs within = λ n x at.
+    let e = c.in_ok-store.ensures in
+    can_serve (script_of c.args.dealt c.requires.0.commands) c.args.dealt (whole c.requires.0 c.args.dealt c.requires.1)
+    c.in_ok-store.store e.size e.regions c.in_ok-store.clients e.clients c.in_ok-served.served.items
+    (objects_are c.as_slice.ensures c.in_ok-served.ensures) n x
+    (subst (λ (l : List Served). slice_get l n ≡ Some x) c.as_mut_slice.ensures.value at)
+
+pub close-requires : goal.close-requires
+close-requires g c =
+    let e = c.in_ok-store.ensures in
+    let script = script_of c.args.dealt c.requires.0.commands in
+    let served = were_served script c.args.dealt (whole c.requires.0 c.args.dealt c.requires.1) c.in_ok-store.store e.size
+    e.regions c.in_ok-store.clients e.clients c.in_ok-served.served.items c.as_mut_slice.result.now c.serve_beside.new.served
+    c.as_mut_slice.ensures.value (objects_are c.as_slice.ensures c.in_ok-served.ensures) c.serve_beside.ensures.len
+    c.serve_beside.ensures.served c.in_ok-served.served.len c.in_ok-served.served.ok.0 c.into.result
+    c.in_ok-clients.replies.items (c.into.ensures ∙ c.in_ok-clients.ensures.clients) c.in_ok-clients.ensures.replies in
+    are_clients script c.in_ok-store.store c.into.result c.in_ok-clients.replies.items served
+
+pub end_report-requires-clause-regions : goal.end_report-requires-clause-regions
+end_report-requires-clause-regions g c =
+    let e = c.in_ok-store.ensures in
+    let script = script_of c.args.dealt c.requires.0.commands in
+    let can = whole c.requires.0 c.args.dealt c.requires.1 in
+    let served = were_served script c.args.dealt can c.in_ok-store.store e.size
+    e.regions c.in_ok-store.clients e.clients c.in_ok-served.served.items c.as_mut_slice.result.now c.serve_beside.new.served
+    c.as_mut_slice.ensures.value (objects_are c.as_slice.ensures c.in_ok-served.ensures) c.serve_beside.ensures.len
+    c.serve_beside.ensures.served c.in_ok-served.served.len c.in_ok-served.served.ok.0 c.into.result
+    c.in_ok-clients.replies.items (c.into.ensures ∙ c.in_ok-clients.ensures.clients) c.in_ok-clients.ensures.replies in
+    can_be_shown script can.fits c.in_ok-store.store c.into.result c.in_ok-clients.replies.items served
+    c.in_ok-closed.closed c.in_ok-closed.ensures
+
+pub returns : goal.returns
+returns g c =
+    let e = c.in_ok-store.ensures in
+    lawful_if c.args.dealt _ c.end_report.result c.end_report.ensures (λ commands can.
+    runs_end_lawfully (script_of c.args.dealt commands) can.fits c.in_ok-store.store c.into.result
+    c.in_ok-clients.replies.items
+    (were_served (script_of c.args.dealt commands) c.args.dealt can c.in_ok-store.store e.size
+    e.regions c.in_ok-store.clients e.clients c.in_ok-served.served.items c.as_mut_slice.result.now c.serve_beside.new.served
+    c.as_mut_slice.ensures.value (objects_are c.as_slice.ensures c.in_ok-served.ensures) c.serve_beside.ensures.len
+    c.serve_beside.ensures.served c.in_ok-served.served.len c.in_ok-served.served.ok.0 c.into.result
+    c.in_ok-clients.replies.items (c.into.ensures ∙ c.in_ok-clients.ensures.clients) c.in_ok-clients.ensures.replies)
+    c.in_ok-closed.closed c.in_ok-closed.ensures)

@@ -1,0 +1,126 @@
+-- The objects of a script as a client has opened them, beside which it keeps them.
+use Rattle.std.specs.Prelude.{◌≡◌, ℕ, ◌≤◌, List, length, map, Option, Some, None, slice_get, IsTrue, IfSome}
+use Rattle.std.specs.Option.{option_map}
+use Rattle.log_node.specs.declared.limits.TheConstants.{MAX_COLOURS}
+use Rattle.log_node.specs.declared.forms.Version.{Version}
+use Rattle.object_form.specs.Forms.{AreVersions}
+use Rattle.col_core.specs.Keeping.{Kept, updated}
+use Rattle.script_text.specs.Fitting.{IsKindWithin, is_any_map, is_map, is_queue, is_tx}
+use Rattle.script_text.specs.Grammar.{are_keys, are_pairs}
+use Rattle.script_text.specs.Pieces.{is_key}
+use Rattle.script_text.specs.declared.script.Kind.{Kind}
+use Rattle.script_text.specs.declared.script.Kind.TheVariants as kinds
+use Rattle.script_text.specs.declared.script.Object.{Object}
+use Rattle.script_text.specs.declared.script.What.{What}
+use Rattle.script_text.specs.declared.script.What.TheVariants as whats
+use Rattle.log_client.specs.declared.client.Client.{Client}
+use Rattle.log_client.specs.Clients.{tracks_of}
+use Rattle.log_map.specs.Maps.{IsMapOf}
+use Rattle.log_queue.specs.Queues.{IsQueueOf}
+use Rattle.causal_map.specs.CausalMaps.{IsCausalMapOf}
+use Rattle.atomic_map.specs.Several.{IsAtomicMapOf}
+use Rattle.tx_map.specs.Transactions.{IsTxMapOf}
+use Rattle.tx_map.specs.declared.transactions.Tx.{Tx}
+use Rattle.run_script.specs.declared.serving.opened.Opened.{Opened}
+use Rattle.run_script.specs.declared.serving.opened.Opened.TheVariants as opened
+
+-- what was opened
+abbrev pub kind_opened : Opened → Kind
+kind_opened (opened.Map single several) = kinds.Map single.home single.colours
+kind_opened (opened.Tx map found) = kinds.Tx map.home map.colours
+kind_opened (opened.Causal of) = kinds.Causal of.colour
+kind_opened (opened.Queue of) = kinds.Queue of.home of.colour
+
+-- these are the objects of a script, by number
+abbrev pub AreOf : List Object → List Opened → Type 0
+AreOf objects xs = map (λ (o : Object). o.kind) objects ≡ map kind_opened xs
+
+-- What is folded of an object is of what the client has played or read, and a commit may rest on what a read found.
+abbrev pub IsKept : Client → Opened → Type 0
+IsKept c (opened.Map single several) =
+    IsMapOf c single × IsAtomicMapOf c several × (several.home ≡ single.home) × (several.colours ≡ single.colours)
+IsKept c (opened.Tx map found) = IsTxMapOf c map × IfSome found (λ (t : Tx). AreVersions t.versions)
+IsKept c (opened.Causal of) = IsCausalMapOf c of
+IsKept c (opened.Queue of) = IsQueueOf c of
+
+abbrev pub AreKept : Client → List Opened → Type 0
+AreKept c xs = (n : ℕ) (x : Opened) → slice_get xs n ≡ Some x → IsKept c x
+
+-- WHAT READS FOUND
+
+-- what the last read of it found, and no commit has used up
+abbrev pub versions_in : Opened → Option (List Version)
+versions_in (opened.Map single several) = None
+versions_in (opened.Tx map found) = option_map (λ (t : Tx). t.versions) found
+versions_in (opened.Causal of) = None
+versions_in (opened.Queue of) = None
+
+-- the same of one that is opened, or not
+abbrev pub found_in : Option Opened → Option (List Version)
+found_in None = None
+found_in (Some x) = versions_in x
+
+-- what is kept of reads is what was found by those of these objects, by number
+abbrev pub HaveReads : List Opened → Kept → Type 0
+HaveReads xs kept = (n : ℕ) → kept.reads n ≡ found_in (slice_get xs n)
+
+-- of reads is kept what was kept before, but of one object this
+abbrev pub KeepsReadsBut : ℕ → Option (List Version) → Kept → Kept → Type 0
+KeepsReadsBut object found kept after = (n : ℕ) → after.reads n ≡ updated kept.reads object found n
+
+-- WHILE THE CLIENT GOES ON
+
+-- Nothing was read of it and nothing is folded: it is kept so by each client that has its colours.
+abbrev pub IsUnfolded : Opened → Type 0
+IsUnfolded x =
+    (versions_in x ≡ None)
+    × ((c : Client) (regions : ℕ) → length (tracks_of c) ≤ MAX_COLOURS
+    → IsKindWithin regions (length (tracks_of c)) (kind_opened x) → IsKept c x)
+
+-- the client has gone on, and so has what is folded of the same object
+abbrev pub StaysOpen : Client → Opened → Opened → Type 0
+StaysOpen c x y = (kind_opened y ≡ kind_opened x) × IsKept c y
+
+-- WHICH OBJECT IS ASKED
+
+-- the number of the object that a command is of
+abbrev pub object_asked : What → Option ℕ
+object_asked (whats.Append colours text) = None
+object_asked (whats.Stop steps colours text) = None
+object_asked (whats.Sync colour) = None
+object_asked (whats.Scan colours) = None
+object_asked (whats.Pull region colour) = None
+object_asked (whats.Trim colour) = None
+object_asked (whats.Put object key value) = Some object
+object_asked (whats.Get object key) = Some object
+object_asked (whats.Del object key) = Some object
+object_asked (whats.PutAll object pairs) = Some object
+object_asked (whats.GetAll object keys) = Some object
+object_asked (whats.Read object keys) = Some object
+object_asked (whats.Commit object pairs) = Some object
+object_asked (whats.Enq object value) = Some object
+object_asked (whats.Deq object) = Some object
+
+-- An object of this kind has the command, with keys and values that may be.
+abbrev pub HasCommand : Kind → What → Type 0
+HasCommand kind (whats.Append colours text) = ⊥
+HasCommand kind (whats.Stop steps colours text) = ⊥
+HasCommand kind (whats.Sync colour) = ⊥
+HasCommand kind (whats.Scan colours) = ⊥
+HasCommand kind (whats.Pull region colour) = ⊥
+HasCommand kind (whats.Trim colour) = ⊥
+HasCommand kind (whats.Put object key value) = IsTrue (is_any_map kind) × IsTrue (is_key key) × IsTrue (is_key value)
+HasCommand kind (whats.Get object key) = IsTrue (is_any_map kind) × IsTrue (is_key key)
+HasCommand kind (whats.Del object key) = IsTrue (is_map kind) × IsTrue (is_key key)
+HasCommand kind (whats.PutAll object pairs) = IsTrue (is_map kind) × IsTrue (are_pairs 4 pairs)
+HasCommand kind (whats.GetAll object keys) = IsTrue (is_map kind) × IsTrue (are_keys 4 keys)
+HasCommand kind (whats.Read object keys) = IsTrue (is_tx kind) × IsTrue (are_keys 2 keys)
+HasCommand kind (whats.Commit object pairs) = IsTrue (is_tx kind) × IsTrue (are_pairs 2 pairs)
+HasCommand kind (whats.Enq object value) = IsTrue (is_queue kind) × IsTrue (is_key value)
+HasCommand kind (whats.Deq object) = IsTrue (is_queue kind)
+
+-- Where the command is of an object, it is one of these, which has it.
+abbrev pub IsOfOne : List Opened → What → Type 0
+IsOfOne xs what =
+    (n : ℕ) → object_asked what ≡ Some n
+    → (x : Opened) × (slice_get xs n ≡ Some x) × HasCommand (kind_opened x) what

@@ -1,0 +1,91 @@
+-- What calls of objects are answered.
+use Rattle.std.specs.Prelude.{◌≡◌, ℕ, ◌≤◌, List, [], length, map, Option, Some, None, Result, Ok, Err, vec_capacity}
+use Rattle.log_node.specs.declared.limits.TheConstants.{MAX_COLOURS}
+use Rattle.object_fold.specs.declared.verdict.Verdict.{Verdict}
+use Rattle.object_fold.specs.declared.verdict.Verdict.TheVariants.{Committed, Conflict}
+use Rattle.object_fold.specs.Maps.{Value}
+use Rattle.append_core.specs.declared.several.MultiFault.TheVariants as append_faults
+use Rattle.report_text.specs.declared.report.Answer.{Answer}
+use Rattle.report_text.specs.declared.report.Answer.TheVariants as answers
+use Rattle.report_text.specs.declared.report.KeyAnswer.{KeyAnswer}
+use Rattle.lawful_run.specs.Objects.{AreAnswers}
+use Rattle.log_client.specs.declared.answers.Appended.{Appended}
+use Rattle.log_client.specs.declared.answers.StampedRead.{StampedRead}
+use Rattle.log_client.specs.declared.answers.Synced.{Synced}
+use Rattle.log_client.specs.declared.faults.SyncFault.TheVariants as sync_faults
+use Rattle.log_client.specs.declared.object_fault.ObjectFault.{ObjectFault}
+use Rattle.log_client.specs.declared.object_fault.ObjectFault.TheVariants as faults
+use Rattle.log_client.specs.Appends.{piece_of}
+use Rattle.log_client.specs.StampedReads.{raise_piece, sync_piece}
+use Rattle.tx_map.specs.declared.transactions.Tx.{Tx}
+use Rattle.run_script.specs.declared.serving.reads.ReadRoom.{ReadRoom}
+
+-- the answer to a call that was refused
+abbrev pub fault_answer : ObjectFault → Answer
+fault_answer (faults.NotHome home) = answers.NotHome home
+fault_answer (faults.Append (append_faults.Full used)) = answers.Full used
+fault_answer (faults.Append (append_faults.StampEnd colour)) = answers.StampEnd colour
+fault_answer (faults.Append (append_faults.Stopped steps)) = answers.Stopped steps
+fault_answer (faults.Append append_faults.NoMemory) = answers.NoMemory
+fault_answer (faults.Sync (sync_faults.Trimmed colour base)) = answers.Trimmed colour base
+fault_answer (faults.Sync sync_faults.NoMemory) = answers.NoMemory
+fault_answer (faults.Unread stamp (sync_faults.Trimmed colour base)) = answers.UnreadTrimmed stamp colour base
+fault_answer (faults.Unread stamp sync_faults.NoMemory) = answers.UnreadNoMemory stamp
+fault_answer faults.NoTx = answers.NoTx
+fault_answer faults.NoMemory = answers.NoMemory
+
+-- to an append of an object
+abbrev pub append_answer : Result Appended ObjectFault → Answer
+append_answer (Ok a) = answers.Stood a.stood.key.stamp a.row (map piece_of a.stood.points)
+append_answer (Err fault) = fault_answer fault
+
+-- to a get of a map, and of a causal map
+abbrev pub get_answer : Result (Value × Synced) ObjectFault → Answer
+get_answer (Ok got) = answers.Got got.0 (sync_piece got.1)
+get_answer (Err fault) = fault_answer fault
+
+abbrev pub many_answer : Result (List (List ℕ) × Synced) ObjectFault → Answer
+many_answer (Ok got) = answers.GotMany got.0 (sync_piece got.1)
+many_answer (Err fault) = fault_answer fault
+
+-- STAMPED READS
+
+-- Nothing is shown yet, and there is room for a raise and a sync of each colour that there may be.
+pub record HasRoom (room : ReadRoom) : Type 0 where
+  pub no_raises : room.raises.items ≡ []
+  pub no_syncs : room.syncs.items ≡ []
+  pub raises : MAX_COLOURS ≤ vec_capacity room.raises
+  pub syncs : MAX_COLOURS ≤ vec_capacity room.syncs
+
+-- it has no more raises and syncs than there may be colours
+abbrev pub ShowsFew : StampedRead → Type 0
+ShowsFew read = (length read.raises ≤ MAX_COLOURS) × (length read.syncs ≤ MAX_COLOURS)
+
+-- this is the answer to a read of these keys
+abbrev pub ShowsKeys : List (List ℕ) → Result (List Value × StampedRead) ObjectFault → Answer → Type 0
+ShowsKeys keys (Ok r) answer =
+    (shown : List KeyAnswer) × AreAnswers keys r.0 shown
+    × (answer ≡ answers.GotKeys r.1.stamp shown (map raise_piece r.1.raises) (map sync_piece r.1.syncs))
+ShowsKeys keys (Err fault) answer = answer ≡ fault_answer fault
+
+-- what a read of a transactional map found for its reply, and what for a commit
+abbrev pub keys_found : Result (List Value × Tx × StampedRead) ObjectFault → Result (List Value × StampedRead) ObjectFault
+keys_found (Ok r) = Ok (r.0, r.2)
+keys_found (Err fault) = Err fault
+
+abbrev pub tx_found : Result (List Value × Tx × StampedRead) ObjectFault → Option Tx
+tx_found (Ok r) = Some r.1
+tx_found (Err fault) = None
+
+-- the answer to a transaction with this verdict, and to a commit
+abbrev pub ruled_answer : Verdict → Appended → StampedRead → Answer
+ruled_answer (Committed stamp) own read =
+    answers.Ruled None stamp own.row (map piece_of own.stood.points) read.stamp (map raise_piece read.raises)
+    (map sync_piece read.syncs)
+ruled_answer (Conflict key stamp) own read =
+    answers.Ruled (Some key) stamp own.row (map piece_of own.stood.points) read.stamp (map raise_piece read.raises)
+    (map sync_piece read.syncs)
+
+abbrev pub commit_answer : Result (Verdict × Appended × StampedRead) ObjectFault → Answer
+commit_answer (Ok r) = ruled_answer r.0 r.1 r.2
+commit_answer (Err fault) = fault_answer fault

@@ -1,0 +1,72 @@
+// The objects of a script as a client opens them.
+ghost use Rattle.std.specs.Prelude.{◌≡◌, IfOk};
+ghost use Rattle.std.specs.List.{All};
+ghost use Rattle.run_script.specs.Opened.{kind_opened, AreOf, IsUnfolded};
+
+use atomic_map::AtomicMap;
+use causal_map::CausalMap;
+use log_map::LogMap;
+use log_node::{ColourList, ListOf};
+use log_queue::LogQueue;
+use script_text::{Kind, Object};
+use std::alloc::{AllocError, Global};
+use tx_map::{Tx, TxMap};
+
+/// An object of a script, as one client has opened it; of a transactional map what its last read found, until a commit uses
+/// it up.
+#[derive(Drop)]
+pub enum Opened {
+    Map { single: LogMap, several: AtomicMap },
+    Tx { map: TxMap, found: Option<Tx> },
+    Causal(CausalMap),
+    Queue(LogQueue),
+}
+
+// Colours once more.
+fn copied(alloc: Global, colours: &[u8]) -> Result<ColourList, AllocError>
+    ensures { IfOk result (λ copy. copy ≡ colours.now) }
+{
+    Ok(ListOf::from(Vec::from_slice(alloc, colours)?))
+}
+
+// Opens an object of this kind.
+fn open(alloc: Global, kind: &Kind) -> Result<Opened, AllocError>
+    ensures kind { IfOk result (λ x. kind_opened x ≡ kind.now) }
+    ensures unfolded { IfOk result IsUnfolded }
+{
+    match kind {
+        Kind::Map { home, colours } => {
+            let copy = copied(alloc, colours.as_slice())?;
+            let single = LogMap::open(alloc, *home, copy)?;
+            let again = copied(alloc, colours.as_slice())?;
+            let several = AtomicMap::open(alloc, *home, again);
+            Ok(Opened::Map { single, several })
+        }
+        Kind::Tx { home, colours } => {
+            let copy = copied(alloc, colours.as_slice())?;
+            let map = TxMap::open(alloc, *home, copy);
+            Ok(Opened::Tx { map, found: None })
+        }
+        Kind::Causal { colour } => {
+            let map = CausalMap::open(alloc, *colour)?;
+            Ok(Opened::Causal(map))
+        }
+        Kind::Queue { home, colour } => {
+            let queue = LogQueue::open(alloc, *home, *colour)?;
+            Ok(Opened::Queue(queue))
+        }
+    }
+}
+
+/// Opens all objects, by number.
+pub fn open_all(alloc: Global, objects: &[Object]) -> Result<Vec<Opened>, AllocError>
+    ensures opened { IfOk result (λ xs. AreOf objects.now xs.items) }
+    ensures unfolded { IfOk result (λ xs. All IsUnfolded xs.items) }
+{
+    let mut opened = Vec::new(alloc);
+    for object in objects {
+        let one = open(alloc, &object.kind)?;
+        opened.push(one)?;
+    }
+    Ok(opened)
+}

@@ -1,0 +1,77 @@
+// The run of a script on threads.
+ghost use Rattle.std.specs.Prelude.{◌≡◌, map, IfOk};
+ghost use Rattle.script_text.specs.declared.script.Script.{Script};
+ghost use Rattle.lawful_run.specs.Lawful.{LawfulRun};
+ghost use Rattle.run_script.specs.declared.serving.served.Served.{Served};
+ghost use Rattle.run_script.specs.Running.{CanRun};
+
+use crate::serving::beside::serve_beside;
+use crate::serving::dealing::make_ready;
+use crate::serving::ending::end_report;
+use crate::serving::served::Served;
+use few_rows::rows_for;
+use fuzzy_io::Gate;
+use log_client::{Client, Store};
+use log_node::ListOf;
+use report_text::{ReplyLine, Report};
+use script_beside::DealtScript;
+use std::alloc::{AllocError, Global};
+use std::sync::Wait;
+use std::thread::Threads;
+
+// The clients once more, and the replies to each.
+fn parted(
+    alloc: Global,
+    served: Vec<Served>,
+) -> Result<(Vec<Client>, Vec<ListOf<ReplyLine>>), AllocError>
+    ensures clients { IfOk result (λ r. r.0.items ≡ map (λ (x : Served). x.client) served.items) }
+    ensures replies { IfOk result (λ r. r.1.items ≡ map (λ (x : Served). x.replies.items) served.items) }
+{
+    let mut clients = Vec::new(alloc);
+    let mut replies = Vec::new(alloc);
+    for one in served {
+        clients.push(one.client)?;
+        replies.push(ListOf::from(one.replies))?;
+    }
+    Ok((clients, replies))
+}
+
+// The run over a store of as many rows as the script has.
+fn run_in_store<R: Threads + Wait + Sync, G: Gate>(
+    rt: &R,
+    alloc: Global,
+    gate: &G,
+    dealt: DealtScript,
+) -> Result<Report, AllocError>
+    requires { (script : Script) × CanRun script dealt }
+    ensures { IfOk result (λ report. (script : Script) → CanRun script dealt → LawfulRun script report) }
+{
+    let DealtScript {
+        header,
+        shares,
+        begins: _,
+    } = dealt;
+    let (store, clients) = Store::open(alloc, &header.shape)?;
+    let mut served = make_ready(alloc, clients, header.objects.as_slice(), shares)?;
+    serve_beside(rt, alloc, &store, gate, served.as_mut_slice());
+    let (clients, replies) = parted(alloc, served)?;
+    let closed = store.close(rt, alloc, clients.into())?;
+    end_report(rt, alloc, &header, closed, replies)
+}
+
+/// Serves the clients of a script beside one another, each on a thread of its own where one can be made. A command that
+/// finds no memory is answered so, and the run goes on; `Err` means that there was no memory before the first command, or
+/// none after the last. The report is that of a lawful run. The store has no more rows than the commands may begin, however
+/// many the script allows.
+pub fn run_beside<R: Threads + Wait + Sync, G: Gate>(
+    rt: &R,
+    alloc: Global,
+    gate: &G,
+    mut dealt: DealtScript,
+) -> Result<Report, AllocError>
+    requires { (script : Script) × CanRun script dealt }
+    ensures { IfOk result (λ report. (script : Script) → CanRun script dealt → LawfulRun script report) }
+{
+    dealt.header.shape.rows = rows_for(dealt.header.shape.rows, dealt.begins);
+    run_in_store(rt, alloc, gate, dealt)
+}
