@@ -10,10 +10,7 @@ use Rattle.log_node.specs.declared.ids.Row.{Row}
 use Rattle.log_node.specs.declared.node.Node.{Node}
 use Rattle.stamp_board.specs.declared.rows.ClosedRow.{ClosedRow}
 use Rattle.chain_store.specs.declared.closed.ClosedRegion.{ClosedRegion}
-use Rattle.column.specs.Columns.{ColumnState}
-use Rattle.report_text.specs.declared.report.ColumnReport.{ColumnReport}
 use Rattle.report_text.specs.declared.report.RowReport.{RowReport}
-use Rattle.closing_report.specs.Columns.{column_shown}
 use Rattle.run_script.specs.EndReports.{nodes_in, node_at, row_shown, rows_shown}
 
 found_in : {Z : Type 0} (shares : List (Arc Node Z)) (number : ℕ) (x : Node)
@@ -67,9 +64,6 @@ row_is nodes region r x id at same = rw (at, same) refl
 pub rows_at : (nodes : List (List Node)) (region n : ℕ) (e : ClosedRegion) → region ≡ n
     → map (row_shown nodes region) e.rows ≡ rows_shown nodes (n, e)
 rows_at nodes region n e same = ap (λ (k : ℕ). map (row_shown nodes k) e.rows) same
-
-abbrev pub columns_of : List (List ℕ) → List (List ℕ) → List ColumnState → List ColumnReport
-columns_of regions colours columns = map (column_shown regions colours) columns
 
 -- a region more, with its number
 pub numbered_more : {A B : Type 0} (f : ℕ × A → List B) (xs : List A) (x : A)

@@ -11,9 +11,9 @@ mod opened;
 mod puts;
 mod reads;
 mod replies;
-mod run_beside;
+mod running;
 mod scans;
 mod served;
 mod syncs;
 
-pub use run_beside::run_beside;
+pub use running::run_beside;

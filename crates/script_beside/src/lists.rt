@@ -62,7 +62,7 @@ pub fn own_lists(
     requires lines { All (λ (c : Command). c.line < 2 ^ 32 → c.line + before < 2 ^ 32) commands }
     ensures { IfOk result (λ lists. AreOwn clients (map (later before) commands) lists.items) }
 {
-    let mut lists = empty_lists(alloc, clients, 0)?;
+    let mut lists = empty_lists(alloc, clients, commands.len() / clients.max(1))?;
     give(&mut lists, commands.into_vec(), before)?;
     Ok(lists)
 }

@@ -7,7 +7,7 @@ use Rattle.run_script.specs.declared.serving.served.Served.{Served}
 use Rattle.run_script.specs.Dealing.{AreReady}
 use Rattle.run_script.proofs.ClosingRuns.{can_be_shown, runs_end_lawfully}
 use Rattle.run_script.proofs.RunningBeside.{are_clients, can_serve, few_shares, lawful_if, many_shares, script_of, were_served, whole}
-use Rattle.run_script.proofs.serving.run_beside.run_in_store.Goals as goal
+use Rattle.run_script.proofs.serving.running.run_in_store.Goals as goal
 
 -- the clients have opened the script's own objects
 objects_are : {given objects : List Object} {clients : List Client} {shares : List (Vec (Vec Command Global) Global)}

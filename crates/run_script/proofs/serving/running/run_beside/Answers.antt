@@ -1,7 +1,7 @@
 use Rattle.std.proofs.Common.{◌<◌, subst, ℕ}
 use Rattle.few_rows.specs.Needs.{with_rows}
 use Rattle.run_script.proofs.FewerRows.{can_run_with, lawful_with, rows_are}
-use Rattle.run_script.proofs.serving.run_beside.run_beside.Goals as goal
+use Rattle.run_script.proofs.serving.running.run_beside.Goals as goal
 
 pub rows_for-dealt-requires : goal.rows_for-dealt-requires
 rows_for-dealt-requires g c =

@@ -1,6 +1,6 @@
 use Rattle.std.proofs.Common.{◌≡◌, map}
 use Rattle.run_script.specs.declared.serving.served.Served.{Served}
-use Rattle.run_script.proofs.serving.run_beside.parted.Given as goal
+use Rattle.run_script.proofs.serving.running.parted.Given as goal
 
 -- the clients and the replies so far
 abbrev pub invariant-loop-one : goal.invariant-loop-one
