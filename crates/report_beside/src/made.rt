@@ -1,5 +1,5 @@
 // Texts of a report's parts, each made on a thread of its own where one can be.
-ghost use Rattle.std.specs.Prelude.{◌≡◌, Some, slice_get, OnOk};
+ghost use Rattle.std.specs.Prelude.{◌≡◌, ◌<◌, Some, slice_get, OnOk};
 ghost use Rattle.std.specs.Io.KnownBytes.{Appends};
 ghost use Rattle.std.specs.List.{flat_map};
 ghost use Rattle.report_text.specs.Output.{Adds};
@@ -13,6 +13,16 @@ use std::thread::Threads;
 
 /// How many threads make texts at one time, at most.
 const MAKERS: usize = 16;
+
+/// For how many lines a thread is begun.
+const LINES: usize = 256;
+
+/// How many threads are to make the texts of so many lines.
+pub fn makers_for(lines: usize) -> usize
+    ensures { 0 < result }
+{
+    (lines / LINES + 1).min(MAKERS)
+}
 
 // Writes the text of an item to a sink.
 fn print_into<T: Printed, K: Sink>(
@@ -51,20 +61,22 @@ fn unmade(alloc: Global, count: usize) -> Vec<Option<MemorySink>> {
     texts
 }
 
-/// The texts of the items, as many as there is memory for.
+/// The texts of the items, made by so many threads, as many as there is memory for.
 pub fn made_texts<T: Printed + Sync, R: Threads + Sync>(
     rt: &R,
     alloc: Global,
     items: &[T],
     names: &NameIndex<'_>,
+    makers: usize,
 ) -> Vec<Option<MemorySink>>
+    requires { 0 < makers }
     ensures { AreMade (T.text names.now) items.now result.items }
 {
     let mut texts = unmade(alloc, items.len());
     thread::for_each_mut(
         rt,
         texts.as_mut_slice(),
-        MAKERS,
+        makers,
         &|place: usize, text: &mut Option<MemorySink>|
             ensures { (x : T) → slice_get items.entry.now place ≡ Some x → IsMade (T.text names.entry.now x) text.exit.now }
         {

@@ -8,7 +8,7 @@ ghost use Rattle.report_beside.specs.Made.{AreMade};
 ghost use Rattle.report_text.specs.Columns.{column_lines};
 ghost use Rattle.report_beside.specs.Parts.{part_text, AreFront};
 
-use crate::made::{made_texts, put_each};
+use crate::made::{made_texts, makers_for, put_each};
 use crate::parts::{Part, front_of};
 use fuzzy_io::{Failed, MemorySink, Sink};
 use report_text::{NameIndex, Output, Page, Report, print};
@@ -35,6 +35,24 @@ fn put_report<O: Output>(
     put_each(report.columns.as_slice(), columns, names, out);
 }
 
+// How many replies and rows there are.
+fn front_lines(report: &Report) -> usize {
+    let mut lines = report.rows.len();
+    for client in report.clients.as_slice() {
+        lines = lines.saturating_add(client.replies.len());
+    }
+    lines
+}
+
+// How many events there are.
+fn events(report: &Report) -> usize {
+    let mut events = 0usize;
+    for column in report.columns.as_slice() {
+        events = events.saturating_add(column.journal.len());
+    }
+    events
+}
+
 /// Writes the text of the report, of which the parts are made on threads first. At `Err` a front of it went out. A part for
 /// whose text there is no memory is printed as it is written.
 pub fn print_beside<K: Sink, R: Threads + Sync>(
@@ -51,8 +69,10 @@ pub fn print_beside<K: Sink, R: Threads + Sync>(
         return print(report, sink);
     };
     let names = NameIndex::of(report);
-    let parts = made_texts(rt, alloc, front.as_slice(), &names);
-    let columns = made_texts(rt, alloc, report.columns.as_slice(), &names);
+    let makers = makers_for(front_lines(report));
+    let parts = made_texts(rt, alloc, front.as_slice(), &names, makers);
+    let makers = makers_for(events(report));
+    let columns = made_texts(rt, alloc, report.columns.as_slice(), &names, makers);
     let mut page = Page::over(sink);
     put_report(
         report,

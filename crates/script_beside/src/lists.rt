@@ -51,7 +51,7 @@ fn give(
     Ok(())
 }
 
-/// The commands by client, each so many lines further down.
+/// The commands by client, each so many lines further down. The lists begin with room for somewhat more than an even share.
 pub fn own_lists(
     alloc: Global,
     clients: usize,
@@ -62,7 +62,8 @@ pub fn own_lists(
     requires lines { All (λ (c : Command). c.line < 2 ^ 32 → c.line + before < 2 ^ 32) commands }
     ensures { IfOk result (λ lists. AreOwn clients (map (later before) commands) lists.items) }
 {
-    let mut lists = empty_lists(alloc, clients, commands.len() / clients.max(1))?;
+    let even = commands.len() / clients.max(1);
+    let mut lists = empty_lists(alloc, clients, even.saturating_add(even / 8))?;
     give(&mut lists, commands.into_vec(), before)?;
     Ok(lists)
 }
