@@ -59,7 +59,7 @@ close-requires g c =
     are_clients script c.in_ok-store.store c.into.result c.in_ok-clients.replies.items served
 
 pub end_report-requires-clause-regions : goal.end_report-requires-clause-regions
-end_report-requires-clause-regions g c =
+end_report-requires-clause-regions g c κs within =
     let e = c.in_ok-store.ensures in
     let script = script_of c.args.dealt c.requires.0.commands in
     let can = whole c.requires.0 c.args.dealt c.requires.1 in
