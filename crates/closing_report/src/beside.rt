@@ -10,11 +10,9 @@ use column::Column;
 use log_node::{ListOf, Names};
 use report_text::ColumnReport;
 use std::alloc::{AllocError, Global};
+use std::num::NonZeroUsize;
 use std::thread;
 use std::thread::Threads;
-
-/// How many threads show columns at one time, at most.
-const THREADS: usize = 16;
 
 /// For how many keys of lines a thread is begun.
 const KEYS: usize = 1024;
@@ -40,15 +38,15 @@ fn places_of(alloc: Global, columns: Vec<Column>) -> Result<Vec<Place>, AllocErr
     Ok(places)
 }
 
-// How many threads are to show these columns: one more for so many keys of their lines.
-fn threads_for(columns: &[Column]) -> usize
+// How many threads are to show these columns: one more for so many keys of their lines, up to the most.
+fn threads_for(columns: &[Column], most: NonZeroUsize) -> usize
     ensures { 0 < result }
 {
     let mut keys = 0usize;
     for column in columns {
         keys = keys.saturating_add(column.line().len());
     }
-    (keys / KEYS + 1).min(THREADS)
+    (keys / KEYS + 1).min(most.get())
 }
 
 // Shows the column of a place, unless there is no memory for it.
@@ -100,19 +98,20 @@ fn reports_of(alloc: Global, places: Vec<Place>) -> Result<ListOf<ColumnReport>,
     Ok(reports)
 }
 
-/// What is shown of the columns, under the names of regions and colours, made on threads where they are long: what a column
-/// holds beside is given back there too.
+/// What is shown of the columns, under the names of regions and colours, made on so many threads at most, and on fewer where
+/// the columns are short: what a column holds beside is given back there too.
 pub fn columns_beside<R: Threads + Sync>(
     rt: &R,
     alloc: Global,
     regions: &Names,
     colours: &Names,
     columns: Vec<Column>,
+    most: NonZeroUsize,
 ) -> Result<ListOf<ColumnReport>, AllocError>
     requires { All (HasNames regions.now colours.now) columns.items }
     ensures { IfOk result (λ reports. reports ≡ map (column_shown regions.now colours.now) columns.items) }
 {
-    let threads = threads_for(columns.as_slice());
+    let threads = threads_for(columns.as_slice(), most);
     let mut places = places_of(alloc, columns)?;
     show_all(rt, alloc, regions, colours, threads, places.as_mut_slice());
     reports_of(alloc, places)

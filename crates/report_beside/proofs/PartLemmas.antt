@@ -5,9 +5,7 @@ use Rattle.std.specs.List.{flat_map}
 use Rattle.std.proofs.lemmas.List.{flat_map_more}
 use Rattle.std.proofs.lemmas.List.Concat.{flat_map-append}
 use Rattle.report_text.specs.declared.report.Report.{Report}
-use Rattle.report_text.specs.declared.report.RowReport.{RowReport}
 use Rattle.report_text.specs.Output.{OutputState, Adds}
-use Rattle.report_text.specs.Rows.{row_line}
 use Rattle.report_text.proofs.CallerLemmas.{adds_then}
 use Rattle.report_beside.specs.declared.parts.Part.{Part}
 use Rattle.report_beside.specs.Parts.{part_text, HaveMore}
@@ -25,41 +23,41 @@ one_more text old new after part more is report =
     ∙ (ap (λ (l : List ℕ). l ++ part_text report part) (more report)
     ∙ append_assoc (flat_map (part_text report) old) (text report) (part_text report part)))
 
--- some of the rows stand behind the parts, and the rest does not
-pub record RowsSoFar (rows rest : List RowReport) (old new : List Part) : Type 0 where
-  pub front : List RowReport
-  pub whole : rows ≡ front ++ rest
-  pub more : HaveMore (λ r. flat_map (row_line r) front) old new
+-- The texts of some of the items stand behind the parts, and those of the rest do not.
+pub record SoFar {A : Type 0} (text : Report → A → List ℕ) (items rest : List A) (old new : List Part) : Type 0 where
+  pub front : List A
+  pub whole : items ≡ front ++ rest
+  pub more : HaveMore (λ r. flat_map (text r) front) old new
 
-pub no_rows : (rows : List RowReport) (parts : List Part) → RowsSoFar rows rows parts parts
-no_rows rows parts = record { front = []; whole = refl; more = no_more parts }
+pub none_yet : {A : Type 0} (text : Report → A → List ℕ) (items : List A) (parts : List Part) → SoFar text items items parts parts
+none_yet text items parts = record { front = []; whole = refl; more = no_more parts }
 
--- some rows more
-pub some_rows : (rows rest some later : List RowReport) (old new after : List Part) (part : Part) → RowsSoFar rows rest old new
-    → ((r : Report) → part_text r part ≡ flat_map (row_line r) some) → rest ≡ some ++ later → after ≡ new ++ part ∷ []
-    → RowsSoFar rows later old after
-some_rows rows rest some later old new after part so same cut is = record {
+-- some items more
+pub some_more : {A : Type 0} (text : Report → A → List ℕ) (items rest some later : List A) (old new after : List Part) (part : Part)
+    → SoFar text items rest old new → ((r : Report) → part_text r part ≡ flat_map (text r) some) → rest ≡ some ++ later
+    → after ≡ new ++ part ∷ [] → SoFar text items later old after
+some_more {A} text items rest some later old new after part so same cut is = record {
   front = so.front ++ some;
-  whole = so.whole ∙ (ap (λ (l : List RowReport). so.front ++ l) cut ∙ sym (append_assoc so.front some later));
+  whole = so.whole ∙ (ap (λ (l : List A). so.front ++ l) cut ∙ sym (append_assoc so.front some later));
   more = λ report.
-      one_more (λ r. flat_map (row_line r) so.front) old new after part so.more is report
+      one_more (λ r. flat_map (text r) so.front) old new after part so.more is report
       ∙ ap (λ (l : List ℕ). flat_map (part_text report) old ++ l)
-      (ap (λ (l : List ℕ). flat_map (row_line report) so.front ++ l) (same report)
-      ∙ sym (flat_map-append (row_line report) so.front some));
+      (ap (λ (l : List ℕ). flat_map (text report) so.front ++ l) (same report)
+      ∙ sym (flat_map-append (text report) so.front some));
 }
 
--- an empty list of rows, as it is told
-pub is_none : (rest : List RowReport) (empty : Bool) → empty ≡ (length rest == 0) → empty ≡ true → rest ≡ []
+-- an empty list, as it is told
+pub is_none : {A : Type 0} (rest : List A) (empty : Bool) → empty ≡ (length rest == 0) → empty ≡ true → rest ≡ []
 is_none [] empty told is = refl
-is_none (row ∷ rest) empty told is = absurd (let f : ⊥ = grind (arith, told, is) in f)
+is_none (x ∷ rest) empty told is = absurd (let f : ⊥ = grind (arith, told, is) in f)
 
--- all rows
-pub all_rows : (rows rest : List RowReport) (old new : List Part) → RowsSoFar rows rest old new → rest ≡ []
-    → HaveMore (λ r. flat_map (row_line r) rows) old new
-all_rows rows rest old new so none report =
+-- all items
+pub all_of : {A : Type 0} (text : Report → A → List ℕ) (items rest : List A) (old new : List Part) → SoFar text items rest old new
+    → rest ≡ [] → HaveMore (λ r. flat_map (text r) items) old new
+all_of {A} text items rest old new so none report =
     so.more report
-    ∙ ap (λ (l : List RowReport). flat_map (part_text report) old ++ flat_map (row_line report) l)
-    (sym (so.whole ∙ (ap (λ (l : List RowReport). so.front ++ l) none ∙ append-nil so.front)))
+    ∙ ap (λ (l : List A). flat_map (part_text report) old ++ flat_map (text report) l)
+    (sym (so.whole ∙ (ap (λ (l : List A). so.front ++ l) none ∙ append-nil so.front)))
 
 -- a beginning, then clients and rows, then columns
 pub put_all : (a b c d : OutputState) (head front clients rows columns : List ℕ) → Adds a b head → Adds b c front → Adds c d columns

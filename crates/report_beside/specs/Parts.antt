@@ -1,15 +1,17 @@
 -- The parts of which a report's text before its columns is made.
-use Rattle.std.specs.Prelude.{◌≡◌, ℕ, List, ◌++◌}
+use Rattle.std.specs.Prelude.{◌≡◌, ℕ, List, ◌++◌, codes}
 use Rattle.std.specs.List.{flat_map}
 use Rattle.report_text.specs.declared.report.Report.{Report}
-use Rattle.report_text.specs.Replies.{client_lines}
+use Rattle.report_text.specs.Pieces.{line_end}
+use Rattle.report_text.specs.Replies.{client_lines, reply_lines}
 use Rattle.report_text.specs.Rows.{row_line}
 use Rattle.report_beside.specs.declared.parts.Part.{Part}
-use Rattle.report_beside.specs.declared.parts.Part.TheVariants.{Client, Rows}
+use Rattle.report_beside.specs.declared.parts.Part.TheVariants.{Client, Replies, Rows}
 
 -- a part's text in a report
 abbrev pub part_text : Report → Part → List ℕ
-part_text report (Client client) = client_lines report client.now
+part_text report (Client name) = codes "client " ++ name.now ++ line_end
+part_text report (Replies replies) = flat_map (reply_lines report) replies.now
 part_text report (Rows rows) = flat_map (row_line report) rows.now
 
 -- there are parts more, and this is their text

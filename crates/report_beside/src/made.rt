@@ -8,20 +8,18 @@ ghost use Rattle.report_beside.specs.Made.{IsMade, AreMade};
 use fuzzy_io::{Failed, MemorySink, Sink};
 use report_text::{NameIndex, Output, Page, Printed};
 use std::alloc::Global;
+use std::num::NonZeroUsize;
 use std::thread;
 use std::thread::Threads;
-
-/// How many threads make texts at one time, at most.
-const MAKERS: usize = 16;
 
 /// For how many lines a thread is begun.
 const LINES: usize = 256;
 
-/// How many threads are to make the texts of so many lines.
-pub fn makers_for(lines: usize) -> usize
+/// How many threads are to make the texts of so many lines, up to the most.
+pub fn makers_for(lines: usize, most: NonZeroUsize) -> usize
     ensures { 0 < result }
 {
-    (lines / LINES + 1).min(MAKERS)
+    (lines / LINES + 1).min(most.get())
 }
 
 // Writes the text of an item to a sink.

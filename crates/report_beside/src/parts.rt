@@ -1,21 +1,26 @@
 // The parts of a report's text before its columns.
 ghost use Rattle.std.specs.Prelude.{◌≡◌, IfOk, OnOk};
 ghost use Rattle.std.specs.List.{flat_map};
-ghost use Rattle.report_text.specs.Replies.{client_lines};
+ghost use Rattle.report_text.specs.Replies.{client_lines, reply_lines};
 ghost use Rattle.report_text.specs.Output.{Adds};
 ghost use Rattle.report_text.specs.Rows.{row_line};
 ghost use Rattle.report_beside.specs.Parts.{part_text, HaveMore, AreFront};
 
-use report_text::{ClientReport, NameIndex, Output, Printed, Report, RowReport};
+use log_node::Text;
+use report_text::{ClientReport, NameIndex, Output, Printed, ReplyLine, Report, RowReport};
 use std::alloc::{AllocError, Global};
+
+/// How many replies are one part.
+const REPLIES: usize = 512;
 
 /// How many rows are one part.
 const ROWS: usize = 512;
 
-/// A part of a report: one of its clients, or some of its rows.
+/// A part of a report: the line that begins a client, some of its replies, or some of the rows.
 #[derive(Drop)]
 pub enum Part<'r> {
-    Client(&'r ClientReport),
+    Client(&'r Text),
+    Replies(&'r [ReplyLine]),
     Rows(&'r [RowReport]),
 }
 
@@ -24,7 +29,12 @@ impl<'r> Printed for Part<'r> {
 
     fn print<O: Output>(&self, names: &NameIndex<'_>, out: &mut O) {
         match self {
-            Part::Client(client) => client.print(names, out),
+            Part::Client(name) => {
+                out.put(b"client ");
+                name.print(names, out);
+                out.put(b"\n");
+            }
+            Part::Replies(replies) => print_all(replies, names, out),
             Part::Rows(rows) => print_all(rows, names, out),
         }
     }
@@ -39,6 +49,19 @@ fn print_all<T: Printed, O: Output>(items: &[T], names: &NameIndex<'_>, out: &mu
     }
 }
 
+// Puts replies behind the parts, so many at a time.
+fn push_replies<'r>(parts: &mut Vec<Part<'r>>, replies: &'r [ReplyLine]) -> Result<(), AllocError>
+    ensures { OnOk result (HaveMore (λ r. flat_map (reply_lines r) replies.now) parts.old.items parts.new.items) }
+{
+    let mut rest = replies;
+    while !rest.is_empty() {
+        let (some, after) = rest.split_at(rest.len().min(REPLIES));
+        parts.push(Part::Replies(some))?;
+        rest = after;
+    }
+    Ok(())
+}
+
 // Puts the clients behind the parts.
 fn push_clients<'r>(
     parts: &mut Vec<Part<'r>>,
@@ -47,7 +70,8 @@ fn push_clients<'r>(
     ensures { OnOk result (HaveMore (λ r. flat_map (client_lines r) clients.now) parts.old.items parts.new.items) }
 {
     for client in clients {
-        parts.push(Part::Client(client))?;
+        parts.push(Part::Client(&client.name))?;
+        push_replies(parts, client.replies.as_slice())?;
     }
     Ok(())
 }

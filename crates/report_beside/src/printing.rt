@@ -13,6 +13,7 @@ use crate::parts::{Part, front_of};
 use fuzzy_io::{Failed, MemorySink, Sink};
 use report_text::{NameIndex, Output, Page, Report, print};
 use std::alloc::Global;
+use std::num::NonZeroUsize;
 use std::thread::Threads;
 
 // The report to an output, by the texts that were made of what stands before its columns, and of its columns.
@@ -53,13 +54,14 @@ fn events(report: &Report) -> usize {
     events
 }
 
-/// Writes the text of the report, of which the parts are made on threads first. At `Err` a front of it went out. A part for
+/// Writes the text of the report, of which the parts are made on so many threads at most first. At `Err` a front of it went out. A part for
 /// whose text there is no memory is printed as it is written.
 pub fn print_beside<K: Sink, R: Threads + Sync>(
     rt: &R,
     alloc: Global,
     report: &Report,
     sink: &mut K,
+    most: NonZeroUsize,
 ) -> Result<(), Failed>
     ensures ok { OnOk result (Appends (K.holds sink.old) (K.holds sink.new) (report_bytes report.now)) }
     ensures front { OnErr result (AppendsFront (K.holds sink.old) (K.holds sink.new) (report_bytes report.now)) }
@@ -69,9 +71,9 @@ pub fn print_beside<K: Sink, R: Threads + Sync>(
         return print(report, sink);
     };
     let names = NameIndex::of(report);
-    let makers = makers_for(front_lines(report));
+    let makers = makers_for(front_lines(report), most);
     let parts = made_texts(rt, alloc, front.as_slice(), &names, makers);
-    let makers = makers_for(events(report));
+    let makers = makers_for(events(report), most);
     let columns = made_texts(rt, alloc, report.columns.as_slice(), &names, makers);
     let mut page = Page::over(sink);
     put_report(

@@ -31,9 +31,10 @@ use script_in_order::run_in_order;
 use script_meaning::scripts_stop_last;
 use script_text::{Reason, Script, ScriptFault, parse, rows_are_within_limits};
 use std::alloc::{AllocError, Global};
-use std::mem;
+use std::num::NonZeroUsize;
 use std::sync::Wait;
 use std::thread::Threads;
+use std::{mem, thread};
 
 /// The most bytes of a script: 2 to the power of 20.
 const MAX_BYTES: usize = 1 << 20;
@@ -80,6 +81,14 @@ fn do_script<K: Sink>(alloc: Global, script: Script, sink: &mut K) -> Status
     }
 }
 
+// How many processors there are for threads; one where it can't be told.
+fn processors<R: Threads>(rt: &R) -> NonZeroUsize {
+    match thread::available_parallelism(rt) {
+        Ok(count) => count,
+        Err(_) => NonZeroUsize::MIN,
+    }
+}
+
 // Does the commands of a script on threads, where they have been dealt out to its clients, and writes the report, whose
 // parts are made into text beside one another.
 fn do_dealt<K: Sink, G: Gate, R: Threads + Wait + Sync>(
@@ -98,11 +107,12 @@ fn do_dealt<K: Sink, G: Gate, R: Threads + Wait + Sync>(
     ensures no_memory { result ≡ Status.NoMemory → sink.new ≡ sink.old }
     ensures no_other { (result ≢ Status.BadWords) × (result ≢ Status.Refused) × (result ≢ Status.ReadFault) }
 {
-    let report = match run_beside(rt, alloc, gate, dealt) {
+    let threads = processors(rt);
+    let report = match run_beside(rt, alloc, gate, dealt, threads) {
         Ok(report) => report,
         Err(_) => return Status::NoMemory,
     };
-    let printed = print_beside(rt, alloc, &report, sink);
+    let printed = print_beside(rt, alloc, &report, sink, threads);
     // Not freed here: the process ends soon, and its end frees all at once.
     mem::forget(report);
     match printed {
@@ -194,7 +204,7 @@ fn load_text<G: Gate, R: Threads + Wait + Sync>(
     // Counted before the commands are dealt out to their clients; the report shows the same.
     let text = sum_up(count, script.commands.as_slice()).text(alloc)?;
     let dealt = deal(alloc, script)?;
-    let report = run_beside(rt, alloc, gate, dealt)?;
+    let report = run_beside(rt, alloc, gate, dealt, processors(rt))?;
     let found = found_memory(&report);
     // Not freed here either.
     mem::forget(report);

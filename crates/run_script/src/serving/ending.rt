@@ -12,6 +12,7 @@ use script_text::Script;
 use stamp_board::ClosedRows;
 use std::alloc::{AllocError, Global};
 use std::mem;
+use std::num::NonZeroUsize;
 use std::thread::Threads;
 
 // The replies to each client under its name.
@@ -66,6 +67,7 @@ fn region_reports<R: Threads + Sync>(
     colours: &Names,
     nodes: &[RowNodes],
     ends: Vec<ClosedRegion>,
+    threads: NonZeroUsize,
 ) -> Result<(ListOf<RowReport>, ListOf<ColumnReport>), AllocError>
     requires { CanShow regions.now colours.now (record { regions = ends.items; nodes = nodes.now }) }
     ensures rows { IfOk result (λ r. r.0 ≡ flat_map (rows_shown (nodes_in nodes.now)) (enumerate_from 0 ends.items)) }
@@ -83,17 +85,18 @@ fn region_reports<R: Threads + Sync>(
         columns.append(&mut own.into_vec())?;
         region += 1;
     }
-    let columns = columns_beside(rt, alloc, regions, colours, columns)?;
+    let columns = columns_beside(rt, alloc, regions, colours, columns, threads)?;
     Ok((rows, columns))
 }
 
-/// The report of all clients, rows and columns; the columns are shown beside one another.
+/// The report of all clients, rows and columns; the columns are shown on so many threads at most.
 pub fn end_report<R: Threads + Sync>(
     rt: &R,
     alloc: Global,
     script: &Script,
     closed: Closed,
     replies: Vec<ListOf<ReplyLine>>,
+    threads: NonZeroUsize,
 ) -> Result<Report, AllocError>
     requires clients { length script.now.clients ≤ length replies.items }
     requires regions { CanShow script.now.regions script.now.colours closed }
@@ -110,6 +113,7 @@ pub fn end_report<R: Threads + Sync>(
         &script.colours,
         nodes.as_slice(),
         ends.into_vec(),
+        threads,
     )?;
     Ok(Report {
         clients: client_reports(alloc, &script.clients, replies)?,

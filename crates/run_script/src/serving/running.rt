@@ -16,6 +16,7 @@ use log_node::ListOf;
 use report_text::{ReplyLine, Report};
 use script_beside::DealtScript;
 use std::alloc::{AllocError, Global};
+use std::num::NonZeroUsize;
 use std::sync::Wait;
 use std::thread::Threads;
 
@@ -42,6 +43,7 @@ fn run_in_store<R: Threads + Wait + Sync, G: Gate>(
     alloc: Global,
     gate: &G,
     dealt: DealtScript,
+    threads: NonZeroUsize,
 ) -> Result<Report, AllocError>
     requires { (script : Script) × CanRun script dealt }
     ensures { IfOk result (λ report. (script : Script) → CanRun script dealt → LawfulRun script report) }
@@ -56,22 +58,23 @@ fn run_in_store<R: Threads + Wait + Sync, G: Gate>(
     serve_beside(rt, alloc, &store, gate, served.as_mut_slice());
     let (clients, replies) = parted(alloc, served)?;
     let closed = store.close(rt, alloc, clients.into())?;
-    end_report(rt, alloc, &header, closed, replies)
+    end_report(rt, alloc, &header, closed, replies, threads)
 }
 
 /// Serves the clients of a script beside one another, each on a thread of its own where one can be made. A command that
 /// finds no memory is answered so, and the run goes on; `Err` means that there was no memory before the first command, or
-/// none after the last. The report is that of a lawful run. The store has no more rows than the commands may begin, however
+/// none after the last. The report is that of a lawful run; what is shown of columns in it is made on so many threads at most. The store has no more rows than the commands may begin, however
 /// many the script allows.
 pub fn run_beside<R: Threads + Wait + Sync, G: Gate>(
     rt: &R,
     alloc: Global,
     gate: &G,
     mut dealt: DealtScript,
+    threads: NonZeroUsize,
 ) -> Result<Report, AllocError>
     requires { (script : Script) × CanRun script dealt }
     ensures { IfOk result (λ report. (script : Script) → CanRun script dealt → LawfulRun script report) }
 {
     dealt.header.shape.rows = rows_for(dealt.header.shape.rows, dealt.begins);
-    run_in_store(rt, alloc, gate, dealt)
+    run_in_store(rt, alloc, gate, dealt, threads)
 }

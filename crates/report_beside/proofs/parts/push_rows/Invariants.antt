@@ -1,10 +1,11 @@
 use Rattle.std.proofs.Common.{length}
-use Rattle.report_beside.proofs.PartLemmas.{RowsSoFar}
+use Rattle.report_text.specs.Rows.{row_line}
+use Rattle.report_beside.proofs.PartLemmas.{SoFar}
 use Rattle.report_beside.proofs.parts.push_rows.Given as goal
 
 -- the rows so far stand behind the parts
 abbrev pub invariant-loop-rest : goal.invariant-loop-rest
-invariant-loop-rest l = RowsSoFar l.rows l.rest l.initial.parts.items l.parts.items
+invariant-loop-rest l = SoFar row_line l.rows l.rest l.initial.parts.items l.parts.items
 
 abbrev pub decreases-loop-rest : goal.decreases-loop-rest
 decreases-loop-rest l = length l.rest
