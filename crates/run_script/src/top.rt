@@ -198,13 +198,14 @@ fn load_text<G: Gate, R: Threads + Wait + Sync>(
     ensures text { IfOk result (λ text. string_bytes text ≡ summary_text (load_summary count)) }
     ensures ran { IfOk result (λ text. IsLoaded count) }
 {
+    let threads = processors(rt);
     loads_fit();
     loads_come_to_their_summary();
     let script = make(alloc, count)?;
     // Counted before the commands are dealt out to their clients; the report shows the same.
     let text = sum_up(count, script.commands.as_slice()).text(alloc)?;
     let dealt = deal(alloc, script)?;
-    let report = run_beside(rt, alloc, gate, dealt, processors(rt))?;
+    let report = run_beside(rt, alloc, gate, dealt, threads)?;
     let found = found_memory(&report);
     // Not freed here either.
     mem::forget(report);
