@@ -1,5 +1,5 @@
 // Columns in the end, shown on threads.
-ghost use Rattle.std.specs.Prelude.{◌≡◌, ◌<◌, Some, length, map, slice_get, IfOk, IfSome};
+ghost use Rattle.std.specs.Prelude.{◌≡◌, ◌<◌, Some, map, IfOk, IfSome};
 ghost use Rattle.std.specs.List.{All};
 ghost use Rattle.closing_report.specs.Columns.{column_shown, HasNames};
 ghost use Rattle.closing_report.specs.Places.{open_place, IsShown, AreShown};

@@ -7,7 +7,7 @@ use crate::source::Source;
 use std::alloc::Global;
 
 /// How many bytes are asked for at a time.
-const PIECE: usize = 4096;
+const PIECE: usize = 65_536;
 
 /// Why reading ended early.
 #[derive(Clone, Copy, Debug, PartialEq, Eq)]

@@ -148,6 +148,11 @@ fn play_on<R: Wait>(
     let Ok(view) = region.look(rt, alloc, hold, colour, from) else {
         return Err(SyncFault::NoMemory);
     };
+    // Found out before the line is copied, for nothing.
+    if !view.base.is_within(from) {
+        let base = view.base;
+        return Err(SyncFault::Trimmed { colour, base });
+    }
     let Ok(line) = own_line(alloc, &view) else {
         return Err(SyncFault::NoMemory);
     };

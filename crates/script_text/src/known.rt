@@ -1,5 +1,5 @@
 // What is known of the lines so far.
-ghost use Rattle.std.specs.Prelude.{◌≡◌, [], OnOk};
+ghost use Rattle.std.specs.Prelude.{◌≡◌, [], IfOk, OnOk};
 ghost use Rattle.script_text.specs.declared.script.Reason.TheVariants as reasons;
 ghost use Rattle.script_text.specs.declared.item.Item.TheVariants.{Asks};
 ghost use Rattle.script_text.specs.Known.{known_of, known_after, known_with, IsSmall, IsPlain};
@@ -26,11 +26,11 @@ pub struct Known {
 }
 
 impl Known {
-    /// What is known before the first line: nothing.
-    pub fn new(alloc: Global) -> Known
-        ensures { result ≡ known_of [] }
+    /// What is known before the first line: nothing. There is room for so many commands.
+    pub fn with_room(alloc: Global, room: usize) -> Result<Known, AllocError>
+        ensures { IfOk result (λ known. known ≡ known_of []) }
     {
-        Known {
+        Ok(Known {
             stage: Stage::Nothing,
             script: Script {
                 shape: Shape {
@@ -43,11 +43,11 @@ impl Known {
                 colours: ListOf::new(alloc),
                 clients: ListOf::new(alloc),
                 objects: ListOf::new(alloc),
-                commands: ListOf::new(alloc),
+                commands: ListOf::with_capacity(alloc, room)?,
             },
             stopped: ListOf::new(alloc),
             held: HeldReads::new(alloc),
-        }
+        })
     }
 
     /// The number of the region that a field names.

@@ -11,7 +11,7 @@ pub returns-then-bytes-gt-MAX_BYTES : goal.returns-then-bytes-gt-MAX_BYTES
 returns-then-bytes-gt-MAX_BYTES c = rw c.at_line.ensures (script_long c.args.bytes.now c.if-bytes-gt-MAX_BYTES.true)
 
 pub loop-rest-init : goal.loop-rest-init
-loop-rest-init c = record { before = []; known-is = c.new-known.ensures; lawful = lawful_start; few = omega arith; count = omega arith; same = refl }
+loop-rest-init c = record { before = []; known-is = c.in_ok-known.ensures; lawful = lawful_start; few = omega arith; count = omega arith; same = refl }
 
 pub line_of-requires : goal.line_of-requires
 line_of-requires c = rw c.loop-rest.invariant.known-is c.loop-rest.invariant.lawful.small
