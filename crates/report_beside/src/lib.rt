@@ -4,5 +4,6 @@
 mod made;
 mod parts;
 mod printing;
+mod shares;
 
 pub use printing::print_beside;

@@ -1,13 +1,16 @@
-// The parts of a report's text before its columns.
+// The parts of a report's text.
 ghost use Rattle.std.specs.Prelude.{◌≡◌, IfOk, OnOk};
 ghost use Rattle.std.specs.List.{flat_map};
 ghost use Rattle.report_text.specs.Replies.{client_lines, reply_lines};
 ghost use Rattle.report_text.specs.Output.{Adds};
 ghost use Rattle.report_text.specs.Rows.{row_line};
-ghost use Rattle.report_beside.specs.Parts.{part_text, HaveMore, AreFront};
+ghost use Rattle.report_text.specs.Columns.{column_lines};
+ghost use Rattle.report_beside.specs.Parts.{part_text, HaveMore, ArePartsOf};
 
 use log_node::Text;
-use report_text::{ClientReport, NameIndex, Output, Printed, ReplyLine, Report, RowReport};
+use report_text::{
+    ClientReport, ColumnReport, NameIndex, Output, Printed, ReplyLine, Report, RowReport,
+};
 use std::alloc::{AllocError, Global};
 
 /// How many replies are one part.
@@ -16,12 +19,25 @@ const REPLIES: usize = 512;
 /// How many rows are one part.
 const ROWS: usize = 512;
 
-/// A part of a report: the line that begins a client, some of its replies, or some of the rows.
+/// A part of a report: the line that begins a client, some of its replies, some of the rows, or a column.
 #[derive(Drop)]
 pub enum Part<'r> {
     Client(&'r Text),
     Replies(&'r [ReplyLine]),
     Rows(&'r [RowReport]),
+    Column(&'r ColumnReport),
+}
+
+impl<'r> Part<'r> {
+    /// How long its text takes to make, about: three for a reply, since many show nodes, and two for any other line.
+    pub fn weight(&self) -> usize {
+        match self {
+            Part::Client(_) => 2,
+            Part::Replies(replies) => replies.len().saturating_mul(3),
+            Part::Rows(rows) => rows.len().saturating_mul(2),
+            Part::Column(column) => column.journal.len().saturating_mul(2),
+        }
+    }
 }
 
 impl<'r> Printed for Part<'r> {
@@ -36,6 +52,7 @@ impl<'r> Printed for Part<'r> {
             }
             Part::Replies(replies) => print_all(replies, names, out),
             Part::Rows(rows) => print_all(rows, names, out),
+            Part::Column(column) => column.print(names, out),
         }
     }
 }
@@ -89,12 +106,26 @@ fn push_rows<'r>(parts: &mut Vec<Part<'r>>, rows: &'r [RowReport]) -> Result<(),
     Ok(())
 }
 
-/// What stands before a report's columns, in parts: its clients, then its rows.
-pub fn front_of(alloc: Global, report: &Report) -> Result<Vec<Part<'_>>, AllocError>
-    ensures { IfOk result (λ parts. AreFront report.now parts.items) }
+// Puts the columns behind the parts.
+fn push_columns<'r>(
+    parts: &mut Vec<Part<'r>>,
+    columns: &'r [ColumnReport],
+) -> Result<(), AllocError>
+    ensures { OnOk result (HaveMore (λ r. flat_map (column_lines r) columns.now) parts.old.items parts.new.items) }
+{
+    for column in columns {
+        parts.push(Part::Column(column))?;
+    }
+    Ok(())
+}
+
+/// A report in parts: its clients, its rows, its columns.
+pub fn parts_of(alloc: Global, report: &Report) -> Result<Vec<Part<'_>>, AllocError>
+    ensures { IfOk result (λ parts. ArePartsOf report.now parts.items) }
 {
     let mut parts = Vec::new(alloc);
     push_clients(&mut parts, report.clients.as_slice())?;
     push_rows(&mut parts, report.rows.as_slice())?;
+    push_columns(&mut parts, report.columns.as_slice())?;
     Ok(parts)
 }

@@ -4,54 +4,32 @@ ghost use Rattle.std.specs.Io.KnownBytes.{Appends};
 ghost use Rattle.fuzzy_io.specs.Causes.{CountsFaults, AppendsFront};
 ghost use Rattle.report_text.specs.Output.{Adds};
 ghost use Rattle.report_text.specs.ReportText.{report_bytes};
-ghost use Rattle.report_beside.specs.Made.{AreMade};
-ghost use Rattle.report_text.specs.Columns.{column_lines};
-ghost use Rattle.report_beside.specs.Parts.{part_text, AreFront};
+ghost use Rattle.report_beside.specs.Parts.{ArePartsOf};
+ghost use Rattle.report_beside.specs.Shares.{parts_in, HaveTexts};
 
-use crate::made::{made_texts, makers_for, put_each};
-use crate::parts::{Part, front_of};
-use fuzzy_io::{Failed, MemorySink, Sink};
+use crate::parts::parts_of;
+use crate::shares::{Share, Texts, made_texts, put_shares, shares_of};
+use fuzzy_io::{Failed, Sink};
 use report_text::{NameIndex, Output, Page, Report, print};
 use std::alloc::Global;
 use std::num::NonZeroUsize;
 use std::thread::Threads;
 
-// The report to an output, by the texts that were made of what stands before its columns, and of its columns.
+// The report to an output, by the texts of its parts.
 fn put_report<O: Output>(
     report: &Report,
     names: &NameIndex<'_>,
-    front: &[Part<'_>],
-    parts: &[Option<MemorySink>],
-    columns: &[Option<MemorySink>],
+    shares: &[Share<'_>],
+    texts: &[Texts],
     out: &mut O,
 )
     requires names { names.now ≡ report.now }
-    requires front { AreFront report.now front.now }
-    requires parts { AreMade (part_text report.now) front.now parts.now }
-    requires columns { AreMade (column_lines report.now) report.now.columns columns.now }
+    requires parts { ArePartsOf report.now (parts_in shares.now) }
+    requires texts { HaveTexts report.now shares.now texts.now }
     ensures { Adds (O.state out.old) (O.state out.new) (report_bytes report.now) }
 {
     out.put(b"report 1\n");
-    put_each(front, parts, names, out);
-    put_each(report.columns.as_slice(), columns, names, out);
-}
-
-// How many replies and rows there are.
-fn front_lines(report: &Report) -> usize {
-    let mut lines = report.rows.len();
-    for client in report.clients.as_slice() {
-        lines = lines.saturating_add(client.replies.len());
-    }
-    lines
-}
-
-// How many events there are.
-fn events(report: &Report) -> usize {
-    let mut events = 0usize;
-    for column in report.columns.as_slice() {
-        events = events.saturating_add(column.journal.len());
-    }
-    events
+    put_shares(shares, texts, names, out);
 }
 
 /// Writes the text of the report, of which the parts are made on so many threads at most first. At `Err` a front of it went out. A part for
@@ -67,21 +45,20 @@ pub fn print_beside<K: Sink, R: Threads + Sync>(
     ensures front { OnErr result (AppendsFront (K.holds sink.old) (K.holds sink.new) (report_bytes report.now)) }
     ensures cause { CountsFaults (K.faults sink.old) (K.faults sink.new) result }
 {
-    let Ok(front) = front_of(alloc, report) else {
+    let Ok(parts) = parts_of(alloc, report) else {
         return print(report, sink);
     };
     let names = NameIndex::of(report);
-    let makers = makers_for(front_lines(report), most);
-    let parts = made_texts(rt, alloc, front.as_slice(), &names, makers);
-    let makers = makers_for(events(report), most);
-    let columns = made_texts(rt, alloc, report.columns.as_slice(), &names, makers);
+    let Ok(shares) = shares_of(alloc, parts.as_slice(), most) else {
+        return print(report, sink);
+    };
+    let texts = made_texts(rt, alloc, shares.as_slice(), &names);
     let mut page = Page::over(sink);
     put_report(
         report,
         &names,
-        front.as_slice(),
-        parts.as_slice(),
-        columns.as_slice(),
+        shares.as_slice(),
+        texts.as_slice(),
         &mut page,
     );
     page.finish()
