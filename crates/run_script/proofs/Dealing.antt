@@ -1,6 +1,5 @@
 -- How clients get ready to be served.
-use Rattle.std.proofs.Common.{◌≡◌, ℕ, zero, suc, ◌+◌, ◌<◌, ◌≤◌, List, [], ◌∷◌, ◌++◌, ◌^◌, length, map, take, drop, zip, get_or, Global, Vec, ap, refl, sym, subst, ◌∙◌, arith, length-append}
-use Rattle.std.specs.Prelude.{slice_index_or}
+use Rattle.std.proofs.Common.{◌≡◌, ℕ, ◌+◌, ◌<◌, ◌≤◌, List, [], ◌∷◌, ◌++◌, ◌^◌, length, map, take, drop, zip, get_or, Global, Vec, ap, refl, sym, subst, ◌∙◌, arith, length-append}
 use Rattle.std.specs.List.{All}
 use Rattle.std.proofs.lemmas.List.{map_push, take_all, take_more, take-append-drop}
 use Rattle.std.proofs.lemmas.List.Concat.{flat_map-append}
@@ -13,7 +12,7 @@ use Rattle.script_beside.specs.Dealt.{commands_in}
 use Rattle.log_client.specs.declared.client.Client.{Client}
 use Rattle.run_script.specs.declared.serving.opened.Opened.{Opened}
 use Rattle.run_script.specs.declared.serving.served.Served.{Served}
-use Rattle.run_script.specs.Dealing.{AreFew, AreIdle, AreReady, GetsRoom, HaveRoom, IsIdle}
+use Rattle.run_script.specs.Dealing.{AreFew, AreIdle, IsIdle}
 use Rattle.run_script.specs.Opened.{IsUnfolded, kind_opened}
 use Rattle.run_script.proofs.EndsShown.{flat_more}
 
@@ -51,51 +50,6 @@ idle_more objects pairs old new x was is same =
           ∙ sym (map_push (λ (p : Client × Share). p.1) pairs pair));
       idle = All-push (IsIdle objects) old x was.idle is;
     })
-
--- lists that are alike place by place
-map_same : {A B : Type 0} (f : A → B) (xs ys : List A) → length xs ≡ length ys
-    → ((n : ℕ) (d : A) → n < length xs → f (slice_index_or xs n d) ≡ f (slice_index_or ys n d)) → map f xs ≡ map f ys
-map_same f [] [] long each = refl
-map_same f [] (y ∷ ys) long each = absurd (let e : ⊥ = omega (arith, long) in e)
-map_same f (x ∷ xs) [] long each = absurd (let e : ⊥ = omega (arith, long) in e)
-map_same {A} {B} f (x ∷ xs) (y ∷ ys) long each =
-    ap (λ (b : B). b ∷ map f xs) (each 0 x (omega arith))
-    ∙ ap (λ (l : List B). f y ∷ l) (map_same f xs ys (omega (arith, long)) (λ n d lt. each (suc n) d (omega (arith, lt))))
-
--- the shares of idle clients are those that were dealt
-pub few_served : (objects : List Object) (clients : List Client) (shares : List Share) (served : List Served)
-    → AreIdle objects clients shares served → All (λ share. AreFew share.items) shares → All (λ x. AreFew x.commands.items) served
-few_served objects clients shares served idle few =
-    of served (subst (All (λ (s : Share). AreFew s.items)) (sym idle.shares_are) few) where
-      of : (xs : List Served) → All (λ (s : Share). AreFew s.items) (map (λ x. x.commands) xs) → All (λ x. AreFew x.commands.items) xs
-      of [] all n d lt = absurd (let e : ⊥ = omega (arith, lt) in e)
-      of (x ∷ xs) all zero d lt = all 0 x.commands (omega arith)
-      of (x ∷ xs) all (suc n) d lt = of xs (λ k e low. all (suc k) e (omega (arith, low))) n d (omega (arith, lt))
-
--- clients who were idle, and have got room
-pub ready : (objects : List Object) (clients : List Client) (shares : List Share) (idle served : List Served) → AreIdle objects clients shares idle → HaveRoom idle served (length idle)
-    → AreReady objects clients shares served
-ready objects clients shares idle served none room = record {
-  idle = record {
-    clients_are = map_same (λ (x : Served). x.client) served idle room.many
-        (λ n d lt. (got n d lt).client) ∙ none.clients_are;
-    shares_are = map_same (λ (x : Served). x.commands) served idle room.many
-        (λ n d lt. (got n d lt).commands) ∙ none.shares_are;
-    idle = λ n d lt.
-        let g = got n d lt in
-        let i = none.idle n d (low n lt) in record {
-          opened = i.opened ∙ ap (λ (v : Vec Opened Global). map kind_opened v.items) (sym g.objects);
-          unfolded = subst (λ (v : Vec Opened Global). All IsUnfolded v.items) (sym g.objects) i.unfolded;
-          replies = g.replies;
-        };
-  };
-  room = λ n d lt. (got n d lt).room;
-} where
-  low : (n : ℕ) → n < length served → n < length idle
-  low n lt = let many = room.many in omega (arith, lt, many)
-
-  got : (n : ℕ) (d : Served) → n < length served → GetsRoom (slice_index_or idle n d) (slice_index_or served n d)
-  got n d lt = room.each n d (low n lt) (low n lt)
 
 -- one piece more
 pub counted_more : (pieces : List (Vec Command Global)) (n count more : ℕ) (piece : Vec Command Global) → n < length pieces

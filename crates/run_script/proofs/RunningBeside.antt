@@ -1,10 +1,10 @@
 -- Clients who are ready to be served, before they are served and after.
-use Rattle.std.proofs.Common.{◌≡◌, ℕ, ◌<◌, Bool, List, [], ◌∷◌, ◌++◌, length, map, take, drop, Some, slice_get, Ok, Err, Global, Vec, refl, ap, sym, subst, ◌∙◌, arith}
-use Rattle.std.specs.Prelude.{IfOk, Result, ◌==◌, ◌≤◌, slice_index_or}
-use Rattle.std.specs.List.{All}
+use Rattle.std.proofs.Common.{◌≡◌, ℕ, Bool, List, [], ◌∷◌, ◌++◌, length, map, take, drop, Some, slice_get, Ok, Err, Global, Vec, refl, ap, sym, subst, ◌∙◌, arith}
+use Rattle.std.specs.Prelude.{IfOk, IsTrue, Result, ◌==◌, ◌≤◌, slice_index_or}
+use Rattle.std.specs.List.{All, list_all}
 use Rattle.std.proofs.lemmas.List.{length-map}
 use Rattle.std.proofs.lemmas.List.Elements.{All-filter}
-use Rattle.std.proofs.lemmas.List.Sums.{count_by-le-length, length-filter}
+use Rattle.std.proofs.lemmas.List.Sums.{AllPass-from_list_all, count_by-le-length, length-filter}
 use Rattle.std.proofs.lemmas.Option.{get_or_from_slice_get, slice_get_within}
 use Rattle.log_node.specs.declared.limits.TheConstants.{MAX_COLOURS}
 use Rattle.stamp_board.specs.declared.view.Size.{Size}
@@ -26,10 +26,10 @@ use Rattle.log_client.specs.Closes.{AreClients}
 use Rattle.log_client.specs.Opening.{AreNewClients}
 use Rattle.run_script.specs.declared.serving.opened.Opened.{Opened}
 use Rattle.run_script.specs.declared.serving.served.Served.{Served}
-use Rattle.run_script.specs.Dealing.{AreFew, AreReady, HasRoom, IsIdle}
+use Rattle.run_script.specs.Dealing.{AreFew, AreIdle, IsIdle}
 use Rattle.run_script.specs.Opened.{AreOf}
 use Rattle.run_script.specs.Running.{CanRun}
-use Rattle.run_script.specs.Served.{CanServe, IsServable, IsServed}
+use Rattle.run_script.specs.Served.{CanServe, IsServable, IsServed, IsServedIfDone}
 use Rattle.run_script.specs.Serving.{AreServed, StopsLast, WasServed}
 use Rattle.run_script.proofs.ByPlace.{mapped}
 use Rattle.run_script.proofs.ObjectFrames.{kept_unfolded, of_one}
@@ -47,40 +47,35 @@ pub many_shares : (script : Script) (dealt : DealtScript) (s : Store) (clients :
     → AreNewClients script.shape s clients → length dealt.shares.items ≡ length clients
 many_shares script dealt s clients can new = can.is.many ∙ (can.fits.clients ∙ sym new.0)
 
--- no share has more commands than the script
-pub few_shares : (script : Script) (dealt : DealtScript) → CanRun script dealt
-    → All (λ (share : Vec (Vec Command Global) Global). AreFew share.items) dealt.shares.items
-few_shares script dealt can n share lt =
-    let shares = dealt.shares.items in
-    let here = slice_index_or shares n share in
-    let own : ℕ → Command → Bool = λ k c. c.client == k in
-    let is = ap (λ (l : List Command). length l) (can.is.each n here (there shares n share lt)) in
-    let kept = length-filter (own n) script.commands in
-    let less = count_by-le-length (own n) script.commands in
-    let few = can.fits.few in
-    omega (arith, is, kept, less, few) where
-      there : {A : Type 0} (l : List A) (k : ℕ) (d : A) → k < length l → slice_get l k ≡ Some (slice_index_or l k d)
-      there l k d low = let r = got l k low in r.1 ∙ ap Some (sym (get_or_from_slice_get l k r.0 d r.1))
-
 module _ (script : Script) (dealt : DealtScript) (can : CanRun script dealt) (s : Store)
     (size : s.size ≡ size_of script.shape) (regions : length s.regions ≡ script.shape.regions) (clients : List Client)
     (new : AreNewClients script.shape s clients) (before : List Served)
-    (ready : AreReady script.objects clients dealt.shares.items before) where
+    (idle : AreIdle script.objects clients dealt.shares.items before) where
   idle_at : (n : ℕ) (x : Served) → slice_get before n ≡ Some x → IsIdle script.objects x
   idle_at n x at =
       subst (IsIdle script.objects) (get_or_from_slice_get before n x x at)
-      (ready.idle.idle n x (slice_get_within before n x at))
+      (idle.idle n x (slice_get_within before n x at))
 
   client_at : (n : ℕ) (x : Served) → slice_get before n ≡ Some x → slice_get clients n ≡ Some x.client
   client_at n x at =
-      subst (λ (cs : List Client). slice_get cs n ≡ Some x.client) ready.idle.clients_are
+      subst (λ (cs : List Client). slice_get cs n ≡ Some x.client) idle.clients_are
       (mapped (λ (y : Served). y.client) before n x at)
 
   commands_at : (n : ℕ) (x : Served) → slice_get before n ≡ Some x → commands_in x.commands.items ≡ commands_of script n
   commands_at n x at =
       can.is.each n x.commands
-      (subst (λ (shares : List (Vec (Vec Command Global) Global)). slice_get shares n ≡ Some x.commands) ready.idle.shares_are
+      (subst (λ (shares : List (Vec (Vec Command Global) Global)). slice_get shares n ≡ Some x.commands) idle.shares_are
       (mapped (λ (y : Served). y.commands) before n x at))
+
+  -- no client has more commands than the script
+  few_at : (n : ℕ) (x : Served) → slice_get before n ≡ Some x → AreFew x.commands.items
+  few_at n x at =
+      let own : Command → Bool = λ c. c.client == n in
+      let is = ap (λ (l : List Command). length l) (commands_at n x at) in
+      let kept = length-filter own script.commands in
+      let less = count_by-le-length own script.commands in
+      let few = can.fits.few in
+      omega (arith, is, kept, less, few)
 
   servable : (xs : List Opened) → AreOf script.objects xs → All (IsServable s xs) script.commands
   servable xs of k d lt = record {
@@ -108,12 +103,12 @@ module _ (script : Script) (dealt : DealtScript) (can : CanRun script dealt) (s 
             (servable x.objects.items i.opened));
         stops = subst StopsLast (sym (commands_at n x at)) (stops_last_of script can.stops n);
         replies = i.replies;
-        room = subst HasRoom (get_or_from_slice_get before n x x at) (ready.room n x (slice_get_within before n x at));
+        few_commands = few_at n x at;
         few = subst (λ (k : ℕ). k ≤ MAX_COLOURS) (sym colours) few;
       }
 
   many_before : length before ≡ length script.shape.homes
-  many_before = sym (length-map before (λ (x : Served). x.client)) ∙ (ap length ready.idle.clients_are ∙ new.0)
+  many_before = sym (length-map before (λ (x : Served). x.client)) ∙ (ap length idle.clients_are ∙ new.0)
 
   module _ (after : List Served) (long : length after ≡ length before)
       (served : (n : ℕ) (x y : Served) → slice_get before n ≡ Some x → slice_get after n ≡ Some y → IsServed s x y) where
@@ -153,21 +148,32 @@ module _ (script : Script) (dealt : DealtScript) (can : CanRun script dealt) (s 
       same_there : (a b : Client) → Some a ≡ Some b → a ≡ b
       same_there a b e = cc
 
--- The same as the run has it: of the slice of clients that was served, and of the clients and replies that were taken out.
+-- where all are done, each is
+done_at : (xs : List Served) → IsTrue (list_all (λ (x : Served). x.done) xs) → (n : ℕ) (x : Served)
+    → slice_get xs n ≡ Some x → IsTrue x.done
+done_at xs all n x at =
+    let done : Served → Bool = λ (y : Served). y.done in
+    subst (λ (y : Served). IsTrue y.done) (get_or_from_slice_get xs n x x at)
+    (AllPass-from_list_all done xs all n x (slice_get_within xs n x at))
+
+-- The same as the run has it: of the slice of clients that was served, and of the clients and replies that were taken out, where
+-- all are done.
 pub were_served : (script : Script) (dealt : DealtScript) → CanRun script dealt → (s : Store)
     → s.size ≡ size_of script.shape → length s.regions ≡ script.shape.regions → (opened : List Client)
     → AreNewClients script.shape s opened → (before lent after : List Served) → lent ≡ before
-    → AreReady script.objects opened dealt.shares.items before → length after ≡ length lent
-    → ((n : ℕ) (x y : Served) → slice_get lent n ≡ Some x → slice_get after n ≡ Some y → IsServed s x y)
+    → AreIdle script.objects opened dealt.shares.items before → length after ≡ length lent
+    → ((n : ℕ) (x y : Served) → slice_get lent n ≡ Some x → slice_get after n ≡ Some y → IsServedIfDone s x y)
     → (n : ℕ) → n ≡ length before → (clients : List Client) (replies : List (List ReplyLine))
     → clients ≡ map (λ (x : Served). x.client) (take n (after ++ drop (length after) before))
     → replies ≡ map (λ (x : Served). x.replies.items) (take n (after ++ drop (length after) before))
+    → IsTrue (list_all (λ (x : Served). x.done) (take n (after ++ drop (length after) before)))
     → AreServed script s clients replies
-were_served script dealt can s size regions opened new before lent after same ready long served n many clients replies are given =
-    let all = are_served script dealt can s size regions opened new before ready after (long ∙ ap length same)
-    (λ n x y at later. served n x y (subst (λ (l : List Served). slice_get l n ≡ Some x) (sym same) at) later) in
+were_served script dealt can s size regions opened new before lent after same idle long served n many clients replies are given done =
     let whole : take n (after ++ drop (length after) before) ≡ after =
     front_of n after (drop (length after) before) (long ∙ (ap length same ∙ sym many)) in
+    let each = done_at after (subst (λ (l : List Served). IsTrue (list_all (λ (x : Served). x.done) l)) whole done) in
+    let all = are_served script dealt can s size regions opened new before idle after (long ∙ ap length same)
+    (λ n x y at later. served n x y (subst (λ (l : List Served). slice_get l n ≡ Some x) (sym same) at) later (each n y later)) in
     subst (λ (cs : List Client). AreServed script s cs replies) (sym (are ∙ ap (map (λ (x : Served). x.client)) whole))
     (subst (λ (rs : List (List ReplyLine)). AreServed script s (map (λ (x : Served). x.client) after) rs)
     (sym (given ∙ ap (map (λ (x : Served). x.replies.items)) whole)) all) where

@@ -1,5 +1,5 @@
 -- A client before it is served its commands, and after.
-use Rattle.std.specs.Prelude.{◌≡◌, ◌≤◌, List, [], length, vec_capacity}
+use Rattle.std.specs.Prelude.{◌≡◌, ◌≤◌, IsTrue, List, [], length}
 use Rattle.std.specs.List.{All}
 use Rattle.log_node.specs.declared.limits.TheConstants.{MAX_COLOURS}
 use Rattle.script_text.specs.Fitting.{IsWithin}
@@ -11,6 +11,7 @@ use Rattle.log_client.specs.Clients.{Finished, tracks_of}
 use Rattle.log_client.specs.Calls.{IsSame}
 use Rattle.run_script.specs.declared.serving.served.Served.{Served}
 use Rattle.run_script.specs.declared.serving.opened.Opened.{Opened}
+use Rattle.run_script.specs.Dealing.{AreFew}
 use Rattle.run_script.specs.Opened.{AreKept, AreOf, IsOfOne}
 use Rattle.run_script.specs.Serving.{Serves, StopsLast, WasServed}
 
@@ -19,7 +20,7 @@ pub record IsServable (s : Store) (xs : List Opened) (command : Command) : Type 
   pub within : IsWithin (length s.regions) s.size.colours command.what
   pub of_one : IsOfOne xs command.what
 
--- The client has been served nothing, it can be served its commands, and there is room for the replies.
+-- The client has been served nothing, and it can be served its commands, which are no more than a script has.
 pub record CanServe (s : Store) (x : Served) : Type 0 where
   pub serves : (objects : List Object) → Serves s objects x.client x.objects.items [] []
   pub finished : Finished x.client
@@ -27,7 +28,7 @@ pub record CanServe (s : Store) (x : Served) : Type 0 where
   pub servable : All (IsServable s x.objects.items) (commands_in x.commands.items)
   pub stops : StopsLast (commands_in x.commands.items)
   pub replies : x.replies.items ≡ []
-  pub room : length (commands_in x.commands.items) ≤ vec_capacity x.replies
+  pub few_commands : AreFew x.commands.items
   pub few : length (tracks_of x.client) ≤ MAX_COLOURS
 
 -- The client was served the commands that it had.
@@ -35,3 +36,7 @@ pub record IsServed (s : Store) (x y : Served) : Type 0 where
   pub same : IsSame x.client y.client
   pub served : (objects : List Object) → AreOf objects x.objects.items
       → WasServed s objects y.client (commands_in x.commands.items) y.replies.items
+
+-- If it is done afterwards, it was served the commands that it had.
+abbrev pub IsServedIfDone : Store → Served → Served → Type 0
+IsServedIfDone s x y = IsTrue y.done → IsServed s x y

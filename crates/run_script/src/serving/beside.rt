@@ -1,7 +1,7 @@
 // Clients beside one another.
 ghost use Rattle.std.specs.Prelude.{◌≡◌, ◌<◌, ℕ, Some, length, slice_get};
 ghost use Rattle.run_script.specs.declared.serving.served.Served.{Served};
-ghost use Rattle.run_script.specs.Served.{CanServe, IsServed};
+ghost use Rattle.run_script.specs.Served.{CanServe, IsServedIfDone};
 
 use crate::serving::served::{Served, serve_all};
 use fuzzy_io::Gate;
@@ -11,7 +11,8 @@ use std::sync::Wait;
 use std::thread;
 use std::thread::Threads;
 
-/// Serves all clients, each on a thread of its own; where no thread can be made, one after another.
+/// Serves all clients, each on a thread of its own; where no thread can be made, one after another. A client for whose
+/// replies there is no memory is not done.
 pub fn serve_beside<R: Threads + Wait + Sync, G: Gate>(
     rt: &R,
     alloc: Global,
@@ -21,7 +22,7 @@ pub fn serve_beside<R: Threads + Wait + Sync, G: Gate>(
 )
     requires { (n : ℕ) (x : Served) → slice_get served.old n ≡ Some x → CanServe store.now x }
     ensures served { (n : ℕ) (x y : Served) → slice_get served.old n ≡ Some x → slice_get served.new n ≡ Some y
-        → IsServed store.now x y }
+        → IsServedIfDone store.now x y }
     ensures len { length served.new ≡ length served.old }
 {
     let threads = served.len();
@@ -34,7 +35,7 @@ pub fn serve_beside<R: Threads + Wait + Sync, G: Gate>(
         threads,
         &|_place: usize, one: &mut Served|
             requires { CanServe store.now one.now }
-            ensures { IsServed store.entry.now one.entry.now one.exit.now }
+            ensures { IsServedIfDone store.entry.now one.entry.now one.exit.now }
         { serve_all(rt, alloc, store, gate, one) },
     );
 }

@@ -1,5 +1,6 @@
 // The run of a script on threads.
-ghost use Rattle.std.specs.Prelude.{◌≡◌, map, IfOk};
+ghost use Rattle.std.specs.Prelude.{◌≡◌, map, IfOk, IsTrue};
+ghost use Rattle.std.specs.List.{list_all};
 ghost use Rattle.script_text.specs.declared.script.Script.{Script};
 ghost use Rattle.lawful_run.specs.Lawful.{LawfulRun};
 ghost use Rattle.run_script.specs.declared.serving.served.Served.{Served};
@@ -20,14 +21,25 @@ use std::num::NonZeroUsize;
 use std::sync::Wait;
 use std::thread::Threads;
 
-// The clients once more, and the replies to each.
+// Whether each client was served its commands.
+fn are_done(served: &[Served]) -> bool
+    ensures { result ≡ list_all (λ (x : Served). x.done) served.now }
+{
+    served.iter().all(|one| one.done)
+}
+
+// The clients once more, and the replies to each; `Err` too where one of them was not served its commands.
 fn parted(
     alloc: Global,
     served: Vec<Served>,
 ) -> Result<(Vec<Client>, Vec<ListOf<ReplyLine>>), AllocError>
     ensures clients { IfOk result (λ r. r.0.items ≡ map (λ (x : Served). x.client) served.items) }
     ensures replies { IfOk result (λ r. r.1.items ≡ map (λ (x : Served). x.replies.items) served.items) }
+    ensures done { IfOk result (λ _. IsTrue (list_all (λ (x : Served). x.done) served.items)) }
 {
+    if !are_done(served.as_slice()) {
+        return Err(AllocError);
+    }
     let mut clients = Vec::new(alloc);
     let mut replies = Vec::new(alloc);
     for one in served {
@@ -62,9 +74,10 @@ fn run_in_store<R: Threads + Wait + Sync, G: Gate>(
 }
 
 /// Serves the clients of a script beside one another, each on a thread of its own where one can be made. A command that
-/// finds no memory is answered so, and the run goes on; `Err` means that there was no memory before the first command, or
-/// none after the last. The report is that of a lawful run; what is shown of columns in it is made on so many threads at most. The store has no more rows than the commands may begin, however
-/// many the script allows.
+/// finds no memory is answered so, and the run goes on; a client for whose replies there is no memory is served nothing.
+/// `Err` means that there was such a client, or no memory before the first starts, or none after the last command. The
+/// report is that of a lawful run; what is shown of columns in it is made on so many threads at most. The store has no
+/// more rows than the commands may begin, however many the script allows.
 pub fn run_beside<R: Threads + Wait + Sync, G: Gate>(
     rt: &R,
     alloc: Global,

@@ -1,5 +1,8 @@
 // A client who is served its commands.
-ghost use Rattle.run_script.specs.Served.{CanServe, IsServed};
+ghost use Rattle.std.specs.Prelude.{◌≡◌, ◌≤◌, length, vec_capacity};
+ghost use Rattle.script_beside.specs.Dealt.{commands_in};
+ghost use Rattle.run_script.specs.Dealing.{AreFew};
+ghost use Rattle.run_script.specs.Served.{CanServe, IsServed, IsServedIfDone};
 
 use crate::serving::answers::serve;
 use crate::serving::opened::Opened;
@@ -7,6 +10,7 @@ use fuzzy_io::Gate;
 use log_client::{Client, Store};
 use report_text::ReplyLine;
 use script_beside::Share;
+use script_text::Command;
 use std::alloc::Global;
 use std::mem;
 use std::sync::Wait;
@@ -18,21 +22,35 @@ pub struct Served {
     pub objects: Vec<Opened>,
     pub commands: Share,
     pub replies: Vec<ReplyLine>,
+    /// Whether it was served them: without memory for its replies it is served none.
+    pub done: bool,
     /// Nothing: it keeps what threads write of two clients 128 bytes apart, so that no cache line has some of both, nor
     /// the one that is fetched with it, as `turn_cell` does with the words of its cells.
     pub apart: [u64; 16],
 }
 
-/// Serves a client all its commands, one after another, and then gives back here, on its own thread, what it has played
-/// and what its objects have folded. Takes no memory but for what the commands do.
-pub fn serve_all<R: Wait, G: Gate>(
+// How many commands there are in the pieces.
+fn count(pieces: &[Vec<Command>]) -> usize
+    requires { AreFew pieces.now }
+    ensures { result ≡ length (commands_in pieces.now) }
+{
+    let mut count = 0;
+    for piece in pieces {
+        count += piece.len();
+    }
+    count
+}
+
+// Serves a client that has room for its replies, and takes no memory but for what the commands do.
+fn serve_in_room<R: Wait, G: Gate>(
     rt: &R,
     alloc: Global,
     store: &Store,
     gate: &G,
     served: &mut Served,
 )
-    requires { CanServe store.now served.old }
+    requires can { CanServe store.now served.old }
+    requires room { length (commands_in served.old.commands.items) ≤ vec_capacity served.old.replies }
     ensures { IsServed store.now served.old served.new }
 {
     let commands = mem::replace(&mut served.commands, Vec::new(alloc));
@@ -50,4 +68,26 @@ pub fn serve_all<R: Wait, G: Gate>(
     }
     served.objects = Vec::new(alloc);
     served.client.forget_played(alloc);
+}
+
+/// Serves a client all its commands, one after another, and then gives back here, on its own thread, what it has played
+/// and what its objects have folded. The room for all replies it takes here too, before the first command; where there is no
+/// memory for it, the client is served nothing.
+pub fn serve_all<R: Wait, G: Gate>(
+    rt: &R,
+    alloc: Global,
+    store: &Store,
+    gate: &G,
+    served: &mut Served,
+)
+    requires { CanServe store.now served.old }
+    ensures { IsServedIfDone store.now served.old served.new }
+{
+    let Ok(replies) = Vec::with_capacity(alloc, count(served.commands.as_slice())) else {
+        served.done = false;
+        return;
+    };
+    served.replies = replies;
+    serve_in_room(rt, alloc, store, gate, served);
+    served.done = true;
 }

@@ -1,7 +1,7 @@
 use Rattle.std.proofs.Common.{length, refl, subst, ◌∙◌, rules}
 use Rattle.std.proofs.lemmas.Option.{get_or_from_slice_get, slice_get_within, slice_get_read}
 use Rattle.run_script.specs.declared.serving.served.Served.{Served}
-use Rattle.run_script.specs.Served.{IsServed}
+use Rattle.run_script.specs.Served.{IsServedIfDone}
 use Rattle.run_script.proofs.serving.beside.serve_beside.Goals as goal
 
 pub for_each_mut-requires-clause-accepts : goal.for_each_mut-requires-clause-accepts
@@ -13,5 +13,5 @@ returns-clause-served g c = λ i x y at after.
     let w = c.for_each_mut.ensures i x (slice_get_within c.args.served.now i x at) in
     let was = w.1.argument_is ∙ get_or_from_slice_get c.args.served.now i x x at in
     let is = w.1.left ∙ get_or_from_slice_get c.for_each_mut.new.s i y x after in
-    subst (λ (z : Served). IsServed c.args.store.now x z) is
-    (subst (λ (z : Served). IsServed c.args.store.now z w.1.after_call.now) was w.1.call)
+    subst (λ (z : Served). IsServedIfDone c.args.store.now x z) is
+    (subst (λ (z : Served). IsServedIfDone c.args.store.now z w.1.after_call.now) was w.1.call)

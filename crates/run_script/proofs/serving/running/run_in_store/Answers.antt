@@ -4,16 +4,16 @@ use Rattle.script_text.specs.declared.script.Command.{Command}
 use Rattle.script_text.specs.declared.script.Object.{Object}
 use Rattle.log_client.specs.declared.client.Client.{Client}
 use Rattle.run_script.specs.declared.serving.served.Served.{Served}
-use Rattle.run_script.specs.Dealing.{AreReady}
+use Rattle.run_script.specs.Dealing.{AreIdle}
 use Rattle.run_script.proofs.ClosingRuns.{can_be_shown, runs_end_lawfully}
-use Rattle.run_script.proofs.RunningBeside.{are_clients, can_serve, few_shares, lawful_if, many_shares, script_of, were_served, whole}
+use Rattle.run_script.proofs.RunningBeside.{are_clients, can_serve, lawful_if, many_shares, script_of, were_served, whole}
 use Rattle.run_script.proofs.serving.running.run_in_store.Goals as goal
 
 -- the clients have opened the script's own objects
 objects_are : {given objects : List Object} {clients : List Client} {shares : List (Vec (Vec Command Global) Global)}
-    {served : List Served} → given ≡ objects → AreReady given clients shares served → AreReady objects clients shares served
-objects_are {given} {objects} {clients} {shares} {served} same ready =
-    subst (λ (l : List Object). AreReady l clients shares served) same ready
+    {served : List Served} → given ≡ objects → AreIdle given clients shares served → AreIdle objects clients shares served
+objects_are {given} {objects} {clients} {shares} {served} same idle =
+    subst (λ (l : List Object). AreIdle l clients shares served) same idle
 
 pub open-requires-clause-size : goal.open-requires-clause-size
 open-requires-clause-size g c =
@@ -30,14 +30,10 @@ open-requires-clause-size g c =
       (omega (arith, few_rows)),
     )
 
-pub make_ready-requires-clause-shares : goal.make_ready-requires-clause-shares
-make_ready-requires-clause-shares g c =
+pub make_ready-requires : goal.make_ready-requires
+make_ready-requires g c =
     many_shares (script_of c.args.dealt c.requires.0.commands) c.args.dealt c.in_ok-store.store c.in_ok-store.clients
     (whole c.requires.0 c.args.dealt c.requires.1) c.in_ok-store.ensures.clients
-
-pub make_ready-requires-clause-few : goal.make_ready-requires-clause-few
-make_ready-requires-clause-few g c =
-    few_shares (script_of c.args.dealt c.requires.0.commands) c.args.dealt (whole c.requires.0 c.args.dealt c.requires.1)
 
 pub serve_beside-requires-after_bounds : goal.serve_beside-requires-after_bounds
 serve_beside-requires-after_bounds g c κs within = λ n x at.
@@ -55,7 +51,8 @@ close-requires g c =
     e.regions c.in_ok-store.clients e.clients c.in_ok-served.served.items c.as_mut_slice.result.now c.serve_beside.new.served
     c.as_mut_slice.ensures.value (objects_are c.as_slice.ensures c.in_ok-served.ensures) c.serve_beside.ensures.len
     c.serve_beside.ensures.served c.in_ok-served.served.len c.in_ok-served.served.ok.0 c.into.result
-    c.in_ok-clients.replies.items (c.into.ensures ∙ c.in_ok-clients.ensures.clients) c.in_ok-clients.ensures.replies in
+    c.in_ok-clients.replies.items (c.into.ensures ∙ c.in_ok-clients.ensures.clients) c.in_ok-clients.ensures.replies
+    c.in_ok-clients.ensures.done in
     are_clients script c.in_ok-store.store c.into.result c.in_ok-clients.replies.items served
 
 pub end_report-requires-clause-regions : goal.end_report-requires-clause-regions
@@ -67,7 +64,8 @@ end_report-requires-clause-regions g c κs within =
     e.regions c.in_ok-store.clients e.clients c.in_ok-served.served.items c.as_mut_slice.result.now c.serve_beside.new.served
     c.as_mut_slice.ensures.value (objects_are c.as_slice.ensures c.in_ok-served.ensures) c.serve_beside.ensures.len
     c.serve_beside.ensures.served c.in_ok-served.served.len c.in_ok-served.served.ok.0 c.into.result
-    c.in_ok-clients.replies.items (c.into.ensures ∙ c.in_ok-clients.ensures.clients) c.in_ok-clients.ensures.replies in
+    c.in_ok-clients.replies.items (c.into.ensures ∙ c.in_ok-clients.ensures.clients) c.in_ok-clients.ensures.replies
+    c.in_ok-clients.ensures.done in
     can_be_shown script can.fits c.in_ok-store.store c.into.result c.in_ok-clients.replies.items served
     c.in_ok-closed.closed c.in_ok-closed.ensures
 
@@ -81,5 +79,6 @@ returns g c =
     e.regions c.in_ok-store.clients e.clients c.in_ok-served.served.items c.as_mut_slice.result.now c.serve_beside.new.served
     c.as_mut_slice.ensures.value (objects_are c.as_slice.ensures c.in_ok-served.ensures) c.serve_beside.ensures.len
     c.serve_beside.ensures.served c.in_ok-served.served.len c.in_ok-served.served.ok.0 c.into.result
-    c.in_ok-clients.replies.items (c.into.ensures ∙ c.in_ok-clients.ensures.clients) c.in_ok-clients.ensures.replies)
+    c.in_ok-clients.replies.items (c.into.ensures ∙ c.in_ok-clients.ensures.clients) c.in_ok-clients.ensures.replies
+    c.in_ok-clients.ensures.done)
     c.in_ok-closed.closed c.in_ok-closed.ensures)

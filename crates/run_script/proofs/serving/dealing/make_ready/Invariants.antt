@@ -1,6 +1,6 @@
 use Rattle.std.proofs.Common.{map}
 use Rattle.run_script.specs.Dealing.{AreIdle}
-use Rattle.run_script.proofs.serving.dealing.idle.Given as goal
+use Rattle.run_script.proofs.serving.dealing.make_ready.Given as goal
 
 -- the clients so far, each with its share
 abbrev pub invariant-loop-client : goal.invariant-loop-client

@@ -5,7 +5,7 @@ use Rattle.log_client.specs.Calls.{IsSame}
 use Rattle.log_client.specs.Clients.{Finished}
 use Rattle.run_script.specs.Opened.{AreKept, AreOf, kind_opened}
 use Rattle.run_script.specs.Serving.{Serves}
-use Rattle.run_script.proofs.serving.served.serve_all.Given as goal
+use Rattle.run_script.proofs.serving.served.serve_in_room.Given as goal
 
 -- the client was served the commands so far
 abbrev pub invariant-loop-command : goal.invariant-loop-command

@@ -1,6 +1,6 @@
 use Rattle.std.proofs.Common.{ℕ, ◌+◌, ◌∙◌, ap, arith}
 use Rattle.run_script.proofs.Dealing.{counted_all, counted_more, few_counted}
-use Rattle.run_script.proofs.serving.dealing.count.Goals as goal
+use Rattle.run_script.proofs.serving.served.count.Goals as goal
 
 pub loop-piece-preserved : goal.loop-piece-preserved
 loop-piece-preserved c =

@@ -12,17 +12,17 @@ use Rattle.run_script.proofs.ObjectFrames.{of_one_on, some_objects}
 use Rattle.run_script.proofs.Pieces.{all_pieces}
 use Rattle.run_script.proofs.ServedClients.{forgets_same, forgotten, serves_next, was_served}
 use Rattle.run_script.proofs.Yielding.{there, finished_before, room_left}
-use Rattle.run_script.proofs.serving.served.serve_all.Goals as goal
+use Rattle.run_script.proofs.serving.served.serve_in_room.Goals as goal
 
 pub loop-command-init : goal.loop-command-init
 loop-command-init g c = record {
-  kept = λ done. c.requires.kept;
+  kept = λ done. c.requires.can.kept;
   kinds = refl;
   serves = λ objects of. subst (λ (rs : List ReplyLine). Serves c.args.store.now objects c.args.served.now.client
       c.args.served.now.objects.items [] rs)
-      (sym c.requires.replies) (c.requires.serves objects);
+      (sym c.requires.can.replies) (c.requires.can.serves objects);
   same = (refl, refl);
-  count = ap length c.requires.replies;
+  count = ap length c.requires.can.replies;
   room = refl;
 }
 
@@ -45,7 +45,7 @@ serve-reply-requires-clause-kept g c κs within =
     let some = some_objects c.args.served.now.objects.items in
     was.kept (finished_before c.args.store.now some.0 c.loop-command.served.client commands
     (length yielded) c.in-Some.command c.loop-command.served.objects.items yielded c.loop-command.served.replies.items
-    c.requires.stops
+    c.requires.can.stops
     (there commands (length yielded) c.in-Some.command
     t) so_far
     (was.serves some.0 some.1))
@@ -66,7 +66,7 @@ serve-reply-requires-clause-command g c κs within =
     let t = YieldsList-turn all yielded _
     c.loop-command.yielded_by _ c.next.new.self c.in-Some.command c.in-Some.is c.next.ensures.steps in
     let is = servable (IsServable c.args.store.now c.args.served.now.objects.items) commands
-    (length yielded) c.in-Some.command c.requires.servable
+    (length yielded) c.in-Some.command c.requires.can.servable
     (there commands (length yielded) c.in-Some.command t) in record {
       within = is.within;
       of_one = of_one_on c.args.served.now.objects.items c.loop-command.served.objects.items c.in-Some.command.what
@@ -98,7 +98,7 @@ loop-command-preserved g c =
     let t = YieldsList-turn all yielded _
     c.loop-command.yielded_by _ c.next.new.self c.in-Some.command c.in-Some.is c.next.ensures.steps in
     let so_far = sym (map-id yielded) ∙ YieldsList-so_far all yielded _ c.loop-command.yielded_by in
-    let stops = c.requires.stops in
+    let stops = c.requires.can.stops in
     let some = some_objects c.args.served.now.objects.items in
     let finished = finished_before store some.0 client commands (length yielded) c.in-Some.command
     c.loop-command.served.objects.items yielded replies stops (there commands (length yielded) c.in-Some.command
@@ -146,7 +146,7 @@ returns g c =
 pub forget_played-requires : goal.forget_played-requires
 forget_played-requires g c =
     let some = some_objects c.args.served.now.objects.items in
-    let first = (c.requires.serves some.0).rests.colours in
+    let first = (c.requires.can.serves some.0).rests.colours in
     let last = (c.loop-command.invariant.serves some.0 some.1).rests.colours in
-    let few = c.requires.few in
+    let few = c.requires.can.few in
     omega (arith, first, last, few)
