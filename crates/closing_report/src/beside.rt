@@ -7,11 +7,11 @@ ghost use Rattle.closing_report.specs.declared.beside.Place.{Place};
 
 use crate::columns::column_report;
 use column::Column;
+use fork_join::for_each_mut;
 use log_node::{ListOf, Names};
 use report_text::ColumnReport;
 use std::alloc::{AllocError, Global};
 use std::num::NonZeroUsize;
-use std::thread;
 use std::thread::Threads;
 
 /// For how many keys of lines a thread is begun.
@@ -72,7 +72,7 @@ fn show_all<R: Threads + Sync>(
     requires names { All (λ place. IfSome place.column (HasNames regions.now colours.now)) places.old }
     ensures { AreShown regions.now colours.now places.old places.new }
 {
-    thread::for_each_mut(
+    for_each_mut(
         rt,
         places,
         threads,

@@ -148,7 +148,7 @@ fn play_on<R: Wait>(
     let Ok(view) = region.look(rt, alloc, hold, colour, from) else {
         return Err(SyncFault::NoMemory);
     };
-    // Found out before the line is copied, for nothing.
+    // Behind a trim nothing is played: refused before the line is copied.
     if !view.base.is_within(from) {
         let base = view.base;
         return Err(SyncFault::Trimmed { colour, base });

@@ -10,11 +10,11 @@ ghost use Rattle.report_beside.specs.Shares.{parts_in, HaveTexts};
 
 use crate::made::{made_text, put_each};
 use crate::parts::Part;
+use fork_join::for_each_mut;
 use fuzzy_io::MemorySink;
 use report_text::{NameIndex, Output};
 use std::alloc::{AllocError, Global};
 use std::num::NonZeroUsize;
-use std::thread;
 use std::thread::Threads;
 
 /// For which weight of parts a thread is begun.
@@ -136,7 +136,7 @@ pub fn made_texts<R: Threads + Sync>(
     ensures { HaveTexts names.now shares.now result.items }
 {
     let mut texts = unmade(alloc, shares.len());
-    thread::for_each_mut(
+    for_each_mut(
         rt,
         texts.as_mut_slice(),
         shares.len().max(1),

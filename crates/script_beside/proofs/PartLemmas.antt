@@ -1,5 +1,5 @@
 -- Parts of a script, and what is read of them.
-use Rattle.std.proofs.Common.{◌≡◌, inl, inr, ⊎_elim, cond, ℕ, zero, suc, ◌+◌, ◌<◌, ◌≤◌, Bool, true, false, List, [], ◌∷◌, ◌++◌, length, map, take, drop, get_or, Some, Err, Option, Result, slice_get, Vec, Global, refl, sym, ap, ap₂, subst, ◌∙◌, arith, append_assoc, append-nil, length-append, take-append-drop, ◌^◌}
+use Rattle.std.proofs.Common.{◌≡◌, inl, inr, ⊎_elim, cond, ℕ, ◌+◌, ◌<◌, ◌≤◌, Bool, true, false, List, [], ◌∷◌, ◌++◌, length, map, take, drop, get_or, Some, Err, Option, Result, slice_get, Vec, Global, refl, sym, ap, subst, ◌∙◌, arith, append_assoc, append-nil, length-append, take-append-drop, ◌^◌}
 use Rattle.std.specs.Prelude.{if◌then◌else◌, not, ◌==◌, codes}
 use Rattle.std.specs.List.{All, enumerate_from, list_any, onto_first, cons_option}
 use Rattle.std.proofs.Math.Seq.{take-add}
@@ -406,37 +406,3 @@ not_given NoMemory r s is gives = subst (λ (q : Result DealtScript ScriptFault)
 pub only_dealt : (bytes : List ℕ) (dealt : DealtScript) → (script : Script) × IsScript bytes script × IsDealt script dealt
     → (script : Script) → IsScript bytes script → IsDealt script dealt
 only_dealt bytes dealt found script is = subst (λ (s : Script). IsDealt s dealt) (one_script bytes found.0 script found.1 is) found.2
-
--- ---- parts that were read apart
-
-pub none_read : (header : List ℕ) → AreRead header [] []
-none_read header = record { many = refl; each = λ n cut part at there. absurd (let f : ⊥ = cc (at) in f) }
-
--- some parts, and those behind them
-pub read_both : (header : List ℕ) (front back : List Cut) (ones others : List (Option ReadPart)) → AreRead header front ones
-    → AreRead header back others → AreRead header (front ++ back) (ones ++ others)
-read_both header [] back [] others first behind = behind
-read_both header [] back (one ∷ ones) others first behind =
-    absurd (let many = first.many in let f : ⊥ = omega (arith, many) in f)
-read_both header (cut ∷ front) back [] others first behind =
-    absurd (let many = first.many in let f : ⊥ = omega (arith, many) in f)
-read_both header (cut ∷ front) back (one ∷ ones) others first behind =
-    let many = first.many in
-    let rest = read_both header front back ones others
-    (record { many = omega (arith, many); each = λ n. first.each (suc n) }) behind in
-    let long = rest.many in record {
-      many = omega (arith, long);
-      each = by_place (λ c part. first.each 0 c part) rest.each;
-    } where
-      by_place : ((c : Cut) (part : ReadPart) → Some cut ≡ Some c → Some one ≡ Some (Some part) → IsRead header c part)
-          → ((n : ℕ) (c : Cut) (part : ReadPart) → slice_get (front ++ back) n ≡ Some c → slice_get (ones ++ others) n ≡ Some (Some part) → IsRead header c part)
-          → (n : ℕ) (c : Cut) (part : ReadPart) → slice_get (cut ∷ (front ++ back)) n ≡ Some c → slice_get (one ∷ (ones ++ others)) n ≡ Some (Some part)
-          → IsRead header c part
-      by_place here there zero c part at is = here c part at is
-      by_place here there (suc n) c part at is = there n c part at is
-
-pub all_read : (header : List ℕ) (front back cuts : List Cut) (ones others parts : List (Option ReadPart)) → AreRead header front ones
-    → AreRead header back others → front ≡ take 1 cuts → back ≡ drop 1 cuts → parts ≡ ones ++ others → AreRead header cuts parts
-all_read header front back cuts ones others parts read behind begins ends same =
-    subst (λ (l : List Cut). AreRead header l parts) (ap₂ (λ (a b : List Cut). a ++ b) begins ends ∙ take-append-drop 1 cuts)
-    (subst (AreRead header (front ++ back)) (sym same) (read_both header front back ones others read behind))

@@ -1,17 +1,17 @@
 // Reading a part of a script behind the script's header.
-ghost use Rattle.std.specs.Prelude.{◌≡◌, ◌++◌, IfOk, IfSome};
-ghost use Rattle.std.specs.Thread.{IsSync};
+ghost use Rattle.std.specs.Prelude.{◌≡◌, ◌++◌, Some, length, slice_get, IfOk, IfSome};
 ghost use Rattle.std.specs.List.{list_any};
 ghost use Rattle.script_text.specs.declared.script.Command.{Command};
 ghost use Rattle.script_text.specs.Items.{is_stop};
+ghost use Rattle.script_beside.specs.declared.cuts.Cut.{Cut};
 ghost use Rattle.script_beside.specs.Parts.{IsRead, AreRead};
 
 use crate::begins::begins_in;
 use crate::cuts::Cut;
 use crate::lists::own_lists;
+use fork_join::for_each_mut;
 use script_text::{Command, ScriptFault, What, parse};
 use std::alloc::{AllocError, Global};
-use std::thread;
 use std::thread::Threads;
 
 /// What was read of a part.
@@ -69,24 +69,43 @@ fn read_part(alloc: Global, header: &[u8], cut: &Cut<'_>) -> Option<ReadPart>
     }
 }
 
-// The parts, read by this thread.
-fn read_here(
-    alloc: Global,
-    header: &[u8],
-    cuts: &[Cut<'_>],
-) -> Result<Vec<Option<ReadPart>>, AllocError>
-    ensures { IfOk result (λ parts. AreRead header.now cuts.now parts.items) }
+// So many parts of which none is read.
+fn unread(alloc: Global, count: usize) -> Result<Vec<Option<ReadPart>>, AllocError>
+    ensures { IfOk result (λ parts. length parts.items ≡ count) }
 {
     let mut parts = Vec::new(alloc);
-    for cut in cuts {
-        parts.push(read_part(alloc, header, cut))?;
+    for _ in 0..count {
+        parts.push(None)?;
     }
     Ok(parts)
 }
 
-/// The parts, the last of which this thread reads, and each other a thread of its own where one can be. This thread makes
-/// all of them: one that began by making another would first have to find memory of its own.
-#[cycle(parts)]
+// Reads each part on a thread of its own, where one can be made.
+fn read_each<R: Threads + Sync>(
+    rt: &R,
+    alloc: Global,
+    header: &[u8],
+    cuts: &[Cut<'_>],
+    parts: &mut [Option<ReadPart>],
+)
+    requires { length parts.old ≡ length cuts.now }
+    ensures { AreRead header.now cuts.now parts.new }
+{
+    for_each_mut(
+        rt,
+        parts,
+        cuts.len().max(1),
+        &|place: usize, part: &mut Option<ReadPart>|
+            ensures { (cut : Cut) → slice_get cuts.entry.now place ≡ Some cut → IfSome part.exit.now (IsRead header.entry.now cut) }
+        {
+            if let Some(cut) = cuts.get(place) {
+                *part = read_part(alloc, header, cut);
+            }
+        },
+    );
+}
+
+/// The parts, each read on a thread of its own, where one can be made.
 pub fn read_parts<R: Threads + Sync>(
     rt: &R,
     alloc: Global,
@@ -95,20 +114,7 @@ pub fn read_parts<R: Threads + Sync>(
 ) -> Result<Vec<Option<ReadPart>>, AllocError>
     ensures { IfOk result (λ parts. AreRead header.now cuts.now parts.items) }
 {
-    if cuts.len() < 2 {
-        return read_here(alloc, header, cuts);
-    }
-    let (near, far) = cuts.split_at(1);
-    let mut one = || -> Result<Vec<Option<ReadPart>>, AllocError>
-        requires { IsSync R.row }
-        ensures { IfOk result (λ parts. AreRead header.entry.now near.entry.now parts.items) }
-    { read_parts(rt, alloc, header, near) };
-    let mut more = || -> Result<Vec<Option<ReadPart>>, AllocError>
-        requires { IsSync R.row }
-        ensures { IfOk result (λ parts. AreRead header.entry.now far.entry.now parts.items) }
-    { read_parts(rt, alloc, header, far) };
-    let (ones, others) = thread::join_mut(rt, &mut one, &mut more);
-    let mut parts = ones?;
-    parts.append(&mut others?)?;
+    let mut parts = unread(alloc, cuts.len())?;
+    read_each(rt, alloc, header, cuts, parts.as_mut_slice());
     Ok(parts)
 }

@@ -4,11 +4,11 @@ ghost use Rattle.run_script.specs.declared.serving.served.Served.{Served};
 ghost use Rattle.run_script.specs.Served.{CanServe, IsServedIfDone};
 
 use crate::serving::served::{Served, serve_all};
+use fork_join::for_each_mut;
 use fuzzy_io::Gate;
 use log_client::Store;
 use std::alloc::Global;
 use std::sync::Wait;
-use std::thread;
 use std::thread::Threads;
 
 /// Serves all clients, each on a thread of its own; where no thread can be made, one after another. A client for whose
@@ -29,7 +29,7 @@ pub fn serve_beside<R: Threads + Wait + Sync, G: Gate>(
     if threads == 0 {
         return;
     }
-    thread::for_each_mut(
+    for_each_mut(
         rt,
         served,
         threads,

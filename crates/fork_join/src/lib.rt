@@ -1,0 +1,8 @@
+//! Calls at the items of a list, on threads that the caller makes and waits for.
+#![tactic(auto)]
+
+mod items;
+#[cfg(test)]
+mod tests;
+
+pub use items::for_each_mut;
