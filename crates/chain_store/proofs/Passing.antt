@@ -18,6 +18,9 @@ use Rattle.turn_cell.specs.Cells.{own, IsNewPass}
 use Rattle.chain_store.specs.declared.told.Tag.{Tag}
 use Rattle.chain_store.specs.declared.told.Told.{Told}
 use Rattle.chain_store.specs.declared.seated.Seated.{Seated}
+use Rattle.chain_store.specs.declared.looks.Looked.{Looked}
+use Rattle.chain_store.specs.declared.looks.Looked.TheVariants.{On, Behind}
+use Rattle.chain_store.specs.Looking.{IsLooked, ShowsOn}
 use Rattle.chain_store.specs.Histories.{entries_in, maker, HasIds}
 use Rattle.chain_store.specs.Columns.{Stands, tag_of}
 use Rattle.chain_store.proofs.Entering.{column_ids, entered_named, entered_region}
@@ -115,6 +118,14 @@ shows_history s t log from view stands is v =
       map_long : (l : List Told) → length (entries_in l) ≡ length l
       map_long [] = refl
       map_long (u ∷ us) = ap (λ (k : ℕ). suc k) (map_long us)
+
+-- and so does one that goes on from counts
+pub shows_on : (s : Seated) (t : Tag) (log : List Told) (from : Counts) (looked : Looked) → Stands s log
+    → tag_of s ≡ t → IsLooked s.column from looked → ShowsOn t log from looked
+shows_on s t log from (On view) stands is v = (shows_history s t log from view stands is v.0, v.1)
+shows_on s t log from (Behind shown) stands is v =
+    subst (λ (u : Tag). ShowsOn u log from (Behind shown)) is
+    (v.0 ∙ ap (λ l. base s.column.region s.column.regions (dated s.column.region l)) stands.0.same, v.1)
 
 -- a new pass is a client's
 pub new_holder : (c : ColumnCell) (n : ℕ) (p : ColumnPass) → IsNewPass tag_of c n p → IsHolder c n p

@@ -22,6 +22,7 @@ ghost use Rattle.chain_store.specs.Marks.{stamps_of, numbers};
 ghost use Rattle.chain_store.specs.Rows.{IsBegunRow, place_after};
 ghost use Rattle.chain_store.specs.Proposals.{HasProposal, IsMarkedOpen};
 ghost use Rattle.chain_store.specs.Steps.{HasSingleCause, MatchAt};
+ghost use Rattle.chain_store.specs.Looking.{ShowsOn};
 ghost use Rattle.chain_store.specs.Passes.{ShowsHistory, dated_in};
 ghost use Rattle.chain_store.specs.Regions.{tag_at, IsColumnAt};
 ghost use Rattle.chain_store.specs.Holds.{IsHold, KnowsAppend, SameBut, seen_in, entries_seen, view_of};
@@ -31,7 +32,7 @@ ghost use Rattle.chain_store.specs.Givens.{OfTheirHeads};
 use crate::calls::{Single, single_in};
 use crate::changes::{carry_in, give_in, raise_in, trim_in};
 use crate::hold::Hold;
-use crate::looks::{clock_in, held_in, look_in, place_in};
+use crate::looks::{Looked, clock_in, held_in, look_in, look_on_in, place_in};
 use crate::region::Region;
 use crate::rows::{Proposed, Settled, below_in, propose_in, settle_in};
 use crate::seated::Seated;
@@ -108,6 +109,29 @@ impl Region {
         let by = hold.passes.number;
         let pass = &mut hold.passes.items[colour as usize];
         look_in(rt, alloc, self.column(colour), pass, by, from)
+    }
+
+    /// What a reader sees of the colour's column who goes on from these counts; behind the column's base that is the base
+    /// alone, at no cost for what the column has above it.
+    pub fn look_on<R: Wait>(
+        &self,
+        rt: &R,
+        alloc: Global,
+        hold: &mut Hold,
+        colour: u8,
+        from: Counts,
+    ) -> Result<Looked, AllocError>
+        requires hold { IsHold self.now hold.old }
+        requires colour { colour < self.now.board.size.colours }
+        ensures hold { IsHold self.now hold.new }
+        ensures others { SameBut colour hold.old hold.new }
+        ensures same { (hold.new.seat ≡ hold.old.seat) × (hold.new.next ≡ hold.old.next) }
+        ensures sees { SeesMoreIn colour hold.old hold.new }
+        ensures looked { IfOk result (ShowsOn (tag_at self.now colour) (seen_in hold.new colour) from) }
+    {
+        let by = hold.passes.number;
+        let pass = &mut hold.passes.items[colour as usize];
+        look_on_in(rt, alloc, self.column(colour), pass, by, from)
     }
 
     /// The position of a key in the line of the colour's column, counted from 0; `None` exactly where it is not in the

@@ -7,11 +7,13 @@ ghost use Rattle.col_core.specs.Cuts.{held};
 ghost use Rattle.turn_cell.specs.Cells.{seen};
 ghost use Rattle.chain_store.specs.Histories.{entries_in};
 ghost use Rattle.chain_store.specs.Moves.{LooksAt};
+ghost use Rattle.chain_store.specs.Looking.{IsLooked, ShowsOn};
 ghost use Rattle.chain_store.specs.Passes.{IsHolder, SeesMore, ShowsHistory, dated_in, tag_in};
 
 use crate::seated::Seated;
 use crate::turns::{begin, end};
 use col_core::View;
+use column::Column;
 use log_node::{At, Counts, Key};
 use std::alloc::{AllocError, Global};
 use std::sync::Wait;
@@ -34,6 +36,46 @@ pub fn look_in<R: Wait>(
     let view = turn.value.column.look(alloc, from);
     end(turn, pass);
     view
+}
+
+/// What a look shows that goes on from counts.
+#[derive(Drop)]
+pub enum Looked {
+    /// The column from there on.
+    On(View),
+    /// Nodes that come next are trimmed: all below this base are.
+    Behind { base: Counts },
+}
+
+// Nodes are looked at only where the counts are not behind the base.
+fn looked_on(column: &Column, alloc: Global, from: Counts) -> Result<Looked, AllocError>
+    ensures { IfOk result (IsLooked column.now from) }
+{
+    let base = column.base();
+    if !base.is_within(from) {
+        return Ok(Looked::Behind { base });
+    }
+    Ok(Looked::On(column.look(alloc, from)?))
+}
+
+/// What a reader sees who goes on from these counts; behind the base that is the base alone, whatever the column has above
+/// it. Waits for the turn.
+pub fn look_on_in<R: Wait>(
+    rt: &R,
+    alloc: Global,
+    cell: &Cell<Seated>,
+    pass: &mut Pass<Seated>,
+    by: u8,
+    from: Counts,
+) -> Result<Looked, AllocError>
+    requires pass { IsHolder cell.now by pass.old }
+    ensures pass { IsHolder cell.now by pass.new × SeesMore by (seen pass.old) (seen pass.new) }
+    ensures looked { IfOk result (ShowsOn (tag_in cell.now) (seen pass.new) from) }
+{
+    let turn = begin(rt, cell, pass, by);
+    let looked = looked_on(&turn.value.column, alloc, from);
+    end(turn, pass);
+    looked
 }
 
 /// The position of a key in the line, counted from 0; `None` exactly where it is not in the line. Waits for the turn.

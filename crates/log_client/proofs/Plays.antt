@@ -17,6 +17,9 @@ use Rattle.playback.specs.Playing.{ShowsChains, ArePlayed, items_of}
 use Rattle.chain_store.specs.declared.told.Tag.{Tag}
 use Rattle.chain_store.specs.declared.told.Told.{Told}
 use Rattle.chain_store.specs.declared.hold.Hold.{Hold}
+use Rattle.chain_store.specs.declared.looks.Looked.{Looked}
+use Rattle.chain_store.specs.declared.looks.Looked.TheVariants.{On}
+use Rattle.chain_store.specs.Looking.{ShowsOn}
 use Rattle.chain_store.specs.declared.region.Region.{Region}
 use Rattle.chain_store.specs.Passes.{ShowsHistory, IsLawfulTold, dated_in}
 use Rattle.chain_store.specs.Regions.{tag_at}
@@ -41,6 +44,11 @@ reached_within_cut t old new v more lawful r =
     (cut-is_greatest t.region (dated_in t new)).greatest v (reached_longer t old new v more lawful r)
 
 -- the counts of a track are within the cut of what a look shows
+-- the view that a look shows which goes on
+pub view_on : (t : Tag) (log : List Told) (from : Counts) (looked : Looked) (view : View) → looked ≡ On view
+    → ShowsOn t log from looked → ShowsHistory t log from view
+view_on t log from looked view is shows = (subst (ShowsOn t log from) is shows).0
+
 pub within_view : (r : Region) (k : ℕ) (g h : Hold) (from : Counts) (view : View) → IsHold r h
     → k < r.board.size.colours → IsPrefix (seen_in g k) (seen_in h k)
     → ShowsHistory (tag_at r k) (seen_in h k) from view

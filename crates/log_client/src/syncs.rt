@@ -17,7 +17,7 @@ use crate::faults::SyncFault;
 use crate::merging::share_all;
 use crate::store::Store;
 use crate::track::Track;
-use chain_store::{Hold, Region};
+use chain_store::{Hold, Looked, Region};
 use col_core::View;
 use log_node::{Item, Items, ListOf};
 use playback::{PlayFault, Played, Player, play};
@@ -145,14 +145,11 @@ fn play_on<R: Wait>(
 {
     let colour = track.snapshot.colour;
     let from = track.snapshot.counts;
-    let Ok(view) = region.look(rt, alloc, hold, colour, from) else {
-        return Err(SyncFault::NoMemory);
+    let view = match region.look_on(rt, alloc, hold, colour, from) {
+        Ok(Looked::On(view)) => view,
+        Ok(Looked::Behind { base }) => return Err(SyncFault::Trimmed { colour, base }),
+        Err(_) => return Err(SyncFault::NoMemory),
     };
-    // Behind a trim nothing is played: refused before the line is copied.
-    if !view.base.is_within(from) {
-        let base = view.base;
-        return Err(SyncFault::Trimmed { colour, base });
-    }
     let Ok(line) = own_line(alloc, &view) else {
         return Err(SyncFault::NoMemory);
     };
