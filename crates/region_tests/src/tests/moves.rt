@@ -6,7 +6,7 @@ ghost use Rattle.region_tests.specs.Clients.{IsSmall, IsClient};
 
 use crate::made::opened;
 use crate::tests::singles::append;
-use chain_store::{Hold, Region};
+use chain_store::{Hold, Looked, Region};
 use col_core::View;
 use column::Given;
 use log_node::{At, Counts, Id, Items};
@@ -58,21 +58,47 @@ fn is_second(given: &Given) -> bool {
     }
 }
 
-// The second region gives its line from 0 on, and from 1 on; it trims what was asked past alone.
-fn trimmed<R: Wait>(rt: &R, alloc: Global) -> Result<([At; 2], Given, (At, Counts)), AllocError> {
+// The second region gives its line from 0 on, and from 1 on; it trims what was asked past alone. Then one goes on from the
+// beginning, and one from the base.
+fn trimmed<R: Wait>(
+    rt: &R,
+    alloc: Global,
+) -> Result<([At; 2], Given, (At, Counts), (Looked, Looked)), AllocError> {
     let (region, mut hold) = two_singles(rt, alloc, 1)?;
     let (first, _) = give(rt, alloc, &region, &mut hold, 0)?;
     let (second, given) = give(rt, alloc, &region, &mut hold, 1)?;
     let base = region.trim(rt, &mut hold, 0, Counts([0, 2, 0, 0]))?;
-    Ok(([first, second], given, base))
+    let behind = region.look_on(rt, alloc, &mut hold, 0, Counts([0; 4]))?;
+    let on = region.look_on(rt, alloc, &mut hold, 0, Counts([0, 1, 0, 0]))?;
+    Ok(([first, second], given, base, (behind, on)))
+}
+
+// Below which base nodes are gone for one who goes on.
+fn gone_below(looked: &Looked) -> Option<Counts> {
+    match looked {
+        Looked::On(_) => None,
+        Looked::Behind { base } => Some(*base),
+    }
+}
+
+// How many nodes of each of the two regions are shown to one who goes on.
+fn shown_on(looked: &Looked) -> Option<(usize, usize)> {
+    match looked {
+        Looked::On(view) => Some(shown(view)),
+        Looked::Behind { .. } => None,
+    }
 }
 
 #[test]
-fn a_region_trims_what_the_other_has_asked_past(rt: HostRuntime) -> Result<(), Fail> {
-    let (events, given, trim) = trimmed(&rt, rt.alloc())?;
+fn a_region_trims_what_the_other_has_asked_past_and_shows_what_is_left(
+    rt: HostRuntime,
+) -> Result<(), Fail> {
+    let (events, given, trim, (behind, on)) = trimmed(&rt, rt.alloc())?;
     assert_eq!(rt; events, [At::Event(2), At::Event(3)]);
     assert!(rt; is_second(&given));
     assert_eq!(rt; trim, (At::Event(4), Counts([0, 1, 0, 0])));
+    assert_eq!(rt; gone_below(&behind), Some(Counts([0, 1, 0, 0])));
+    assert_eq!(rt; (gone_below(&on), shown_on(&on)), (None, Some((0, 1))));
     Ok(())
 }
 
