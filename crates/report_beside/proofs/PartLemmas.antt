@@ -1,17 +1,14 @@
 -- How the parts of a report come behind one another.
-use Rattle.std.proofs.Common.{◌≡◌, Bool, true, ℕ, List, [], ◌∷◌, ◌++◌, length, ap, subst, refl, sym, ◌∙◌, arith, append_assoc, append-nil, zero, suc, ◌+◌, ◌-◌, ◌<◌, ◌≤◌, take, drop}
+use Rattle.std.proofs.Common.{◌≡◌, Bool, true, ℕ, List, [], ◌∷◌, ◌++◌, length, ap, subst, refl, sym, ◌∙◌, arith, append_assoc, append-nil}
 use Rattle.std.specs.Prelude.{◌==◌}
 use Rattle.std.specs.List.{flat_map}
-use lib.Seq.{take-add}
-use Rattle.std.specs.Borrow.{Bor}
-use Rattle.std.proofs.lemmas.List.{flat_map_more, length_push}
+use Rattle.std.proofs.lemmas.List.{flat_map_more}
 use Rattle.std.proofs.lemmas.List.Concat.{flat_map-append}
 use Rattle.report_text.specs.declared.report.Report.{Report}
 use Rattle.report_text.specs.Output.{OutputState, Adds}
 use Rattle.report_text.proofs.CallerLemmas.{adds_then}
 use Rattle.report_beside.specs.declared.parts.Part.{Part}
 use Rattle.report_beside.specs.Parts.{part_text, HaveMore}
-use Rattle.report_beside.specs.Shares.{parts_in}
 
 -- no parts more
 pub no_more : (parts : List Part) → HaveMore (λ r. []) parts parts
@@ -66,35 +63,3 @@ all_of {A} text items rest old new so none report =
 pub put_all : (a b c : OutputState) (head parts all : List ℕ) → Adds a b head → Adds b c parts → parts ≡ all → Adds a c (head ++ all)
 put_all a b c head parts all first next is =
     subst (λ (l : List ℕ). Adds a c (head ++ l)) is (adds_then a b c head parts first next)
-
--- a share left for the parts behind this place, where the last share has all
-one_left : (long to left : ℕ) → (left ≡ 1 → to ≡ long) → 0 < left → to < long → 0 < left - 1
-one_left long to zero last some more = absurd (let f : ⊥ = omega (arith, some) in f)
-one_left long to (suc zero) last some more = absurd (let is = last refl in let f : ⊥ = omega (arith, is, more) in f)
-one_left long to (suc (suc left)) last some more = omega arith
-
--- what holds after one share more was cut off
-pub record Cut (parts : List Part) (to left most : ℕ) (shares : List (Bor (List Part))) : Type 0 where
-  pub within : to ≤ length parts
-  pub parts_are : parts_in shares ≡ take to parts
-  pub many : length shares + left ≡ most
-  pub some_left : to < length parts → 0 < left
-
-pub one_cut : (parts : List Part) (from to left most : ℕ) (shares after : List (Bor (List Part))) (share : Bor (List Part))
-    → Cut parts from left most shares → from < length parts → after ≡ shares ++ share ∷ [] → share.now ≡ take (to - from) (drop from parts)
-    → from < to → to ≤ length parts → (left ≡ 1 → to ≡ length parts) → Cut parts to (left - 1) most after
-one_cut parts from to left most shares after share was more pushed is some within last =
-    let on : from + (to - from) ≡ to = omega (arith, some) in
-    let long = length_push shares share in
-    let longer = ap length pushed in
-    let left_is = was.some_left more in
-    record {
-      within = within;
-      parts_are = ap parts_in pushed
-          ∙ (sym (flat_map_more (λ (s : Bor (List Part)). s.now) [] shares share)
-          ∙ (ap (λ (l : List Part). l ++ share.now) was.parts_are
-          ∙ (ap (λ (l : List Part). take from parts ++ l) is
-          ∙ (sym (take-add from (to - from) parts) ∙ ap (λ (n : ℕ). take n parts) on))));
-      many = omega (arith, was.many, left_is, long, longer);
-      some_left = one_left (length parts) to left last left_is;
-    }

@@ -4,6 +4,5 @@
 mod made;
 mod parts;
 mod printing;
-mod shares;
 
 pub use printing::print_beside;

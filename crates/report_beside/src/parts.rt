@@ -1,5 +1,5 @@
 // The parts of a report's text.
-ghost use Rattle.std.specs.Prelude.{◌≡◌, IfOk, OnOk};
+ghost use Rattle.std.specs.Prelude.{◌≡◌, ◌<◌, IfOk, OnOk};
 ghost use Rattle.std.specs.List.{flat_map};
 ghost use Rattle.report_text.specs.Replies.{client_lines, reply_lines};
 ghost use Rattle.report_text.specs.Output.{Adds};
@@ -12,12 +12,16 @@ use report_text::{
     ClientReport, ColumnReport, NameIndex, Output, Printed, ReplyLine, Report, RowReport,
 };
 use std::alloc::{AllocError, Global};
+use std::num::NonZeroUsize;
 
 /// How many replies are one part.
 const REPLIES: usize = 512;
 
 /// How many rows are one part.
 const ROWS: usize = 512;
+
+/// For which weight of parts a thread is begun.
+const WEIGHT: usize = 512;
 
 /// A part of a report: the line that begins a client, some of its replies, some of the rows, or a column.
 #[derive(Drop)]
@@ -128,4 +132,15 @@ pub fn parts_of(alloc: Global, report: &Report) -> Result<Vec<Part<'_>>, AllocEr
     push_rows(&mut parts, report.rows.as_slice())?;
     push_columns(&mut parts, report.columns.as_slice())?;
     Ok(parts)
+}
+
+/// On how many threads the texts of the parts are made: one more for so much weight, up to the most.
+pub fn threads_for(parts: &[Part<'_>], most: NonZeroUsize) -> usize
+    ensures { 0 < result }
+{
+    let mut weight = 0usize;
+    for part in parts {
+        weight = weight.saturating_add(part.weight());
+    }
+    (weight / WEIGHT + 1).min(most.get())
 }

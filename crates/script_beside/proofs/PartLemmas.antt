@@ -1,5 +1,5 @@
 -- Parts of a script, and what is read of them.
-use Rattle.std.proofs.Common.{◌≡◌, inl, inr, ⊎_elim, cond, ℕ, ◌+◌, ◌<◌, ◌≤◌, Bool, true, false, List, [], ◌∷◌, ◌++◌, length, map, take, drop, get_or, Some, Err, Option, Result, slice_get, Vec, Global, refl, sym, ap, subst, ◌∙◌, arith, append_assoc, append-nil, length-append, take-append-drop, ◌^◌}
+use Rattle.std.proofs.Common.{◌≡◌, IfOk, Ok, inl, inr, ⊎_elim, cond, ℕ, ◌+◌, ◌<◌, ◌≤◌, Bool, true, false, List, [], ◌∷◌, ◌++◌, length, map, take, drop, get_or, Some, Err, Option, Result, slice_get, Vec, Global, refl, sym, ap, subst, ◌∙◌, arith, append_assoc, append-nil, length-append, take-append-drop, ◌^◌}
 use Rattle.std.specs.Prelude.{if◌then◌else◌, not, ◌==◌, codes}
 use Rattle.std.specs.List.{All, enumerate_from, list_any, onto_first, cons_option}
 use Rattle.std.proofs.Math.Seq.{take-add}
@@ -406,3 +406,14 @@ not_given NoMemory r s is gives = subst (λ (q : Result DealtScript ScriptFault)
 pub only_dealt : (bytes : List ℕ) (dealt : DealtScript) → (script : Script) × IsScript bytes script × IsDealt script dealt
     → (script : Script) → IsScript bytes script → IsDealt script dealt
 only_dealt bytes dealt found script is = subst (λ (s : Script). IsDealt s dealt) (one_script bytes found.0 script found.1 is) found.2
+
+-- ---- the parts that threads read
+
+-- as many as there are parts, where each is read that was
+pub all_read : (header : List ℕ) (cuts : List Cut) {E : Type 0} (r : Result (Vec (Option ReadPart) Global) E) {Each : Vec (Option ReadPart) Global → Type 0}
+    → IfOk r (λ parts. length parts.items ≡ length cuts)
+    → ((parts : Vec (Option ReadPart) Global) → Each parts → (n : ℕ) (cut : Cut) (part : ReadPart) → slice_get cuts n ≡ Some cut
+    → slice_get parts.items n ≡ Some (Some part) → IsRead header cut part)
+    → IfOk r Each → IfOk r (λ parts. AreRead header cuts parts.items)
+all_read header cuts (Ok parts) many read each = record { many = many; each = read parts each }
+all_read header cuts (Err e) many read each = tt

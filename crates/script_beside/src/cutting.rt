@@ -11,8 +11,8 @@ use memchr::{memchr, memmem};
 use script_text::{MAX_BYTES, MAX_LINES, Script, parse};
 use std::alloc::{AllocError, Global};
 
-/// In how many parts a script's commands are read.
-pub const PARTS: usize = 4;
+/// In how many parts a script's commands are read, several for each thread: one that begins late reads fewer.
+pub const PARTS: usize = 16;
 
 // A script of fewer bytes is read as a whole: threads would cost more than they give.
 const LEAST: usize = 16_384;

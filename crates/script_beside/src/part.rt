@@ -1,5 +1,5 @@
 // Reading a part of a script behind the script's header.
-ghost use Rattle.std.specs.Prelude.{◌≡◌, ◌++◌, Some, length, slice_get, IfOk, IfSome};
+ghost use Rattle.std.specs.Prelude.{◌≡◌, ◌<◌, ◌++◌, Some, length, slice_get, IfOk, IfSome};
 ghost use Rattle.std.specs.List.{list_any};
 ghost use Rattle.script_text.specs.declared.script.Command.{Command};
 ghost use Rattle.script_text.specs.Items.{is_stop};
@@ -9,10 +9,13 @@ ghost use Rattle.script_beside.specs.Parts.{IsRead, AreRead};
 use crate::begins::begins_in;
 use crate::cuts::Cut;
 use crate::lists::own_lists;
-use fork_join::for_each_mut;
+use fork_join::map_indices;
 use script_text::{Command, ScriptFault, What, parse};
 use std::alloc::{AllocError, Global};
 use std::thread::Threads;
+
+/// On how many threads parts are read, at most.
+const THREADS: usize = 4;
 
 /// What was read of a part.
 #[derive(Drop)]
@@ -69,43 +72,7 @@ fn read_part(alloc: Global, header: &[u8], cut: &Cut<'_>) -> Option<ReadPart>
     }
 }
 
-// So many parts of which none is read.
-fn unread(alloc: Global, count: usize) -> Result<Vec<Option<ReadPart>>, AllocError>
-    ensures { IfOk result (λ parts. length parts.items ≡ count) }
-{
-    let mut parts = Vec::new(alloc);
-    for _ in 0..count {
-        parts.push(None)?;
-    }
-    Ok(parts)
-}
-
-// Reads each part on a thread of its own, where one can be made.
-fn read_each<R: Threads + Sync>(
-    rt: &R,
-    alloc: Global,
-    header: &[u8],
-    cuts: &[Cut<'_>],
-    parts: &mut [Option<ReadPart>],
-)
-    requires { length parts.old ≡ length cuts.now }
-    ensures { AreRead header.now cuts.now parts.new }
-{
-    for_each_mut(
-        rt,
-        parts,
-        cuts.len().max(1),
-        &|place: usize, part: &mut Option<ReadPart>|
-            ensures { (cut : Cut) → slice_get cuts.entry.now place ≡ Some cut → IfSome part.exit.now (IsRead header.entry.now cut) }
-        {
-            if let Some(cut) = cuts.get(place) {
-                *part = read_part(alloc, header, cut);
-            }
-        },
-    );
-}
-
-/// The parts, each read on a thread of its own, where one can be made.
+/// The parts, which threads read one after another, where they can be made.
 pub fn read_parts<R: Threads + Sync>(
     rt: &R,
     alloc: Global,
@@ -114,7 +81,14 @@ pub fn read_parts<R: Threads + Sync>(
 ) -> Result<Vec<Option<ReadPart>>, AllocError>
     ensures { IfOk result (λ parts. AreRead header.now cuts.now parts.items) }
 {
-    let mut parts = unread(alloc, cuts.len())?;
-    read_each(rt, alloc, header, cuts, parts.as_mut_slice());
-    Ok(parts)
+    map_indices(
+        rt,
+        alloc,
+        cuts.len(),
+        THREADS,
+        &|number: usize| -> Option<ReadPart>
+            requires { number < length cuts.now }
+            ensures { (cut : Cut) → slice_get cuts.entry.now number ≡ Some cut → IfSome result (IsRead header.entry.now cut) }
+        { read_part(alloc, header, &cuts[number]) },
+    )
 }
