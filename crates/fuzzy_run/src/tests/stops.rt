@@ -113,19 +113,28 @@ column r y
     ),
 ];
 
-#[test]
-fn a_stop_leaves_its_first_steps(rt: HostRuntime) -> Result<(), Fail> {
-    for (lines, report) in STOPS.iter() {
-        let script = in_one_region(rt.alloc(), lines)?;
+// Each script of these lines in one region is done, and leaves its report.
+fn each_leaves<R: Threads + Wait + Sync + Abort>(
+    rt: &R,
+    alloc: Global,
+    reports: &[(&str, &str)],
+) -> Result<(), Fail> {
+    for (lines, report) in reports {
+        let script = in_one_region(alloc, lines)?;
         leaves(
-            rt.alloc(),
-            &rt,
+            alloc,
+            rt,
             script.as_bytes(),
             Status::Done,
             report.as_bytes(),
         )?;
     }
     Ok(())
+}
+
+#[test]
+fn a_stop_leaves_its_first_steps(rt: HostRuntime) -> Result<(), Fail> {
+    each_leaves(&rt, rt.alloc(), &STOPS)
 }
 
 /// Lines from line 8 on in one region, and the report.
@@ -303,15 +312,187 @@ column r y
 
 #[test]
 fn a_stopped_append_is_completed_by_another_client(rt: HostRuntime) -> Result<(), Fail> {
-    for (lines, report) in HELPED.iter() {
-        let script = in_one_region(rt.alloc(), lines)?;
-        leaves(
-            rt.alloc(),
-            &rt,
-            script.as_bytes(),
-            Status::Done,
-            report.as_bytes(),
-        )?;
-    }
-    Ok(())
+    each_leaves(&rt, rt.alloc(), &HELPED)
+}
+
+/// An append to two colours that stops after so many of its steps, and appends of another client to each of them; and the report.
+const FOLLOWED: [(&str, &str); 7] = [
+    // Nothing was begun.
+    (
+        "a stop 0 x,y q
+b append x s
+b append y t
+",
+        "report 1
+client a
+8 stop stopped 0
+client b
+9 append ok 1 x!0@0
+10 append ok 2 y!0@0
+client c
+column r x
+0 b single b.0 floor 0 wants 0 stamp 1
+= clock 1 line b.0:1 queue - cut 1 base 0
+column r y
+0 b single b.1 floor 1 wants 0 stamp 2
+= clock 2 line b.1:2 queue - cut 1 base 0
+",
+    ),
+    // Only its row was begun: nobody completes it.
+    (
+        "a stop 1 x,y q
+b append x s
+b append y t
+",
+        "report 1
+client a
+8 stop stopped 1
+client b
+9 append ok 1 x!0@0
+10 append ok 2 y!0@0
+client c
+row r a.0 a.0 x=- y=- open
+column r x
+0 b single b.0 floor 0 wants 0 stamp 1
+= clock 1 line b.0:1 queue - cut 1 base 0
+column r y
+0 b single b.1 floor 1 wants 0 stamp 2
+= clock 2 line b.1:2 queue - cut 1 base 0
+",
+    ),
+    // It was marked in x: who appends there completes it.
+    (
+        "a stop 2 x,y q
+b append x s
+b append y t
+",
+        "report 1
+client a
+8 stop stopped 2
+client b
+9 append ok 2 x!1@1
+10 append ok 3 y!2@1
+client c
+row r a.0 a.0 x=1 y=1 final 1
+column r x
+0 a propose a.0 floor 0 wants 0 stamp 1
+1 b single b.0 floor 0 wants 0 stamp 2
+2 b settle a.0 final 1
+= clock 2 line a.0:1,b.0:2 queue - cut 2 base 0
+column r y
+0 b propose a.0 floor 0 wants 0 stamp 1
+1 b settle a.0 final 1
+2 b single b.1 floor 2 wants 0 stamp 3
+= clock 3 line a.0:1,b.1:3 queue - cut 2 base 0
+",
+    ),
+    // It was marked in both.
+    (
+        "a stop 3 x,y q
+b append x s
+b append y t
+",
+        "report 1
+client a
+8 stop stopped 3
+client b
+9 append ok 2 x!1@1
+10 append ok 3 y!2@1
+client c
+row r a.0 a.0 x=1 y=1 final 1
+column r x
+0 a propose a.0 floor 0 wants 0 stamp 1
+1 b single b.0 floor 0 wants 0 stamp 2
+2 b settle a.0 final 1
+= clock 2 line a.0:1,b.0:2 queue - cut 2 base 0
+column r y
+0 a propose a.0 floor 0 wants 0 stamp 1
+1 b settle a.0 final 1
+2 b single b.1 floor 2 wants 0 stamp 3
+= clock 3 line a.0:1,b.1:3 queue - cut 2 base 0
+",
+    ),
+    // It was decided.
+    (
+        "a stop 4 x,y q
+b append x s
+b append y t
+",
+        "report 1
+client a
+8 stop stopped 4
+client b
+9 append ok 2 x!1@1
+10 append ok 3 y!2@1
+client c
+row r a.0 a.0 x=1 y=1 final 1
+column r x
+0 a propose a.0 floor 0 wants 0 stamp 1
+1 b single b.0 floor 0 wants 0 stamp 2
+2 b settle a.0 final 1
+= clock 2 line a.0:1,b.0:2 queue - cut 2 base 0
+column r y
+0 a propose a.0 floor 0 wants 0 stamp 1
+1 b settle a.0 final 1
+2 b single b.1 floor 2 wants 0 stamp 3
+= clock 3 line a.0:1,b.1:3 queue - cut 2 base 0
+",
+    ),
+    // It was settled in x: who appends to y completes it there.
+    (
+        "a stop 5 x,y q
+b append x s
+b append y t
+",
+        "report 1
+client a
+8 stop stopped 5
+client b
+9 append ok 2 x!2@1
+10 append ok 3 y!1@1
+client c
+row r a.0 a.0 x=1 y=1 final 1
+column r x
+0 a propose a.0 floor 0 wants 0 stamp 1
+1 a settle a.0 final 1
+2 b single b.0 floor 0 wants 0 stamp 2
+= clock 2 line a.0:1,b.0:2 queue - cut 2 base 0
+column r y
+0 a propose a.0 floor 0 wants 0 stamp 1
+1 b single b.1 floor 2 wants 0 stamp 3
+2 b settle a.0 final 1
+= clock 3 line a.0:1,b.1:3 queue - cut 2 base 0
+",
+    ),
+    // It was settled in both.
+    (
+        "a stop 6 x,y q
+b append x s
+b append y t
+",
+        "report 1
+client a
+8 stop stopped 6
+client b
+9 append ok 2 x!2@1
+10 append ok 3 y!2@1
+client c
+row r a.0 a.0 x=1 y=1 final 1
+column r x
+0 a propose a.0 floor 0 wants 0 stamp 1
+1 a settle a.0 final 1
+2 b single b.0 floor 0 wants 0 stamp 2
+= clock 2 line a.0:1,b.0:2 queue - cut 2 base 0
+column r y
+0 a propose a.0 floor 0 wants 0 stamp 1
+1 a settle a.0 final 1
+2 b single b.1 floor 2 wants 0 stamp 3
+= clock 3 line a.0:1,b.1:3 queue - cut 2 base 0
+",
+    ),
+];
+
+#[test]
+fn who_appends_behind_a_stop_completes_what_was_marked(rt: HostRuntime) -> Result<(), Fail> {
+    each_leaves(&rt, rt.alloc(), &FOLLOWED)
 }
