@@ -1,6 +1,9 @@
 -- A command begins one row at most, and none where it may begin none: so a client has begun no more rows than it has
 -- asked commands that may begin one.
-use Rattle.std.proofs.Common.{◌≡◌, ◌⊎◌, true, ℕ, nat_lt, ◌+◌, ◌≤◌, List, [], ◌∷◌, ◌++◌, length, Option, Some, None, inl, inr, refl, ap, sym, subst, ◌∙◌, arith, cond}
+use Rattle.std.proofs.Common.{◌≡◌, ◌⊎◌, Bool, true, false, ℕ, zero, suc, ◌<◌, nat_lt, ◌+◌, ◌≤◌, List, [], ◌∷◌, ◌++◌, length, Option, Some, None, inl, inr, refl, ap, sym, subst, ◌∙◌, arith, cond}
+use Rattle.std.specs.Prelude.{◌==◌, ◌||◌}
+use Rattle.std.specs.List.{filter, range_with_len}
+use Rattle.std.proofs.lemmas.Bool.{eqb-true, cases_lt}
 use Rattle.std.proofs.lemmas.List.Sums.{sum_by_push}
 use Rattle.log_node.specs.declared.ids.Colours.{Colours}
 use Rattle.log_node.specs.declared.node.At.{At}
@@ -18,9 +21,10 @@ use Rattle.report_text.specs.declared.report.PointPiece.{PointPiece}
 use Rattle.report_text.specs.declared.report.RaisePiece.{RaisePiece}
 use Rattle.report_text.specs.declared.report.ReplyLine.{ReplyLine}
 use Rattle.report_text.specs.declared.report.SyncPiece.{SyncPiece}
-use Rattle.lawful_run.proofs.CallerLemmas.{kept_after_hidden, before_is, behind_is}
+use Rattle.object_fold.specs.Nodes.{shard_of}
+use Rattle.lawful_run.proofs.CallerLemmas.{kept_after_hidden, before_is, behind_is, one_shard}
 use Rattle.lawful_run.specs.Callers.{Caller, node_of}
-use Rattle.lawful_run.specs.Asks.{AsksToAppend, Manner, Appending, Stopping, Syncing, Moving, Getting, Reading, Committing, Dequeuing, colours_synced, manner_of}
+use Rattle.lawful_run.specs.Asks.{shards, colours_of, AsksToAppend, Manner, Appending, Stopping, Syncing, Moving, Getting, Reading, Committing, Dequeuing, colours_synced, manner_of}
 use Rattle.lawful_run.specs.Appends.{Appends, AppendsUnshown, one_unshown, several_unshown, kept_after_points, HasNoStamp, none_for_one, none_for_several}
 use Rattle.lawful_run.specs.Moves.{with_places, kept_after_pull}
 use Rattle.lawful_run.specs.Reads.{kept_after_place, kept_after_piece, Raises, ClearSyncs, ReadsAt, HidesSyncs, HidesRead}
@@ -54,6 +58,28 @@ then_keeps what kept middle after (inr (may, one)) s = inr (may, s ∙ one)
 two_or_more : (n : ℕ) → 2 ≤ n → nat_lt 1 n ≡ true
 two_or_more n two = grind (arith, two)
 
+-- a number beyond a range is none of it
+beyond : (c a n : ℕ) → a + n ≤ c → filter (λ x. (c == x) || false) (range_with_len a n) ≡ []
+beyond c a zero le = refl
+beyond c a (suc n) le =
+    step c a n le (filter (λ x. (c == x) || false) (range_with_len (a + 1) n)) (beyond c (a + 1) n (omega (arith, le))) (c == a) refl where
+      step : (c a n : ℕ) → a + suc n ≤ c → (rest : List ℕ) → rest ≡ [] → (b : Bool) → (c == a) ≡ b
+          → cond (b || false) (a ∷ rest) rest ≡ []
+      step c a n le rest none true t = let e = eqb-true c a t in absurd (let f : ⊥ = omega (arith, le, e) in f)
+      step c a n le rest none false f = none
+
+-- one key has no two shards
+not_several : (colours key several : List ℕ) → several ≡ shards colours (key ∷ []) → 2 ≤ length several → ⊥
+not_several colours key several is two = at (cases_lt (shard_of colours key) 64) where
+  long : length several ≡ length (shards colours (key ∷ []))
+  long = ap length is
+
+  at : (shard_of colours key < 64) ⊎ (64 ≤ shard_of colours key) → ⊥
+  at (inl low) = let e = ap length (one_shard colours key low) in let f : ⊥ = omega (arith, two, long, e) in f
+  at (inr high) =
+      let e = ap length (beyond (shard_of colours key) 0 64 (omega (arith, high))) in
+      let f : ⊥ = omega (arith, two, long, e) in f
+
 -- a command that asks for a node of several colours may begin a row
 pub several_may : (caller : Caller) (kept : Kept) (what : What) (colours : Colours) (text : List ℕ)
     → AsksToAppend caller kept what colours text → 2 ≤ length (members colours) → may_begin what ≡ true
@@ -65,9 +91,11 @@ several_may caller kept (whats.Sync colour) colours text asks two = absurd asks
 several_may caller kept (whats.Scan asked) colours text asks two = absurd asks
 several_may caller kept (whats.Pull region colour) colours text asks two = absurd asks
 several_may caller kept (whats.Trim colour) colours text asks two = absurd asks
-several_may caller kept (whats.Put object key value) colours text asks two = refl
+several_may caller kept (whats.Put object key value) colours text asks two =
+    absurd (not_several (colours_of caller object) key (members colours) asks.0 two)
 several_may caller kept (whats.Get object key) colours text asks two = absurd asks
-several_may caller kept (whats.Del object key) colours text asks two = refl
+several_may caller kept (whats.Del object key) colours text asks two =
+    absurd (not_several (colours_of caller object) key (members colours) asks.0 two)
 several_may caller kept (whats.PutAll object pairs) colours text asks two = refl
 several_may caller kept (whats.GetAll object keys) colours text asks two = absurd asks
 several_may caller kept (whats.Read object keys) colours text asks two = absurd asks

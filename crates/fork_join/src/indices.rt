@@ -110,10 +110,10 @@ fn gathered<X: Drop, F: Fn(usize) -> X>(
     filled(alloc, places, f)
 }
 
-/// Calls f(0) to f(count - 1) on at most so many threads, and gives the results in order. A thread that is done with one
-/// number takes the next that nobody took, the last first, so a call that takes long, or a thread that begins late, keeps the
-/// others from none. Where no thread can be made, all calls are made here. On `Err`, which means that memory ran out, the
-/// results are dropped.
+/// Calls f(0) to f(count - 1) on at most so many threads, and no more than there are numbers, and gives the results in order.
+/// A thread that is done with one number takes the next that nobody took, the last first, so a call that takes long, or a
+/// thread that begins late, keeps the others from none. Where no thread can be made, or one is enough, all calls are made here.
+/// On `Err`, which means that memory ran out, the results are dropped.
 pub fn map_indices<R: Threads + Sync, X: Send + Drop, F: Fn(usize) -> X + Sync>(
     rt: &R,
     alloc: Global,
@@ -121,17 +121,17 @@ pub fn map_indices<R: Threads + Sync, X: Send + Drop, F: Fn(usize) -> X + Sync>(
     threads: usize,
     f: &F,
 ) -> Result<Vec<X>, AllocError>
-    requires threads { 0 < threads }
-    requires accepts { (i : ℕ) → i < count → F.pre f.now i }
+    requires { (i : ℕ) → i < count → F.pre f.now i }
     ensures len { IfOk result (λ values. length values.items ≡ count) }
     ensures each { IfOk result (λ values. GivesEach F.Fn f.now count values.items) }
 {
     let taken = AtomicUsize::new(0);
-    let mut lists = empty_lists(alloc, threads)?;
+    let many = threads.min(count).max(1);
+    let mut lists = empty_lists(alloc, many)?;
     for_each_mut(
         rt,
         lists.as_mut_slice(),
-        threads,
+        many,
         &|_thread: usize, mine: &mut Vec<Given<X>>|
             requires { ((i : ℕ) → i < count → F.pre f.now i) × All (IsGiven F.Fn f.now count) mine.now.items }
             ensures { All (IsGiven F.Fn f.entry.now count) mine.exit.now.items }

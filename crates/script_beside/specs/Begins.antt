@@ -6,8 +6,8 @@ use Rattle.script_text.specs.declared.script.What.{What}
 use Rattle.script_text.specs.declared.script.What.TheVariants as whats
 use Rattle.script_text.specs.declared.script.Command.{Command}
 
--- Whether a command may begin a row: an append to several colours does. Commands that append to an object are all taken to
--- be among them, since only the object's colours tell.
+-- Whether a command may begin a row: an append to several colours does. A node of one key has one colour, its shard's. All
+-- others that append to an object are taken to be among them, since only the object's colours tell.
 abbrev pub may_begin : What → Bool
 may_begin (whats.Append colours text) = nat_lt 1 (length (members colours))
 may_begin (whats.Stop steps colours text) = true
@@ -15,9 +15,9 @@ may_begin (whats.Sync colour) = false
 may_begin (whats.Scan colours) = false
 may_begin (whats.Pull region colour) = false
 may_begin (whats.Trim colour) = false
-may_begin (whats.Put object key value) = true
+may_begin (whats.Put object key value) = false
 may_begin (whats.Get object key) = false
-may_begin (whats.Del object key) = true
+may_begin (whats.Del object key) = false
 may_begin (whats.PutAll object pairs) = true
 may_begin (whats.GetAll object keys) = false
 may_begin (whats.Read object keys) = false

@@ -16,10 +16,10 @@ fn may_begin(what: &What) -> bool
         | What::Trim { .. }
         | What::Get { .. }
         | What::GetAll { .. }
-        | What::Read { .. } => false,
-        What::Stop { .. }
         | What::Put { .. }
         | What::Del { .. }
+        | What::Read { .. } => false,
+        What::Stop { .. }
         | What::PutAll { .. }
         | What::Commit { .. }
         | What::Enq { .. }
