@@ -51,7 +51,7 @@ fn whichever_write_fails_what_went_before_is_written(rt: HostRuntime) -> Result<
             let failing = [number as u64];
             let (status, sink) = run_over(rt.alloc(), &rt, word, script.as_bytes(), &[], &failing)?;
             assert_eq!(rt; status, Status::WriteFault, "{number}");
-            assert_eq!(rt; Some(sink.bytes()), REPORT.get(..7 * number));
+            assert_eq!(rt; Some(sink.bytes()), REPORT.get(..number.wrapping_mul(7)));
         }
     }
     Ok(())
