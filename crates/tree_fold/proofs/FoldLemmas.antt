@@ -1,0 +1,42 @@
+-- One more change, and one more node.
+use Rattle.std.proofs.Common.{◌≡◌, ℕ, List, [], ◌∷◌, ◌++◌, Option, Some, None, Result, Ok, Err, ap, sym, ◌∙◌}
+use Rattle.std.specs.Prelude.{OnOk}
+use Rattle.std.proofs.lemmas.List.Sums.{fold_push}
+use Rattle.object_fold.specs.Nodes.{ObjectNode}
+use Rattle.tree_fold.specs.declared.change.Change.{Change}
+use Rattle.tree_fold.specs.declared.told.TreeWhy.{TreeWhy}
+use Rattle.tree_fold.specs.declared.told.Told.{Told}
+use Rattle.tree_fold.specs.Readings.{change_of}
+use Rattle.tree_fold.specs.Trees.{Tree, why, changed, tree_by, tree_with, tree_after, told_by, told_of}
+use Rattle.tree_fold.specs.TreeStates.{SameTree}
+use Rattle.tree_fold.specs.Orders.{IsKept, Does}
+use Rattle.tree_fold.proofs.TreeLemmas.{why_same}
+use Rattle.tree_fold.proofs.ClosedLemmas.{changed_same}
+
+-- what a change does of entries, for a tree with the same values
+pub does_same : (es new tree : Tree) (change : Change) → IsKept es → why es change ≡ None → Does es new change → SameTree es tree → SameTree new (changed tree change)
+does_same es new tree change kept done did same = λ q. did.values q ∙ changed_same es tree same kept.closed change done q
+
+pub does_ok : {A E : Type 0} (es new tree : Tree) (change : Change) (r : Result A E) → IsKept es → why es change ≡ None → OnOk r (Does es new change) → SameTree es tree
+    → OnOk r (SameTree new (changed tree change))
+does_ok es new tree change (Ok a) kept done did same = does_same es new tree change kept done did same
+does_ok es new tree change (Err e) kept done did same = tt
+
+with_why : (es tree : Tree) (change : Change) (o : Option TreeWhy) → SameTree es tree → why es change ≡ o → tree_with tree (Some change) ≡ tree_by tree change o
+with_why es tree change o same e = ap (tree_by tree change) (sym (why_same es tree same change) ∙ e)
+
+pub fails : (es tree : Tree) (change : Change) (reason : TreeWhy) → why es change ≡ Some reason → SameTree es tree → SameTree es (tree_with tree (Some change))
+fails es tree change reason e same = rw (with_why es tree change (Some reason) same e) same
+
+pub done : (es new tree : Tree) (change : Change) → why es change ≡ None → SameTree es tree → SameTree new (changed tree change) → SameTree new (tree_with tree (Some change))
+done es new tree change e same did = rw (with_why es tree change None same e) did
+
+-- what is told of a change over the nodes
+pub told_same : (es : Tree) (stamp : ℕ) (nodes : List ObjectNode) (change : Change) (o : Option Change) (told : Told)
+    → SameTree es (tree_after nodes) → Some change ≡ o → told ≡ told_by stamp (why es change) → Some told ≡ told_of stamp (tree_after nodes) o
+told_same es stamp nodes change o told same e h =
+    ap (λ (t : Told). Some t) (h ∙ ap (told_by stamp) (why_same es (tree_after nodes) same change)) ∙ ap (told_of stamp (tree_after nodes)) e
+
+-- the tree after one more node
+pub one_more : (nodes : List ObjectNode) (node : ObjectNode) → tree_after (nodes ++ node ∷ []) ≡ tree_with (tree_after nodes) (change_of node.text)
+one_more nodes node = fold_push (λ (tree : Tree) (n : ObjectNode). tree_with tree (change_of n.text)) [] nodes node

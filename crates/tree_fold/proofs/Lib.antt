@@ -1,0 +1,12 @@
+mod CutLemmas
+mod PathLaws
+mod ChangeLaws
+mod OrderLemmas
+mod EntryLemmas
+mod TreeLemmas
+mod ClosedLemmas
+mod DoneLemmas
+mod MoveLemmas
+mod FoldLemmas
+mod NamesLemmas
+mod TopLemmas

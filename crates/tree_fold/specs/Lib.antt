@@ -1,0 +1,7 @@
+pub mod Paths
+pub mod Changes
+pub mod Readings
+pub mod Laws
+pub mod Trees
+pub mod Orders
+pub mod TreeStates

@@ -1,0 +1,37 @@
+//! Laws of the texts of paths and changes. Each function does nothing, and its contract is the law.
+ghost use Rattle.tree_fold.specs.Laws.{PathsReadAsOne, TextsDiffer, ReadsAsOne, ReadsBack, ChangesFit, ChangesArePlain, FormsAreNoChanges};
+
+/// Each text is that of one path or of none.
+pub fn paths_read_as_one()
+    ensures { PathsReadAsOne }
+{}
+
+/// No two changes have one text.
+pub fn texts_differ()
+    ensures { TextsDiffer }
+{}
+
+/// Each text is read as one change or as none.
+pub fn reads_as_one()
+    ensures { ReadsAsOne }
+{}
+
+/// What is written of a change is read as this change.
+pub fn reads_back()
+    ensures { ReadsBack }
+{}
+
+/// The text of a change is one that a node may have.
+pub fn changes_fit()
+    ensures { ChangesFit }
+{}
+
+/// The text of a change is a plain one to the other objects.
+pub fn changes_are_plain()
+    ensures { ChangesArePlain }
+{}
+
+/// The text of a form of the other objects is no change.
+pub fn forms_are_no_changes()
+    ensures { FormsAreNoChanges }
+{}
