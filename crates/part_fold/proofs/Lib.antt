@@ -1,0 +1,12 @@
+mod NumberLemmas
+mod CutLemmas
+mod KeyLemmas
+mod DecisionLaws
+mod WaitingLemmas
+mod DecidedLemmas
+mod KnownLemmas
+mod StayLemmas
+mod RestLemmas
+mod VerdictLemmas
+mod AgreementLemmas
+mod WorkedRows
