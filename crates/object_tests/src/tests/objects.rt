@@ -21,7 +21,7 @@ fn keys(alloc: Global, words: &[&str]) -> Result<Keys, AllocError> {
 }
 
 /// The value is this one, or there is none.
-fn is_value(rt: &impl Abort, value: Option<&Text>, wanted: Option<&str>) {
+pub fn is_value(rt: &impl Abort, value: Option<&Text>, wanted: Option<&str>) {
     match (value, wanted) {
         (Some(value), Some(wanted)) => assert_eq!(rt; value.as_bytes(), wanted.as_bytes()),
         (Some(_), None) => assert!(rt; false, "a value"),
