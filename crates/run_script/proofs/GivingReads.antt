@@ -57,7 +57,8 @@ use Rattle.log_client.proofs.CallerLemmas.{fits_less, rests_same}
 use Rattle.atomic_map.specs.Several.{GetAllRefused, GetsAll, GetsAllAs}
 use Rattle.tx_map.specs.declared.transactions.Tx.{Tx}
 use Rattle.tx_map.specs.declared.transactions.TxMap.{TxMap}
-use Rattle.tx_map.specs.Transactions.{CommitRefused, Commits, CommitsAs, KeysRefused, ReadsKeys, UnruledLeaves, transaction_text}
+use Rattle.region_fold.specs.Reads.{UntoldLeaves}
+use Rattle.tx_map.specs.Transactions.{CommitRefused, Commits, CommitsAs, KeysRefused, ReadsKeys, transaction_text}
 use Rattle.run_script.specs.declared.serving.opened.Opened.{Opened}
 use Rattle.run_script.specs.declared.serving.opened.Opened.TheVariants as opened
 use Rattle.run_script.specs.Opened.{versions_in}
@@ -354,7 +355,7 @@ module _ (s : Store) (c d : Client) (on : RestsOn s c d) (objects : List Object)
             )
           ])
 
-      not_ruled : (stamp : ℕ) (why : SyncFault) → UnruledLeaves s c d own text stamp (rising colours) why
+      not_ruled : (stamp : ℕ) (why : SyncFault) → UntoldLeaves s c d own text stamp (rising colours) why
           → IsRuled object pairs (Some rests) (fault_answer (faults.Unread stamp why))
       not_ruled stamp (sync_faults.Trimmed colour base) is =
           ruled (Some rests) (answers.UnreadTrimmed stamp colour base)

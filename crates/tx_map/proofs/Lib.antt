@@ -1,5 +1,2 @@
-mod StateLemmas
-mod OwnNodes
 mod TxAnswers
-mod CommitAnswers
 pub mod CallerLemmas

@@ -1,0 +1,5 @@
+mod FoldLemmas
+mod OwnNodes
+mod ReadAnswers
+mod TellAnswers
+pub mod CallerLemmas

@@ -1,0 +1,232 @@
+-- What explains the answers to appends: the append and the stamped read behind it.
+use Rattle.std.proofs.Common.{◌≡◌, ◌⊎◌, inl, inr, ℕ, ◌<◌, ◌≤◌, List, [], ◌∷◌, length, map, Option, Some, None, Result, Ok, Err, refl, ap, sym, subst, ◌∙◌, arith}
+use Rattle.std.specs.Prelude.{slice_get}
+use Rattle.log_node.specs.declared.ids.Colours.{Colours}
+use Rattle.log_node.specs.declared.ids.Id.{Id}
+use Rattle.log_node.specs.declared.ids.Key.{Key}
+use Rattle.log_node.specs.Sets.{members}
+use Rattle.object_fold.specs.Nodes.{ObjectNode}
+use Rattle.col_core.specs.History.{entry_key, line}
+use Rattle.col_core.specs.Log.{Log}
+use Rattle.col_core.specs.Keeping.{Kept}
+use Rattle.col_core.proofs.CallerLemmas.{In, contains_in, in_contains, slice_in}
+use Rattle.script_text.specs.declared.script.Object.{Object}
+use Rattle.append_core.specs.declared.stood.Point.{Point}
+use Rattle.append_core.specs.declared.several.MultiFault.{MultiFault}
+use Rattle.append_core.specs.declared.several.MultiFault.TheVariants as append_faults
+use Rattle.lawful_run.specs.Appends.{Appends, AppendsUnshown}
+use Rattle.lawful_run.specs.Asks.{rising}
+use Rattle.lawful_run.specs.Callers.{Caller, node_of}
+use Rattle.lawful_run.specs.Objects.{AreObjectNodes}
+use Rattle.lawful_run.specs.Reads.{AreRead, HidesRead, IsTrimmed, ReadsAt}
+use Rattle.lawful_run.proofs.CallerLemmas.{append_later, unshown_later}
+use Rattle.client_law.specs.Knowing.{Rest, log_of}
+use Rattle.log_client.specs.declared.store.Store.{Store}
+use Rattle.log_client.specs.declared.client.Client.{Client}
+use Rattle.log_client.specs.declared.answers.Appended.{Appended}
+use Rattle.log_client.specs.declared.answers.StampedRead.{StampedRead}
+use Rattle.log_client.specs.declared.faults.SyncFault.{SyncFault}
+use Rattle.log_client.specs.declared.faults.SyncFault.TheVariants as sync_faults
+use Rattle.log_client.specs.Appends.{AppendRefused, AppendsAs, HasStopped, piece_of}
+use Rattle.log_client.specs.Calls.{IsExplained, IsSame}
+use Rattle.log_client.specs.Clients.{Finished, IsClient, Keeps, caller_of, holds_of, seen_of}
+use Rattle.log_client.specs.Fits.{HaveGoneOn}
+use Rattle.log_client.specs.Growing.{HasGrown}
+use Rattle.log_client.specs.Reading.{RestsOn, home_seen}
+use Rattle.log_client.specs.StampedReads.{ReadRefused, raise_piece, sync_piece}
+use Rattle.log_client.proofs.CallerLemmas.{append_unshown, explained_then, made_from, several_are_unshown, unshown}
+use Rattle.region_fold.specs.Folds.{told_of}
+use Rattle.region_fold.specs.Reads.{Answers, AreOwn, TellsOwn, UntoldLeaves}
+use Rattle.region_fold.proofs.OwnNodes.{is_own, key_itself, own_stands}
+
+-- WHERE THE CLIENT IS THEN
+
+-- an append of which no stop was asked leaves the client at rest
+pub rests_appended : (s : Store) (c d : Client) (r : Result Appended MultiFault) → IsClient s d → IsSame c d
+    → HaveGoneOn (holds_of c) (holds_of d) → HasGrown c d → (Finished c → Finished d ⊎ HasStopped r)
+    → ((steps : ℕ) → r ≡ Err (append_faults.Stopped steps) → ⊥) → RestsOn s c d
+rests_appended s c d r is same goes grown finished not = record {
+  client = is;
+  same = same;
+  goes = goes;
+  grows = grown;
+  finished = λ f. elim (finished f) [ inl done ↦ done | inr stopped ↦ absurd (not stopped.0 stopped.2) ];
+}
+
+-- it was not stopped where it stands
+pub stood_not : (r : Result Appended MultiFault) (a : Appended) → r ≡ Ok a → (steps : ℕ)
+    → r ≡ Err (append_faults.Stopped steps) → ⊥
+stood_not r a is steps e = let f : ⊥ = cc (is, e) in f
+
+-- nor where it was refused
+pub left_not : (s : Store) (c d : Client) (set : Colours) (text : List ℕ) (r : Result Appended MultiFault)
+    (fault : MultiFault) → r ≡ Err fault → AppendRefused s c d set text None fault → (steps : ℕ)
+    → r ≡ Err (append_faults.Stopped steps) → ⊥
+left_not s c d set text r fault is why steps e =
+    let same : fault ≡ append_faults.Stopped steps = cc (is, e) in
+    let asked = (subst (AppendRefused s c d set text None) same why).0 in
+    let f : ⊥ = cc (asked) in f
+
+-- WHERE THE APPEND IS NOT SHOWN
+
+keeps_unshown : (s : Store) (d : Client) (objects : List Object) (own : ℕ) (kept after : Kept) → Keeps s d objects after
+    → Keeps s d objects (unshown own kept after)
+keeps_unshown s d objects own kept after keeps = record {
+  by = record {
+    seen_within = λ r c. let le = keeps.by.seen_within r c in omega (arith, le);
+    known_within = λ c. let le = keeps.by.known_within c in omega (arith, le);
+    known_under = λ c i key lt there. keeps.by.known_under c i key (omega (arith, lt)) there;
+    starts_under = keeps.by.starts_under;
+    starts_reached = keeps.by.starts_reached;
+    steps_made = keeps.by.steps_made;
+  };
+  floor = keeps.floor;
+  ids = keeps.ids;
+  rows = keeps.rows;
+  starts = keeps.starts;
+}
+
+module _ (s : Store) (c m : Client) (set : Colours) (text : List ℕ) (a : Appended)
+    (stands : IsExplained s c m (AppendsAs set text a)) (its_points : map (λ (p : Point). p.colour) a.stood.points ≡ members set) where
+  -- the append, of which no answer tells where it stands
+  abbrev Unshown : Log → Caller → Kept → Kept → Type 0
+  Unshown log caller kept after = AppendsUnshown log caller kept (node_of caller kept set text) a.stood.key.stamp after
+
+  in_row : (row : Option ℕ) (points : List Point) → a.row ≡ row → a.stood.points ≡ points
+      → ((p : Point) → points ≡ p ∷ [] → ⊥) → IsExplained s c m Unshown
+  in_row row points its_row are several objects kept finished keeps =
+      let r = stands objects kept finished keeps in (
+        unshown m.region kept r.0,
+        keeps_unshown s m objects m.region kept r.0 r.1,
+        λ rest fits. by_row row points its_row are several (log_of (seen_of m) rest) (caller_of s m objects) kept r.0
+            (r.2 rest fits).2,
+      ) where
+        by_row : (row : Option ℕ) (points : List Point) → a.row ≡ row → a.stood.points ≡ points
+            → ((p : Point) → points ≡ p ∷ [] → ⊥) → (log : Log) (caller : Caller) (kept after : Kept)
+            → Appends log caller kept (node_of caller kept set text) a.stood.key.stamp a.row
+            (map piece_of a.stood.points) after
+            → AppendsUnshown log caller kept (node_of caller kept set text) a.stood.key.stamp
+            (unshown caller.own kept after)
+        by_row (Some number) points its_row are several log caller kept after x =
+            several_are_unshown log caller kept after (node_of caller kept set text) a.stood.key.stamp number
+            (map piece_of a.stood.points)
+            (subst (λ (o : Option ℕ). Appends log caller kept (node_of caller kept set text) a.stood.key.stamp o
+            (map piece_of a.stood.points) after) its_row x)
+        by_row None points its_row are several log caller kept after x =
+            absurd (no_points points several
+            (subst (λ (l : List Point). Appends log caller kept (node_of caller kept set text) a.stood.key.stamp None
+            (map piece_of l) after) are
+            (subst (λ (o : Option ℕ). Appends log caller kept (node_of caller kept set text) a.stood.key.stamp o
+            (map piece_of a.stood.points) after) its_row x))) where
+              no_points : (ps : List Point) → ((p : Point) → ps ≡ p ∷ [] → ⊥)
+                  → Appends log caller kept (node_of caller kept set text) a.stood.key.stamp None (map piece_of ps) after
+                  → ⊥
+              no_points [] not_one y = y
+              no_points (p ∷ []) not_one y = not_one p refl
+              no_points (p ∷ q ∷ ps) not_one y = y
+
+  pub any_unshown : IsExplained s c m Unshown
+  any_unshown = by_points a.stood.points refl where
+    by_points : (points : List Point) → a.stood.points ≡ points → IsExplained s c m Unshown
+    by_points [] are = in_row a.row [] refl are (λ p e. let f : ⊥ = cc (e) in f)
+    by_points (p ∷ []) are =
+        append_unshown s c m set text a p.colour
+        (sym its_points ∙ ap (map (λ (q : Point). q.colour)) are) stands
+    by_points (p ∷ q ∷ points) are = in_row a.row (p ∷ q ∷ points) refl are (λ x e. let f : ⊥ = cc (e) in f)
+
+-- why it was told nothing
+pub untold_leaves : (s : Store) (c m d : Client) (set : Colours) (text : List ℕ) (a : Appended) (colours : List ℕ)
+    (fault : SyncFault) → RestsOn s c m → RestsOn s m d → IsExplained s c m (AppendsAs set text a)
+    → map (λ (p : Point). p.colour) a.stood.points ≡ members set → ReadRefused s m d colours fault
+    → UntoldLeaves s c d (members set) text a.stood.key.stamp colours fault
+untold_leaves s c m d set text a colours (sync_faults.Trimmed shown base) x y stands points why = (
+  why.0,
+  set,
+  refl,
+  explained_then s c m d (Unshown s c m set text a stands points)
+      (λ log caller stood after. IsTrimmed log caller stood shown base × HidesRead log caller stood colours after) x y
+      (λ old new caller kept after later. unshown_later old new later caller kept (node_of caller kept set text)
+      a.stood.key.stamp after)
+      (any_unshown s c m set text a stands points) why.1,
+)
+untold_leaves s c m d set text a colours sync_faults.NoMemory x y stands points why = (
+  set,
+  refl,
+  explained_then s c m d (Unshown s c m set text a stands points)
+      (λ log caller stood after. HidesRead log caller stood colours after) x y
+      (λ old new caller kept after later. unshown_later old new later caller kept (node_of caller kept set text)
+      a.stood.key.stamp after)
+      (any_unshown s c m set text a stands points) why,
+)
+
+-- WHAT IT IS TOLD
+
+module _ {T : Type 0} (told : List ObjectNode → ObjectNode → Option T) (s : Store) (c m d : Client) (colours : List ℕ)
+    (set : Colours) (text : List ℕ) (within : AreOwn colours (members set))
+    (answer : Option T) (a : Appended) (read : StampedRead) (x : RestsOn s c m) (y : RestsOn s m d)
+    (stands : IsExplained s c m (AppendsAs set text a)) (answers : Answers told s m d (rising colours) a.stood.key answer read)
+  where
+    -- what the read says of it
+    abbrev Told : Log → Caller → Kept → Kept → Type 0
+    Told log caller kept after =
+        ReadsAt log caller kept (rising colours) read.stamp (map raise_piece read.raises) (map sync_piece read.syncs) after
+        × AreRead log caller read.stamp (map sync_piece read.syncs) answers.0
+        × (nodes : List ObjectNode) × AreObjectNodes log answers.0 nodes × (answer ≡ told_of told nodes a.stood.key)
+
+    -- the own node is among those that were read
+    own_read : (objects : List Object) (kept stood : Kept) (rest : Rest)
+        → AppendsAs set text a (log_of (seen_of d) rest) (caller_of s d objects) kept stood → stood.floor ≤ read.stamp
+        → In a.stood.key answers.0
+        × (slice_get ((log_of (seen_of d) rest).nodes a.stood.key.id.client) a.stood.key.id.count
+        ≡ Some (node_of (caller_of s d objects) kept set text))
+    own_read objects kept stood rest append above =
+        let log = log_of (seen_of d) rest in
+        let caller = caller_of s d objects in
+        let node = node_of caller kept set text in
+        let own = own_stands log caller kept node a.stood.key.stamp a.row (map piece_of a.stood.points) stood append.2 in
+        let its_id : a.stood.key.id ≡ node.id = append.1 ∙ append.0 in
+        let key : entry_key a.stood.key.stamp node.id ≡ a.stood.key = ap (entry_key a.stood.key.stamp) (sym its_id) in
+        let low = own.floor in
+        let coloured : In own.colour (rising colours) =
+        in_contains (rising colours) own.colour
+        (within own.colour (contains_in (members set) own.colour own.among)) in
+        let its_line = line (home_seen d own.colour) in (
+          in_contains answers.0 a.stood.key
+              (answers.1.order.all its_line a.stood.key
+              (contains_in (map (λ k. line (home_seen d k)) (rising colours)) its_line
+              (made_from (λ k. line (home_seen d k)) (rising colours) own.colour coloured))
+              (contains_in its_line a.stood.key (subst (λ (k : Key). In k its_line) key
+              (slice_in its_line own.position (entry_key a.stood.key.stamp node.id) own.there)))
+              (omega (arith, low, above))),
+          ap (λ (i : Id). slice_get (log.nodes i.client) i.count) its_id ∙ own.next,
+        )
+
+    pub tells : IsExplained s c d (TellsOwn told set text (rising colours) answer a read)
+    tells objects kept finished keeps =
+        let r = explained_then s c m d (AppendsAs set text a) Told x y
+        (λ old new caller k after later g. (
+          g.0,
+          g.1,
+          append_later old new later caller k (node_of caller k set text) a.stood.key.stamp a.row (map piece_of a.stood.points)
+              after g.2,
+        )) stands answers.2 objects kept finished keeps in (
+          r.0,
+          r.1,
+          λ rest fits.
+              let z = r.2 rest fits in
+              let log = log_of (seen_of d) rest in
+              let caller = caller_of s d objects in
+              let own = own_read objects kept z.0 rest z.1 z.2.0.above_floor in (
+                z.0,
+                z.1,
+                (
+                  z.2.0,
+                  answers.0,
+                  z.2.1,
+                  z.2.2,
+                  z.2.3,
+                  is_own told log a.stood.key answers.0 z.2.2 (node_of caller kept set text) answer (key_itself a.stood.key)
+                      z.2.3 own.0 own.1 z.2.4,
+                ),
+              ),
+        )

@@ -1,0 +1,42 @@
+-- What of an object is folded: how it goes on, and what a node is told among others.
+use Rattle.std.specs.Prelude.{◌≡◌, IsTrue, ℕ, ◌≤◌, false, List, [], ◌∷◌, ◌++◌, length, take, Option, Some, None}
+use Rattle.std.specs.List.{All, find}
+use Rattle.log_node.specs.declared.ids.Key.{Key}
+use Rattle.log_node.specs.Order.{same_key}
+use Rattle.log_node.specs.Seen.{PlacedNode}
+use Rattle.object_form.specs.Forms.{is_writer}
+use Rattle.object_fold.specs.Nodes.{ObjectNode, nodes_before}
+use Rattle.log_client.specs.Objects.{object_nodes, last_after}
+use Rattle.region_fold.specs.declared.kept_fold.KeptFold.{KeptFold}
+
+-- the fold has these nodes more
+abbrev pub FeedsAll : {F : Type 0} → (F → List ObjectNode → Type 0) → KeptFold F → KeptFold F → List PlacedNode → Type 0
+FeedsAll Holds old new items =
+    (new.last ≡ last_after old.last items)
+    × ((nodes : List ObjectNode) → Holds old.state nodes → Holds new.state (nodes ++ object_nodes items))
+
+-- the fold has the first of these nodes more
+abbrev pub FeedsFirst : {F : Type 0} → (F → List ObjectNode → Type 0) → KeptFold F → KeptFold F → List PlacedNode → Type 0
+FeedsFirst Holds old new items = (count : ℕ) × (count ≤ length items) × FeedsAll Holds old new (take count items)
+
+-- each node's key is one that a version can name
+abbrev pub AreWriters : List ObjectNode → Type 0
+AreWriters nodes = All (λ (node : ObjectNode). IsTrue (is_writer (Some node.key))) nodes
+
+-- no node has this key
+abbrev pub IsAbsent : Key → List ObjectNode → Type 0
+IsAbsent key [] = Unit {0}
+IsAbsent key (node ∷ nodes) = (same_key node.key key ≡ false) × IsAbsent key nodes
+
+-- the node with this key among nodes
+abbrev pub node_with : Key → List ObjectNode → Option ObjectNode
+node_with key nodes = find (λ node. same_key node.key key) nodes
+
+-- what a node is told behind the nodes before it among these, if there is such a node
+abbrev pub told_among : {T : Type 0} → (List ObjectNode → ObjectNode → Option T) → List ObjectNode → Option ObjectNode → Option T
+told_among told nodes None = None
+told_among told nodes (Some node) = told (nodes_before node.key nodes) node
+
+-- what the node with this key among nodes in rising key is told
+abbrev pub told_of : {T : Type 0} → (List ObjectNode → ObjectNode → Option T) → List ObjectNode → Key → Option T
+told_of told nodes key = told_among told nodes (node_with key nodes)

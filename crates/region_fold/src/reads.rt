@@ -1,0 +1,140 @@
+// The reads of an object of which what is folded is kept.
+ghost use Rattle.std.specs.Prelude.{◌≡◌, [], List, IfOk, IfErr, map, length};
+ghost use Rattle.log_node.specs.Sets.{members};
+ghost use Rattle.lawful_run.specs.Asks.{rising};
+ghost use Rattle.object_fold.specs.Nodes.{ObjectNode};
+ghost use Rattle.append_core.specs.declared.stood.Point.{Point};
+ghost use Rattle.log_client.specs.Appends.{AreColoursOf};
+ghost use Rattle.log_client.specs.Calls.{IsExplained};
+ghost use Rattle.log_client.specs.Clients.{IsClient};
+ghost use Rattle.log_client.specs.Reading.{RestsOn, raised_colours, synced_colours};
+ghost use Rattle.log_client.specs.StampedReads.{ReadHidden, ReadRefused};
+ghost use Rattle.log_client.specs.Objects.{AreColours};
+ghost use Rattle.region_fold.specs.Folds.{AreWriters};
+ghost use Rattle.region_fold.specs.Reads.{AreOwn, KeepsFold, ReadsNodes, Answers, TellsOwn, TellRefused};
+
+use crate::fold::NodeFold;
+use crate::kept_fold::KeptFold;
+use fuzzy_io::Gate;
+use log_client::{
+    Appended, Client, ObjectFault, StampedRead, Store, SyncFault, colour_set, reads_go_on,
+};
+use log_node::{Colours, Key, Text};
+use std::alloc::{AllocError, Global};
+use std::sync::Wait;
+
+/// The bits of a set, which are 16.
+pub fn bits_of(set: Colours) -> u16
+    ensures { result ≡ set.0 }
+{
+    set.0
+}
+
+impl<F: NodeFold> KeptFold<F> {
+    /// Reads all nodes of the object's colours up to the stamp of a stamped read of these, and folds them. The read answers those
+    /// that earlier ones did not have. Waits as the read does.
+    pub fn read<R: Wait>(
+        &mut self,
+        rt: &R,
+        alloc: Global,
+        client: &mut Client,
+        store: &Store,
+        colours: &[u8],
+    ) -> Result<StampedRead, SyncFault>
+        requires client { IsClient store.now client.old }
+        requires colours { AreColours client.old colours.now }
+        requires kept { KeepsFold F.Holds client.old (rising colours.now) self.old }
+        ensures client { RestsOn store.now client.old client.new }
+        ensures kept { KeepsFold F.Holds client.new (rising colours.now) self.new }
+        ensures ok { IfOk result (λ read. ReadsNodes store.now client.old client.new colours.now read
+            (λ nodes. F.Holds self.new.state nodes × AreWriters nodes)) }
+        ensures raises { IfOk result (λ read. raised_colours read.raises ≡ rising colours.now) }
+        ensures syncs { IfOk result (λ read. synced_colours read.syncs ≡ rising colours.now) }
+        ensures hidden { IfOk result (λ read. ReadHidden store.now client.old client.new (rising colours.now)) }
+        ensures err { IfErr result (ReadRefused store.now client.old client.new (rising colours.now)) }
+    {
+        reads_go_on();
+        let set = colour_set(colours);
+        let _bits = bits_of(set);
+        match client.read_on(rt, alloc, store, set, self.last) {
+            Ok(read) => match self.fold_on(alloc, read.items.as_slice()) {
+                Ok(()) => Ok(read),
+                Err(_) => Err(SyncFault::NoMemory),
+            },
+            Err(fault) => Err(fault),
+        }
+    }
+
+    // Reads all colours behind the own node, which stands under this key, and gives what that one is told.
+    fn read_behind<R: Wait>(
+        &mut self,
+        rt: &R,
+        alloc: Global,
+        client: &mut Client,
+        store: &Store,
+        colours: &[u8],
+        own: Key,
+    ) -> Result<(Option<F::Told>, StampedRead), SyncFault>
+        requires client { IsClient store.now client.old }
+        requires colours { AreColours client.old colours.now }
+        requires kept { KeepsFold F.Holds client.old (rising colours.now) self.old }
+        ensures client { RestsOn store.now client.old client.new }
+        ensures kept { KeepsFold F.Holds client.new (rising colours.now) self.new }
+        ensures ok { IfOk result (λ r. Answers F.told store.now client.old client.new (rising colours.now) own r.0 r.1) }
+        ensures raises { IfOk result (λ r. raised_colours r.1.raises ≡ rising colours.now) }
+        ensures syncs { IfOk result (λ r. synced_colours r.1.syncs ≡ rising colours.now) }
+        ensures err { IfErr result (ReadRefused store.now client.old client.new (rising colours.now)) }
+    {
+        reads_go_on();
+        self.stay_before(alloc, own);
+        let set = colour_set(colours);
+        let _bits = bits_of(set);
+        match client.read_on(rt, alloc, store, set, self.last) {
+            Ok(read) => match self.told(alloc, read.items.as_slice(), own) {
+                Ok(told) => Ok((told, read)),
+                Err(_) => Err(SyncFault::NoMemory),
+            },
+            Err(fault) => Err(fault),
+        }
+    }
+
+    /// Appends a node with the text to some of the object's colours, and then reads all of them: the answer is what the node is
+    /// told behind those before it in the order of the region. Waits as an append and a read do.
+    pub fn append_and_read<R: Wait, G: Gate>(
+        &mut self,
+        rt: &R,
+        alloc: Global,
+        client: &mut Client,
+        store: &Store,
+        gate: &G,
+        colours: &[u8],
+        set: Colours,
+        text: Text,
+    ) -> Result<(Option<F::Told>, Appended, StampedRead), ObjectFault>
+        requires client { IsClient store.now client.old }
+        requires colours { AreColours client.old colours.now }
+        requires kept { KeepsFold F.Holds client.old (rising colours.now) self.old }
+        requires set { AreColoursOf store.now set }
+        requires own { AreOwn colours.now (members set) }
+        ensures client { RestsOn store.now client.old client.new }
+        ensures kept { KeepsFold F.Holds client.new (rising colours.now) self.new }
+        ensures ok { IfOk result (λ r. IsExplained store.now client.old client.new
+            (TellsOwn F.told set text (rising colours.now) r.0 r.1 r.2)) }
+        ensures points { IfOk result (λ r. map (λ (p : Point). p.colour) r.1.stood.points ≡ members set) }
+        ensures raises { IfOk result (λ r. raised_colours r.2.raises ≡ rising colours.now) }
+        ensures syncs { IfOk result (λ r. synced_colours r.2.syncs ≡ rising colours.now) }
+        ensures err { IfErr result (TellRefused store.now client.old client.new (members set) text colours.now) }
+    {
+        reads_go_on();
+        match client.append(rt, alloc, store, gate, set, text, None) {
+            Ok(own) => match self.read_behind(rt, alloc, client, store, colours, own.stood.key) {
+                Ok((told, read)) => Ok((told, own, read)),
+                Err(why) => Err(ObjectFault::Unread {
+                    stamp: own.stood.key.stamp,
+                    why,
+                }),
+            },
+            Err(fault) => Err(ObjectFault::Append(fault)),
+        }
+    }
+}
