@@ -4,3 +4,4 @@ mod maps;
 mod queues;
 mod shown;
 mod transactions;
+mod trees;

@@ -1,0 +1,113 @@
+-- What explains the answers to changes and reads of a tree.
+use Rattle.std.proofs.Common.{◌≡◌, ℕ, ◌<◌, List, [], ◌∷◌, ◌++◌, length, Option, Some, None, Result, IfOk, refl, ap, sym, subst, ◌∙◌, arith, append-nil}
+use Rattle.std.specs.Prelude.{IsTrue, unwrap_or}
+use Rattle.std.specs.declared.alloc.AllocError.{AllocError}
+use Rattle.log_node.specs.declared.ids.Colours.{Colours}
+use Rattle.log_node.specs.declared.ids.Key.{Key}
+use Rattle.log_node.specs.Sets.{members}
+use Rattle.object_fold.specs.Nodes.{ObjectNode, nodes_before}
+use Rattle.col_core.specs.Log.{Log}
+use Rattle.col_core.specs.Keeping.{Kept}
+use Rattle.lawful_run.specs.Asks.{rising, shards}
+use Rattle.lawful_run.specs.Callers.{Caller}
+use Rattle.log_client.specs.declared.store.Store.{Store}
+use Rattle.log_client.specs.declared.client.Client.{Client}
+use Rattle.log_client.specs.declared.answers.Appended.{Appended}
+use Rattle.log_client.specs.declared.answers.StampedRead.{StampedRead}
+use Rattle.log_client.specs.declared.object_fault.ObjectFault.{ObjectFault}
+use Rattle.log_client.specs.declared.object_fault.ObjectFault.TheVariants as faults
+use Rattle.log_client.specs.Calls.{IsExplained}
+use Rattle.log_client.proofs.CallerLemmas.{explained_less}
+use Rattle.region_fold.specs.Folds.{AreWriters, told_among, told_of}
+use Rattle.region_fold.specs.Reads.{HasNodes, IsOwn, ReadsNodes, TellRefused, TellsOwn}
+use Rattle.tree_fold.specs.declared.change.Change.{Change}
+use Rattle.tree_fold.specs.declared.change.Change.TheVariants.{Make, Remove, Move}
+use Rattle.tree_fold.specs.declared.told.Told.{Told}
+use Rattle.tree_fold.specs.Changes.{IsChange, change_text}
+use Rattle.tree_fold.specs.Laws.{ReadsBack}
+use Rattle.tree_fold.specs.Paths.{Path, is_below_root}
+use Rattle.tree_fold.specs.Readings.{change_of}
+use Rattle.tree_fold.specs.Trees.{told_by, tree_after, why}
+use Rattle.tree_fold.specs.Trees as trees
+use Rattle.log_tree.specs.Folded.{telling}
+use Rattle.log_tree.specs.Trees.{ChangeRefused, Changes, ChangesAs, change_keys, first_name}
+
+some_name : (path : Path) (more : List (List ℕ)) → IsTrue (is_below_root path) → 0 < length (first_name path ++ more)
+some_name [] more root = absurd (let f : ⊥ = cc (root) in f)
+some_name (name ∷ names) more below = omega arith
+
+-- a change has keys
+pub some_keys : (change : Change) → IsChange change → 0 < length (change_keys change)
+some_keys (Make path value) is = subst (λ (l : List (List ℕ)). 0 < length l) (append-nil (first_name path)) (some_name path [] is.0)
+some_keys (Remove path) is = subst (λ (l : List (List ℕ)). 0 < length l) (append-nil (first_name path)) (some_name path [] is)
+some_keys (Move source target) is = some_name source (first_name target) is.0
+
+-- the set of the shards of a change's keys, of colours and keys that were read out of where they stand
+pub change_set : (set : Colours) (a b : List ℕ) (keys more : List (List ℕ)) (change : Change)
+    → members set ≡ shards a more → a ≡ b → more ≡ keys → keys ≡ change_keys change
+    → members set ≡ shards b (change_keys change)
+change_set set a b keys more change same colours read are =
+    same ∙ (ap (λ (l : List ℕ). shards l more) colours ∙ ap (λ (k : List (List ℕ)). shards b k) (read ∙ are))
+
+-- what a node is told when it is fed
+pub tells_change : (nodes : List ObjectNode) (node : ObjectNode) (key : Key) (text : List ℕ)
+    (r : Result (Option Told) AllocError) → node.key ≡ key → node.text ≡ text
+    → IfOk r (λ told. told ≡ trees.told_of key.stamp (tree_after nodes) (change_of text))
+    → IfOk r (λ told. told ≡ telling nodes node)
+tells_change nodes node key text r its_key its_text told =
+    subst (λ (t : List ℕ). IfOk r (λ v. v ≡ trees.told_of node.key.stamp (tree_after nodes) (change_of t))) (sym its_text)
+    (subst (λ (k : Key). IfOk r (λ v. v ≡ trees.told_of k.stamp (tree_after nodes) (change_of text))) (sym its_key) told)
+
+-- a read after which this follows from what is held
+pub reads_so : (s : Store) (c d : Client) (colours : List ℕ) (read : StampedRead) (Holds Has : List ObjectNode → Type 0)
+    → ((nodes : List ObjectNode) → Holds nodes → Has nodes) → ReadsNodes s c d colours read Holds
+    → ReadsNodes s c d colours read Has
+reads_so s c d colours read Holds Has so reads =
+    explained_less s c d (HasNodes (rising colours) read Holds) (HasNodes (rising colours) read Has)
+    (λ log caller before after r. (r.0, r.1, r.2, r.3, r.4, so r.3 r.5)) reads
+
+-- WHAT A CHANGE IS TOLD
+
+module _ (back : ReadsBack) (change : Change) (is : IsChange change) where
+  -- a change that was read is told something
+  has_told : (nodes : List ObjectNode) (a : Appended) (told : Option Told) (d : Told)
+      → IsOwn telling a.stood.key (change_text change) told nodes
+      → told_of telling nodes a.stood.key ≡ Some (unwrap_or told d)
+  has_told nodes a told d own =
+      let tree = tree_after (nodes_before own.node.key nodes) in
+      let stamp = own.node.key.stamp in
+      let its_change : change_of own.node.text ≡ Some change = ap change_of own.text_is ∙ back change is in
+      let same : told_of telling nodes a.stood.key ≡ Some (told_by stamp (why tree change)) =
+      ap (told_among telling nodes) own.among ∙ ap (trees.told_of stamp tree) its_change in
+      same ∙ ap (λ (t : Told). Some t) (sym (ap (λ (o : Option Told). unwrap_or o d) (own.answer_is ∙ same)))
+
+  pub changes : (s : Store) (c d : Client) (colours : List ℕ) (set : Colours) (told : Option Told) (other : Told)
+      (a : Appended) (read : StampedRead) → members set ≡ shards colours (change_keys change)
+      → IsExplained s c d (TellsOwn telling set (change_text change) (rising colours) told a read)
+      → Changes s c d colours change (unwrap_or told other) a read
+  changes s c d colours set told other a read are tells = record {
+    set = set;
+    members_are = are;
+    explained = explained_less s c d (TellsOwn telling set (change_text change) (rising colours) told a read)
+        (ChangesAs set (change_text change) (rising colours) (unwrap_or told other) a read)
+        (λ log caller kept after t. (
+          t.0,
+          t.1,
+          (t.2.0, t.2.1, t.2.2, t.2.3, t.2.4, has_told t.2.3 a told other t.2.5),
+        )) tells;
+  }
+
+-- why it was refused
+pub change_refused : (home : ℕ) (s : Store) (c d : Client) (colours : List ℕ) (change : Change) (own : List ℕ)
+    (fault : ObjectFault) → own ≡ shards colours (change_keys change)
+    → TellRefused s c d own (change_text change) colours fault → ChangeRefused home s c d colours change fault
+change_refused home s c d colours change own fault are why =
+    by fault (subst (λ (l : List ℕ). TellRefused s c d l (change_text change) colours fault) are why) where
+      by : (fault : ObjectFault) → TellRefused s c d (shards colours (change_keys change)) (change_text change) colours fault
+          → ChangeRefused home s c d colours change fault
+      by (faults.NotHome shown) why = absurd why
+      by (faults.Append fault) why = why
+      by (faults.Sync fault) why = why
+      by (faults.Unread stamp fault) why = why
+      by faults.NoTx why = why
+      by faults.NoMemory why = absurd why

@@ -1,0 +1,215 @@
+// The tree over a client.
+ghost use Rattle.std.specs.Prelude.{◌≡◌, ◌≢◌, ◌++◌, List, map, Err, IfOk, IfErr};
+ghost use Rattle.lawful_run.specs.Asks.{rising, shards};
+ghost use Rattle.object_fold.specs.Nodes.{ObjectNode};
+ghost use Rattle.append_core.specs.declared.stood.Point.{Point};
+ghost use Rattle.log_client.specs.Clients.{IsClient};
+ghost use Rattle.log_client.specs.Reading.{RestsOn, raised_colours, synced_colours};
+ghost use Rattle.log_client.specs.StampedReads.{ReadHidden};
+ghost use Rattle.log_client.specs.Objects.{AreColours};
+ghost use Rattle.region_fold.specs.Reads.{ReadsNodes};
+ghost use Rattle.tree_fold.specs.Changes.{IsChange, change_text};
+ghost use Rattle.log_tree.specs.Folded.{HasTree, NamesAfter, ValueAfter};
+ghost use Rattle.log_tree.specs.Trees.{IsTreeOf, IsSameTree, first_name, change_keys, Changes, ChangeRefused, LookRefused};
+
+use crate::folded::Folded;
+use fuzzy_io::Gate;
+use log_client::{Appended, Client, ObjectFault, StampedRead, Store, key_shards};
+use log_node::{ColourList, Keys, ListOf, Names, Text};
+use region_fold::{KeptFold, bits_of};
+use std::alloc::{AllocError, Global};
+use std::sync::Wait;
+use tree_fold::{Change, Path, Told, reads_back, write_change};
+
+/// A tree of names at a home region, for one client, with which all its calls are made. Its changes stand in the shards of the
+/// first names of their paths. What is folded of the nodes that the client read is kept.
+#[derive(Drop)]
+pub struct LogTree {
+    pub(crate) home: u8,
+    pub(crate) colours: ColourList,
+    pub(crate) kept: KeptFold<Folded>,
+}
+
+// The keys and the first name of a path, if it has one.
+fn with_first(alloc: Global, mut keys: Keys, path: &Path) -> Result<Keys, AllocError>
+    ensures { IfOk result (λ more. more ≡ keys ++ first_name path.now) }
+{
+    if let Some(name) = path.names().first() {
+        keys.push(Text::copied(alloc, name.as_bytes())?)?;
+    }
+    Ok(keys)
+}
+
+// The first names of a change's paths, by which its shards are told.
+fn change_keys(alloc: Global, change: &Change) -> Result<Keys, AllocError>
+    ensures { IfOk result (λ keys. keys ≡ change_keys change.now) }
+{
+    match change {
+        Change::Make {
+            path,
+            value: _value,
+        } => with_first(alloc, ListOf::new(alloc), path),
+        Change::Remove { path } => with_first(alloc, ListOf::new(alloc), path),
+        Change::Move { source, target } => {
+            let keys = with_first(alloc, ListOf::new(alloc), source)?;
+            with_first(alloc, keys, target)
+        }
+    }
+}
+
+impl LogTree {
+    /// The tree of these colours at a home, of which nothing is folded. Takes no memory.
+    pub fn open(alloc: Global, home: u8, colours: ColourList) -> LogTree
+        ensures of { (result.home ≡ home) × (result.colours ≡ colours) }
+        ensures tree { (client : Client) → AreColours client colours → IsTreeOf client result }
+    {
+        LogTree {
+            home,
+            colours,
+            kept: KeptFold::open(alloc),
+        }
+    }
+
+    // Reads all colours, where the client is of the home.
+    fn look<R: Wait>(
+        &mut self,
+        rt: &R,
+        alloc: Global,
+        client: &mut Client,
+        store: &Store,
+    ) -> Result<StampedRead, ObjectFault>
+        requires client { IsClient store.now client.old }
+        requires tree { IsTreeOf client.old self.old }
+        ensures client { RestsOn store.now client.old client.new }
+        ensures tree { IsTreeOf client.new self.new }
+        ensures same { IsSameTree self.old self.new }
+        ensures ok { IfOk result (λ read. ReadsNodes store.now client.old client.new self.old.colours read
+            (HasTree self.new.kept.state)) }
+        ensures raises { IfOk result (λ read. raised_colours read.raises ≡ rising self.old.colours) }
+        ensures syncs { IfOk result (λ read. synced_colours read.syncs ≡ rising self.old.colours) }
+        ensures hidden { IfOk result (λ read. ReadHidden store.now client.old client.new (rising self.old.colours)) }
+        ensures away { client.old.region ≢ self.old.home → result ≡ Err (ObjectFault.NotHome self.old.home) }
+        ensures err { IfErr result (LookRefused self.old.home store.now client.old client.new self.old.colours) }
+    {
+        if client.region() != self.home {
+            return Err(ObjectFault::NotHome { home: self.home });
+        }
+        match self
+            .kept
+            .read(rt, alloc, client, store, self.colours.as_slice())
+        {
+            Ok(read) => Ok(read),
+            Err(fault) => Err(ObjectFault::Sync(fault)),
+        }
+    }
+
+    /// Makes a change of the tree: its node stands, a stamped read of all colours follows, and the nodes before it tell what
+    /// became of it. Waits as an append and a read do.
+    pub fn change<R: Wait, G: Gate>(
+        &mut self,
+        rt: &R,
+        alloc: Global,
+        client: &mut Client,
+        store: &Store,
+        gate: &G,
+        change: &Change,
+    ) -> Result<(Told, Appended, StampedRead), ObjectFault>
+        requires client { IsClient store.now client.old }
+        requires tree { IsTreeOf client.old self.old }
+        requires change { IsChange change.now }
+        ensures client { RestsOn store.now client.old client.new }
+        ensures tree { IsTreeOf client.new self.new }
+        ensures same { IsSameTree self.old self.new }
+        ensures ok { IfOk result (λ r. Changes store.now client.old client.new self.old.colours change.now r.0 r.1 r.2) }
+        ensures points { IfOk result (λ r. map (λ (p : Point). p.colour) r.1.stood.points
+            ≡ shards self.old.colours (change_keys change.now)) }
+        ensures raises { IfOk result (λ r. raised_colours r.2.raises ≡ rising self.old.colours) }
+        ensures syncs { IfOk result (λ r. synced_colours r.2.syncs ≡ rising self.old.colours) }
+        ensures away { client.old.region ≢ self.old.home → result ≡ Err (ObjectFault.NotHome self.old.home) }
+        ensures err { IfErr result (ChangeRefused self.old.home store.now client.old client.new self.old.colours change.now) }
+    {
+        reads_back();
+        if client.region() != self.home {
+            return Err(ObjectFault::NotHome { home: self.home });
+        }
+        let Ok(keys) = change_keys(alloc, change) else {
+            return Err(ObjectFault::NoMemory);
+        };
+        let colours = self.colours.as_slice();
+        let set = key_shards(colours, keys.as_slice());
+        let _bits = bits_of(set);
+        let Ok(text) = write_change(alloc, change) else {
+            return Err(ObjectFault::NoMemory);
+        };
+        let kept = &mut self.kept;
+        match kept.append_and_read(rt, alloc, client, store, gate, colours, set, text) {
+            Ok((told, own, read)) => {
+                let stamp = own.stood.key.stamp;
+                Ok((told.unwrap_or(Told::Done { stamp }), own, read))
+            }
+            Err(fault) => Err(fault),
+        }
+    }
+
+    /// The names in a path after all nodes of the tree's colours up to the stamp of a stamped read of these, or nothing where
+    /// the path is not there. The read answers the nodes that earlier ones did not have. Waits as the read does; the gate is
+    /// for appends alone.
+    pub fn list<R: Wait, G: Gate>(
+        &mut self,
+        rt: &R,
+        alloc: Global,
+        client: &mut Client,
+        store: &Store,
+        _gate: &G,
+        path: &Path,
+    ) -> Result<(Option<Names>, StampedRead), ObjectFault>
+        requires client { IsClient store.now client.old }
+        requires tree { IsTreeOf client.old self.old }
+        ensures client { RestsOn store.now client.old client.new }
+        ensures tree { IsTreeOf client.new self.new }
+        ensures same { IsSameTree self.old self.new }
+        ensures ok { IfOk result (λ r. ReadsNodes store.now client.old client.new self.old.colours r.1 (NamesAfter path.now r.0)) }
+        ensures raises { IfOk result (λ r. raised_colours r.1.raises ≡ rising self.old.colours) }
+        ensures syncs { IfOk result (λ r. synced_colours r.1.syncs ≡ rising self.old.colours) }
+        ensures away { client.old.region ≢ self.old.home → result ≡ Err (ObjectFault.NotHome self.old.home) }
+        ensures err { IfErr result (LookRefused self.old.home store.now client.old client.new self.old.colours) }
+    {
+        match self.look(rt, alloc, client, store) {
+            Ok(read) => match self.kept.state().tree.names(alloc, path) {
+                Ok(names) => Ok((names, read)),
+                Err(_) => Err(ObjectFault::NoMemory),
+            },
+            Err(fault) => Err(fault),
+        }
+    }
+
+    /// The value of a path, if it is there and not the root, as `list` gives names.
+    pub fn value<R: Wait, G: Gate>(
+        &mut self,
+        rt: &R,
+        alloc: Global,
+        client: &mut Client,
+        store: &Store,
+        _gate: &G,
+        path: &Path,
+    ) -> Result<(Option<Text>, StampedRead), ObjectFault>
+        requires client { IsClient store.now client.old }
+        requires tree { IsTreeOf client.old self.old }
+        ensures client { RestsOn store.now client.old client.new }
+        ensures tree { IsTreeOf client.new self.new }
+        ensures same { IsSameTree self.old self.new }
+        ensures ok { IfOk result (λ r. ReadsNodes store.now client.old client.new self.old.colours r.1 (ValueAfter path.now r.0)) }
+        ensures raises { IfOk result (λ r. raised_colours r.1.raises ≡ rising self.old.colours) }
+        ensures syncs { IfOk result (λ r. synced_colours r.1.syncs ≡ rising self.old.colours) }
+        ensures away { client.old.region ≢ self.old.home → result ≡ Err (ObjectFault.NotHome self.old.home) }
+        ensures err { IfErr result (LookRefused self.old.home store.now client.old client.new self.old.colours) }
+    {
+        match self.look(rt, alloc, client, store) {
+            Ok(read) => match self.kept.state().value(alloc, path) {
+                Ok(value) => Ok((value, read)),
+                Err(_) => Err(ObjectFault::NoMemory),
+            },
+            Err(fault) => Err(fault),
+        }
+    }
+}
