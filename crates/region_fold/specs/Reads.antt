@@ -1,5 +1,5 @@
 -- What an object keeps beside its client, and what its reads answer.
-use Rattle.std.specs.Prelude.{◌≡◌, ℕ, List, [], ◌++◌, map, Option, Some, None}
+use Rattle.std.specs.Prelude.{◌≡◌, ℕ, ◌<◌, List, length, map, Option, Some}
 use Rattle.std.specs.List.{Contains}
 use Rattle.log_node.specs.declared.ids.Colours.{Colours}
 use Rattle.log_node.specs.declared.ids.Key.{Key}
@@ -21,7 +21,7 @@ use Rattle.log_client.specs.declared.object_fault.ObjectFault.{ObjectFault}
 use Rattle.log_client.specs.declared.object_fault.ObjectFault.TheVariants as faults
 use Rattle.log_client.specs.Appends.{AppendsAs}
 use Rattle.log_client.specs.Calls.{IsExplained}
-use Rattle.log_client.specs.StampedReads.{HasRead, raise_piece, sync_piece}
+use Rattle.log_client.specs.StampedReads.{CanBeNamed, HasRead, IsAboveSeen, ReadsOn, raise_piece, sync_piece}
 use Rattle.log_client.specs.Objects.{KeepsRead, StandsNot, StandsThen}
 use Rattle.region_fold.specs.declared.kept_fold.KeptFold.{KeptFold}
 use Rattle.region_fold.specs.Folds.{AreWriters, node_with, told_of}
@@ -30,6 +30,14 @@ use Rattle.region_fold.specs.Folds.{AreWriters, node_with, told_of}
 abbrev pub KeepsFold : {F : Type 0} → (F → List ObjectNode → Type 0) → Client → List ℕ → KeptFold F → Type 0
 KeepsFold Holds c colours kept =
     (nodes : List ObjectNode) × Holds kept.state nodes × KeepsRead c colours kept.last nodes × AreWriters nodes
+
+-- A stamped read of these colours, one or more, was made, and its answer has the nodes behind the last key, with keys that a
+-- version can name.
+pub record Fetches (s : Store) (c d : Client) (colours : List ℕ) (last : Option Key) (read : StampedRead) : Type 0 where
+  pub some : 0 < length colours
+  pub above : IsAboveSeen c colours read.stamp
+  pub reads : ReadsOn s c d colours last read
+  pub named : CanBeNamed read.items
 
 -- each of these colours is one of the object's
 abbrev pub AreOwn : List ℕ → List ℕ → Type 0

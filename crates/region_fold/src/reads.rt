@@ -11,7 +11,7 @@ ghost use Rattle.log_client.specs.Reading.{RestsOn, raised_colours, synced_colou
 ghost use Rattle.log_client.specs.StampedReads.{ReadHidden, ReadRefused};
 ghost use Rattle.log_client.specs.Objects.{AreColours};
 ghost use Rattle.region_fold.specs.Folds.{AreWriters};
-ghost use Rattle.region_fold.specs.Reads.{AreOwn, KeepsFold, ReadsNodes, Answers, TellsOwn, TellRefused};
+ghost use Rattle.region_fold.specs.Reads.{AreOwn, Fetches, KeepsFold, ReadsNodes, Answers, TellsOwn, TellRefused};
 
 use crate::fold::NodeFold;
 use crate::kept_fold::KeptFold;
@@ -28,6 +28,29 @@ pub fn bits_of(set: Colours) -> u16
     ensures { result ≡ set.0 }
 {
     set.0
+}
+
+// Reads the colours of an object, and answers the nodes behind the last key.
+fn fetch<R: Wait>(
+    rt: &R,
+    alloc: Global,
+    client: &mut Client,
+    store: &Store,
+    colours: &[u8],
+    last: Option<Key>,
+) -> Result<StampedRead, SyncFault>
+    requires client { IsClient store.now client.old }
+    requires colours { AreColours client.old colours.now }
+    ensures client { RestsOn store.now client.old client.new }
+    ensures ok { IfOk result (Fetches store.now client.old client.new (rising colours.now) last) }
+    ensures raises { IfOk result (λ read. raised_colours read.raises ≡ rising colours.now) }
+    ensures syncs { IfOk result (λ read. synced_colours read.syncs ≡ rising colours.now) }
+    ensures hidden { IfOk result (λ read. ReadHidden store.now client.old client.new (rising colours.now)) }
+    ensures err { IfErr result (ReadRefused store.now client.old client.new (rising colours.now)) }
+{
+    let set = colour_set(colours);
+    let _bits = bits_of(set);
+    client.read_on(rt, alloc, store, set, last)
 }
 
 impl<F: NodeFold> KeptFold<F> {
@@ -54,9 +77,7 @@ impl<F: NodeFold> KeptFold<F> {
         ensures err { IfErr result (ReadRefused store.now client.old client.new (rising colours.now)) }
     {
         reads_go_on();
-        let set = colour_set(colours);
-        let _bits = bits_of(set);
-        match client.read_on(rt, alloc, store, set, self.last) {
+        match fetch(rt, alloc, client, store, colours, self.last) {
             Ok(read) => match self.fold_on(alloc, read.items.as_slice()) {
                 Ok(()) => Ok(read),
                 Err(_) => Err(SyncFault::NoMemory),
@@ -87,9 +108,7 @@ impl<F: NodeFold> KeptFold<F> {
     {
         reads_go_on();
         self.stay_before(alloc, own);
-        let set = colour_set(colours);
-        let _bits = bits_of(set);
-        match client.read_on(rt, alloc, store, set, self.last) {
+        match fetch(rt, alloc, client, store, colours, self.last) {
             Ok(read) => match self.told(alloc, read.items.as_slice(), own) {
                 Ok(told) => Ok((told, read)),
                 Err(_) => Err(SyncFault::NoMemory),
