@@ -4,10 +4,7 @@ ghost use Rattle.std.specs.List.{list_all};
 ghost use Rattle.object_form.specs.Readings.{before, after, is_digit, is_number, number_value, is_number_from};
 ghost use Rattle.part_fold.specs.Decisions.{key_in};
 
-use log_node::{Id, Key};
-
-/// The greatest stamp of a writer.
-const MAX_STAMP: u64 = (1 << 62) - 1;
+use log_node::{Id, Key, MAX_STAMP};
 
 /// The greatest count of a client.
 const MAX_COUNT: u64 = (1 << 63) - 1;
