@@ -1,7 +1,0 @@
-use Rattle.std.specs.List.{AllZip}
-use Rattle.two_stalls.specs.Stalls.{IsNewStall}
-use Rattle.two_stalls.proofs.shop.open.Given as goal
-
--- the stalls so far
-abbrev pub invariant-loop-client : goal.invariant-loop-client
-invariant-loop-client l = AllZip IsNewStall l.yielded l.stalls.items

@@ -1,5 +1,0 @@
-use Rattle.two_stalls.specs.Stalls.{IsStall}
-use Rattle.two_stalls.proofs.shop.sell_all.Given as goal
-
-abbrev pub invariant-loop-cup : goal.invariant-loop-cup
-invariant-loop-cup g l = IsStall l.store l.stall
