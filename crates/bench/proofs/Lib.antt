@@ -1,0 +1,3 @@
+mod Colours
+mod Hiring
+mod NewClients

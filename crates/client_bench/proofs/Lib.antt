@@ -1,2 +1,0 @@
-mod Colours
-mod NewClients

@@ -1,5 +1,0 @@
-use Rattle.log_client.specs.Clients.{IsClient}
-use Rattle.client_bench.proofs.jobs.append_all.Given as goal
-
-abbrev pub invariant-loop : goal.invariant-loop
-invariant-loop g l = IsClient l.store l.client

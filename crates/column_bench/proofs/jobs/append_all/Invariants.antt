@@ -1,5 +1,0 @@
-use Rattle.chain_store.specs.Passes.{IsHolder}
-use Rattle.column_bench.proofs.jobs.append_all.Given as goal
-
-abbrev pub invariant-loop-count : goal.invariant-loop-count
-invariant-loop-count g l = IsHolder l.cell l.by l.pass

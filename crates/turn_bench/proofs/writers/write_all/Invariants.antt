@@ -1,5 +1,0 @@
-use Rattle.turn_bench.specs.Writers.{IsWriter}
-use Rattle.turn_bench.proofs.writers.write_all.Given as goal
-
-abbrev pub invariant-loop : goal.invariant-loop
-invariant-loop g l = IsWriter l.cell l.writer
