@@ -9,6 +9,7 @@ use std::thread::Threads;
 
 mod causal;
 mod edges;
+mod in_turn;
 mod large;
 mod loads;
 mod maps;
@@ -57,30 +58,50 @@ fn step_on<R: Threads + Wait + Sync>(
     run_over(alloc, rt, "step", script, &[], &[])
 }
 
-/// A script, done, ends so and writes these bytes.
+/// A script ends so and writes these bytes, by this word.
 fn leaves<R: Threads + Wait + Sync + Abort>(
     alloc: Global,
     rt: &R,
+    word: &str,
     script: &[u8],
     wanted: Status,
     bytes: &[u8],
 ) -> Result<(), Fail> {
-    let (status, sink) = step_on(alloc, rt, script)?;
+    let (status, sink) = run_over(alloc, rt, word, script, &[], &[])?;
     assert_eq!(rt; status, wanted);
     assert_eq!(rt; sink.bytes(), bytes);
     Ok(())
 }
 
-/// Three clients in one region with two colours, and then these lines; commands begin at line 8.
-fn in_one_region(alloc: Global, lines: &str) -> Result<String, AllocError> {
-    format!(in alloc;
-        "fuzzylog 1\nregions r\ncolours x y\nclient a r\nclient b r\nclient c r\nbegin\n{lines}"
-    )
+/// What scripts begin with: three clients in one region with two colours; commands begin at line 8.
+const ONE_REGION: &str =
+    "fuzzylog 1\nregions r\ncolours x y\nclient a r\nclient b r\nclient c r\nbegin\n";
+
+/// What scripts begin with: three clients in two regions with one colour; commands begin at line 8.
+const TWO_REGIONS: &str =
+    "fuzzylog 1\nregions e w\ncolours x\nclient a e\nclient b w\nclient d e\nbegin\n";
+
+/// The whole scripts stand in their rows.
+const WHOLE: &str = "";
+
+/// A script that begins so and goes on with these lines.
+fn script_of(alloc: Global, begin: &str, lines: &str) -> Result<String, AllocError> {
+    let mut script = String::from_str(alloc, begin)?;
+    script.push_str(lines)?;
+    Ok(script)
 }
 
-/// Three clients in two regions with one colour, and then these lines; commands begin at line 8.
-fn in_two_regions(alloc: Global, lines: &str) -> Result<String, AllocError> {
-    format!(in alloc;
-        "fuzzylog 1\nregions e w\ncolours x\nclient a e\nclient b w\nclient d e\nbegin\n{lines}"
-    )
+/// Scripts that begin so and go on with the lines of a row are done by this word, and leave the row's report.
+fn all_leave<R: Threads + Wait + Sync + Abort>(
+    alloc: Global,
+    rt: &R,
+    word: &str,
+    begin: &str,
+    rows: &[(&str, &str)],
+) -> Result<(), Fail> {
+    for (lines, report) in rows {
+        let script = script_of(alloc, begin, lines)?;
+        leaves(alloc, rt, word, script.as_bytes(), Status::Done, report.as_bytes())?;
+    }
+    Ok(())
 }

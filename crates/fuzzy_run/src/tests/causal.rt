@@ -129,14 +129,5 @@ column w x
 
 #[test]
 fn causal_maps_answer_for_keys(rt: HostRuntime) -> Result<(), Fail> {
-    for (script, report) in CAUSAL.iter() {
-        leaves(
-            rt.alloc(),
-            &rt,
-            script.as_bytes(),
-            Status::Done,
-            report.as_bytes(),
-        )?;
-    }
-    Ok(())
+    all_leave(rt.alloc(), &rt, "step", WHOLE, &CAUSAL)
 }

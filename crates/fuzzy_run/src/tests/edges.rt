@@ -30,7 +30,7 @@ fn pieces(bytes: &[u8]) -> usize {
 
 #[test]
 fn whichever_read_fails_nothing_is_written(rt: HostRuntime) -> Result<(), Fail> {
-    let script = in_one_region(rt.alloc(), LINES)?;
+    let script = script_of(rt.alloc(), ONE_REGION, LINES)?;
     for word in ["step", "run"] {
         // The last read finds the end.
         for number in 0..=pieces(script.as_bytes()) {
@@ -45,7 +45,7 @@ fn whichever_read_fails_nothing_is_written(rt: HostRuntime) -> Result<(), Fail> 
 
 #[test]
 fn whichever_write_fails_what_went_before_is_written(rt: HostRuntime) -> Result<(), Fail> {
-    let script = in_one_region(rt.alloc(), LINES)?;
+    let script = script_of(rt.alloc(), ONE_REGION, LINES)?;
     for word in ["step", "run"] {
         for number in 0..pieces(REPORT) {
             let failing = [number as u64];
@@ -85,7 +85,7 @@ fn a_source_without_end_is_too_long(rt: HostRuntime) -> Result<(), Fail> {
 
 #[test]
 fn a_writer_without_room_is_a_fault(rt: HostRuntime) -> Result<(), Fail> {
-    let script = in_one_region(rt.alloc(), LINES)?;
+    let script = script_of(rt.alloc(), ONE_REGION, LINES)?;
     let words = vec![in rt.alloc(); String::from_str(rt.alloc(), "step")?]?;
     let mut source = MemorySource::open(rt.alloc(), script.as_bytes(), 7, &[])?;
     let mut room = [0; 8];

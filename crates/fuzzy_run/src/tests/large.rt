@@ -1,15 +1,10 @@
-// With ample memory no size makes a body give up: scripts whose reports tell no want of memory, and bases that the
-// program does not reach so far.
+// With ample memory no size makes a body give up: scripts whose reports tell no want of memory, up to the limits of a script.
 use super::*;
-use log_node::{Colours, Keys, ListOf, Row, Shape, Text};
 use memchr::memmem;
-use object_fold::{TxState, values_among};
-use world_code::World;
-use world_laws::{Reply, Step};
 
 /// So many appends of `a` in the region e, and then these lines.
 fn after_appends(alloc: Global, count: u32, lines: &str) -> Result<String, AllocError> {
-    let mut script = in_two_regions(alloc, "")?;
+    let mut script = String::from_str(alloc, TWO_REGIONS)?;
     for _ in 0..count {
         script.push_str("a append x p\n")?;
     }
@@ -43,85 +38,74 @@ fn thousands_of_nodes_are_carried_played_and_trimmed(rt: HostRuntime) -> Result<
     )
 }
 
-#[test]
-fn a_script_of_a_byte_too_many_is_refused(rt: HostRuntime) -> Result<(), Fail> {
-    let mut script = Vec::new(rt.alloc());
-    for _ in 0..=1_048_576 {
-        script.push(b'#')?;
+/// A script of one append and of empty lines up to this line, which has the byte as often as so many bytes in all ask for.
+fn padded(alloc: Global, bytes: usize, line: u32, byte: u8) -> Result<Vec<u8>, AllocError> {
+    let short = b"fuzzylog 1\nregions r\ncolours x\nclient a r\nbegin\na append x p\n";
+    let mut script = short.as_slice().to_vec(alloc)?;
+    for _ in 7..line {
+        script.push(b'\n')?;
     }
-    leaves(
-        rt.alloc(),
-        &rt,
-        &script,
-        Status::Refused,
-        b"refused: line 0: script too long\n",
-    )
+    for _ in script.len()..bytes {
+        script.push(byte)?;
+    }
+    Ok(script)
 }
 
-/// A world of one client, who may begin 70 rows over two colours.
-fn alone(alloc: Global) -> Result<World, AllocError> {
-    let mut homes = ListOf::new(alloc);
-    homes.push(0)?;
-    World::open(
-        alloc,
-        Shape {
-            regions: 1,
-            colours: 2,
-            homes,
-            rows: 70,
-        },
-    )
-}
-
-/// The client begins its next row, which has this number, and proposes it in the first colour.
-fn proposed(alloc: Global, world: &mut World, number: u32) -> Result<Reply, AllocError> {
-    let text = Text::copied(alloc, b"a")?;
-    let begin = Step::Begin {
-        client: 0,
-        colours: Colours(3),
-        text,
-    };
-    let _begun = world.step(alloc, begin)?;
-    let row = Row { client: 0, number };
-    let propose = Step::Propose {
-        by: 0,
-        row,
-        colour: 0,
-    };
-    world.step(alloc, propose)
-}
+/// How many bytes a script has, its last line and the byte there, and what is refused, if it is.
+const PADDED: [(usize, u32, u8, Option<&str>); 9] = [
+    (1_048_575, 7, b'#', None),
+    (1_048_576, 7, b'#', None),
+    (1_048_577, 7, b'#', Some("refused: line 0: script too long\n")),
+    (20_100, 19_999, b'#', None),
+    (20_100, 20_000, b'#', None),
+    (20_100, 20_000, b'\t', Some("refused: line 20000: not ascii\n")),
+    (20_100, 20_001, b'#', Some("refused: line 20001: too many lines\n")),
+    (20_100, 20_001, b'\t', Some("refused: line 20001: too many lines\n")),
+    // The last line feed ends line 20,000.
+    (0, 20_001, b'#', None),
+];
 
 #[test]
-fn seventy_entries_wait_in_one_column(rt: HostRuntime) -> Result<(), Fail> {
-    let mut world = alone(rt.alloc())?;
-    for number in 0..70 {
-        let place = number as u64;
-        let wanted = Reply::Event {
-            place,
-            stamp: place + 1,
-        };
-        assert_eq!(rt; proposed(rt.alloc(), &mut world, number)?, wanted);
+fn a_script_has_up_to_1048576_bytes_and_20000_lines(rt: HostRuntime) -> Result<(), Fail> {
+    for (bytes, line, byte, refusal) in PADDED {
+        let script = padded(rt.alloc(), bytes, line, byte)?;
+        let (status, sink) = step_on(rt.alloc(), &rt, &script)?;
+        match refusal {
+            None => assert_eq!(rt; status, Status::Done),
+            Some(refusal) => {
+                assert_eq!(rt; status, Status::Refused);
+                assert_eq!(rt; sink.bytes(), refusal.as_bytes());
+            }
+        }
     }
     Ok(())
 }
 
-/// Six keys.
-fn six_keys(alloc: Global) -> Result<Keys, AllocError> {
-    let mut keys = ListOf::new(alloc);
-    for byte in b"abcdef" {
-        keys.push(Text::copied(alloc, &[*byte])?)?;
+/// One region, its sixteen colours, and sixteen clients, each of whom appends to all colours as often as is said.
+fn widest(alloc: Global, rounds: u32) -> Result<String, AllocError> {
+    let mut script =
+        String::from_str(alloc, "fuzzylog 1\nregions r\ncolours a b c d e f g h i j k l m n o p\n")?;
+    for client in b'a'..=b'p' {
+        script.push_str(format!(in alloc; "client c{} r\n", client as char)?.as_str())?;
     }
-    Ok(keys)
+    script.push_str("begin\n")?;
+    for _ in 0..rounds {
+        for client in b'a'..=b'p' {
+            let name = client as char;
+            script.push_str(format!(in alloc; "c{name} append a,b,c,d,e,f,g,h,i,j,k,l,m,n,o,p t\n")?.as_str())?;
+        }
+    }
+    Ok(script)
 }
 
 #[test]
-fn six_keys_are_read_at_once(rt: HostRuntime) -> Result<(), Fail> {
-    let alloc = rt.alloc();
-    let keys = six_keys(alloc)?;
-    let values = values_among(alloc, &[0, 1], &[], &keys)?;
-    assert_eq!(rt; values.len(), 6);
-    let state = TxState::new(alloc);
-    assert_eq!(rt; state.values(alloc, &keys)?.len(), 6);
-    assert_eq!(rt; state.versions(alloc, &keys)?.len(), 6);
+fn sixteen_clients_fill_sixteen_colours(rt: HostRuntime) -> Result<(), Fail> {
+    let script = widest(rt.alloc(), 4)?;
+    for word in ["step", "run"] {
+        let (status, sink) = run_over(rt.alloc(), &rt, word, script.as_bytes(), &[], &[])?;
+        assert_eq!(rt; status, Status::Done);
+        assert!(rt; memmem::find(sink.bytes(), b"nomemory").is_none());
+        assert!(rt; sink.bytes().ends_with(b" queue - cut 64 base 0\n"));
+    }
     Ok(())
 }

@@ -182,14 +182,5 @@ column w y
 
 #[test]
 fn maps_answer_for_keys(rt: HostRuntime) -> Result<(), Fail> {
-    for (script, report) in MAPS.iter() {
-        leaves(
-            rt.alloc(),
-            &rt,
-            script.as_bytes(),
-            Status::Done,
-            report.as_bytes(),
-        )?;
-    }
-    Ok(())
+    all_leave(rt.alloc(), &rt, "step", WHOLE, &MAPS)
 }

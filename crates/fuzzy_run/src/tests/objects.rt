@@ -208,14 +208,5 @@ column r y
 
 #[test]
 fn commands_of_objects_append_and_answer(rt: HostRuntime) -> Result<(), Fail> {
-    for (script, report) in REPORTS.iter() {
-        leaves(
-            rt.alloc(),
-            &rt,
-            script.as_bytes(),
-            Status::Done,
-            report.as_bytes(),
-        )?;
-    }
-    Ok(())
+    all_leave(rt.alloc(), &rt, "step", WHOLE, &REPORTS)
 }

@@ -122,6 +122,7 @@ fn a_small_service_is_served(rt: HostRuntime) -> Result<(), Fail> {
     leaves(
         rt.alloc(),
         &rt,
+        "step",
         SERVICE.as_bytes(),
         Status::Done,
         SERVED.as_bytes(),

@@ -2,7 +2,7 @@
 use super::*;
 
 /// Lines from line 8 on in two regions, and the report.
-const TWO_REGIONS: [(&str, &str); 3] = [
+const PULLED: [(&str, &str); 3] = [
     // A node comes to another region by a pull, and what answers it comes back.
     (
         "a append x one
@@ -99,17 +99,7 @@ column w x
 
 #[test]
 fn regions_pull_and_trim(rt: HostRuntime) -> Result<(), Fail> {
-    for (lines, report) in TWO_REGIONS.iter() {
-        let script = in_two_regions(rt.alloc(), lines)?;
-        leaves(
-            rt.alloc(),
-            &rt,
-            script.as_bytes(),
-            Status::Done,
-            report.as_bytes(),
-        )?;
-    }
-    Ok(())
+    all_leave(rt.alloc(), &rt, "step", TWO_REGIONS, &PULLED)
 }
 
 /// Scripts of several regions, and the reports.
@@ -357,14 +347,5 @@ column w notes
 
 #[test]
 fn nodes_wait_for_those_of_other_regions(rt: HostRuntime) -> Result<(), Fail> {
-    for (script, report) in SCRIPTS.iter() {
-        leaves(
-            rt.alloc(),
-            &rt,
-            script.as_bytes(),
-            Status::Done,
-            report.as_bytes(),
-        )?;
-    }
-    Ok(())
+    all_leave(rt.alloc(), &rt, "step", WHOLE, &SCRIPTS)
 }

@@ -182,35 +182,17 @@ column r y
 
 #[test]
 fn scans_show_what_stands_up_to_their_stamp(rt: HostRuntime) -> Result<(), Fail> {
-    for (lines, report) in SCANS.iter() {
-        let script = in_one_region(rt.alloc(), lines)?;
-        leaves(
-            rt.alloc(),
-            &rt,
-            script.as_bytes(),
-            Status::Done,
-            report.as_bytes(),
-        )?;
-    }
-    Ok(())
+    all_leave(rt.alloc(), &rt, "step", ONE_REGION, &SCANS)
 }
 
-#[test]
-fn a_scan_shows_the_own_line_of_its_region_alone(rt: HostRuntime) -> Result<(), Fail> {
-    let script = in_two_regions(
-        rt.alloc(),
-        "a append x one
+/// Lines from line 8 on in two regions, and the report.
+const OWN: [(&str, &str); 1] = [(
+    "a append x one
 b append x two
 b pull e x
 b scan x
 ",
-    )?;
-    leaves(
-        rt.alloc(),
-        &rt,
-        script.as_bytes(),
-        Status::Done,
-        b"report 1
+    "report 1
 client a
 8 append ok 1 x!0@0
 client b
@@ -228,5 +210,9 @@ column w x
 1 b carry e 0 a.0:1/0,0
 = clock 1 line b.0:1 queue - cut 1,1 base 0,0
 ",
-    )
+)];
+
+#[test]
+fn a_scan_shows_the_own_line_of_its_region_alone(rt: HostRuntime) -> Result<(), Fail> {
+    all_leave(rt.alloc(), &rt, "step", TWO_REGIONS, &OWN)
 }

@@ -215,12 +215,7 @@ column w v
 
 #[test]
 fn what_clients_do_apart_with_objects_is_the_same_on_threads(rt: HostRuntime) -> Result<(), Fail> {
-    for (script, report) in ALONE {
-        let (status, sink) = run_at(rt.alloc(), &rt, script.as_bytes(), &OpenGate)?;
-        assert_eq!(rt; status, Status::Done);
-        assert_eq!(rt; sink.bytes(), report.as_bytes());
-    }
-    Ok(())
+    all_leave(rt.alloc(), &rt, "run", WHOLE, &ALONE)
 }
 
 /// Two clients put in a job each, and take one.

@@ -90,21 +90,11 @@ column r y
 
 #[test]
 fn appends_to_several_colours(rt: HostRuntime) -> Result<(), Fail> {
-    for (lines, report) in REPORTS.iter() {
-        let script = in_one_region(rt.alloc(), lines)?;
-        leaves(
-            rt.alloc(),
-            &rt,
-            script.as_bytes(),
-            Status::Done,
-            report.as_bytes(),
-        )?;
-    }
-    Ok(())
+    all_leave(rt.alloc(), &rt, "step", ONE_REGION, &REPORTS)
 }
 
 /// Scripts in which a client may begin one row, and the reports.
-const FEW_ROWS: [(&str, &str); 2] = [
+pub const FEW_ROWS: [(&str, &str); 2] = [
     // A client that has begun as many rows as it may goes on with single colours.
     (
         "fuzzylog 1
@@ -181,14 +171,5 @@ column r z
 
 #[test]
 fn a_client_has_so_many_rows(rt: HostRuntime) -> Result<(), Fail> {
-    for (script, report) in FEW_ROWS.iter() {
-        leaves(
-            rt.alloc(),
-            &rt,
-            script.as_bytes(),
-            Status::Done,
-            report.as_bytes(),
-        )?;
-    }
-    Ok(())
+    all_leave(rt.alloc(), &rt, "step", WHOLE, &FEW_ROWS)
 }

@@ -82,15 +82,5 @@ column r y
 
 #[test]
 fn appends_to_one_colour_and_syncs(rt: HostRuntime) -> Result<(), Fail> {
-    for (lines, report) in REPORTS.iter() {
-        let script = in_one_region(rt.alloc(), lines)?;
-        leaves(
-            rt.alloc(),
-            &rt,
-            script.as_bytes(),
-            Status::Done,
-            report.as_bytes(),
-        )?;
-    }
-    Ok(())
+    all_leave(rt.alloc(), &rt, "step", ONE_REGION, &REPORTS)
 }

@@ -2,7 +2,7 @@
 use super::*;
 
 /// An append to two colours that stops after each of its steps, and the report.
-const STOPS: [(&str, &str); 6] = [
+pub const STOPS: [(&str, &str); 6] = [
     // The row begins.
     (
         "a stop 1 x,y q
@@ -113,28 +113,9 @@ column r y
     ),
 ];
 
-// Each script of these lines in one region is done, and leaves its report.
-fn each_leaves<R: Threads + Wait + Sync + Abort>(
-    rt: &R,
-    alloc: Global,
-    reports: &[(&str, &str)],
-) -> Result<(), Fail> {
-    for (lines, report) in reports {
-        let script = in_one_region(alloc, lines)?;
-        leaves(
-            alloc,
-            rt,
-            script.as_bytes(),
-            Status::Done,
-            report.as_bytes(),
-        )?;
-    }
-    Ok(())
-}
-
 #[test]
 fn a_stop_leaves_its_first_steps(rt: HostRuntime) -> Result<(), Fail> {
-    each_leaves(&rt, rt.alloc(), &STOPS)
+    all_leave(rt.alloc(), &rt, "step", ONE_REGION, &STOPS)
 }
 
 /// Lines from line 8 on in one region, and the report.
@@ -312,7 +293,7 @@ column r y
 
 #[test]
 fn a_stopped_append_is_completed_by_another_client(rt: HostRuntime) -> Result<(), Fail> {
-    each_leaves(&rt, rt.alloc(), &HELPED)
+    all_leave(rt.alloc(), &rt, "step", ONE_REGION, &HELPED)
 }
 
 /// An append to two colours that stops after so many of its steps, and appends of another client to each of them; and the report.
@@ -494,5 +475,5 @@ column r y
 
 #[test]
 fn who_appends_behind_a_stop_completes_what_was_marked(rt: HostRuntime) -> Result<(), Fail> {
-    each_leaves(&rt, rt.alloc(), &FOLLOWED)
+    all_leave(rt.alloc(), &rt, "step", ONE_REGION, &FOLLOWED)
 }

@@ -1,5 +1,7 @@
 // Runs on threads.
 use super::*;
+use crate::tests::several::FEW_ROWS;
+use crate::tests::stops::STOPS;
 use fuzzy_io::Gate;
 use memchr::memmem;
 use std::sync::atomic::{AtomicBool, AtomicU64, Ordering};
@@ -7,7 +9,7 @@ use std::thread;
 
 /// Lines from line 8 on in one region of which one client alone makes events, and the report, which is then the same in
 /// every schedule.
-const REPORTS: [(&str, &str); 4] = [
+const REPORTS: [(&str, &str); 6] = [
     // A second sync plays nothing again.
     (
         "a append x hi
@@ -79,6 +81,59 @@ column r y
 = clock 2 line a.0:1,a.1:2 queue - cut 2 base 0
 ",
     ),
+    // What is trimmed was played, and is read still.
+    (
+        "a append y one
+a sync y
+a trim y
+a scan x,y
+",
+        "report 1
+client a
+8 append ok 1 y!0@0
+9 sync ok y?1/1 plays 1
++ a.0 1 one
+10 trim ok !1 base 1
+11 scan ok 1 nodes 1 x!0 y?2 x?1/0 y?2/1
++ a.0 1 one
+client b
+client c
+column r x
+0 a raise 1
+= clock 1 line - queue - cut 0 base 0
+column r y
+0 a single a.0 floor 0 wants 0 stamp 1
+1 a trim 1
+= clock 1 line a.0:1 queue - cut 1 base 1
+",
+    ),
+    // An append of more colours stands behind one of its own, and reads see both.
+    (
+        "a append y p
+a append x,y q
+a sync y
+",
+        "report 1
+client a
+8 append ok 1 y!0@0
+9 append ok 2 row 0 x!0@0 y!1@1
+10 sync ok y?3/2 plays 2
++ a.0 1 p
++ a.1 2 q
+client b
+client c
+row r a.0 a.1 x=2 y=2 final 2
+column r x
+0 a propose a.1 floor 1 wants 0 stamp 2
+1 a settle a.1 final 2
+= clock 2 line a.1:2 queue - cut 1 base 0
+column r y
+0 a single a.0 floor 0 wants 0 stamp 1
+1 a propose a.1 floor 1 wants 0 stamp 2
+2 a settle a.1 final 2
+= clock 2 line a.0:1,a.1:2 queue - cut 2 base 0
+",
+    ),
     // A pull from the own region.
     (
         "a pull r x",
@@ -111,42 +166,17 @@ pub fn run_at<R: Threads + Wait + Sync, G: Gate>(
 
 #[test]
 fn what_one_client_does_alone_is_the_same_on_threads(rt: HostRuntime) -> Result<(), Fail> {
-    for (lines, report) in REPORTS {
-        let script = in_one_region(rt.alloc(), lines)?;
-        let (status, sink) = run_at(rt.alloc(), &rt, script.as_bytes(), &OpenGate)?;
-        assert_eq!(rt; status, Status::Done);
-        assert_eq!(rt; sink.bytes(), report.as_bytes());
-    }
-    Ok(())
+    all_leave(rt.alloc(), &rt, "run", ONE_REGION, &REPORTS)
 }
 
 #[test]
-fn the_row_of_a_client_with_one_row_is_used_once(rt: HostRuntime) -> Result<(), Fail> {
-    let script =
-        b"fuzzylog 1\nregions r\ncolours x y\nrows 1\nclient a r\nclient b r\nclient c r\nbegin
-a append x,y p\na append x,y q\na append x s\n";
-    let (status, sink) = run_at(rt.alloc(), &rt, script, &OpenGate)?;
-    assert_eq!(rt; status, Status::Done);
-    let report = b"report 1
-client a
-9 append ok 1 row 0 x!0@0 y!0@0
-10 append full 1
-11 append ok 2 x!2@1
-client b
-client c
-row r a.0 a.0 x=1 y=1 final 1
-column r x
-0 a propose a.0 floor 0 wants 0 stamp 1
-1 a settle a.0 final 1
-2 a single a.1 floor 1 wants 0 stamp 2
-= clock 2 line a.0:1,a.1:2 queue - cut 2 base 0
-column r y
-0 a propose a.0 floor 0 wants 0 stamp 1
-1 a settle a.0 final 1
-= clock 1 line a.0:1 queue - cut 1 base 0
-";
-    assert_eq!(rt; sink.bytes(), report.as_slice());
-    Ok(())
+fn a_stop_leaves_its_first_steps_on_threads(rt: HostRuntime) -> Result<(), Fail> {
+    all_leave(rt.alloc(), &rt, "run", ONE_REGION, &STOPS)
+}
+
+#[test]
+fn a_client_has_so_many_rows_on_threads(rt: HostRuntime) -> Result<(), Fail> {
+    all_leave(rt.alloc(), &rt, "run", WHOLE, &FEW_ROWS[..1])
 }
 
 #[test]

@@ -306,14 +306,5 @@ column r z
 
 #[test]
 fn transactions_are_validated(rt: HostRuntime) -> Result<(), Fail> {
-    for (script, report) in REPORTS.iter() {
-        leaves(
-            rt.alloc(),
-            &rt,
-            script.as_bytes(),
-            Status::Done,
-            report.as_bytes(),
-        )?;
-    }
-    Ok(())
+    all_leave(rt.alloc(), &rt, "step", WHOLE, &REPORTS)
 }
