@@ -1,3 +1,0 @@
-mod Both
-mod Colours
-mod Taken

@@ -1,7 +1,0 @@
-mod atomic_maps;
-mod causal_maps;
-mod maps;
-mod queues;
-mod shown;
-mod transactions;
-mod trees;

@@ -1,0 +1,28 @@
+-- What an object keeps beside a client of a small store: both colours are the client's.
+use Rattle.std.proofs.Common.{◌≡◌, ℕ, ◌<◌, List, [], ◌∷◌, length, ap, ◌∙◌, sym, subst, arith}
+use Rattle.std.specs.List.{All}
+use Rattle.std.proofs.lemmas.List.Elements.{All-nil, All-cons}
+use Rattle.log_node.specs.declared.limits.TheConstants.{MAX_COLOURS}
+use Rattle.stamp_board.specs.declared.view.Size.{Size}
+use Rattle.log_client.specs.declared.store.Store.{Store}
+use Rattle.log_client.specs.declared.client.Client.{Client}
+use Rattle.log_client.specs.Clients.{IsClient, tracks_of}
+use Rattle.log_client.specs.Objects.{AreColours}
+use Rattle.tests_clients.specs.Stores.{IsSmall}
+
+-- it has played of two colours
+pub two_tracks : (s : Store) (c : Client) → IsSmall s → IsClient s c → length (tracks_of c) ≡ 2
+two_tracks s c small is = is.colours ∙ ap (λ (z : Size). z.colours) small.size
+
+below_two : (P : ℕ → Type 0) → P 0 → P 1 → All P (0 ∷ 1 ∷ [])
+below_two P zero one = All-cons P 0 (1 ∷ []) zero (All-cons P 1 [] one (All-nil P))
+
+pub both_colours : (s : Store) (c : Client) (colours : List ℕ) → IsSmall s → IsClient s c → colours ≡ 0 ∷ 1 ∷ []
+    → AreColours c colours
+both_colours s c colours small is e =
+    let two = two_tracks s c small is in
+    subst (AreColours c) (sym e) (record {
+      some = omega arith;
+      within = below_two (λ k. k < length (tracks_of c)) (omega (arith, two)) (omega (arith, two));
+      few = below_two (λ k. k < MAX_COLOURS) (omega arith) (omega arith);
+    })

@@ -1,0 +1,69 @@
+// What clients tell one another, and trims by a snapshot of another column.
+ghost use Rattle.std.specs.Prelude.{◌≡◌};
+ghost use Rattle.log_client.specs.Clients.{IsClient};
+ghost use Rattle.tests_clients.specs.Stores.{IsSmall};
+
+use crate::tests::made::opened;
+use fuzzy_io::OpenGate;
+use log_client::{Client, Store, TrimFault};
+use log_node::{Colours, Text};
+use std::alloc::Global;
+use std::process::Abort;
+use std::sync::Wait;
+use std::test::Fail;
+
+// The client appends a text to the first colour.
+fn append<R: Wait>(
+    rt: &R,
+    alloc: Global,
+    store: &Store,
+    client: &mut Client,
+    text: &[u8],
+) -> Result<(), Fail>
+    requires store { IsSmall store.now }
+    requires client { IsClient store.now client.old }
+    ensures client { IsClient store.now client.new }
+{
+    let text = Text::copied(alloc, text)?;
+    client.append(rt, alloc, store, &OpenGate, Colours(1), text, None)?;
+    Ok(())
+}
+
+// The first client appends and tells the second, which syncs and has then played the node.
+fn told<R: Wait + Abort>(
+    rt: &R,
+    alloc: Global,
+    store: &Store,
+    one: &mut Client,
+    two: &mut Client,
+) -> Result<(), Fail>
+    requires store { IsSmall store.now }
+    requires clients { IsClient store.now one.old × IsClient store.now two.old }
+{
+    append(rt, alloc, store, one, b"one")?;
+    let note = one.tell(alloc, store)?;
+    two.hear(store, note);
+    let synced = two.sync(rt, alloc, store, 0)?;
+    assert_eq!(rt; (synced.events, synced.count), (1, 1));
+    assert_eq!(rt; two.played(0).len(), 1);
+    Ok(())
+}
+
+#[test]
+fn a_client_that_was_told_plays_what_the_teller_saw(rt: HostRuntime) -> Result<(), Fail> {
+    let (store, mut one, mut two) = opened(rt.alloc())?;
+    told(&rt, rt.alloc(), &store, &mut one, &mut two)
+}
+
+#[test]
+fn a_snapshot_of_another_colour_trims_nothing(rt: HostRuntime) -> Result<(), Fail> {
+    let (store, mut one, _two) = opened(rt.alloc())?;
+    let snapshot = one.snapshot(1);
+    let trimmed = one.trim(&rt, &store, 0, &snapshot);
+    let told = TrimFault::OtherColumn {
+        region: 0,
+        colour: 1,
+    };
+    assert!(rt; matches!(trimmed, Err(fault) if fault == told));
+    Ok(())
+}

@@ -1,0 +1,14 @@
+// Rows that were worked out by hand.
+mod boards;
+mod columns;
+mod forms;
+mod made;
+mod nodes;
+mod objects;
+mod parts;
+mod plays;
+mod queues;
+mod regions;
+mod streams;
+mod trees;
+mod worlds;

@@ -1,0 +1,40 @@
+// What tests begin with.
+ghost use Rattle.std.specs.Prelude.{◌≡◌, true, Some, IfOk};
+ghost use Rattle.log_node.specs.Sets.{has};
+ghost use Rattle.stamp_board.specs.Rows.{AreColours};
+ghost use Rattle.stamp_board.specs.declared.view.Size.{Size};
+
+use log_node::{Colours, Id, Key, Node, Row, Text, Wants};
+use std::alloc::{AllocError, Global};
+use std::sync::Arc;
+
+/// The key of a client's node with this count, under a stamp.
+pub fn key_of(stamp: u64, client: u8, count: u64) -> Key
+    ensures { result ≡ record { stamp = stamp; id = record { client = client; count = count } } }
+{
+    Key {
+        stamp,
+        id: Id { client, count },
+    }
+}
+
+/// A client's node of this count in the colours 0 and 1 of the region 0, with the client's first row.
+pub fn pair(alloc: Global, client: u8, count: u64) -> Result<Arc<Node>, AllocError>
+    ensures id { IfOk result (λ node. node.value.id ≡ record { client = client; count = count }) }
+    ensures row { IfOk result (λ node. node.value.row ≡ Some (record { client = client; number = 0 })) }
+    ensures fits { IfOk result (λ node. (node.value.region ≡ 0) × (node.value.floor ≡ 0)) }
+    ensures colours { IfOk result (λ node. node.value.colours ≡ record { 0 = 3 }) }
+    ensures each { IfOk result (λ node. (has node.value.colours 0 ≡ true) × (has node.value.colours 1 ≡ true)) }
+    ensures both { IfOk result (λ node. (size : Size) → size.colours ≡ 2 → AreColours size node.value.colours) }
+{
+    let node = Node {
+        id: Id { client, count },
+        region: 0,
+        colours: Colours(3),
+        text: Text::copied(alloc, b"p")?,
+        floor: 0,
+        wants: Wants::new(alloc),
+        row: Some(Row { client, number: 0 }),
+    };
+    Ok(Arc::new(alloc, node)?)
+}

@@ -1,0 +1,237 @@
+// A region at the end of the stamps, and a client that is told of another's append.
+ghost use Rattle.std.specs.Prelude.{◌≡◌, ◌≢◌, ◌<◌, ◌≤◌, ℕ, true, length, IfOk, OnOk};
+ghost use mathlib.Core.List.{IsPrefix};
+ghost use Rattle.log_node.specs.Sets.{has};
+ghost use Rattle.chain_store.specs.Holds.{IsHold, KnowsAppend, seen_in, made_in};
+ghost use Rattle.tests_log.specs.Clients.{IsSmall, IsClient};
+
+use crate::tests::made::pair;
+use append_core::{MultiFault, Stood, multi};
+use chain_store::{ClosedRegion, Hold, Proposed, Region};
+use fuzzy_io::OpenGate;
+use log_node::{At, Begun, ColourMark, ListOf, MAX_STAMP, Mark, Outcome, Row, Shape, Why};
+use std::alloc::{AllocError, Global};
+use std::sync::Wait;
+use std::test::Fail;
+
+const ROW: Row = Row {
+    client: 0,
+    number: 0,
+};
+
+// Two regions of two colours, and two clients, each with one row.
+fn shape(alloc: Global) -> Result<Shape, AllocError>
+    ensures { IfOk result (λ s. (s.regions ≡ 2) × (s.colours ≡ 2) × (length s.homes ≡ 2) × (s.rows ≡ 1)) }
+{
+    let mut homes = ListOf::new(alloc);
+    homes.push(0)?;
+    homes.push(0)?;
+    Ok(Shape {
+        regions: 2,
+        colours: 2,
+        homes,
+        rows: 1,
+    })
+}
+
+// A region of that shape, and the holds of its two clients.
+fn opened(alloc: Global, number: u8) -> Result<(Region, Hold, Hold), AllocError>
+    requires { number < 2 }
+    ensures region { IfOk result (λ r. IsSmall number r.0) }
+    ensures one { IfOk result (λ r. IsClient r.0 0 0 r.1) }
+    ensures used { IfOk result (λ r. r.1.seat.used ≡ 0) }
+    ensures two { IfOk result (λ r. IsClient r.0 1 0 r.2) }
+{
+    let shape = shape(alloc)?;
+    let (region, holds) = Region::open(alloc, number, &shape)?;
+    let mut holds = holds.into_vec();
+    match (holds.pop(), holds.pop()) {
+        (Some(two), Some(one)) => Ok((region, one, two)),
+        _ => unreachable!(),
+    }
+}
+
+// The first client begins its row.
+fn begin(alloc: Global, region: &Region, hold: &mut Hold) -> Result<Begun, AllocError>
+    requires region { IsSmall 0 region.now }
+    requires hold { IsClient region.now 0 0 hold.old × (hold.old.seat.used ≡ 0) }
+    ensures hold { IsClient region.now 0 1 hold.new }
+    ensures knows { IfOk result (λ b. KnowsAppend region.now hold.new b) }
+    ensures row { IfOk result (λ b. b.row ≡ record { client = 0; number = 0 }) }
+    ensures each { IfOk result (λ b. (has b.colours 0 ≡ true) × (has b.colours 1 ≡ true)) }
+{
+    let node = pair(alloc, 0, 0)?;
+    let Ok(row) = region.begin(hold, &node) else {
+        unreachable!()
+    };
+    Ok(Begun {
+        id: node.id,
+        colours: node.colours,
+        row,
+        node: Some(node),
+    })
+}
+
+fn propose<R: Wait>(
+    rt: &R,
+    region: &Region,
+    hold: &mut Hold,
+    colour: u8,
+    begun: &Begun,
+) -> (At, Mark)
+    requires region { IsSmall 0 region.now }
+    requires hold { IsHold region.now hold.old × KnowsAppend region.now hold.old begun.now }
+    requires colour { (colour < 2) × (has begun.now.colours colour ≡ true) }
+    ensures hold { IsHold region.now hold.new × KnowsAppend region.now hold.new begun.now }
+    ensures number { hold.new.passes.number ≡ hold.old.passes.number }
+{
+    let Proposed { at, mark } = region.propose(rt, hold, colour, begun);
+    (at, mark)
+}
+
+// What becomes of the append.
+fn decide(region: &Region, hold: &mut Hold, begun: &Begun) -> Outcome
+    requires hold { IsHold region.now hold.old × KnowsAppend region.now hold.old begun.now }
+    ensures hold { IsHold region.now hold.new × KnowsAppend region.now hold.new begun.now }
+    ensures number { hold.new.passes.number ≡ hold.old.passes.number }
+    ensures known { result ≢ Outcome.Open → KnowsOutcome (view_of hold.new) begun.now.row result }
+{
+    region.decide(hold, begun.row)
+}
+
+// The second client hears the first: it has then seen at least what the first had, still has what it made, and knows
+// the append.
+fn hears(
+    alloc: Global,
+    region: &Region,
+    one: &mut Hold,
+    two: &mut Hold,
+    begun: &Begun,
+) -> Result<(), AllocError>
+    requires one { IsHold region.now one.old × KnowsAppend region.now one.old begun.now }
+    requires two { IsHold region.now two.old × (two.old.passes.number ≢ begun.now.row.client) }
+    ensures one { IsHold region.now one.new × (one.new.passes.number ≡ one.old.passes.number) }
+    ensures two { IsHold region.now two.new × (two.new.passes.number ≡ two.old.passes.number) }
+    ensures seen { OnOk result ((c : ℕ) → IsPrefix (seen_in one.old c) (seen_in two.new c)) }
+    ensures made { OnOk result ((c : ℕ) → made_in two.new c ≡ made_in two.old c) }
+    ensures knows { OnOk result (KnowsAppend region.now two.new begun.now) }
+{
+    let note = region.tell(alloc, one)?;
+    region.hear(two, note);
+    Ok(())
+}
+
+// The first client begins its row, and stops; the second is told of it, and proposes it in both colours.
+fn heard<R: Wait>(
+    rt: &R,
+    alloc: Global,
+    region: &Region,
+    one: &mut Hold,
+    two: &mut Hold,
+) -> Result<([(At, Mark); 2], Outcome), AllocError>
+    requires region { IsSmall 0 region.now }
+    requires one { IsClient region.now 0 0 one.old × (one.old.seat.used ≡ 0) }
+    requires two { IsClient region.now 1 0 two.old }
+{
+    let begun = begin(alloc, region, one)?;
+    hears(alloc, region, one, two, &begun)?;
+    let first = propose(rt, region, two, 0, &begun);
+    let second = propose(rt, region, two, 1, &begun);
+    Ok(([first, second], decide(region, two, &begun)))
+}
+
+#[test]
+fn a_client_that_hears_of_a_row_appends_it(rt: HostRuntime) -> Result<(), Fail> {
+    let (region, mut one, mut two) = opened(rt.alloc(), 0)?;
+    let (proposed, outcome) = heard(&rt, rt.alloc(), &region, &mut one, &mut two)?;
+    assert_eq!(rt; proposed, [(At::Event(0), Mark::Number(1)); 2]);
+    assert_eq!(rt; outcome, Outcome::Final(1));
+    Ok(())
+}
+
+// The first client's node is appended to both colours.
+fn append_pair<R: Wait>(
+    rt: &R,
+    alloc: Global,
+    region: &Region,
+    hold: &mut Hold,
+) -> Result<Result<Stood, MultiFault>, AllocError>
+    requires region { IsSmall 0 region.now }
+    requires hold { IsClient region.now 0 0 hold.old × (hold.old.seat.used ≡ 0) }
+    ensures hold { IsHold region.now hold.new }
+    ensures number { hold.new.passes.number ≡ 0 }
+{
+    let node = pair(alloc, 0, 0)?;
+    Ok(multi(rt, alloc, region, hold, &OpenGate, &node, None))
+}
+
+// The first client's append to both colours, where no stamp is left in the first.
+fn ended<R: Wait>(
+    rt: &R,
+    alloc: Global,
+    region: &Region,
+    hold: &mut Hold,
+) -> Result<bool, AllocError>
+    requires region { IsSmall 0 region.now }
+    requires hold { IsClient region.now 0 0 hold.old × (hold.old.seat.used ≡ 0) }
+    ensures hold { IsHold region.now hold.new }
+    ensures number { hold.new.passes.number ≡ 0 }
+{
+    region.raise(rt, hold, 0, MAX_STAMP)?;
+    match append_pair(rt, alloc, region, hold)? {
+        Ok(_) => Ok(false),
+        Err(fault) => Ok(fault == MultiFault::StampEnd { colour: 0 }),
+    }
+}
+
+fn closed<R: Wait>(
+    rt: &R,
+    alloc: Global,
+    region: Region,
+    one: Hold,
+    two: Hold,
+) -> Result<ClosedRegion, AllocError>
+    requires region { IsSmall 0 region }
+    requires one { IsHold region one × (one.passes.number ≡ 0) }
+    requires two { IsHold region two × (two.passes.number ≡ 1) }
+{
+    let mut holds = ListOf::new(alloc);
+    holds.push(one)?;
+    holds.push(two)?;
+    region.close(rt, alloc, holds)
+}
+
+// The first client's row closed as gone: no stamp was left in the first colour, and the second, in which its node was
+// proposed and settled, has an empty line.
+fn is_gone(closed: &ClosedRegion) -> bool {
+    let marks = [
+        ColourMark {
+            colour: 0,
+            mark: Mark::Fenced(Why::StampEnd),
+        },
+        ColourMark {
+            colour: 1,
+            mark: Mark::Number(1),
+        },
+    ];
+    let last = Outcome::Gone(Why::StampEnd);
+    match (closed.rows.as_slice(), closed.columns.get(1)) {
+        ([row], Some(column)) => {
+            row.row == ROW
+                && row.marks.as_slice() == marks.as_slice()
+                && row.last == last
+                && column.line().is_empty()
+                && column.journal().len() == 2
+        }
+        _ => false,
+    }
+}
+
+#[test]
+fn no_stamp_is_left_in_the_first_colour(rt: HostRuntime) -> Result<(), Fail> {
+    let (region, mut hold, other) = opened(rt.alloc(), 0)?;
+    assert!(rt; ended(&rt, rt.alloc(), &region, &mut hold)?);
+    let closed = closed(&rt, rt.alloc(), region, hold, other)?;
+    assert!(rt; is_gone(&closed));
+    Ok(())
+}
