@@ -1,4 +1,8 @@
 // A client at the lock.
+ghost use Rattle.std.specs.Prelude.{◌≡◌, ◌<◌, IfOk, IfErr, codes};
+ghost use Rattle.log_client.specs.Clients.{IsClient};
+ghost use Rattle.example_lock.specs.Desks.{IsDesk, Asks, Leaves, Looks, LookRefused, WriteRefused, Writes};
+
 use crate::folded::Folded;
 use fuzzy_io::OpenGate;
 use lock_fold::{ASK, LEAVE, Ticket};
@@ -8,20 +12,20 @@ use region_fold::KeptFold;
 use std::alloc::Global;
 use std::sync::Wait;
 
-// The lock's one colour, in the two forms in which calls take colours.
+// The lock's one colour, as a list and as a set.
 const COLOURS: [u8; 1] = [0];
 const SET: Colours = Colours(1);
 
-/// A place in the row for the lock.
+/// A place in the queue for the lock.
 #[derive(Clone, Copy, Debug, PartialEq, Eq)]
 pub struct Place {
-    /// The stamp under which the holder acts: each later holder has a greater one.
+    /// The fencing token: the stamp of the ask. Whoever asks later has a greater one.
     pub token: u64,
-    /// How many tickets are before it; with 0 it holds the lock.
+    /// How many tickets are before this one; with 0 it holds the lock.
     pub before: usize,
 }
 
-/// A client at the lock of its region: it asks, looks who holds, and leaves.
+/// A client at the lock of its region. It asks, looks who holds, and leaves.
 #[derive(Drop)]
 pub struct Desk {
     client: Client,
@@ -30,7 +34,10 @@ pub struct Desk {
 
 impl Desk {
     /// The desk of a client. Takes no memory.
-    pub fn open(alloc: Global, client: Client) -> Desk {
+    pub fn open(alloc: Global, client: Client) -> Desk
+        ensures client { result.client ≡ client }
+        ensures desk { (s : Store) → IsClient s client → 0 < s.size.colours → IsDesk s result }
+    {
         Desk {
             client,
             kept: KeptFold::open(alloc),
@@ -44,7 +51,12 @@ impl Desk {
         alloc: Global,
         store: &Store,
         text: &str,
-    ) -> Result<(u64, Option<usize>), ObjectFault> {
+    ) -> Result<(u64, Option<usize>), ObjectFault>
+        requires { IsDesk store.now self.old }
+        ensures desk { IsDesk store.now self.new }
+        ensures ok { IfOk result (λ r. Writes store.now self.old.client self.new.client text.now r.0 r.1) }
+        ensures err { IfErr result (WriteRefused store.now self.old.client self.new.client text.now) }
+    {
         let Ok(text) = Text::copied(alloc, text.as_bytes()) else {
             return Err(ObjectFault::NoMemory);
         };
@@ -55,8 +67,18 @@ impl Desk {
         Ok((own.stood.key.stamp, told))
     }
 
-    /// Asks for the lock, behind all who asked before.
-    pub fn ask<R: Wait>(&mut self, rt: &R, alloc: Global, store: &Store) -> Result<Place, ObjectFault> {
+    /// Asks for the lock, behind all who asked before. Waits as an append and a read do.
+    pub fn ask<R: Wait>(
+        &mut self,
+        rt: &R,
+        alloc: Global,
+        store: &Store,
+    ) -> Result<Place, ObjectFault>
+        requires { IsDesk store.now self.old }
+        ensures desk { IsDesk store.now self.new }
+        ensures ok { IfOk result (Asks store.now self.old.client self.new.client) }
+        ensures err { IfErr result (WriteRefused store.now self.old.client self.new.client (codes "ask")) }
+    {
         let (token, told) = self.write(rt, alloc, store, ASK)?;
         Ok(Place {
             token,
@@ -64,14 +86,34 @@ impl Desk {
         })
     }
 
-    /// Leaves the lock, and each place behind it that the client has.
-    pub fn leave<R: Wait>(&mut self, rt: &R, alloc: Global, store: &Store) -> Result<(), ObjectFault> {
+    /// Leaves the lock, and each place behind it that the client has. Waits as an append and a read do.
+    pub fn leave<R: Wait>(
+        &mut self,
+        rt: &R,
+        alloc: Global,
+        store: &Store,
+    ) -> Result<(), ObjectFault>
+        requires { IsDesk store.now self.old }
+        ensures desk { IsDesk store.now self.new }
+        ensures ok { IfOk result (λ _. Leaves store.now self.old.client self.new.client) }
+        ensures err { IfErr result (WriteRefused store.now self.old.client self.new.client (codes "leave")) }
+    {
         let _own = self.write(rt, alloc, store, LEAVE)?;
         Ok(())
     }
 
-    /// The ticket that holds the lock now, if there is one.
-    pub fn holder<R: Wait>(&mut self, rt: &R, alloc: Global, store: &Store) -> Result<Option<Ticket>, ObjectFault> {
+    /// The ticket that holds the lock, if there is one. Waits as a read does.
+    pub fn holder<R: Wait>(
+        &mut self,
+        rt: &R,
+        alloc: Global,
+        store: &Store,
+    ) -> Result<Option<Ticket>, ObjectFault>
+        requires { IsDesk store.now self.old }
+        ensures desk { IsDesk store.now self.new }
+        ensures ok { IfOk result (Looks store.now self.old.client self.new.client) }
+        ensures err { IfErr result (LookRefused store.now self.old.client self.new.client) }
+    {
         match self.kept.read(rt, alloc, &mut self.client, store, &COLOURS) {
             Ok(_read) => Ok(self.kept.state().holder()),
             Err(fault) => Err(ObjectFault::Sync(fault)),

@@ -4,8 +4,13 @@
 mod desk;
 mod folded;
 
+ghost use Rattle.std.specs.Prelude.{◌<◌, IfOk, IfSome};
+ghost use Rattle.std.specs.List.{All};
+ghost use Rattle.log_client.specs.Clients.{IsClient};
+ghost use Rattle.example_lock.specs.Desks.{IsDesk};
+
 use desk::Desk;
-use log_client::Store;
+use log_client::{Client, Store};
 use log_node::{ListOf, Shape};
 use std::alloc::{AllocError, Global};
 use std::io;
@@ -13,12 +18,15 @@ use std::sync::Wait;
 use std::thread;
 use std::thread::Threads;
 
-// A store of one region and one colour, and a desk for each of three clients.
-fn open(alloc: Global) -> Result<(Store, Vec<Desk>), AllocError> {
+// A store of one region and one colour, with three clients.
+fn open(alloc: Global) -> Result<(Store, Vec<Client>), AllocError>
+    ensures colour { IfOk result (λ r. 0 < r.0.size.colours) }
+    ensures clients { IfOk result (λ r. All (IsClient r.0) r.1.items) }
+{
     let mut homes = ListOf::new(alloc);
-    for _ in 0..3 {
-        homes.push(0)?;
-    }
+    homes.push(0)?;
+    homes.push(0)?;
+    homes.push(0)?;
     let shape = Shape {
         regions: 1,
         colours: 1,
@@ -26,15 +34,24 @@ fn open(alloc: Global) -> Result<(Store, Vec<Desk>), AllocError> {
         rows: 1,
     };
     let (store, clients) = Store::open(alloc, &shape)?;
-    let mut desks = Vec::new(alloc);
-    for client in clients.into_vec() {
-        desks.push(Desk::open(alloc, client))?;
-    }
-    Ok((store, desks))
+    Ok((store, clients.into_vec()))
 }
 
-// Waits until the ticket with this token holds the lock; false where a look was refused.
-fn wait_for<R: Wait>(rt: &R, alloc: Global, store: &Store, desk: &mut Desk, token: u64) -> bool {
+// A desk of the last client, if one is left.
+fn next_desk(alloc: Global, store: &Store, clients: &mut Vec<Client>) -> Option<Desk>
+    requires colour { 0 < store.now.size.colours }
+    requires clients { All (IsClient store.now) clients.old.items }
+    ensures clients { All (IsClient store.now) clients.new.items }
+    ensures desk { IfSome result (IsDesk store.now) }
+{
+    Some(Desk::open(alloc, clients.pop()?))
+}
+
+// Looks until the ticket with this token holds; false where it never will, or a look is refused.
+fn wait_for<R: Wait>(rt: &R, alloc: Global, store: &Store, desk: &mut Desk, token: u64) -> bool
+    requires { IsDesk store.now desk.old }
+    ensures { IsDesk store.now desk.new }
+{
     for _ in rt.forever() {
         match desk.holder(rt, alloc, store) {
             Ok(Some(ticket)) => {
@@ -49,8 +66,10 @@ fn wait_for<R: Wait>(rt: &R, alloc: Global, store: &Store, desk: &mut Desk, toke
     unreachable!()
 }
 
-// Takes the lock and leaves it, so many times; answers how often it held.
-fn take_turns<R: Wait>(rt: &R, alloc: Global, store: &Store, mut desk: Desk, turns: u32) -> u32 {
+// Takes the lock and leaves it, that many times; answers how often it held.
+fn take_turns<R: Wait>(rt: &R, alloc: Global, store: &Store, mut desk: Desk, turns: u32) -> u64
+    requires { IsDesk store.now desk }
+{
     let mut held = 0;
     for _ in 0..turns {
         let Ok(place) = desk.ask(rt, alloc, store) else {
@@ -64,7 +83,7 @@ fn take_turns<R: Wait>(rt: &R, alloc: Global, store: &Store, mut desk: Desk, tur
     held
 }
 
-// Both take the lock so many times, each on a thread of its own; answers how often they held it.
+// Two desks take turns, each on a thread of its own; answers how often each of them held.
 fn take_turns_beside<R: Threads + Wait + Sync>(
     rt: &R,
     alloc: Global,
@@ -72,28 +91,51 @@ fn take_turns_beside<R: Threads + Wait + Sync>(
     ann: Desk,
     bob: Desk,
     turns: u32,
-) -> Result<u64, AllocError> {
+) -> Result<(u64, u64), AllocError>
+    requires ann { IsDesk store.now ann }
+    requires bob { IsDesk store.now bob }
+{
     thread::scope(
         thread::scope_env(),
         rt,
-        move |scope| -> Result<u64, AllocError> {
+        move |scope| -> Result<(u64, u64), AllocError>
+            requires { IsDesk store.now ann × IsDesk store.now bob }
+        {
             let first = scope.spawn(move || take_turns(rt, alloc, store, ann, turns))?;
             let second = scope.spawn(move || take_turns(rt, alloc, store, bob, turns))?;
-            Ok(first.join(rt) as u64 + second.join(rt) as u64)
+            Ok((first.join(rt), second.join(rt)))
         },
     )
 }
 
 // Asks, and says how many are before.
-fn say_ask<R: Wait + Print>(rt: &R, alloc: Global, store: &Store, name: &str, desk: &mut Desk) -> io::Result<()> {
+fn say_ask<R: Wait + Print>(
+    rt: &R,
+    alloc: Global,
+    store: &Store,
+    name: &str,
+    desk: &mut Desk,
+) -> io::Result<()>
+    requires { IsDesk store.now desk.old }
+    ensures { IsDesk store.now desk.new }
+{
     match desk.ask(rt, alloc, store) {
-        Ok(place) => println!(rt; "{name} asks: {} before it", place.before),
+        Ok(place) => println!(rt; "{name} asks: {} before", place.before),
         Err(_) => println!(rt; "{name} asks: refused"),
     }
 }
 
 // Looks, and says which client holds.
-fn say_holder<R: Wait + Print>(rt: &R, alloc: Global, store: &Store, name: &str, desk: &mut Desk) -> io::Result<()> {
+fn say_holder<R: Wait + Print>(
+    rt: &R,
+    alloc: Global,
+    store: &Store,
+    name: &str,
+    desk: &mut Desk,
+) -> io::Result<()>
+    requires { IsDesk store.now desk.old }
+    ensures { IsDesk store.now desk.new }
+{
     match desk.holder(rt, alloc, store) {
         Ok(Some(ticket)) => println!(rt; "{name} looks: client {} holds", ticket.client),
         Ok(None) => println!(rt; "{name} looks: free"),
@@ -103,9 +145,14 @@ fn say_holder<R: Wait + Print>(rt: &R, alloc: Global, store: &Store, name: &str,
 
 fn main(rt: HostRuntime) -> io::Result<()> {
     let alloc = rt.alloc();
-    let (store, mut desks) = open(alloc)?;
-    let (Some(mut cyd), Some(mut bob), Some(mut ann)) = (desks.pop(), desks.pop(), desks.pop())
-    else {
+    let (store, mut clients) = open(alloc)?;
+    let Some(mut cyd) = next_desk(alloc, &store, &mut clients) else {
+        return Ok(());
+    };
+    let Some(mut bob) = next_desk(alloc, &store, &mut clients) else {
+        return Ok(());
+    };
+    let Some(mut ann) = next_desk(alloc, &store, &mut clients) else {
         return Ok(());
     };
     say_ask(&rt, alloc, &store, "ann", &mut ann)?;
@@ -114,7 +161,7 @@ fn main(rt: HostRuntime) -> io::Result<()> {
     let _left = ann.leave(&rt, alloc, &store);
     say_holder(&rt, alloc, &store, "cyd", &mut cyd)?;
     let _left = bob.leave(&rt, alloc, &store);
-    let held = take_turns_beside(&rt, alloc, &store, ann, bob, 5)?;
-    println!(rt; "on threads they hold it {held} times")?;
+    let (first, second) = take_turns_beside(&rt, alloc, &store, ann, bob, 5)?;
+    println!(rt; "ann has held {first} times more, bob {second}")?;
     say_holder(&rt, alloc, &store, "cyd", &mut cyd)
 }
