@@ -46,7 +46,7 @@ Writes s c d text stamp told =
     (a : Appended) × (read : StampedRead) × (a.stood.key.stamp ≡ stamp)
     × IsExplained s c d (TellsOwn told_behind lock_set text (rising lock_colours) told a read)
 
--- An ask stands under its token, and behind the nodes before it so many tickets are before its own.
+-- An ask stands under its token, and behind the nodes before it that many tickets are before its own.
 abbrev pub Asks : Store → Client → Client → Place → Type 0
 Asks s c d place =
     (a : Appended) × (read : StampedRead) × (a.stood.key.stamp ≡ place.token)
