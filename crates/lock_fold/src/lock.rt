@@ -1,7 +1,7 @@
 // One lock, folded from the nodes of its colour.
 ghost use Rattle.std.specs.Prelude.{◌≡◌, ◌++◌, ◌∷◌, [], List, IfOk, OnOk, OnErr, slice_get};
 ghost use Rattle.object_fold.specs.Nodes.{ObjectNode};
-ghost use Rattle.lock_fold.specs.Tickets.{HasTickets, tickets_after, told_behind};
+ghost use Rattle.lock_fold.specs.Tickets.{HasTickets, tickets_after, told_behind, without};
 
 use log_node::{Key, Text};
 use std::alloc::{AllocError, Global};
@@ -23,6 +23,13 @@ pub struct Ticket {
 #[derive(Drop)]
 pub struct Lock {
     waiting: Vec<Ticket>,
+}
+
+// The client's tickets are handed back.
+fn hand_back(waiting: &mut Vec<Ticket>, client: u8)
+    ensures { waiting.new.items ≡ without client waiting.old.items }
+{
+    waiting.retain(|ticket| ticket.client != client);
 }
 
 impl Lock {
@@ -60,7 +67,7 @@ impl Lock {
             return Ok(Some(before));
         }
         if text.as_bytes() == LEAVE.as_bytes() {
-            self.waiting.retain(|ticket| ticket.client != client);
+            hand_back(&mut self.waiting, client);
         }
         Ok(None)
     }
