@@ -14,6 +14,7 @@ use std::sync::Wait;
 
 // The lock's one colour, as a list and as a set.
 const COLOURS: [u8; 1] = [0];
+
 const SET: Colours = Colours(1);
 
 /// A place in the queue for the lock.

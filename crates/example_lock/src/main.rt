@@ -13,10 +13,9 @@ use desk::Desk;
 use log_client::{Client, Store};
 use log_node::{ListOf, Shape};
 use std::alloc::{AllocError, Global};
-use std::io;
 use std::sync::Wait;
-use std::thread;
 use std::thread::Threads;
+use std::{io, thread};
 
 // A store of one region and one colour, with three clients.
 fn open(alloc: Global) -> Result<(Store, Vec<Client>), AllocError>
