@@ -2,7 +2,7 @@
 use super::*;
 
 /// Scripts, and their reports.
-const MAPS: [(&str, &str); 4] = [
+const MAPS: [(&str, &str); 5] = [
     // A map answers the last put of a key, and none behind its deletion. A client of another region is refused.
     (
         "fuzzylog 1
@@ -176,6 +176,31 @@ column w x
 = clock 0 line - queue - cut 2,0 base 0,0
 column w y
 = clock 0 line - queue - cut 0,0 base 0,0
+",
+    ),
+    // The shards are in the order in which the map names its colours: that of `b` is y, and that of `a` is x.
+    (
+        "fuzzylog 1
+regions r
+colours x y
+client a r
+map m r y x
+begin
+a put m b 1
+a put m a 2
+a get m b
+",
+        "report 1
+client a
+7 put ok 1 y!0@0
+8 put ok 2 x!0@0
+9 get ok 1 y?1/1
+column r x
+0 a single a.1 floor 1 wants 0 stamp 2
+= clock 2 line a.1:2 queue - cut 1 base 0
+column r y
+0 a single a.0 floor 0 wants 0 stamp 1
+= clock 1 line a.0:1 queue - cut 1 base 0
 ",
     ),
 ];

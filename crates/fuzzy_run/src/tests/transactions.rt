@@ -4,7 +4,7 @@ use super::*;
 /// Scripts, and their reports.
 const REPORTS: [(&str, &str); 6] = [
     // Two clients read, and one commits before the other: what that one read is no longer so, and it is told the key and the
-    // stamp of its last writer. What it read is used up.
+    // stamp of its last writer. What it read is used up. A commit's text names the writer on which it rests.
     (
         "fuzzylog 1
 regions r
@@ -19,11 +19,14 @@ b commit t b=7
 a commit t b=8
 b read t b
 b commit t b=9
+a sync x
 ",
         "report 1
 client a
 8 read ok 0 b=- x?0 y?0 x?0/0 y?0/0
 11 commit conflict b 1 x!1@1 at 2 x?2 y!1 x?2/2 y?2/0
+14 sync ok x?3/3 plays 1
++ b.1 3 t:b@1.1.0|b=9
 client b
 9 read ok 0 b=- x?0 y?0 x?0/0 y?0/0
 10 commit committed 1 x!0@0 at 1 x?1 y!0 x?1/1 y?1/0

@@ -1,9 +1,7 @@
-// Texts that were written by hand, both ways.
-ghost use Rattle.object_form.specs.Forms.{IsForm};
-
+// Texts that were written by hand.
 use crate::tests::made::key_of;
-use log_node::{Form, Id, Key, ListOf, Pair, Text, Version};
-use object_form::{read_form, write_form};
+use log_node::{Form, Pair, Text, Version};
+use object_form::read_form;
 use std::alloc::{AllocError, Global};
 use std::process::Abort;
 use std::test::Fail;
@@ -125,53 +123,5 @@ fn a_transaction_is_read_with_its_versions(rt: HostRuntime) -> Result<(), Fail> 
         }
         _ => assert!(rt; false, "no transaction"),
     }
-    Ok(())
-}
-
-/// The text of a form is this.
-fn is_written(rt: &impl Abort, alloc: Global, form: &Form, text: &[u8]) -> Result<(), AllocError>
-    requires { IsForm form.now }
-{
-    let written = write_form(alloc, form)?;
-    assert_eq!(rt; written.as_bytes(), text);
-    Ok(())
-}
-
-#[test]
-fn forms_are_written(rt: HostRuntime) -> Result<(), Fail> {
-    let alloc = rt.alloc();
-    let key = Text::copied(alloc, b"k")?;
-    let value = Text::copied(alloc, b"1")?;
-    is_written(&rt, alloc, &Form::Put { key, value }, b"p:k=1")?;
-    is_written(&rt, alloc, &Form::Dequeue, b"q:")?;
-    Ok(())
-}
-
-#[test]
-fn a_transaction_is_written(rt: HostRuntime) -> Result<(), Fail> {
-    let alloc = rt.alloc();
-    let writer = Key {
-        stamp: 1,
-        id: Id {
-            client: 1,
-            count: 0,
-        },
-    };
-    let mut reads = ListOf::new(alloc);
-    reads.push(Version {
-        key: Text::copied(alloc, b"b")?,
-        writer: Some(writer),
-    })?;
-    let mut writes = ListOf::new(alloc);
-    writes.push(Pair {
-        key: Text::copied(alloc, b"b")?,
-        value: Text::copied(alloc, b"9")?,
-    })?;
-    is_written(
-        &rt,
-        alloc,
-        &Form::Transaction { reads, writes },
-        b"t:b@1.1.0|b=9",
-    )?;
     Ok(())
 }
