@@ -1,4 +1,5 @@
 mod TableLemmas
+mod SameCalls
 mod MapLemmas
 mod TxLemmas
 mod PastLemmas

@@ -8,6 +8,7 @@ mod several_keys;
 mod shard_map;
 mod shards;
 mod table;
+mod table_key;
 mod tx_state;
 mod verdict;
 

@@ -1,37 +1,28 @@
-// Values by keys, in rising order of the keys' bytes.
-ghost use Rattle.std.specs.Prelude.{◌≡◌, ℕ, ◌≤◌, ◌<◌, ◌-◌, [], OnOk, IfOk, IfErr, Some, None, List, if◌then◌else◌};
+// Values by keys.
+ghost use Rattle.std.specs.Prelude.{◌≡◌, ℕ, ◌≤◌, ◌<◌, ◌-◌, [], OnOk, Some, None, List, if◌then◌else◌};
 ghost use Rattle.std.specs.Option.{option_copied};
 ghost use Rattle.std.specs.Str.{bytes_eq};
-ghost use Rattle.object_fold.specs.Tables.{value_at, key_order, Rises, FoundAt, GapAt};
+ghost use Rattle.object_fold.specs.Tables.{value_at};
 
+use crate::table_key::{AskedKey, TableKey};
+use indexmap::IndexMap;
 use log_node::Text;
 use std::alloc::{AllocError, Global};
 use std::marker::Model;
 
-/// Values by keys.
+/// Values by keys: each call takes a time that does not grow with their number.
 #[derive(Drop)]
 pub struct Table<V> {
-    entries: Vec<(Text, V)>,
+    entries: IndexMap<TableKey, V>,
 }
 
 impl<V> Model for Table<V> {
-    ghost use Rattle.std.specs.Prelude.{◌-◌, vec_len, vec_capacity};
-    ghost use Rattle.object_fold.specs.Tables.{Table as Seen, Rises};
+    ghost use Rattle.indexmap.specs.IndexMap.{spare};
+    ghost use Rattle.object_fold.specs.Tables.{Table as Seen};
 
     ghost Value = { Seen V };
 
-    ghost view = { λ a. record { entries = a.entries.items; spare = vec_capacity a.entries - vec_len a.entries } };
-
-    ghost invariant = { λ a. Rises a.entries.items };
-}
-
-// Where the key stands, or else where it would.
-fn search<V>(entries: &[(Text, V)], key: &[u8]) -> Result<usize, usize>
-    requires { Rises entries.now }
-    ensures found { IfOk result (FoundAt entries.now key.now) }
-    ensures gap { IfErr result (GapAt entries.now key.now) }
-{
-    entries.binary_search_by(|entry| entry.0.as_bytes().cmp(key))
+    ghost view = { λ a. record { entries = a.entries.entries; spare = spare a.entries } };
 }
 
 impl<V: Drop> Table<V> {
@@ -40,7 +31,7 @@ impl<V: Drop> Table<V> {
         ensures { result.entries ≡ [] }
     {
         Table {
-            entries: Vec::new(alloc),
+            entries: IndexMap::new(alloc),
         }
     }
 
@@ -48,10 +39,7 @@ impl<V: Drop> Table<V> {
     pub fn get(&self, key: &[u8]) -> Option<&V>
         ensures { option_copied result ≡ value_at self.now.entries key.now }
     {
-        match search(&self.entries, key) {
-            Ok(place) => Some(&self.entries[place].1),
-            Err(_) => None,
-        }
+        self.entries.get(AskedKey { bytes: key })
     }
 
     /// Takes the memory for so many more keys.
@@ -69,12 +57,9 @@ impl<V: Drop> Table<V> {
             ≡ (if bytes_eq key other then Some value else value_at self.old.entries other) }
         ensures room { self.old.spare - 1 ≤ self.new.spare }
     {
-        match search(&self.entries, key.as_bytes()) {
-            Ok(place) => self.entries[place].1 = value,
-            Err(place) => match self.entries.insert(place, (key, value)) {
-                Ok(()) => {}
-                Err(_) => unreachable!(),
-            },
+        match self.entries.insert(TableKey { text: key }, value) {
+            Ok(_) => {}
+            Err(_) => unreachable!(),
         }
     }
 
@@ -84,8 +69,6 @@ impl<V: Drop> Table<V> {
             ≡ (if bytes_eq key.now other then None else value_at self.old.entries other) }
         ensures room { self.old.spare ≤ self.new.spare }
     {
-        if let Ok(place) = search(&self.entries, key) {
-            self.entries.remove(place);
-        }
+        let _value = self.entries.swap_remove(AskedKey { bytes: key });
     }
 }

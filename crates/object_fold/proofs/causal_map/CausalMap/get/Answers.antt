@@ -6,7 +6,7 @@ use Rattle.std.proofs.lemmas.List.MinMax.{ranks_by}
 use Rattle.std.proofs.lemmas.Cmp.{nat_list_cmp_total}
 use Rattle.object_fold.specs.declared.causal_map.LatestWrite.{LatestWrite}
 use Rattle.object_fold.specs.CausalStates.{latest_at}
-use Rattle.object_fold.proofs.TableLemmas.{always}
+use Rattle.object_fold.proofs.SameCalls.{always}
 use Rattle.object_fold.proofs.CausalLemmas.{answers}
 use Rattle.object_fold.proofs.causal_map.CausalMap.get.Goals as goal
 
