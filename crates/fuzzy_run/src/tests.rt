@@ -101,7 +101,14 @@ fn all_leave<R: Threads + Wait + Sync + Abort>(
 ) -> Result<(), Fail> {
     for (lines, report) in rows {
         let script = script_of(alloc, begin, lines)?;
-        leaves(alloc, rt, word, script.as_bytes(), Status::Done, report.as_bytes())?;
+        leaves(
+            alloc,
+            rt,
+            word,
+            script.as_bytes(),
+            Status::Done,
+            report.as_bytes(),
+        )?;
     }
     Ok(())
 }

@@ -21,7 +21,12 @@ impl InTurn {
     fn new(wanted: [u64; 3]) -> InTurn {
         InTurn {
             wanted,
-            passed: [AtomicU64::new(0), AtomicU64::new(0), AtomicU64::new(0), AtomicU64::new(0)],
+            passed: [
+                AtomicU64::new(0),
+                AtomicU64::new(0),
+                AtomicU64::new(0),
+                AtomicU64::new(0),
+            ],
             late: AtomicBool::new(false),
         }
     }

@@ -55,12 +55,32 @@ fn padded(alloc: Global, bytes: usize, line: u32, byte: u8) -> Result<Vec<u8>, A
 const PADDED: [(usize, u32, u8, Option<&str>); 9] = [
     (1_048_575, 7, b'#', None),
     (1_048_576, 7, b'#', None),
-    (1_048_577, 7, b'#', Some("refused: line 0: script too long\n")),
+    (
+        1_048_577,
+        7,
+        b'#',
+        Some("refused: line 0: script too long\n"),
+    ),
     (20_100, 19_999, b'#', None),
     (20_100, 20_000, b'#', None),
-    (20_100, 20_000, b'\t', Some("refused: line 20000: not ascii\n")),
-    (20_100, 20_001, b'#', Some("refused: line 20001: too many lines\n")),
-    (20_100, 20_001, b'\t', Some("refused: line 20001: too many lines\n")),
+    (
+        20_100,
+        20_000,
+        b'\t',
+        Some("refused: line 20000: not ascii\n"),
+    ),
+    (
+        20_100,
+        20_001,
+        b'#',
+        Some("refused: line 20001: too many lines\n"),
+    ),
+    (
+        20_100,
+        20_001,
+        b'\t',
+        Some("refused: line 20001: too many lines\n"),
+    ),
     // The last line feed ends line 20,000.
     (0, 20_001, b'#', None),
 ];
@@ -83,8 +103,10 @@ fn a_script_has_up_to_1048576_bytes_and_20000_lines(rt: HostRuntime) -> Result<(
 
 /// One region, its sixteen colours, and sixteen clients, each of whom appends to all colours as often as is said.
 fn widest(alloc: Global, rounds: u32) -> Result<String, AllocError> {
-    let mut script =
-        String::from_str(alloc, "fuzzylog 1\nregions r\ncolours a b c d e f g h i j k l m n o p\n")?;
+    let mut script = String::from_str(
+        alloc,
+        "fuzzylog 1\nregions r\ncolours a b c d e f g h i j k l m n o p\n",
+    )?;
     for client in b'a'..=b'p' {
         script.push_str(format!(in alloc; "client c{} r\n", client as char)?.as_str())?;
     }
@@ -92,7 +114,9 @@ fn widest(alloc: Global, rounds: u32) -> Result<String, AllocError> {
     for _ in 0..rounds {
         for client in b'a'..=b'p' {
             let name = client as char;
-            script.push_str(format!(in alloc; "c{name} append a,b,c,d,e,f,g,h,i,j,k,l,m,n,o,p t\n")?.as_str())?;
+            script.push_str(format!(in alloc;
+                "c{name} append a,b,c,d,e,f,g,h,i,j,k,l,m,n,o,p t\n"
+            )?.as_str())?;
         }
     }
     Ok(script)

@@ -30,14 +30,42 @@ const FIRST_LINES: [Row; 30] = [
     ("fuzzylog 1\nregions 1a\n", 2, "bad name"),
     ("fuzzylog 1\nregions r r A\n", 2, "name repeated"),
     ("fuzzylog 1\nregions r\ncolours x y x\n", 3, "name repeated"),
-    ("fuzzylog 1\nregions r\ncolours x\nrows 0\n", 4, "bad number"),
-    ("fuzzylog 1\nregions r\ncolours x\nrows 4097\n", 4, "bad number"),
-    ("fuzzylog 1\nregions r\ncolours x\nrows 01\n", 4, "bad number"),
-    ("fuzzylog 1\nregions r\ncolours x\nrows 00000000001\n", 4, "bad number"),
-    ("fuzzylog 1\nregions r\ncolours x\nclient A s\n", 4, "bad name"),
-    ("fuzzylog 1\nregions r\ncolours x\nclient a s\n", 4, "unknown region"),
+    (
+        "fuzzylog 1\nregions r\ncolours x\nrows 0\n",
+        4,
+        "bad number",
+    ),
+    (
+        "fuzzylog 1\nregions r\ncolours x\nrows 4097\n",
+        4,
+        "bad number",
+    ),
+    (
+        "fuzzylog 1\nregions r\ncolours x\nrows 01\n",
+        4,
+        "bad number",
+    ),
+    (
+        "fuzzylog 1\nregions r\ncolours x\nrows 00000000001\n",
+        4,
+        "bad number",
+    ),
+    (
+        "fuzzylog 1\nregions r\ncolours x\nclient A s\n",
+        4,
+        "bad name",
+    ),
+    (
+        "fuzzylog 1\nregions r\ncolours x\nclient a s\n",
+        4,
+        "unknown region",
+    ),
     // One name, one client and one object more than there may be.
-    ("fuzzylog 1\nregions r\ncolours a b c d e f g h i j k l m n o p q\n", 3, "bad form"),
+    (
+        "fuzzylog 1\nregions r\ncolours a b c d e f g h i j k l m n o p q\n",
+        3,
+        "bad form",
+    ),
     (
         "fuzzylog 1\nregions r\ncolours x\n\
          client ca r\nclient cb r\nclient cc r\nclient cd r\nclient ce r\nclient cf r\nclient cg r\nclient ch r\n\
@@ -174,7 +202,14 @@ fn all_refused<R: Threads + Wait + Sync + Abort>(
     for (lines, line, reason) in rows {
         let script = script_of(alloc, begin, lines)?;
         let refusal = format!(in alloc; "refused: line {line}: {reason}\n")?;
-        leaves(alloc, rt, "step", script.as_bytes(), Status::Refused, refusal.as_bytes())?;
+        leaves(
+            alloc,
+            rt,
+            "step",
+            script.as_bytes(),
+            Status::Refused,
+            refusal.as_bytes(),
+        )?;
     }
     Ok(())
 }
