@@ -25,13 +25,13 @@ use thiserror::Error;
 /// Why an append to several colours does not stand.
 #[derive(Clone, Copy, Debug, PartialEq, Eq, Error)]
 pub enum MultiFault {
-    /// The client has begun so many rows, and has no more. `multi` never gives it, since it asks for a row that is left.
+    /// The client has begun this many rows, and has no more. `multi` never gives it, since it asks for a row that is left.
     #[error("all {used} rows are used")]
     Full { used: u32 },
     /// No stamp was left in this colour, the least such one.
     #[error("no stamp is left in colour {colour}")]
     StampEnd { colour: u8 },
-    /// The append stopped after so many steps, as was asked.
+    /// The append stopped after this many steps, as was asked.
     #[error("stopped after {steps} steps")]
     Stopped { steps: u8 },
     #[error("out of memory")]
@@ -165,7 +165,7 @@ fn perform<R: Wait, G: Gate>(
 
 /// Appends a node to its colours: its row is begun, it is proposed in its colours, the least first, it is decided, and it
 /// is settled in the same order; then what stands in its way in the lines is helped. These are 2k + 2 steps over k
-/// colours; the gate is passed after each but the last. With a stop, the append stops after so many steps. The memory of
+/// colours; the gate is passed after each but the last. With a stop, the append stops after that many steps. The memory of
 /// the answer is taken before the first step, after which nothing is refused.
 pub fn multi<R: Wait, G: Gate>(
     rt: &R,

@@ -30,7 +30,7 @@ struct Done {
     sync: Duration,
 }
 
-// So many clients append so many nodes each to the colours of these bits; another pulls and syncs.
+// This many clients append this many nodes each to the colours of these bits; another pulls and syncs.
 fn bench<R: Threads + Wait + Clock + Sync>(
     rt: &R,
     alloc: Global,
@@ -61,7 +61,7 @@ fn bench<R: Threads + Wait + Clock + Sync>(
     })
 }
 
-// Of so long a time, what each of so many took, in nanoseconds.
+// What each of this many took of the time, in nanoseconds.
 fn each(time: Duration, many: u64) -> u128 {
     time.as_nanos().checked_div(many as u128).unwrap_or(0)
 }

@@ -88,7 +88,7 @@ impl Region {
         }
     }
 
-    /// What a reader sees of the colour's column who has these counts.
+    /// What a reader with these counts sees of the colour's column.
     pub fn look<R: Wait>(
         &self,
         rt: &R,

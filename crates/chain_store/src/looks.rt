@@ -19,7 +19,7 @@ use std::alloc::{AllocError, Global};
 use std::sync::Wait;
 use turn_cell::{Cell, Pass};
 
-/// What a reader sees who has these counts. Waits for the turn.
+/// What a reader with these counts sees. Waits for the turn.
 pub fn look_in<R: Wait>(
     rt: &R,
     alloc: Global,

@@ -98,7 +98,7 @@ fn reports_of(alloc: Global, places: Vec<Place>) -> Result<ListOf<ColumnReport>,
     Ok(reports)
 }
 
-/// What is shown of the columns, under the names of regions and colours, made on so many threads at most, and on fewer where
+/// What is shown of the columns, under the names of regions and colours, made on that many threads at most, and on fewer where
 /// the columns are short: what a column holds beside is given back there too.
 pub fn columns_beside<R: Threads + Sync>(
     rt: &R,

@@ -63,7 +63,7 @@ impl Entered {
         })
     }
 
-    /// The begun append of a node of several colours, as one who helps it holds it. Where memory was refused, it is
+    /// The begun append of a node of several colours, as a helper holds it. Where memory was refused, it is
     /// without its node. `None` exactly where the node has no row.
     pub fn begun(&self) -> Option<Begun>
         ensures { IsBegunOf result self.now.node }

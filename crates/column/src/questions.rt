@@ -18,7 +18,7 @@ use log_node::{Counts, Item, Items, Key, MAX_REGIONS};
 use std::alloc::{AllocError, Global};
 
 impl Column {
-    /// What a reader sees who has these counts: the nodes from there up to the cut.
+    /// What a reader with these counts sees: the nodes from there up to the cut.
     pub fn look(&self, alloc: Global, from: Counts) -> Result<View, AllocError>
         ensures { IfOk result (λ view. IsView self.now from view) }
     {

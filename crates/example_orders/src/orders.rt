@@ -120,7 +120,7 @@ pub fn lines_agree(world: &World)
     world.agrees();
 }
 
-/// The reader plays the left colour after the first so many of the writer's steps, and the right one after more of them: what
+/// The reader plays the left colour after the first of the writer's steps, and the right one after more of them: what
 /// it has then played.
 pub fn try_order(alloc: Global, first: u8, second: u8) -> Result<Sight, AllocError>
     requires order { first ≤ second }

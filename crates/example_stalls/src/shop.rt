@@ -33,7 +33,7 @@ pub fn open(alloc: Global) -> Result<(Store, Vec<Stall>), AllocError>
     Ok((store, stalls))
 }
 
-// The stall sells so many cups, every third of which is coffee. A cup that is refused is not sold.
+// The stall sells this many cups, every third of which is coffee. A cup that is refused is not sold.
 fn sell_all<R: Wait>(rt: &R, alloc: Global, store: &Store, stall: &mut Stall, cups: u32)
     requires shop { IsShop store.now }
     requires stall { IsStall store.now stall.old }
@@ -49,7 +49,7 @@ fn sell_all<R: Wait>(rt: &R, alloc: Global, store: &Store, stall: &mut Stall, cu
     }
 }
 
-/// All stalls sell so many cups, each on a thread of its own; where no thread can be made, one after another.
+/// All stalls sell this many cups, each on a thread of its own; where no thread can be made, one after another.
 pub fn sell_beside<R: Threads + Wait + Sync>(
     rt: &R,
     alloc: Global,

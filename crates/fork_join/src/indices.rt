@@ -110,7 +110,7 @@ fn gathered<X: Drop, F: Fn(usize) -> X>(
     filled(alloc, places, f)
 }
 
-/// Calls f(0) to f(count - 1) on at most so many threads, and no more than there are numbers, and gives the results in order.
+/// Calls f(0) to f(count - 1) on at most that many threads, and no more than there are numbers, and gives the results in order.
 /// A thread that is done with one number takes the next that nobody took, the last first, so a call that takes long, or a
 /// thread that begins late, keeps the others from none. Where no thread can be made, or one is enough, all calls are made here.
 /// On `Err`, which means that memory ran out, the results are dropped.

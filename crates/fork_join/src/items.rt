@@ -79,7 +79,7 @@ fn first_beside_others<R: Threads + Sync, T: Send, F: Fn(usize, &mut T) + Sync>(
     thread::join_mut(rt, &mut one, &mut rest);
 }
 
-/// Calls `f(place, &mut items[place])` at each item, on at most so many threads; where no thread can be made, here. All
+/// Calls `f(place, &mut items[place])` at each item, on at most that many threads; where no thread can be made, here. All
 /// threads are made by the calling one, which has no share of the items and waits: a thread that works behind one that it made
 /// may keep the processor on which the other was put. Where one thread is enough, the calling one does all.
 pub fn for_each_mut<R: Threads + Sync, T: Send, F: Fn(usize, &mut T) + Sync>(

@@ -1,4 +1,4 @@
-//! Does a script of clients and commands over the shared log, and prints every reply and every column's history.
+//! Runs a script of clients and commands over the shared log, and prints every reply and every column's history.
 #![tactic(auto)]
 
 ghost use Rattle.std.specs.Prelude.{◌≡◌, ◌≢◌};

@@ -77,7 +77,7 @@ fn commands(alloc: Global, count: u32) -> Result<ListOf<Command>, AllocError>
     Ok(commands)
 }
 
-/// The script of a load of so many rounds.
+/// The script of a load of this many rounds.
 pub fn make(alloc: Global, count: u32) -> Result<Script, AllocError>
     requires { count ≤ MAX_LOAD }
     ensures { IfOk result (λ script. script ≡ load_script count) }

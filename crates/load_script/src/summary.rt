@@ -86,7 +86,7 @@ fn rows_of(commands: &[Command]) -> usize
         .count()
 }
 
-/// What the commands of a load of so many rounds come to.
+/// The summary of the commands of a load of this many rounds.
 pub fn sum_up(count: u32, commands: &[Command]) -> Summary
     ensures { result ≡ summary_of count commands.now }
 {

@@ -262,7 +262,7 @@ impl Client {
     /// Appends the client's next node to the colours of its region's columns, with the client's floor and what it has
     /// played of them as wants. On Ok it stands in the lines of all of them, behind all nodes that the client knew to stand
     /// there. Several colours take the client's next row; the gate is passed between their steps, and with a stop the append
-    /// stops after so many. Open entries in its way are helped. Waits for turns of the columns.
+    /// stops after that many. Open entries in its way are helped. Waits for turns of the columns.
     #[tactic(auto, using(crate::proofs::Growing::grown_same))]
     pub fn append<R: Wait, G: Gate>(
         &mut self,

@@ -44,7 +44,7 @@ impl PlayedNodes {
         self.items.as_slice()
     }
 
-    /// The first so many nodes, where there are more.
+    /// Keeps this many of the first nodes, where there are more.
     pub fn truncate(&mut self, count: usize)
         ensures { self.new ≡ take count self.old }
     {

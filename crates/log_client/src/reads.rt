@@ -193,7 +193,7 @@ impl Client {
 
     /// A stamped read of these colours: the columns of the client's region are raised to one stamp, cleared of what is open
     /// up to it, and played. The items are the nodes of the own lines with stamps up to this one that come behind the last
-    /// key, if there is one: so who has folded the nodes up to that key goes on from there. No node with such a stamp comes
+    /// key, if there is one: so a caller that has folded the nodes up to that key goes on from there. No node with such a stamp comes
     /// into the lines afterwards. Where a play is refused, what was done before it stands. Waits for turns of the columns.
     pub fn read_on<R: Wait>(
         &mut self,

@@ -42,7 +42,7 @@ impl KeptQueue {
         Ok(())
     }
 
-    /// The front after the first so many nodes of the line, of which those that were folded are not folded again. Without
+    /// The front after this many first nodes of the line, of which those that were folded are not folded again. Without
     /// memory the fold has come a part of the way.
     pub fn front(
         &mut self,

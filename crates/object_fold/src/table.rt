@@ -42,7 +42,7 @@ impl<V: Drop> Table<V> {
         self.entries.get(AskedKey { bytes: key })
     }
 
-    /// Takes the memory for so many more keys.
+    /// Takes the memory for this many more keys.
     pub fn reserve(&mut self, more: usize) -> Result<(), AllocError>
         ensures entries { self.new.entries ≡ self.old.entries }
         ensures room { OnOk result (more ≤ self.new.spare) }

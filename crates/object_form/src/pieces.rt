@@ -127,7 +127,7 @@ fn are_all_pairs(pieces: &[&[u8]]) -> bool
     pieces.iter().all(|piece| is_pair(piece))
 }
 
-/// At most so many pairs, with distinct keys.
+/// At most this many pairs, with distinct keys.
 pub fn are_pairs(most: usize, pieces: &[&[u8]]) -> bool
     ensures { result ≡ are_pairs most (pieces_in pieces.now) }
 {

@@ -36,7 +36,7 @@ fn sum_modulo(bytes: &[u8], count: u64) -> u64
 }
 
 impl Part {
-    /// The shard at this place of so many colours.
+    /// The shard at this place of that many colours.
     pub fn of(place: u8, colours: u8) -> Self
         requires { place < colours }
         ensures { result ≡ record { place = place; colours = colours } }

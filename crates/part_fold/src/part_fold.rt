@@ -65,7 +65,7 @@ fn write_own(written: &mut Table<Written>, part: &Part, writer: Key, pairs: Pair
 }
 
 impl PartFold {
-    /// The part of the shard at this place of so many colours, counted from 0, before any node.
+    /// The part of the shard at this place of that many colours, counted from 0, before any node.
     pub fn open(alloc: Global, place: u8, colours: u8) -> Self
         requires { place < colours }
         ensures part { result.part ≡ record { place = place; colours = colours } }

@@ -62,7 +62,7 @@ fn first_of(one: Option<Free>, other: Option<Free>) -> Option<Free>
     }
 }
 
-/// The region whose next node is played next, where so many nodes of each chain are played.
+/// The region whose next node is played next, where this many nodes of each chain are played.
 pub(crate) fn next_region(view: &View, played: Counts) -> Option<u8>
     requires { IsWithin view.now.from played }
     ensures { IsNextRegion view.now played result }

@@ -56,7 +56,7 @@ fn put_report<O: Output>(
     put_each(parts, texts, names, out);
 }
 
-/// Writes the text of the report, of which the parts are made on so many threads at most first. At `Err` a front of it went out. A part for
+/// Writes the text of the report, of which the parts are made on that many threads at most first. At `Err` a front of it went out. A part for
 /// whose text there is no memory is printed as it is written.
 pub fn print_beside<K: Sink, R: Threads + Sync>(
     rt: &R,

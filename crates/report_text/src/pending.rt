@@ -62,7 +62,7 @@ impl Pending {
         self.used = end;
     }
 
-    /// A number more, in so many digits, for which there is room.
+    /// A number more, in this many digits, for which there is room.
     #[inline]
     pub fn push_number(&mut self, number: u64, digits: usize)
         requires digits { digits ≡ length (decimal number) }

@@ -21,9 +21,9 @@ pub enum Asked {
 /// What the words of a command line ask for.
 #[derive(Clone, Copy, Debug, PartialEq, Eq)]
 pub enum Task {
-    /// To do the script of the source so.
+    /// To run the script of the source in this way.
     Script(Asked),
-    /// To do a load of so many rounds.
+    /// To run a load of this many rounds.
     Load { count: u32 },
 }
 

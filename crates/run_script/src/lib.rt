@@ -1,4 +1,4 @@
-//! Does a script of clients and commands over the shared log, from the words of a command line and the bytes of the script to
+//! Runs a script of clients and commands over the shared log, from the words of a command line and the bytes of the script to
 //! the bytes of the report.
 #![tactic(auto)]
 

@@ -54,7 +54,7 @@ fn refuse<K: Sink>(sink: &mut K, line: u32, why: Reason) -> Status
     }
 }
 
-// Does the commands of a script in the order of the file, and writes the report.
+// Runs the commands of a script in the order of the file, and writes the report.
 fn do_script<K: Sink>(alloc: Global, script: Script, sink: &mut K) -> Status
     requires fits { IsFitting script }
     requires rows { script.shape.rows ≤ MAX_ROWS }
@@ -89,7 +89,7 @@ fn processors<R: Threads>(rt: &R) -> NonZeroUsize {
     }
 }
 
-// Does the commands of a script on threads, where they have been dealt out to its clients, and writes the report, whose
+// Runs the commands of a script on threads, where they have been dealt out to its clients, and writes the report, whose
 // parts are made into text beside one another.
 fn do_dealt<K: Sink, G: Gate, R: Threads + Wait + Sync>(
     rt: &R,
@@ -121,7 +121,7 @@ fn do_dealt<K: Sink, G: Gate, R: Threads + Wait + Sync>(
     }
 }
 
-// Does the script that the bytes are, or writes the line that says why they are none.
+// Runs the script that the bytes are, or writes the line that says why they are none.
 fn do_bytes<K: Sink, G: Gate, R: Threads + Wait + Sync>(
     rt: &R,
     alloc: Global,
@@ -212,7 +212,7 @@ fn load_text<G: Gate, R: Threads + Wait + Sync>(
     if found { Ok(text) } else { Err(AllocError) }
 }
 
-// Does a load, and writes its summary.
+// Runs a load, and writes its summary.
 fn do_load<K: Sink, G: Gate, R: Threads + Wait + Sync>(
     rt: &R,
     alloc: Global,

@@ -10,7 +10,7 @@ use log_node::ListOf;
 use script_text::Command;
 use std::alloc::{AllocError, Global};
 
-/// So many empty lists, each with room for so many items.
+/// This many empty lists, each with room for that many items.
 pub fn empty_lists<T: Drop>(
     alloc: Global,
     count: usize,
@@ -51,7 +51,7 @@ fn give(
     Ok(())
 }
 
-/// The commands by client, each so many lines further down. The lists begin with room for somewhat more than an even share.
+/// The commands by client, each this many lines further down. The lists begin with room for somewhat more than an even share.
 pub fn own_lists(
     alloc: Global,
     clients: usize,

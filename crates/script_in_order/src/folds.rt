@@ -72,7 +72,7 @@ impl Model for Folds {
     ghost view = { λ a. a.of.items };
 }
 
-/// The first so many nodes of the own line of a region's column.
+/// This many first nodes of the own line of a region's column.
 #[derive(Clone, Copy)]
 pub struct FirstNodes {
     pub region: u8,

@@ -14,7 +14,7 @@ use script_meaning::{runs_are_exact, runs_are_lawful};
 use script_text::Script;
 use std::alloc::{AllocError, Global};
 
-/// Does the commands of a script in the order of the file. A command that finds no memory is answered so, and the
+/// Runs the commands of a script in the order of the file. A command that finds no memory is answered so, and the
 /// run goes on; `Err` means that there was no memory before the first command, or none for the report. The report is
 /// that of a lawful run; where nothing tells of want of memory, it is the one report that is meant.
 pub fn run_in_order(alloc: Global, script: &Script) -> Result<Report, AllocError>

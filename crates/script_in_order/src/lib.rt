@@ -1,4 +1,4 @@
-//! Does the commands of a script in the order of the file, over the world of core steps.
+//! Runs the commands of a script in the order of the file, over the world of core steps.
 #![tactic(auto)]
 
 mod answers;

@@ -30,7 +30,7 @@ impl Model for Replies {
 }
 
 impl Replies {
-    /// No replies yet, with memory for so many; and no read of so many objects.
+    /// No replies yet, with memory for this many; and no read of this many objects.
     pub fn new(alloc: Global, room: usize, objects: usize) -> Result<Replies, AllocError>
         ensures { IfOk result (λ replies. replies ≡ no_replies room objects) }
     {

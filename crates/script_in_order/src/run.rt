@@ -129,7 +129,7 @@ fn do_command(
     }
 }
 
-/// Does the command at a place of a script, after those before it.
+/// Runs the command at a place of a script, after those before it.
 pub fn do_next(
     alloc: Global,
     script: &Script,

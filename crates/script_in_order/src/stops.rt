@@ -12,7 +12,7 @@ use std::alloc::{AllocError, Global};
 use world_code::World;
 use world_laws::is_lawful;
 
-/// Takes the first so many steps of an append to several colours.
+/// Takes this many first steps of an append to several colours.
 pub fn stop(
     alloc: Global,
     command: &Command,

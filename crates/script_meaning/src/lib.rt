@@ -1,4 +1,4 @@
-//! What it means to do a script's commands in the order of the file, and that each such run is lawful.
+//! What it means to run a script's commands in the order of the file, and that each such run is lawful.
 #![tactic(auto)]
 
 mod laws;

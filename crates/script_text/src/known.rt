@@ -26,7 +26,7 @@ pub struct Known {
 }
 
 impl Known {
-    /// What is known before the first line: nothing. There is room for so many commands.
+    /// What is known before the first line: nothing. There is room for this many commands.
     pub fn with_room(alloc: Global, room: usize) -> Result<Known, AllocError>
         ensures { IfOk result (λ known. known ≡ known_of []) }
     {

@@ -197,7 +197,7 @@ fn are_digits(bytes: &[u8]) -> bool
     bytes.iter().all(|b| b.is_ascii_digit())
 }
 
-/// A number of at most so many digits: 0, or digits of which the first is none.
+/// A number of at most this many digits: 0, or digits of which the first is not 0.
 pub fn is_number(most: usize, field: &[u8]) -> bool
     ensures { result ≡ is_number most field.now }
 {

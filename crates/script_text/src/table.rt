@@ -33,11 +33,11 @@ pub enum Field {
     Object { kinds: Kinds },
     Key,
     Value,
-    /// One to so many distinct keys, which are the last fields.
+    /// One to this many distinct keys, which are the last fields.
     Keys { most: usize },
-    /// One to so many pairs with distinct keys, which are the last fields.
+    /// One to this many pairs with distinct keys, which are the last fields.
     Pairs { most: usize },
-    /// One to so many distinct colours, which are the last fields.
+    /// One to this many distinct colours, which are the last fields.
     Colours { most: usize },
 }
 

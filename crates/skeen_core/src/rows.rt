@@ -136,7 +136,7 @@ impl Rows {
         self.clients[row.client as usize].decide(row.number)
     }
 
-    /// The mark of a colour of a row; none where the row is not begun. `_client` is who reads.
+    /// The mark of a colour of a row; none where the row is not begun. `_client` is the reader.
     pub fn read(&self, _client: u8, row: Row, colour: u8) -> Mark
         requires row { IsRow self.now row }
         requires colour { colour < self.now.colours }
@@ -148,7 +148,7 @@ impl Rows {
         }
     }
 
-    /// The outcome that is kept for a row; open where none is. `_client` is who reads.
+    /// The outcome that is kept for a row; open where none is. `_client` is the reader.
     pub fn last(&self, _client: u8, row: Row) -> Outcome
         requires { IsRow self.now row }
         ensures { result ≡ last_in (begun_at self.now row) }

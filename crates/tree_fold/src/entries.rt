@@ -63,7 +63,7 @@ pub fn parent_of(path: &[Text]) -> &[Text]
     &path[..path.len().saturating_sub(1)]
 }
 
-/// The names of a path behind the first so many.
+/// The names of a path behind this many first ones.
 pub fn rest_of(path: &[Text], count: usize) -> &[Text]
     ensures { result.now ≡ drop count path.now }
 {
@@ -109,7 +109,7 @@ pub fn branch_of(entries: &[Entry], path: &[Text]) -> (usize, usize)
     (from, from + count)
 }
 
-/// Some path has more than so many names behind the first `names`.
+/// Some path has more than this many names behind the first `names`.
 pub fn goes_deeper(entries: &[Entry], names: usize, room: usize) -> bool
     ensures { result ≡ list_any (λ e. nat_lt room (length e.path - names)) entries.now }
 {

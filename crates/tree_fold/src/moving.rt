@@ -25,7 +25,7 @@ fn joined(alloc: Global, front: &[Text], rest: &[Text]) -> Result<Names, AllocEr
     Ok(names)
 }
 
-/// The paths of entries with the target in the place of their first names, so many.
+/// The paths of entries with the target in the place of this many first names.
 pub fn moved_paths(
     alloc: Global,
     entries: &[Entry],

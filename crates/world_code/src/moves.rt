@@ -82,7 +82,7 @@ impl World {
         Ok(place)
     }
 
-    /// The region's column carries what it lacks of so many nodes of the origin's line, from a position on, where
+    /// The region's column carries what it lacks of this many nodes of the origin's line, from a position on, where
     /// these are there and leave no gap.
     pub fn carry(
         &mut self,

@@ -53,7 +53,7 @@ pub enum Step {
         colour: u8,
         from: u64,
     },
-    /// The region's column carries what it lacks of so many nodes of the origin's line, from a position on.
+    /// The region's column carries what it lacks of this many nodes of the origin's line, from a position on.
     Carry {
         by: u8,
         origin: u8,

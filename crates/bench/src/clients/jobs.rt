@@ -28,7 +28,7 @@ fn homes(alloc: Global, clients: u8) -> Result<ListOf<u8>, AllocError>
     Ok(homes)
 }
 
-/// Two regions of two colours, with so many clients of the first and then one of the second, each with all the rows that
+/// Two regions of two colours, with this many clients of the first and then one of the second, each with all the rows that
 /// there may be.
 pub fn open(alloc: Global, clients: u8) -> Result<(Store, Vec<Client>, Client), AllocError>
     requires few { clients < MAX_CLIENTS }
@@ -64,7 +64,7 @@ fn append_one<R: Wait>(rt: &R, alloc: Global, store: &Store, client: &mut Client
     let _answer = client.append(rt, alloc, store, &OpenGate, Colours(bits), text, None);
 }
 
-// The client appends so many nodes to the colours of these bits.
+// The client appends this many nodes to the colours of these bits.
 fn append_all<R: Wait>(
     rt: &R,
     alloc: Global,
@@ -84,7 +84,7 @@ fn append_all<R: Wait>(
     }
 }
 
-/// The clients append so many nodes each to the colours of these bits, each on a thread of its own.
+/// The clients append this many nodes each to the colours of these bits, each on a thread of its own.
 pub fn append_beside<R: Threads + Wait + Sync>(
     rt: &R,
     alloc: Global,

@@ -13,7 +13,7 @@ use std::thread;
 use std::thread::Threads;
 use turn_cell::{Cell, Pass, Passes};
 
-/// A column, and the pass of one who appends there.
+/// A column, and the pass of a client that appends there.
 #[derive(Drop)]
 pub struct Job<'a> {
     pub cell: &'a Cell<Seated>,
@@ -103,7 +103,7 @@ fn append_beside<R: Threads + Wait + Sync>(
     Ok(all)
 }
 
-/// Threads that each append so many nodes, at one column or each at its own. Says how many entered.
+/// Threads that each append this many nodes, at one column or each at its own. Says how many entered.
 pub fn over_turns<R: Threads + Wait + Sync>(
     rt: &R,
     alloc: Global,

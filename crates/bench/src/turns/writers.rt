@@ -118,7 +118,7 @@ fn write_beside<P: Send + Sync, R: Threads + Wait + Sync>(
     )
 }
 
-/// Threads that each take so many turns at one cell. The answer is how many entries its value has at the end.
+/// Threads that each take this many turns at one cell. The answer is how many entries its value has at the end.
 pub fn over_cell<P: Drop + Send + Sync, R: Threads + Wait + Sync>(
     rt: &R,
     alloc: Global,

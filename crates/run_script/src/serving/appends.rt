@@ -90,7 +90,7 @@ pub fn append<R: Wait, G: Gate>(
     }
 }
 
-/// Takes the first so many steps of an append to several colours.
+/// Takes this many first steps of an append to several colours.
 pub fn stop<R: Wait, G: Gate>(
     rt: &R,
     alloc: Global,

@@ -89,7 +89,7 @@ fn region_reports<R: Threads + Sync>(
     Ok((rows, columns))
 }
 
-/// The report of all clients, rows and columns; the columns are shown on so many threads at most.
+/// The report of all clients, rows and columns; the columns are shown on that many threads at most.
 pub fn end_report<R: Threads + Sync>(
     rt: &R,
     alloc: Global,
