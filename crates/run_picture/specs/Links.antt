@@ -1,12 +1,14 @@
 -- How boxes are joined: bands, the arrows of chains, and cross-edges.
-use Rattle.std.specs.Prelude.{Bool, ℕ, ◌-◌, ◌==◌, nat_lt, nat_le, not, ◌&&◌, ◌||◌, List, [], ◌∷◌, ◌++◌, Option, Some, None, if◌then◌else◌}
+use Rattle.std.specs.Prelude.{Bool, ℕ, ◌+◌, ◌-◌, ◌==◌, nat_lt, nat_le, not, ◌&&◌, ◌||◌, List, [], ◌∷◌, ◌++◌, Option, Some, None, decimal, codes, if◌then◌else◌}
 use Rattle.std.specs.List.{list_any, find, flat_map}
 use Rattle.log_node.specs.Order.{same_id}
 use Rattle.log_node.specs.Vectors.{at, all_regions}
 use Rattle.run_picture.specs.declared.picture.NodeBox.{NodeBox}
 use Rattle.run_picture.specs.declared.picture.Tie.{Tie}
 use Rattle.run_picture.specs.declared.picture.Tie.TheVariants.{Band, Chain, Edge}
-use Rattle.run_picture.specs.declared.picture.Link.{Link}
+use Rattle.run_picture.specs.declared.picture.Spot.{Spot}
+use Rattle.run_picture.specs.Pieces.{joined}
+use Rattle.run_picture.specs.Spots.{slot_x, spot_y, tie_class, tie_start, tie_end}
 use Rattle.run_picture.specs.Marks.{is_in_line}
 
 -- the box is of the node at this position of the line of this region and colour
@@ -54,22 +56,30 @@ edge_to boxes node region =
     if (region == node.region) || (at node.wants region == 0) || is_implied boxes node region then None
     else node_at boxes region node.colour (at node.wants region - 1)
 
--- from the one box to the other, where there is another
-abbrev pub link_to : Tie → NodeBox → Option NodeBox → List Link
+-- a line from the one box to the other
+abbrev pub link_text : Tie → Spot → Spot → List ℕ
+link_text tie from to =
+    joined (codes "<path class='" ∷ tie_class tie ∷ codes "' d='M" ∷ decimal (slot_x from.slot + tie_start tie)
+    ∷ codes " " ∷ decimal (spot_y from + 18) ∷ codes "L" ∷ decimal (slot_x to.slot + tie_end tie)
+    ∷ codes " " ∷ decimal (spot_y to + 18) ∷ codes "'/>\n" ∷ [])
+
+-- the same, where there is another box
+abbrev pub link_to : Tie → NodeBox → Option NodeBox → List ℕ
 link_to tie node None = []
-link_to tie node (Some other) = record { tie = tie; from = node.at; to = other.at } ∷ []
+link_to tie node (Some other) = link_text tie node.at other.at
+
+-- the band to the same node's box in its next colour, where there is one
+abbrev pub band_link : List NodeBox → NodeBox → List ℕ
+band_link boxes node = link_to Band node (find (is_next_of node) boxes)
+
+-- the arrow to the predecessor in the chain, where that is drawn
+abbrev pub chain_link : List NodeBox → NodeBox → List ℕ
+chain_link boxes node = link_to Chain node (chain_of boxes node)
 
 -- the edge to a region, where there is one
-abbrev pub edge_link : List NodeBox → NodeBox → ℕ → List Link
+abbrev pub edge_link : List NodeBox → NodeBox → ℕ → List ℕ
 edge_link boxes node region = link_to Edge node (edge_to boxes node region)
 
 -- The links from a box: to its node's box in the next colour, to its predecessor, and to what it wants of others.
-abbrev pub links_of : List NodeBox → NodeBox → List Link
-links_of boxes node =
-    link_to Band node (find (is_next_of node) boxes)
-    ++ link_to Chain node (chain_of boxes node)
-    ++ flat_map (edge_link boxes node) all_regions
-
--- the links between all boxes
-abbrev pub links : List NodeBox → List Link
-links boxes = flat_map (links_of boxes) boxes
+abbrev pub links_of : List NodeBox → NodeBox → List ℕ
+links_of boxes node = band_link boxes node ++ chain_link boxes node ++ flat_map (edge_link boxes node) all_regions

@@ -1,5 +1,5 @@
 -- The nodes of a column, which of them are shown, and how deep in their lane.
-use Rattle.std.specs.Prelude.{Bool, true, false, ℕ, ◌+◌, ◌-◌, ◌==◌, nat_lt, nat_le, min, not, ◌&&◌, List, ◌++◌, length, map, filter, if◌then◌else◌}
+use Rattle.std.specs.Prelude.{Bool, true, false, ℕ, ◌+◌, ◌-◌, ◌^◌, ◌==◌, nat_lt, nat_le, min, not, ◌&&◌, List, ◌++◌, length, map, filter, if◌then◌else◌}
 use Rattle.std.specs.List.{count_by, enumerate_from, fold}
 use Rattle.log_node.specs.declared.ids.Key.{Key}
 use Rattle.log_node.specs.Order.{id_below}
@@ -44,17 +44,29 @@ marks column =
     map (line_mark (at column.base column.region)) (enumerate_from 0 column.line)
     ++ map (queue_mark (length column.line)) column.queue
 
+-- the axis has the stamp, where this is the last one
+abbrev pub has_stamp : ℕ → ℕ → Bool
+has_stamp last stamp = nat_le (first_stamp last) stamp && nat_le stamp last
+
 -- the axis has the stamp of the node
 abbrev pub is_shown : ℕ → Mark → Bool
-is_shown last mark = nat_le (first_stamp last) mark.key.stamp && nat_le mark.key.stamp last
+is_shown last mark = has_stamp last mark.key.stamp
 
 -- the nodes of a column that are shown
-abbrev pub shown : Report → ColumnReport → List Mark
-shown report column = filter (is_shown (greatest_clock report)) (marks column)
+abbrev pub shown : ℕ → ColumnReport → List Mark
+shown last column = filter (is_shown last) (marks column)
 
--- how many of the nodes are not shown
-abbrev pub left_out : ℕ → List Mark → ℕ
-left_out last found = count_by (λ mark. not (is_shown last mark)) found
+-- how many keys of a line have a stamp that is not shown
+abbrev pub keys_left_out : ℕ → List Key → ℕ
+keys_left_out last line = count_by (λ key. not (has_stamp last key.stamp)) line
+
+-- the same of a queue
+abbrev pub queue_left_out : ℕ → List QueueKey → ℕ
+queue_left_out last queue = count_by (λ waiting. not (has_stamp last waiting.key.stamp)) queue
+
+-- how many nodes of a column are not shown, up to the greatest number of 64 bits
+abbrev pub left_out : ℕ → ColumnReport → ℕ
+left_out last column = min (keys_left_out last column.line + queue_left_out last column.queue) (2 ^ 64 - 1)
 
 -- the second node stands above the first: it has its stamp, and a lesser id
 abbrev pub is_above : Mark → Mark → Bool

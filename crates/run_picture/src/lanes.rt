@@ -1,16 +1,18 @@
-// The lanes of columns, what columns have of chains, and what came to nothing.
-ghost use Rattle.std.specs.Prelude.{◌≡◌, ◌++◌, length, IfOk, OnOk};
+// The lanes of columns, and what columns hold of chains.
+ghost use Rattle.std.specs.Prelude.{◌≡◌, length};
+ghost use Rattle.std.specs.List.{flat_map};
 ghost use Rattle.col_core.specs.Cuts.{carried};
-ghost use Rattle.run_picture.specs.Lanes.{carried_count, held_of, holding_of, column_holdings, lane_for, is_gone, gone_appends};
+ghost use Rattle.report_text.specs.Output.{Adds};
+ghost use Rattle.run_picture.specs.Marks.{left_out};
+ghost use Rattle.run_picture.specs.Lanes.{carried_count, held_of, left_out_text, lane_start, holding_text, origin_text, column_text};
 
-use crate::boxes::{client_name, lane_of};
+use crate::boxes::lane_of;
 use crate::marks::{count_of, left_out};
-use crate::picture::{Gone, Holding, Lane, Mark};
+use crate::pieces::{Piece, put_all};
+use crate::spots::lane_top;
 use col_core::{Entry, Event};
-use log_node::{ListOf, Outcome, Text};
-use report_text::{ColumnReport, Report, RowReport};
+use report_text::{ColumnReport, Output, Report};
 use script_text::Script;
-use std::alloc::{AllocError, Global};
 
 // How many nodes of the region were carried to the column.
 fn carried_count(journal: &[Entry], region: u8) -> u64
@@ -59,87 +61,134 @@ fn held_of(column: &ColumnReport, region: u8) -> u64
     }
 }
 
-// What a column has of the chain of another column of its colour, or of its own.
-fn holding_of(
-    alloc: Global,
+// How many nodes of a lane are not shown, where there are any.
+fn put_left_out<O: Output>(count: u64, out: &mut O)
+    ensures { Adds (O.state out.old) (O.state out.new) (left_out_text count) }
+{
+    if count == 0 {
+        put_all(&[Piece::Mark("</g>\n")], out);
+    } else {
+        put_all(
+            &[
+                Piece::Mark("<text x='18' y='75'>"),
+                Piece::Number(count),
+                Piece::Mark(" not shown</text></g>\n"),
+            ],
+            out,
+        );
+    }
+}
+
+// How many nodes of a column are not shown.
+fn put_hidden<O: Output>(last: u64, column: &ColumnReport, out: &mut O)
+    ensures { Adds (O.state out.old) (O.state out.new) (left_out_text (left_out last column.now)) }
+{
+    put_left_out(left_out(last, column), out);
+}
+
+// The lane of a column: its colour, its region, and its clock.
+fn put_lane_start<O: Output>(script: &Script, column: &ColumnReport, out: &mut O)
+    ensures { Adds (O.state out.old) (O.state out.new) (lane_start script.now column.now) }
+{
+    put_all(
+        &[
+            Piece::Mark("<g transform='translate(0,"),
+            Piece::Number(lane_top(lane_of(script, column))),
+            Piece::Mark(")' class='lane r"),
+            Piece::Number(column.region as u64),
+            Piece::Mark("'><use href='#l'/><text x='18' y='25'>"),
+            Piece::Text(column.colour_name.as_bytes()),
+            Piece::Mark("</text><text x='18' y='43'>in "),
+            Piece::Text(column.region_name.as_bytes()),
+            Piece::Mark("</text><text x='18' y='59'>clock "),
+            Piece::Number(column.clock),
+            Piece::Mark("</text>"),
+        ],
+        out,
+    );
+}
+
+// What a column holds of the chain of another column of its colour, or of its own.
+fn put_holding<O: Output>(
     script: &Script,
     column: &ColumnReport,
     origin: &ColumnReport,
-) -> Result<Holding, AllocError>
-    ensures { IfOk result (λ holding. holding ≡ holding_of script.now column.now origin.now) }
+    out: &mut O,
+)
+    ensures { Adds (O.state out.old) (O.state out.new) (holding_text script.now column.now origin.now) }
 {
     let region = origin.region;
-    Ok(Holding {
-        lane: lane_of(script, column),
-        region,
-        name: Text::copied(alloc, origin.region_name.as_bytes())?,
-        held: held_of(column, region),
-        plays: count_of(&column.cut, region),
-        dropped: count_of(&column.base, region),
-    })
+    put_all(
+        &[
+            Piece::Mark("<text x='130' y='"),
+            Piece::Number(lane_top(lane_of(script, column)) + 25 + 16 * region as u64),
+            Piece::Mark("'>"),
+            Piece::Text(origin.region_name.as_bytes()),
+            Piece::Mark(": holds "),
+            Piece::Number(held_of(column, region)),
+            Piece::Mark(", plays "),
+            Piece::Number(count_of(&column.cut, region)),
+            Piece::Mark(", dropped "),
+            Piece::Number(count_of(&column.base, region)),
+            Piece::Mark("</text>\n"),
+        ],
+        out,
+    );
 }
 
-/// Adds what a column has of each region's chain of its colour.
-pub fn push_holdings(
-    alloc: Global,
+// The same, where the other column is of its colour.
+fn put_origin<O: Output>(script: &Script, column: &ColumnReport, origin: &ColumnReport, out: &mut O)
+    ensures { Adds (O.state out.old) (O.state out.new) (origin_text script.now column.now origin.now) }
+{
+    if origin.colour == column.colour {
+        put_holding(script, column, origin, out);
+    } else {
+        put_all(&[], out);
+    }
+}
+
+// What a column holds of the chains of these columns, where they are of its colour.
+fn put_holdings<O: Output>(
+    script: &Script,
+    column: &ColumnReport,
+    origins: &[ColumnReport],
+    out: &mut O,
+)
+    ensures { Adds (O.state out.old) (O.state out.new)
+        (flat_map (origin_text script.now column.now) origins.now) }
+{
+    for origin in origins {
+        put_origin(script, column, origin, out);
+    }
+}
+
+// A lane, and what its column holds.
+fn put_column<O: Output>(
     script: &Script,
     report: &Report,
-    column: &ColumnReport,
-    holdings: &mut ListOf<Holding>,
-) -> Result<(), AllocError>
-    ensures { OnOk result (holdings.new ≡ holdings.old ++ column_holdings script.now report.now column.now) }
-{
-    for origin in report.columns.as_slice() {
-        if origin.colour == column.colour {
-            holdings.push(holding_of(alloc, script, column, origin)?)?;
-        }
-    }
-    Ok(())
-}
-
-/// The lane of a column with these nodes.
-pub fn lane_for(
-    alloc: Global,
-    script: &Script,
-    column: &ColumnReport,
     last: u64,
-    found: &[Mark],
-) -> Result<Lane, AllocError>
-    ensures { IfOk result (λ lane. lane ≡ lane_for script.now column.now last found.now) }
+    column: &ColumnReport,
+    out: &mut O,
+)
+    ensures { Adds (O.state out.old) (O.state out.new) (column_text script.now report.now last column.now) }
 {
-    Ok(Lane {
-        lane: lane_of(script, column),
-        region: column.region,
-        region_name: Text::copied(alloc, column.region_name.as_bytes())?,
-        colour_name: Text::copied(alloc, column.colour_name.as_bytes())?,
-        clock: column.clock,
-        left_out: left_out(last, found),
-    })
+    put_lane_start(script, column, out);
+    put_hidden(last, column, out);
+    put_holdings(script, column, report.columns.as_slice(), out);
 }
 
-// Whether the row's append came to nothing.
-fn is_gone(row: &RowReport) -> bool
-    ensures { result ≡ is_gone row.now.last }
+/// The lanes, and what their columns hold.
+pub fn put_columns<O: Output>(
+    script: &Script,
+    report: &Report,
+    last: u64,
+    columns: &[ColumnReport],
+    out: &mut O,
+)
+    ensures { Adds (O.state out.old) (O.state out.new)
+        (flat_map (column_text script.now report.now last) columns.now) }
 {
-    match row.last {
-        Outcome::Open => false,
-        Outcome::Gone(_) => true,
-        Outcome::Final(_) => false,
+    for column in columns {
+        put_column(script, report, last, column, out);
     }
-}
-
-/// The appends that came to nothing.
-pub fn gone_appends(alloc: Global, report: &Report) -> Result<ListOf<Gone>, AllocError>
-    ensures { IfOk result (λ gone. gone ≡ gone_appends report.now) }
-{
-    let mut gone = ListOf::new(alloc);
-    for row in report.rows.as_slice() {
-        if is_gone(row) {
-            gone.push(Gone {
-                client: Text::copied(alloc, client_name(report, row.id.client))?,
-                count: row.id.count,
-            })?;
-        }
-    }
-    Ok(gone)
 }

@@ -1,13 +1,15 @@
 // How boxes are joined.
-ghost use Rattle.std.specs.Prelude.{◌≡◌, ◌++◌, OnOk};
+ghost use Rattle.std.specs.Prelude.{◌≡◌};
 ghost use Rattle.std.specs.List.{list_any, find, flat_map};
 ghost use Rattle.std.specs.Option.{option_copied};
-ghost use Rattle.run_picture.specs.Links.{stands_at, is_next_of, covers, count_before, is_covered, is_implied, node_at, link_to, chain_of, edge_to, edge_link, links_of};
+ghost use Rattle.report_text.specs.Output.{Adds};
+ghost use Rattle.run_picture.specs.Links.{stands_at, is_next_of, covers, count_before, is_covered, is_implied, node_at, link_text, link_to, chain_of, edge_to, band_link, chain_link, edge_link, links_of};
 
 use crate::marks::count_of;
-use crate::picture::{Link, NodeBox, Tie};
-use log_node::ListOf;
-use std::alloc::AllocError;
+use crate::picture::{NodeBox, Spot, Tie};
+use crate::pieces::{Piece, put_all};
+use crate::spots::{slot_x, spot_y};
+use report_text::Output;
 
 /// The numbers that regions may have.
 const REGIONS: [u8; 4] = [0, 1, 2, 3];
@@ -117,60 +119,82 @@ fn edge_to<'a>(boxes: &'a [NodeBox], node: &NodeBox, region: u8) -> Option<&'a N
     node_at(boxes, region, node.colour, wanted - 1)
 }
 
-// Adds a link, where there is a box to join.
-fn push_link(
-    tie: Tie,
-    node: &NodeBox,
-    other: Option<&NodeBox>,
-    links: &mut ListOf<Link>,
-) -> Result<(), AllocError>
-    ensures { OnOk result (links.new ≡ links.old ++ link_to tie node.now (option_copied other.entry)) }
+// A line from a box to another.
+fn put_link<O: Output>(tie: Tie, from: Spot, to: Spot, out: &mut O)
+    ensures { Adds (O.state out.old) (O.state out.new) (link_text tie from to) }
 {
-    if let Some(other) = other {
-        links.push(Link {
-            tie,
-            from: node.at,
-            to: other.at,
-        })?;
-    }
-    Ok(())
+    put_all(
+        &[
+            Piece::Mark("<path class='"),
+            Piece::Mark(tie.class()),
+            Piece::Mark("' d='M"),
+            Piece::Number(slot_x(from.slot) + tie.start()),
+            Piece::Mark(" "),
+            Piece::Number(spot_y(from) + 18),
+            Piece::Mark("L"),
+            Piece::Number(slot_x(to.slot) + tie.end()),
+            Piece::Mark(" "),
+            Piece::Number(spot_y(to) + 18),
+            Piece::Mark("'/>\n"),
+        ],
+        out,
+    );
 }
 
-// Adds the edges to what a node wants of these regions.
-fn push_edges(
-    boxes: &[NodeBox],
-    node: &NodeBox,
-    regions: &[u8],
-    links: &mut ListOf<Link>,
-) -> Result<(), AllocError>
-    ensures { OnOk result (links.new ≡ links.old ++ flat_map (edge_link boxes.now node.now) regions.now) }
+// The same, where there is a box to join.
+fn put_link_to<O: Output>(tie: Tie, node: &NodeBox, other: Option<&NodeBox>, out: &mut O)
+    ensures { Adds (O.state out.old) (O.state out.new) (link_to tie node.now (option_copied other.entry)) }
+{
+    match other {
+        Some(other) => put_link(tie, node.at, other.at, out),
+        None => put_all(&[], out),
+    }
+}
+
+// The edges to what a node wants of these regions.
+fn put_edges<O: Output>(boxes: &[NodeBox], node: &NodeBox, regions: &[u8], out: &mut O)
+    ensures { Adds (O.state out.old) (O.state out.new) (flat_map (edge_link boxes.now node.now) regions.now) }
 {
     for region in regions {
-        push_link(Tie::Edge, node, edge_to(boxes, node, *region), links)?;
+        put_edge(boxes, node, *region, out);
     }
-    Ok(())
 }
 
-// Adds the links from a box to others.
-fn push_links_of(
-    boxes: &[NodeBox],
-    node: &NodeBox,
-    links: &mut ListOf<Link>,
-) -> Result<(), AllocError>
-    ensures { OnOk result (links.new ≡ links.old ++ links_of boxes.now node.now) }
+// The band to the same node's box in its next colour.
+fn put_band<O: Output>(boxes: &[NodeBox], node: &NodeBox, out: &mut O)
+    ensures { Adds (O.state out.old) (O.state out.new) (band_link boxes.now node.now) }
 {
-    push_link(Tie::Band, node, next_of(boxes, node), links)?;
-    push_link(Tie::Chain, node, chain_of(boxes, node), links)?;
-    push_edges(boxes, node, &REGIONS, links)?;
-    Ok(())
+    put_link_to(Tie::Band, node, next_of(boxes, node), out);
 }
 
-/// Adds all links between the boxes.
-pub fn push_links(boxes: &[NodeBox], links: &mut ListOf<Link>) -> Result<(), AllocError>
-    ensures { OnOk result (links.new ≡ links.old ++ flat_map (links_of boxes.now) boxes.now) }
+// The arrow to the predecessor in the chain.
+fn put_chain<O: Output>(boxes: &[NodeBox], node: &NodeBox, out: &mut O)
+    ensures { Adds (O.state out.old) (O.state out.new) (chain_link boxes.now node.now) }
 {
-    for node in boxes {
-        push_links_of(boxes, node, links)?;
+    put_link_to(Tie::Chain, node, chain_of(boxes, node), out);
+}
+
+// The edge to what a node wants of a region.
+fn put_edge<O: Output>(boxes: &[NodeBox], node: &NodeBox, region: u8, out: &mut O)
+    ensures { Adds (O.state out.old) (O.state out.new) (edge_link boxes.now node.now region) }
+{
+    put_link_to(Tie::Edge, node, edge_to(boxes, node, region), out);
+}
+
+// The links from a box to others.
+fn put_links_of<O: Output>(boxes: &[NodeBox], node: &NodeBox, out: &mut O)
+    ensures { Adds (O.state out.old) (O.state out.new) (links_of boxes.now node.now) }
+{
+    put_band(boxes, node, out);
+    put_chain(boxes, node, out);
+    put_edges(boxes, node, &REGIONS, out);
+}
+
+/// The links between the boxes, from each of these.
+pub fn put_links<O: Output>(boxes: &[NodeBox], nodes: &[NodeBox], out: &mut O)
+    ensures { Adds (O.state out.old) (O.state out.new) (flat_map (links_of boxes.now) nodes.now) }
+{
+    for node in nodes {
+        put_links_of(boxes, node, out);
     }
-    Ok(())
 }

@@ -2,11 +2,11 @@
 ghost use Rattle.std.specs.Prelude.{◌≡◌, filter, map, IfOk};
 ghost use Rattle.std.specs.List.{enumerate_from};
 ghost use Rattle.log_node.specs.Vectors.{at};
-ghost use Rattle.run_picture.specs.Marks.{greatest_clock, first_stamp, slots, line_mark, marks, is_shown, left_out, is_above, depth_among, is_in_line};
+ghost use Rattle.run_picture.specs.Marks.{greatest_clock, first_stamp, slots, line_mark, marks, has_stamp, is_shown, shown, keys_left_out, queue_left_out, left_out, is_above, depth_among, is_in_line};
 
 use crate::picture::{Kind, Mark};
 use log_node::{Counts, Key};
-use report_text::{ColumnReport, Report};
+use report_text::{ColumnReport, QueueKey, Report};
 use std::alloc::{AllocError, Global};
 
 /// How many stamps the axis has at most.
@@ -75,8 +75,8 @@ fn line_marks(alloc: Global, line: &[Key], base: u64) -> Result<Vec<Mark>, Alloc
         .collect(alloc)
 }
 
-/// The nodes of the column, in rising key.
-pub fn marks_of(alloc: Global, column: &ColumnReport) -> Result<Vec<Mark>, AllocError>
+// The nodes of the column, in rising key.
+fn marks_of(alloc: Global, column: &ColumnReport) -> Result<Vec<Mark>, AllocError>
     ensures { IfOk result (λ found. found.items ≡ marks column.now) }
 {
     let base = count_of(&column.base, column.region);
@@ -97,15 +97,22 @@ pub fn marks_of(alloc: Global, column: &ColumnReport) -> Result<Vec<Mark>, Alloc
     Ok(found)
 }
 
+// Whether the axis has the stamp.
+fn has_stamp(last: u64, stamp: u64) -> bool
+    ensures { result ≡ has_stamp last stamp }
+{
+    first_stamp(last) <= stamp && stamp <= last
+}
+
 // Whether the axis has the stamp of the node.
 fn is_shown(last: u64, mark: &Mark) -> bool
     ensures { result ≡ is_shown last mark.now }
 {
-    first_stamp(last) <= mark.key.stamp && mark.key.stamp <= last
+    has_stamp(last, mark.key.stamp)
 }
 
-/// Those of the nodes that are shown.
-pub fn shown(alloc: Global, last: u64, found: &[Mark]) -> Result<Vec<Mark>, AllocError>
+// Those of the nodes that are shown.
+fn shown(alloc: Global, last: u64, found: &[Mark]) -> Result<Vec<Mark>, AllocError>
     ensures { IfOk result (λ those. those.items ≡ filter (is_shown last) found.now) }
 {
     found
@@ -115,11 +122,39 @@ pub fn shown(alloc: Global, last: u64, found: &[Mark]) -> Result<Vec<Mark>, Allo
         .collect(alloc)
 }
 
-/// How many of the nodes are not shown.
-pub fn left_out(last: u64, found: &[Mark]) -> u64
-    ensures { result ≡ left_out last found.now }
+/// The nodes of the column that are shown.
+pub fn shown_marks(alloc: Global, column: &ColumnReport, last: u64) -> Result<Vec<Mark>, AllocError>
+    ensures { IfOk result (λ those. those.items ≡ shown last column.now) }
 {
-    found.iter().filter(|mark| !is_shown(last, mark)).count() as u64
+    let found = marks_of(alloc, column)?;
+    shown(alloc, last, &found)
+}
+
+// How many keys have a stamp that is not shown.
+fn keys_left_out(last: u64, line: &[Key]) -> u64
+    ensures { result ≡ keys_left_out last line.now }
+{
+    line.iter()
+        .filter(|key| !has_stamp(last, key.stamp))
+        .count() as u64
+}
+
+// How many keys of a queue have a stamp that is not shown.
+fn queue_left_out(last: u64, queue: &[QueueKey]) -> u64
+    ensures { result ≡ queue_left_out last queue.now }
+{
+    queue
+        .iter()
+        .filter(|waiting| !has_stamp(last, waiting.key.stamp))
+        .count() as u64
+}
+
+/// How many nodes of the column are not shown.
+pub fn left_out(last: u64, column: &ColumnReport) -> u64
+    ensures { result ≡ left_out last column.now }
+{
+    let line = keys_left_out(last, column.line.as_slice());
+    line.saturating_add(queue_left_out(last, column.queue.as_slice()))
 }
 
 // Whether the one node stands above the other in its lane: both have one stamp, and the one has the lesser id.

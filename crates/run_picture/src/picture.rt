@@ -1,5 +1,5 @@
-// What a picture of a run has.
-use log_node::{Counts, Key, ListOf, Text};
+// What a picture of a run is made of.
+use log_node::{Counts, Key};
 
 /// A place in the picture: which stamp of the axis, which lane, and how far down in the lane.
 #[derive(Clone, Copy)]
@@ -28,7 +28,7 @@ pub struct Mark {
 }
 
 /// The box of a node of a column.
-#[derive(Drop)]
+#[derive(Clone, Copy)]
 pub struct NodeBox {
     pub region: u8,
     pub colour: u8,
@@ -36,11 +36,8 @@ pub struct NodeBox {
     /// What the event wanted by which it entered the column.
     pub wants: Counts,
     pub at: Spot,
-    pub client: Text,
-    /// The beginning of its text, or nothing where the text is not known.
-    pub text: Text,
-    /// The name of another client who settled it; nothing where there is none.
-    pub helper: Text,
+    /// Another client who settled it, where there is one.
+    pub helper: Option<u8>,
 }
 
 /// Why two boxes are joined: they are one node, the one is the other's predecessor in its chain, or the one's append
@@ -50,57 +47,4 @@ pub enum Tie {
     Band,
     Chain,
     Edge,
-}
-
-/// Two boxes that are joined.
-#[derive(Clone, Copy)]
-pub struct Link {
-    pub tie: Tie,
-    pub from: Spot,
-    pub to: Spot,
-}
-
-/// The lane of a column.
-#[derive(Drop)]
-pub struct Lane {
-    pub lane: u16,
-    pub region: u8,
-    pub region_name: Text,
-    pub colour_name: Text,
-    pub clock: u64,
-    /// How many nodes of the column are not shown.
-    pub left_out: u64,
-}
-
-/// What a column has of a region's chain.
-#[derive(Drop)]
-pub struct Holding {
-    pub lane: u16,
-    pub region: u8,
-    pub name: Text,
-    pub held: u64,
-    pub plays: u64,
-    pub dropped: u64,
-}
-
-/// The id of an append that came to nothing.
-#[derive(Drop)]
-pub struct Gone {
-    pub client: Text,
-    pub count: u64,
-}
-
-/// A picture of a run.
-#[derive(Drop)]
-pub struct Picture {
-    /// The first stamp of the axis, and how many it has.
-    pub first: u64,
-    pub slots: u8,
-    /// How many lanes there is room for.
-    pub height: u16,
-    pub lanes: ListOf<Lane>,
-    pub holdings: ListOf<Holding>,
-    pub links: ListOf<Link>,
-    pub boxes: ListOf<NodeBox>,
-    pub gone: ListOf<Gone>,
 }

@@ -5,5 +5,4 @@ use Rattle.run_picture.proofs.boxes.push_boxes.Given as goal
 -- the boxes so far
 abbrev pub invariant-loop-mark : goal.invariant-loop-mark
 invariant-loop-mark l =
-    l.boxes ≡ l.initial.boxes
-    ++ map (box_of l.script l.report l.column l.last l.those) (take l.mark-index l.those)
+    l.boxes ≡ l.initial.boxes ++ map (box_of l.script l.column l.last l.those) (take l.mark-index l.those)

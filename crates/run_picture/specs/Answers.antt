@@ -1,0 +1,118 @@
+-- What a command was answered, as a drawing has it.
+use Rattle.std.specs.Prelude.{Bool, ℕ, ◌==◌, min, ◌&&◌, List, [], ◌∷◌, ◌++◌, Option, Some, None, option_map, slice_get, slice_index, decimal, codes}
+use Rattle.std.specs.List.{flat_map, find, enumerate_from}
+use Rattle.log_node.specs.declared.ids.Id.{Id}
+use Rattle.log_node.specs.declared.ids.Counts.{Counts}
+use Rattle.log_node.specs.Vectors.{at}
+use Rattle.script_text.specs.declared.script.Script.{Script}
+use Rattle.report_text.specs.declared.report.PointPiece.{PointPiece}
+use Rattle.report_text.specs.declared.report.KeyAnswer.{KeyAnswer}
+use Rattle.report_text.specs.declared.report.Answer.{Answer}
+use Rattle.report_text.specs.declared.report.Answer.TheVariants.{Stood, StampEnd, Full, Stopped, Synced, Scanned, Pulled, SameRegion, Based, Got, GotMany, GotKeys, Ruled, NoTx, Took, UnreadTrimmed, UnreadNoMemory, Trimmed, NotHome, NoMemory}
+use Rattle.report_text.specs.declared.report.ColumnReport.{ColumnReport}
+use Rattle.report_text.specs.declared.report.Report.{Report}
+use Rattle.report_text.specs.Names.{client_name}
+use Rattle.run_picture.specs.Pieces.{text_shown, joined}
+use Rattle.run_picture.specs.Labels.{field_label}
+
+-- the region of a client; 0 where the number names no client
+abbrev pub home_of : Script → ℕ → ℕ
+home_of script client = slice_index script.shape.homes client
+
+-- the column is that of the region and the colour
+abbrev pub is_of : ℕ → ℕ → ColumnReport → Bool
+is_of region colour column = (column.region == region) && (column.colour == colour)
+
+abbrev pub column_of : Report → ℕ → ℕ → Option ColumnReport
+column_of report region colour = find (is_of region colour) report.columns
+
+abbrev pub id_on : ℕ → Option ColumnReport → Option Id
+id_on position None = None
+id_on position (Some column) = option_map (λ key. key.id) (slice_get column.line position)
+
+-- the id of the node where an append of this region stands
+abbrev pub id_at : Report → ℕ → PointPiece → Option Id
+id_at report region point = id_on point.position (column_of report region point.colour)
+
+-- the same, of the first of the points
+abbrev pub first_id : Report → ℕ → List PointPiece → Option Id
+first_id report region [] = None
+first_id report region (point ∷ points) = id_at report region point
+
+-- an id, where there is one
+abbrev pub id_label : Report → Option Id → List ℕ
+id_label report None = []
+id_label report (Some id) =
+    joined (text_shown (client_name report id.client) ∷ codes "." ∷ decimal id.count ∷ codes " " ∷ [])
+
+-- a value, or that there is none
+abbrev pub value_label : Option (List ℕ) → List ℕ
+value_label None = joined (codes "none" ∷ [])
+value_label (Some value) = joined (text_shown value ∷ [])
+
+-- values, or that there is none
+abbrev pub values_label : List (List ℕ) → List ℕ
+values_label [] = joined (codes "none" ∷ [])
+values_label (value ∷ values) = flat_map field_label (value ∷ values)
+
+-- the number of a base for a region
+abbrev pub count_label : Counts → ℕ → List ℕ
+count_label base region = joined (codes " " ∷ decimal (at base (min region 255)) ∷ [])
+
+abbrev pub region_label : Counts → ℕ × List ℕ → List ℕ
+region_label base placed = count_label base placed.0
+
+-- the base that a trim left, a number for each region
+abbrev pub based_label : Script → Counts → List ℕ
+based_label script base =
+    joined (codes "base" ∷ []) ++ flat_map (region_label base) (enumerate_from 0 script.regions)
+
+abbrev pub value_or_dash : Option (List ℕ) → List ℕ
+value_or_dash None = codes "-"
+value_or_dash (Some value) = value
+
+-- KEY=VALUE, or KEY=-
+abbrev pub found_label : KeyAnswer → List ℕ
+found_label found =
+    joined (codes " " ∷ text_shown found.key ∷ codes "=" ∷ text_shown (value_or_dash found.value) ∷ [])
+
+-- the verdict on a transaction
+abbrev pub verdict_label : Option (List ℕ) → ℕ → List ℕ
+verdict_label None stamp = joined (codes "committed " ∷ decimal stamp ∷ [])
+verdict_label (Some key) stamp = joined (codes "conflict " ∷ text_shown key ∷ [])
+
+-- a node that was made under this stamp
+abbrev pub stood_label : Report → Option Id → ℕ → List ℕ
+stood_label report id stamp = id_label report id ++ joined (codes "stamp " ∷ decimal stamp ∷ [])
+
+-- a transaction's node, and its verdict
+abbrev pub ruled_label : Report → Option Id → Option (List ℕ) → ℕ → List ℕ
+ruled_label report id conflict stamp = id_label report id ++ verdict_label conflict stamp
+
+-- the node of one that took a value from a queue, and the value
+abbrev pub took_label : Report → Option Id → Option (List ℕ) → List ℕ
+took_label report id value = id_label report id ++ value_label value
+
+-- what a command of a client of this region was answered
+abbrev pub answer_label : Script → Report → ℕ → Answer → List ℕ
+answer_label script report region (Stood stamp _ points) = stood_label report (first_id report region points) stamp
+answer_label script report region (Ruled conflict stamp _ points _ _ _) =
+    ruled_label report (first_id report region points) conflict stamp
+answer_label script report region (Took value point _) = took_label report (id_at report region point) value
+answer_label script report region (Got value _) = value_label value
+answer_label script report region (GotMany values _) = values_label values
+answer_label script report region (GotKeys _ keys _ _) = flat_map found_label keys
+answer_label script report region (Based _ base) = based_label script base
+answer_label script report region (Stopped steps) = joined (codes "stops after step " ∷ decimal steps ∷ [])
+answer_label script report region (Synced _ plays) = joined (codes "plays " ∷ decimal plays ∷ [])
+answer_label script report region (Scanned _ nodes _ _) = joined (codes "nodes " ∷ decimal nodes ∷ [])
+answer_label script report region (Pulled nodes _ _) = joined (codes "carries " ∷ decimal nodes ∷ [])
+answer_label script report region (StampEnd _) = joined (codes "stampend" ∷ [])
+answer_label script report region (Full _) = joined (codes "full" ∷ [])
+answer_label script report region SameRegion = joined (codes "sameregion" ∷ [])
+answer_label script report region NoTx = joined (codes "notx" ∷ [])
+answer_label script report region (UnreadTrimmed _ _ _) = joined (codes "unread" ∷ [])
+answer_label script report region (UnreadNoMemory _) = joined (codes "unread" ∷ [])
+answer_label script report region (Trimmed _ _) = joined (codes "trimmed" ∷ [])
+answer_label script report region (NotHome _) = joined (codes "nothome" ∷ [])
+answer_label script report region NoMemory = joined (codes "nomemory" ∷ [])

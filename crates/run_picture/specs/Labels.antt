@@ -1,0 +1,147 @@
+-- What a command says, as a drawing has it. Each field has a space before it; those at an end of a line are not seen.
+use Rattle.std.specs.Prelude.{ℕ, List, [], ◌∷◌, ◌++◌, Option, Some, None, slice_get, codes}
+use Rattle.std.specs.List.{flat_map}
+use Rattle.log_node.specs.declared.ids.Colours.{Colours}
+use Rattle.log_node.specs.declared.forms.Pair.{Pair}
+use Rattle.log_node.specs.Sets.{members}
+use Rattle.script_text.specs.declared.script.What.{What}
+use Rattle.script_text.specs.declared.script.What.TheVariants as whats
+use Rattle.script_text.specs.declared.script.Object.{Object}
+use Rattle.script_text.specs.declared.script.Script.{Script}
+use Rattle.script_text.specs.Words.{word_text, word_of}
+use Rattle.report_text.specs.declared.report.Answer.{Answer}
+use Rattle.report_text.specs.declared.report.Answer.TheVariants.{Stood, StampEnd, Full, Stopped, Synced, Scanned, Pulled, SameRegion, Based, Got, GotMany, GotKeys, Ruled, NoTx, Took, UnreadTrimmed, UnreadNoMemory, Trimmed, NotHome, NoMemory}
+use Rattle.run_picture.specs.Pieces.{text_shown, joined}
+
+abbrev pub text_or_none : Option (List ℕ) → List ℕ
+text_or_none None = []
+text_or_none (Some name) = name
+
+-- the name with this number; nothing where the number names nothing
+abbrev pub name_among : List (List ℕ) → ℕ → List ℕ
+name_among names number = text_or_none (slice_get names number)
+
+-- the command's word
+abbrev pub word_label : What → List ℕ
+word_label what = joined (text_shown (word_text (word_of what)) ∷ [])
+
+-- a field
+abbrev pub field_label : List ℕ → List ℕ
+field_label field = joined (codes " " ∷ text_shown field ∷ [])
+
+-- KEY=VALUE
+abbrev pub pair_label : List ℕ → List ℕ → List ℕ
+pair_label key value = joined (codes " " ∷ text_shown key ∷ codes "=" ∷ text_shown value ∷ [])
+
+abbrev pub pairs_label : List Pair → List ℕ
+pairs_label pairs = flat_map (λ pair. pair_label pair.key pair.value) pairs
+
+-- the names of colours
+abbrev pub colours_label : Script → Colours → List ℕ
+colours_label script colours = flat_map (λ colour. field_label (name_among script.colours colour)) (members colours)
+
+abbrev pub name_of_object : Option Object → List ℕ
+name_of_object None = field_label []
+name_of_object (Some object) = field_label object.name
+
+-- the name of an object
+abbrev pub object_label : Script → ℕ → List ℕ
+object_label script object = name_of_object (slice_get script.objects object)
+
+-- a region and a colour
+abbrev pub source_label : Script → ℕ → ℕ → List ℕ
+source_label script region colour =
+    joined (codes " " ∷ text_shown (name_among script.regions region)
+    ∷ codes " " ∷ text_shown (name_among script.colours colour) ∷ [])
+
+-- what a command is about: its colours, a region and a colour, or an object
+abbrev pub subject_label : Script → What → List ℕ
+subject_label script (whats.Append colours _) = colours_label script colours
+subject_label script (whats.Stop _ colours _) = colours_label script colours
+subject_label script (whats.Scan colours) = colours_label script colours
+subject_label script (whats.Sync colour) = field_label (name_among script.colours colour)
+subject_label script (whats.Trim colour) = field_label (name_among script.colours colour)
+subject_label script (whats.Pull region colour) = source_label script region colour
+subject_label script (whats.Put object _ _) = object_label script object
+subject_label script (whats.Get object _) = object_label script object
+subject_label script (whats.Del object _) = object_label script object
+subject_label script (whats.PutAll object _) = object_label script object
+subject_label script (whats.GetAll object _) = object_label script object
+subject_label script (whats.Read object _) = object_label script object
+subject_label script (whats.Commit object _) = object_label script object
+subject_label script (whats.Enq object _) = object_label script object
+subject_label script (whats.Deq object) = object_label script object
+
+-- its word, and what it is about
+abbrev pub heading_label : Script → What → List ℕ
+heading_label script what = word_label what ++ subject_label script what
+
+-- the fields after these: a text, keys, a value
+abbrev pub content_label : What → List ℕ
+content_label (whats.Append _ text) = field_label text
+content_label (whats.Stop _ _ text) = field_label text
+content_label (whats.Put _ key value) = pair_label key value
+content_label (whats.Get _ key) = field_label key
+content_label (whats.Del _ key) = field_label key
+content_label (whats.PutAll _ pairs) = pairs_label pairs
+content_label (whats.Commit _ pairs) = pairs_label pairs
+content_label (whats.GetAll _ keys) = flat_map field_label keys
+content_label (whats.Read _ keys) = flat_map field_label keys
+content_label (whats.Enq _ value) = field_label value
+content_label (whats.Sync _) = []
+content_label (whats.Scan _) = []
+content_label (whats.Pull _ _) = []
+content_label (whats.Trim _) = []
+content_label (whats.Deq _) = []
+
+-- a command without what it is about
+abbrev pub short_label : What → List ℕ
+short_label what = word_label what ++ content_label what
+
+-- what a command says: an append its text alone, and any other its word and its content
+abbrev pub saying_label : What → List ℕ
+saying_label (whats.Append a b) = content_label (whats.Append a b)
+saying_label (whats.Stop a b c) = content_label (whats.Stop a b c)
+saying_label (whats.Sync a) = short_label (whats.Sync a)
+saying_label (whats.Scan a) = short_label (whats.Scan a)
+saying_label (whats.Pull a b) = short_label (whats.Pull a b)
+saying_label (whats.Trim a) = short_label (whats.Trim a)
+saying_label (whats.Put a b c) = short_label (whats.Put a b c)
+saying_label (whats.Get a b) = short_label (whats.Get a b)
+saying_label (whats.Del a b) = short_label (whats.Del a b)
+saying_label (whats.PutAll a b) = short_label (whats.PutAll a b)
+saying_label (whats.GetAll a b) = short_label (whats.GetAll a b)
+saying_label (whats.Read a b) = short_label (whats.Read a b)
+saying_label (whats.Commit a b) = short_label (whats.Commit a b)
+saying_label (whats.Enq a b) = short_label (whats.Enq a b)
+saying_label (whats.Deq a) = short_label (whats.Deq a)
+
+-- a command whose object could not be read
+abbrev pub unread_label : What → List ℕ
+unread_label what = joined (text_shown (word_text (word_of what)) ∷ codes ": unread" ∷ [])
+
+-- What the node says that a command made: what the command says, or what was answered to a `deq`, to a `commit` in a
+-- conflict, and to one of these that could not read its object.
+abbrev pub node_label : What → Answer → List ℕ
+node_label what (Took (Some value) _ _) = joined (codes "deq: " ∷ text_shown value ∷ [])
+node_label what (Took None _ _) = joined (codes "deq: none" ∷ [])
+node_label what (Ruled (Some key) _ _ _ _ _ _) = joined (codes "commit: conflict " ∷ text_shown key ∷ [])
+node_label what (Ruled None _ _ _ _ _ _) = saying_label what
+node_label what (UnreadTrimmed _ _ _) = unread_label what
+node_label what (UnreadNoMemory _) = unread_label what
+node_label what (Stood _ _ _) = saying_label what
+node_label what (StampEnd _) = saying_label what
+node_label what (Full _) = saying_label what
+node_label what (Stopped _) = saying_label what
+node_label what (Synced _ _) = saying_label what
+node_label what (Scanned _ _ _ _) = saying_label what
+node_label what (Pulled _ _ _) = saying_label what
+node_label what SameRegion = saying_label what
+node_label what (Based _ _) = saying_label what
+node_label what (Got _ _) = saying_label what
+node_label what (GotMany _ _) = saying_label what
+node_label what (GotKeys _ _ _ _) = saying_label what
+node_label what NoTx = saying_label what
+node_label what (Trimmed _ _) = saying_label what
+node_label what (NotHome _) = saying_label what
+node_label what NoMemory = saying_label what
