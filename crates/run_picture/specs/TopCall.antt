@@ -1,5 +1,5 @@
 -- What the program writes for the words that it is given and the bytes that it reads.
-use Rattle.std.specs.Prelude.{◌≡◌, ⊥, ℕ, List, Option, Some, None, IfSome}
+use Rattle.std.specs.Prelude.{◌≡◌, ℕ, List, Option, Some, None, IfSome}
 use Rattle.std.specs.Io.KnownBytes.{Appends}
 use Rattle.script_text.specs.declared.script.Script.{Script}
 use Rattle.script_text.specs.Grammar.{IsScript}
