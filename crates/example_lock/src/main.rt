@@ -70,7 +70,7 @@ fn take_turns<R: Wait>(rt: &R, alloc: Global, store: &Store, mut desk: Desk, tur
     requires { IsDesk store.now desk }
 {
     let mut held = 0;
-    for _ in 0..turns {
+    for _turn in 0..turns {
         let Ok(place) = desk.ask(rt, alloc, store) else {
             return held;
         };
