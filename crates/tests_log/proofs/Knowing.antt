@@ -3,12 +3,11 @@ use Rattle.std.proofs.Common.{◌≡◌, ◌≢◌, ◌<◌, ℕ, Option, Result
 use Rattle.std.specs.Prelude.{IfOk, IfErr}
 use Rattle.log_node.specs.declared.node.Node.{Node}
 use Rattle.log_node.specs.Seen.{BegunAppend}
-use Rattle.log_node.specs.declared.marks.Outcome.{Outcome}
 use Rattle.stamp_board.specs.declared.view.Size.{Size}
 use Rattle.stamp_board.specs.Words.{row_at}
-use Rattle.stamp_board.specs.Views.{Has, KnowsOutcome}
+use Rattle.stamp_board.specs.Views.{Has}
 use Rattle.stamp_board.specs.Seats.{IsLater}
-use Rattle.stamp_board.proofs.CallerLemmas.{Learns-from, begun_learnt, outcome_learnt}
+use Rattle.stamp_board.proofs.CallerLemmas.{Learns-from, begun_learnt}
 use Rattle.chain_store.specs.declared.hold.Hold.{Hold}
 use Rattle.chain_store.specs.declared.region.Region.{Region}
 use Rattle.chain_store.specs.declared.telling.HoldNote.{HoldNote}
@@ -38,11 +37,6 @@ module _ (r : Region) (g h : Hold) (b : BegunAppend) where
     );
     own = λ is. subst (λ (n : ℕ). b.row.number < n) (sym later.used) (k.own (is ∙ same));
   }
-
-  pub outcome_later : (o : Outcome) → IsLater g.seat h.seat → KnowsOutcome (view_of g) b.row o
-      → KnowsOutcome (view_of h) b.row o
-  outcome_later o later = outcome_learnt (view_of g) (view_of h) b.row later.grows.size
-      (Learns-from (view_of g) (view_of h) later.grows) o
 
 -- one who hears of another's append knows it
 pub append_heard : (r : Region) (teller g h : Hold) (note : HoldNote) (b : BegunAppend) → IsHold r teller → IsHold r h

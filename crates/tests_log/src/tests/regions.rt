@@ -94,7 +94,6 @@ fn decide(region: &Region, hold: &mut Hold, begun: &Begun) -> Outcome
     requires hold { IsHold region.now hold.old × KnowsAppend region.now hold.old begun.now }
     ensures hold { IsHold region.now hold.new × KnowsAppend region.now hold.new begun.now }
     ensures number { hold.new.passes.number ≡ hold.old.passes.number }
-    ensures known { result ≢ Outcome.Open → KnowsOutcome (view_of hold.new) begun.now.row result }
 {
     region.decide(hold, begun.row)
 }

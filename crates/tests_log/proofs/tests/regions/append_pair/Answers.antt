@@ -1,4 +1,4 @@
-use Rattle.std.proofs.Common.{ap, ◌∙◌}
+use Rattle.std.proofs.Common.{None, ap, ◌∙◌}
 use Rattle.tests_log.proofs.Knowing.{several_number}
 use Rattle.stamp_board.specs.declared.view.Size.{Size}
 use Rattle.tests_log.proofs.tests.regions.append_pair.Goals as goal
@@ -9,5 +9,5 @@ multi-requires-clause-colours g c = λ κs met. c.in_ok-node.ensures.both c.args
 
 pub returns-clause-number : goal.returns-clause-number
 returns-clause-number g c =
-    several_number c.args.region.now c.args.hold.now c.multi.new.hold c.in_ok-node.node.value c.args.stop c.multi.result
+    several_number c.args.region.now c.args.hold.now c.multi.new.hold c.in_ok-node.node.value None c.multi.result
     c.multi.ensures.ok c.multi.ensures.err ∙ c.requires.hold.0.number

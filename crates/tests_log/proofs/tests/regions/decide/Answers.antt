@@ -1,8 +1,6 @@
 use Rattle.std.proofs.Common.{ap, sym, subst}
 use Rattle.log_node.specs.Seen.{BegunAppend}
 use Rattle.stamp_board.specs.Rows.{IsRow}
-use Rattle.stamp_board.specs.Views.{KnowsOutcome}
-use Rattle.chain_store.specs.Holds.{view_of}
 use Rattle.tests_log.proofs.Knowing.{append_later}
 use Rattle.tests_log.proofs.tests.regions.decide.Goals as goal
 
@@ -18,8 +16,3 @@ returns-clause-hold c =
       append_later c.args.region.now c.args.hold.now c.decide.new.hold c.args.begun.now e.seat
           (ap (λ p. p.number) e.same.0) c.requires.hold.1,
     )
-
-pub returns-clause-known : goal.returns-clause-known
-returns-clause-known c decided =
-    subst (λ (b : BegunAppend). KnowsOutcome (view_of c.decide.new.hold) b.row c.decide.result) c.begun.view_is
-    (c.decide.ensures.known decided)
