@@ -1,5 +1,5 @@
 -- Who read what a command had made: the arrows of a timeline.
-use Rattle.std.specs.Prelude.{Bool, false, ℕ, ◌+◌, ◌==◌, nat_lt, not, ◌&&◌, List, [], ◌∷◌, Option, Some, None, option_map, decimal, codes, if◌then◌else◌}
+use Rattle.std.specs.Prelude.{Bool, false, ℕ, ◌+◌, ◌==◌, nat_lt, ◌&&◌, List, [], ◌∷◌, Option, Some, None, option_map, decimal, codes, if◌then◌else◌}
 use Rattle.std.specs.List.{list_any, find, flat_map, position, enumerate_from}
 use Rattle.log_node.specs.declared.ids.Id.{Id}
 use Rattle.log_node.specs.declared.ids.Key.{Key}
