@@ -1,0 +1,5 @@
+use Rattle.run_picture.proofs.timeline.put_note_start.Goals as goal
+
+pub returns : goal.returns
+returns g c =
+    rw c.x_of.ensures.value at (rw c.top_of.ensures.value at c.put_all.ensures)
