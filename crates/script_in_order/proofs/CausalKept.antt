@@ -11,7 +11,8 @@ use Rattle.script_text.specs.declared.script.Object.{Object}
 use Rattle.script_meaning.specs.States.{kind_in}
 use Rattle.script_in_order.specs.declared.folds.Fold.{Fold}
 use Rattle.script_in_order.specs.declared.folds.Fold.TheVariants as folds
-use Rattle.script_in_order.specs.CausalFolds.{AreCausalFolds}
+use Rattle.script_in_order.specs.declared.causal.CausalFold.{CausalFold}
+use Rattle.script_in_order.specs.CausalFolds.{AreCausalFolds, IsCausalFold}
 use Rattle.script_in_order.specs.declared.folds.ShardFold.{ShardFold}
 use Rattle.script_in_order.specs.Folds.{IsShardFold, IsFoldOf, AreFolded}
 use Rattle.script_in_order.proofs.FoldsKept.{folds_with}
@@ -128,3 +129,13 @@ shard_more w home colours shards fold each right c other there = turn (pushed sh
   turn (inl old) = each c other old
   turn (inr new) =
       subst (IsShardFold w home colours c) new.1 (subst (λ (n : ℕ). IsShardFold w home colours n fold) (sym new.0) right)
+
+-- one region more of a causal map
+pub causal_more : (folds : List CausalFold) (new : CausalFold)
+    → ((n : ℕ) (fold : CausalFold) → slice_get folds n ≡ Some fold → (w : World) (own colour : ℕ) → IsCausalFold w own colour fold)
+    → ((w : World) (own colour : ℕ) → IsCausalFold w own colour new) → (n : ℕ) (fold : CausalFold)
+    → slice_get (folds ++ new ∷ []) n ≡ Some fold → (w : World) (own colour : ℕ) → IsCausalFold w own colour fold
+causal_more folds new each right n fold there w own colour = turn (pushed folds new n fold there) where
+  turn : (slice_get folds n ≡ Some fold) ⊎ ((n ≡ length folds) × (new ≡ fold)) → IsCausalFold w own colour fold
+  turn (inl old) = each n fold old w own colour
+  turn (inr last) = subst (IsCausalFold w own colour) last.1 (right w own colour)
