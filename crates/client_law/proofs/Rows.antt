@@ -54,7 +54,11 @@ rows_begin old new rest caller kept node on b = record {
   room = b.room;
   row = b.row;
   begun = b.begun;
-  steps = λ colour. each_there caller old new colour (IsStepOf node.id) on (b.steps colour);
+  steps = λ colour n d lt.
+      let t = each_there caller old new colour (IsStepOf node.id) on (b.steps colour) n d lt in
+      let s = places_stand caller.client (old caller.own colour) (new caller.own colour) (on.more caller.own colour) n d lt in
+      let s0 = s.0 in let before = b.before colour in
+      (omega (arith, s0, before), t.0, t.1, t.2, t.3);
 }
 
 -- what is seen of events at places within a history is within it

@@ -102,6 +102,7 @@ pub record HasBegun (old new : Seen) (rest : Rest) (caller : Caller) (kept : Kep
   pub row : BegunRow
   pub begun : IsBegunFor (log_of new rest) node row
   pub steps : (colour : ℕ) → EachStep caller old new colour (IsStepOf node.id)
+  pub before : (colour : ℕ) → kept.seen caller.own colour ≤ length (old caller.own colour)
 
 abbrev pub RowsBegin : Type 0
 RowsBegin = (old new : Seen) (rest : Rest) (caller : Caller) (kept : Kept) (node : Node)

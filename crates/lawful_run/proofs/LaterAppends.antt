@@ -44,11 +44,11 @@ module _ (old new : Log) (later : IsLater old new) (caller : Caller) (kept : Kep
         (sym (taken_same old new later caller.own colour h.events h.there)) h.ended;
   }
 
-  pub steps_later : (node : Node) (places : ℕ → List ℕ) → AreSteps old caller node places
-      → AreSteps new caller node places
+  pub steps_later : (node : Node) (places : ℕ → List ℕ) → AreSteps old caller kept node places
+      → AreSteps new caller kept node places
   steps_later node places a colour k d lt =
       let s = a colour k d lt in
-      (s.0, entry_later old new later caller.own colour _ s.0 s.1, s.2, s.3)
+      (s.0, s.1, entry_later old new later caller.own colour _ s.1 s.2, s.3, s.4)
 
   pub begins_later : (node : Node) (places : ℕ → List ℕ) → BeginsRow old caller kept node places
       → BeginsRow new caller kept node places

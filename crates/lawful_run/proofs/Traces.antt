@@ -1,7 +1,7 @@
 -- What a command leaves of ids and of singles: it uses an id for one node at most, and only the append of a node to one
 -- colour makes a single.
 use Rattle.std.proofs.Common.{◌≡◌, ℕ, zero, suc, List, [], ◌∷◌, ◌++◌, Some, slice_get, refl, ap, sym, subst, ◌∙◌, ◌⊎◌, inl, inr, arith}
-use Rattle.std.specs.Prelude.{◌==◌, max}
+use Rattle.std.specs.Prelude.{◌==◌, ◌≤◌, max}
 use Rattle.std.specs.List.{All, Contains}
 use Rattle.std.proofs.lemmas.Bool.{eqb-true}
 use Rattle.std.proofs.lemmas.List.Elements.{All-contains, Contains-append_cases}
@@ -166,12 +166,13 @@ an_event log kept region colour place e there not =
     (subst (λ n. IsSingleAt log region colour n id) (sym (one_of place p i)) s)) in
     record { ids = q.ids; made = q.made }
 
-pub steps_are_none : (log : Log) (caller : Caller) (node : Node) (places : ℕ → List ℕ) → AreSteps log caller node places
+pub steps_are_none : (log : Log) (caller : Caller) (kept : Kept) (node : Node) (places : ℕ → List ℕ)
+    → AreSteps log caller kept node places
     → (colour place : ℕ) (id : Id) → Contains (places colour) place → IsSingleAt log caller.own colour place id → ⊥
-steps_are_none log caller node places steps colour place id i =
-    let s = All-contains (λ (p : ℕ). (e : Entry) × (slice_get (log.histories caller.own colour) p ≡ Some e)
+steps_are_none log caller kept node places steps colour place id i =
+    let s = All-contains (λ (p : ℕ). (kept.seen caller.own colour ≤ p) × (e : Entry) × (slice_get (log.histories caller.own colour) p ≡ Some e)
     × (e.by ≡ caller.client) × IsStepOf node.id e.event) (places colour) place (steps colour) i in
-    no_single log caller.own colour place id s.0 s.1 (step_is_none node.id s.0.event s.3)
+    no_single log caller.own colour place id s.1 s.2 (step_is_none node.id s.1.event s.4)
 
 -- READS
 module _ (log : Log) (caller : Caller) where

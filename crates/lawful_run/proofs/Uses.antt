@@ -157,7 +157,7 @@ module _ (log : Log) (caller : Caller) (kept : Kept) (what : What) (colours : Co
     fate = fate;
     made = inl (λ region colour place id s i. subst (λ (m : ℕ → ℕ → List ℕ). Contains (m region colour) place) same
         ((more_made log middle caller.own places
-        (steps_are_none log caller node places b.steps)).made region colour place id s i));
+        (steps_are_none log caller kept node places b.steps)).made region colour place id s i));
   }
 
   pub appends_use : (tells : Told) (stamp : ℕ) (row : Option ℕ) (points : List PointPiece) (after : Kept)

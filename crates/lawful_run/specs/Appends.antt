@@ -42,10 +42,11 @@ pub record HadNoStamp (log : Log) (caller : Caller) (kept : Kept) (colour : ℕ)
   pub there : events ≤ length (log.histories caller.own colour)
   pub ended : IsAtEnd (take events (log.histories caller.own colour)) kept.floor
 
--- at the places, by colour, stand proposals and settlings of the node by the client itself
-abbrev pub AreSteps : Log → Caller → Node → (ℕ → List ℕ) → Type 0
-AreSteps log caller node places = (colour : ℕ) → All (λ place.
-    (e : Entry) × (slice_get (log.histories caller.own colour) place ≡ Some e)
+-- at the places, by colour, none of which was seen before, stand proposals and settlings of the node by the client itself
+abbrev pub AreSteps : Log → Caller → Kept → Node → (ℕ → List ℕ) → Type 0
+AreSteps log caller kept node places = (colour : ℕ) → All (λ place.
+    (kept.seen caller.own colour ≤ place)
+    × (e : Entry) × (slice_get (log.histories caller.own colour) place ≡ Some e)
     × (e.by ≡ caller.client) × IsStepOf node.id e.event) (places colour)
 
 -- An append to several colours has begun: its node is the next of the client's nodes, a row was left and is begun for
@@ -56,7 +57,7 @@ pub record BeginsRow (log : Log) (caller : Caller) (kept : Kept) (node : Node) (
   pub room : kept.rows < caller.rows
   pub row : BegunRow
   pub begun : IsBegunFor log node row
-  pub steps : AreSteps log caller node places
+  pub steps : AreSteps log caller kept node places
 
 -- The node entered a colour where the point says: by the client's own proposal, which was not seen before, or by
 -- another client's, before a look of the client's.

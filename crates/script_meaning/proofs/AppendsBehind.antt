@@ -164,7 +164,7 @@ module _ (objects : List Object) (w v : World) (reached : IsReached w) (u : ℕ)
 
     below : (c : ℕ) → All (λ place. place < length (v.histories (home_of v u) c)) (places c)
     below c i place lt =
-        let e = s.begins.steps c i place lt in get_within (v.histories (home_of v u) c) _ e.0 e.1
+        let e = s.begins.steps c i place lt in get_within (v.histories (home_of v u) c) _ e.1 e.2
 
   unshown_by : (r : Option ℕ) (ps : List PointPiece) (after : Kept)
       → Appends (log_of v) caller kept node stamp r ps after → IsKeptBy v u after → Unshown

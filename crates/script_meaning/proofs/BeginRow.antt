@@ -59,7 +59,7 @@ begins_later old new later caller kept node places b =
       begun = record { begun = r.1; of_node = r.2.node ∙ b.begun.of_node };
       steps = λ colour k d lt.
           let s = b.steps colour k d lt in
-          (s.0, prefix_get _ _ _ _ (later.histories caller.own colour) s.1, s.2, s.3);
+          (s.0, s.1, prefix_get _ _ _ _ (later.histories caller.own colour) s.2, s.3, s.4);
     }
 
 module _ (objects : List Object) (w : World) (reached : IsReached w) (u : ℕ) (colours : Colours) (text : List ℕ)
@@ -298,6 +298,10 @@ module _ (objects : List Object) (w : World) (reached : IsReached w) (u : ℕ) (
         ∙ (ap (slice_get (w.nodes u ++ begun_node w u colours text ∷ [])) (k.ids ∙ sym ((listed_of w reached).counts u))
         ∙ (slice_last (w.nodes u) (begun_node w u colours text) ∙ ap Some node_is))
 
+    places_after : (c : ℕ) → All (λ place. kept.seen own c ≤ place) (places c)
+    places_after c = all_from (λ place. kept.seen own c ≤ place) (length (w.histories own c)) u (more c)
+        (λ i e at_i same mine. let a = k.seen own c in omega (arith, a))
+
     pub begins : BeginsRow (log_of w3) caller kept node places
     begins = record {
       several = several;
@@ -305,9 +309,11 @@ module _ (objects : List Object) (w : World) (reached : IsReached w) (u : ℕ) (
       room = let r = k.rows in let x = room in omega (arith, r, x);
       row = begun_row w3 row;
       begun = of_row;
-      steps = λ c. place_facts (λ place. (e : Entry) × (slice_get (w3.histories own c) place ≡ Some e)
-          × (e.by ≡ u) × IsStepOf node.id e.event) c
-          (λ i e at_i s. (e, at_i, s.made, subst (λ (x : Id). IsStepOf x e.event) id_is s.of));
+      steps = λ c n d lt.
+          let s = place_facts (λ place. (e : Entry) × (slice_get (w3.histories own c) place ≡ Some e)
+              × (e.by ≡ u) × IsStepOf node.id e.event) c
+              (λ i e at_i s. (e, at_i, s.made, subst (λ (x : Id). IsStepOf x e.event) id_is s.of)) n d lt in
+          (places_after c n d lt, s.0, s.1, s.2, s.3);
     }
 
     pub keeps3 : IsKeptBy w3 u (with_made (with_row kept) own places)

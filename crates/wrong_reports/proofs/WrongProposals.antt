@@ -1,5 +1,5 @@
 -- Rows, proposals and settlings that no command may leave so.
-use Rattle.std.proofs.Common.{◌≡◌, ℕ, zero, suc, ◌+◌, ◌<◌, List, [], ◌∷◌, length, map, Some, refl, ap, sym}
+use Rattle.std.proofs.Common.{◌≡◌, ◌≤◌, ℕ, zero, suc, ◌+◌, ◌<◌, List, [], ◌∷◌, length, map, Some, refl, ap, sym}
 use Rattle.std.proofs.Common.{subst, ◌∙◌, arith, lit<, slice_get, codes}
 use Rattle.std.specs.List.{All, Contains}
 use Rattle.log_node.specs.declared.ids.Id.{Id}
@@ -201,12 +201,12 @@ module _ (run : LawfulRun a_trim_made_by_an_append.script a_trim_made_by_an_appe
   found after (gone colours text places asks is) made =
       let h = (column_at a_trim_made_by_an_append run 0 _ refl).history in
       let places_are : 0 ∷ [] ≡ places 0 = made in
-      let Steps : ℕ → Type 0 = λ place. (en : Entry) × (slice_get (run.log.histories 0 0) place ≡ Some en)
+      let Steps : ℕ → Type 0 = λ place. (0 ≤ place) × (en : Entry) × (slice_get (run.log.histories 0 0) place ≡ Some en)
       × (en.by ≡ 0) × IsStepOf (node_of (caller_of a_trim_made_by_an_append.script 0) nothing_kept colours text).id
       en.event in
       let step = subst (All Steps) (sym places_are) (is.begins.steps 0) 0 0 (lit< tt) in
-      let same = some_same (trims a (counts 0 0)) step.0 (ap (λ (es : List Entry). slice_get es 0) h ∙ step.1) in
-      subst (λ (en : Entry). IsStepOf (id 0 0) en.event) (sym same) step.3
+      let same = some_same (trims a (counts 0 0)) step.1 (ap (λ (es : List Entry). slice_get es 0) h ∙ step.2) in
+      subst (λ (en : Entry). IsStepOf (id 0 0) en.event) (sym same) step.4
   found after (gave region colour too_low gives pull low few all) made = cc (pull)
   found after (hidden other hides) made =
       let f : 0 ∷ [] ≡ [] = made ∙ ap (λ (k : Kept). k.made 0 0) hides in
