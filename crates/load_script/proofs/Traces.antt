@@ -192,13 +192,14 @@ module _ (F : ℕ → Type 0) (colours : ℕ) (log : Log) (caller : Caller) (hol
           step : (region colour place : ℕ) → (region ≡ caller.own) × In place (places colour)
               → IsMade F log caller (kept.ids + 1) region colour place
           step region colour place i =
-              let s = All-contains (λ (p : ℕ). (e : Entry) × (slice_get (log.histories caller.own colour) p ≡ Some e)
+              let s = All-contains (λ (p : ℕ). (kept.seen caller.own colour ≤ p)
+              × (e : Entry) × (slice_get (log.histories caller.own colour) p ≡ Some e)
               × (e.by ≡ caller.client) × IsStepOf node.id e.event) (places colour) place (b.steps colour)
               (contains_in (places colour) place i.1) in (
-                s.0,
-                ap (λ r. slice_get (log.histories r colour) place) i.0 ∙ s.1,
+                s.1,
+                ap (λ r. slice_get (log.histories r colour) place) i.0 ∙ s.2,
                 step_made F caller.client
-                    (kept.ids + 1) node.id s.0.event s.3,
+                    (kept.ids + 1) node.id s.1.event s.4,
               )
 
           made : (region colour place : ℕ) → In place ((with_made middle caller.own places).made region colour)

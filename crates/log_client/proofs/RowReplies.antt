@@ -356,7 +356,7 @@ module _ (s : Store) (c e : Client) (r : Region) (g h : Hold) (colours : Colours
       settled_row =
           settled_begun (holds_of c) (holds_of after) (caller_of s c objects) r g h at_g at_h number now (on objects) x
           (ap (λ (y : Node). y.region) x_is) same rest fits o a kept (of_id objects kept keeps) several
-          (of_rows objects kept keeps) (size_is objects kept keeps)
+          (of_rows objects kept keeps) (size_is objects kept keeps) (keeps.by.seen_within c.region)
 
       settled_all : IsSettledEverywhere (seen_of after) rest (caller_of s c objects) x
       settled_all =
@@ -431,7 +431,7 @@ module _ (s : Store) (c e : Client) (r : Region) (g h : Hold) (colours : Colours
               (stops_stand (seen_of c) (seen_of after) rest (caller_of s c objects) kept x steps (on objects)
               (stops_begun (holds_of c) (holds_of after) (caller_of s c objects) r g h at_g at_h number now (on objects) x
               (ap (λ (y : Node). y.region) x_is) same rest fits steps a kept (of_id objects kept keeps) several
-              (of_rows objects kept keeps) (size_is objects kept keeps))
+              (of_rows objects kept keeps) (size_is objects kept keeps) (keeps.by.seen_within c.region))
               (stops_there (holds_of c) (holds_of after) (caller_of s c objects) r g h at_g at_h number now (on objects) x
               (ap (λ (y : Node). y.region) x_is) same rest fits steps a))),
         ),
@@ -533,7 +533,7 @@ module _ (s : Store) (c e : Client) (r : Region) (g h : Hold) (colours : Colours
           stand_so (holds_of c) (holds_of after) (caller_of s c objects) r g h at_g at_h number x st a some_rest kept
           (begun_so (holds_of c) (holds_of after) (caller_of s c objects) r g h at_g at_h number x b (on objects) Apart
           goes_apart (own_steps finished) some_rest some_row for_it kept (replicated x kept.ids) several
-          (of_rows objects kept keeps) (size_is objects kept keeps))
+          (of_rows objects kept keeps) (size_is objects kept keeps) (keeps.by.seen_within c.region))
           (of_floor objects kept keeps) (some_row, for_it, refl)
 
       keeps_stood : Keeps s after objects kept_stood
@@ -573,7 +573,7 @@ module _ (s : Store) (c e : Client) (r : Region) (g h : Hold) (colours : Colours
                   (stand_in_all (holds_of c) (holds_of after) (caller_of s c objects) r g h at_g at_h number now (on objects) x
                   (ap (λ (y : Node). y.region) x_is) same rest fits st a Apart goes_apart (own_steps finished) kept
                   (of_id objects kept keeps) (of_floor objects kept keeps) several (of_rows objects kept keeps)
-                  (size_is objects kept keeps)),
+                  (size_is objects kept keeps) (keeps.by.seen_within c.region)),
               refl,
             )),
       )

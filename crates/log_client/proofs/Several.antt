@@ -114,8 +114,9 @@ module _ (gs hs : List Hold) (caller : Caller) (r : Region) (g h : Hold) (at_g :
       → (rest : Rest) (row : BegunRow) → IsBegunFor (log_of (seen_by hs) rest) x row
       → (kept : Kept) → slice_get (rest.nodes caller.client) kept.ids ≡ Some x → 2 ≤ length (members x.colours)
       → kept.rows ≡ g.seat.used → caller.rows ≡ r.board.size.rows
+      → ((k : ℕ) → kept.seen caller.own k ≤ length (seen_by gs caller.own k))
       → HasBegun (seen_by gs) (seen_by hs) rest caller kept x
-  begun_so b on Made goes each rest row begun kept next several rows board =
+  begun_so b on Made goes each rest row begun kept next several rows board before =
       let room = b.room in
       record {
         several = several;
@@ -125,6 +126,7 @@ module _ (gs hs : List Hold) (caller : Caller) (r : Region) (g h : Hold) (at_g :
         begun = begun;
         steps = λ colour. steps_of_goes gs hs caller g h at_g at_h is Made on goes (IsStepOf x.id) colour
             (λ e made own. each colour e made own);
+        before = before;
       }
 
   enters_there : (c : ℕ) (at : At) → core.EntersThere g h x c at → EntersThere (seen_by gs) (seen_by hs) caller x c at
@@ -196,13 +198,14 @@ module _ (gs hs : List Hold) (caller : Caller) (r : Region) (g h : Hold) (at_g :
         → ((c : ℕ) (e : event_types.Event) → Made c e → IsTrue (is_own caller.client e) → IsStepOf x.id e)
         → (kept : Kept) → x.id ≡ record { client = caller.client; count = kept.ids } → 2 ≤ length (members x.colours)
         → kept.rows ≡ g.seat.used → caller.rows ≡ r.board.size.rows
+        → ((k : ℕ) → kept.seen caller.own k ≤ length (seen_by gs caller.own k))
         → HasBegun (seen_by gs) (seen_by hs) rest caller kept x
-    has_begun Made goes each kept id several rows board =
+    has_begun Made goes each kept id several rows board before =
         let found = row_begun hs rest caller.own h at_h fits (seen_by hs) (core.own_row g) x row_in b.knows home in
         begun_so gs hs caller r g h at_g at_h is x b on Made goes each rest found.0 found.1 kept
         (sym (ap (λ (i : Id). slice_get (rest.nodes i.client) i.count) id)
         ∙ row_listed hs rest caller.own h at_h fits (seen_by hs) (core.own_row g) x row_in b.knows home)
-        several rows board
+        several rows board before
 
     -- a colour of a row that is settled there
     pub settled_now : (o : Outcome) (c : ℕ) → has x.colours c ≡ true → IsSettledNow h (core.own_append g x) o c
@@ -231,6 +234,7 @@ module _ (gs hs : List Hold) (caller : Caller) (r : Region) (g h : Hold) (at_g :
 
     pub settled_begun : (kept : Kept) → x.id ≡ record { client = caller.client; count = kept.ids }
         → 2 ≤ length (members x.colours) → kept.rows ≡ g.seat.used → caller.rows ≡ r.board.size.rows
+        → ((k : ℕ) → kept.seen caller.own k ≤ length (seen_by gs caller.own k))
         → HasBegun (seen_by gs) (seen_by hs) rest caller kept x
     settled_begun = has_begun s.begun (IsStepIn (core.own_append g x)) s.goes (λ c e made own. made.1)
 
@@ -274,6 +278,7 @@ module _ (gs hs : List Hold) (caller : Caller) (r : Region) (g h : Hold) (at_g :
   pub stops_begun : (steps : ℕ) → core.StopsAfter r g h x steps → (kept : Kept)
       → x.id ≡ record { client = caller.client; count = kept.ids }
       → 2 ≤ length (members x.colours) → kept.rows ≡ g.seat.used → caller.rows ≡ r.board.size.rows
+      → ((k : ℕ) → kept.seen caller.own k ≤ length (seen_by gs caller.own k))
       → HasBegun (seen_by gs) (seen_by hs) rest caller kept x
   stops_begun steps s = has_begun s.begun (core.IsStepBefore x steps) s.goes (λ c e made own. made.2)
 
@@ -282,9 +287,10 @@ module _ (gs hs : List Hold) (caller : Caller) (r : Region) (g h : Hold) (at_g :
       (own : (c : ℕ) (e : event_types.Event) → Made c e → IsTrue (is_own caller.client e) → IsStepOf x.id e) where
     pub stand_in_all : (kept : Kept) → x.id ≡ record { client = caller.client; count = kept.ids } → x.floor ≡ kept.floor
         → 2 ≤ length (members x.colours) → kept.rows ≡ g.seat.used → caller.rows ≡ r.board.size.rows
+        → ((k : ℕ) → kept.seen caller.own k ≤ length (seen_by gs caller.own k))
         → StandInAll (seen_by gs) (seen_by hs) rest caller kept x a.stamp (map piece_of s.points)
-    stand_in_all kept id floor several rows board =
+    stand_in_all kept id floor several rows board before =
         stand_so gs hs caller r g h at_g at_h is x s a rest kept
-        (has_begun a.begun Made goes own kept id several rows board) floor
+        (has_begun a.begun Made goes own kept id several rows board before) floor
         (outcome_there hs rest caller.own h at_h fits (seen_by hs) (core.own_row g) x (row_in a.begun)
         a.begun.knows home (Final a.stamp) a.outcome)

@@ -1,9 +1,9 @@
 -- Syncs, reads, pulls and trims that look elsewhere or at another time than they may.
-use Rattle.std.proofs.Common.{◌≡◌, inl, inr, ℕ, ◌<◌, List, [], ◌∷◌, length, take, Some, None, refl, ap, sym, subst}
-use Rattle.std.proofs.Common.{◌∙◌, arith, slice_get, codes}
+use Rattle.std.proofs.Common.{◌≡◌, inl, inr, ℕ, ◌<◌, ◌≤◌, List, [], ◌∷◌, ◌++◌, length, take, Some, None, refl, ap, sym, subst}
+use Rattle.std.proofs.Common.{◌∙◌, arith, lit<, slice_get, codes}
 use Rattle.std.proofs.Math.Nat.{le-max_right}
 use Rattle.std.specs.Prelude.{max, slice_index}
-use Rattle.std.specs.List.{AllZip}
+use Rattle.std.specs.List.{All, AllZip}
 use Rattle.log_node.specs.declared.ids.Id.{Id}
 use Rattle.log_node.specs.declared.ids.Key.{Key}
 use Rattle.log_node.specs.declared.ids.Counts.{Counts}
@@ -14,17 +14,20 @@ use Rattle.col_core.specs.declared.Event.TheVariants.{Single, Give, Trim, Raise}
 use Rattle.col_core.specs.declared.Entry.{Entry}
 use Rattle.col_core.specs.History.{line}
 use Rattle.col_core.specs.RegionOrder.{IsRegionOrder}
-use Rattle.col_core.specs.Log.{Log}
+use Rattle.col_core.specs.Log.{Log, places_of}
 use Rattle.col_core.specs.Keeping.{Kept, with_read}
 use Rattle.script_text.specs.declared.script.Kind.TheVariants as kinds
 use Rattle.script_text.specs.declared.script.What.TheVariants as whats
-use Rattle.lawful_run.specs.Callers.{Caller, caller_of}
+use Rattle.lawful_run.specs.Callers.{Caller, caller_of, node_of}
+use Rattle.col_core.specs.Ids.{IsStepOf}
 use Rattle.lawful_run.specs.Asks.{kind_of}
 use Rattle.lawful_run.specs.Reads.{HidesRead, ShowsKey}
 use Rattle.lawful_run.specs.Refusals.{FindsNoMemory, nothing, gone, gave, hidden}
-use Rattle.wrong_reports.specs.Cases.{IsUnlawful, a, b, e, id, by, counts, enters}
+use Rattle.wrong_reports.specs.Cases.{IsUnlawful, a, b, e, x, id, by, counts, enters}
+use Rattle.wrong_reports.specs.Rows.{proposed}
 use Rattle.wrong_reports.specs.Naming.{one_node, trim, trimmed}
 use Rattle.wrong_reports.specs.Shown.{shown}
+use Rattle.wrong_reports.specs.Looks.{a_sync_behind_an_own_later_step}
 use Rattle.wrong_reports.specs.Looks.{a_sync_of_another_colour, a_scan_of_another_text, a_scan_under_another_stamp}
 use Rattle.wrong_reports.specs.Looks.{a_trim_told_as_a_raise, a_raise_behind_what_was_seen, a_raise_that_was_seen}
 use Rattle.wrong_reports.specs.Looks.{a_read_that_leaves_the_floor, a_trim_told_as_a_look, a_give_told_as_a_look, a_sync_answered_as_a_trim}
@@ -38,12 +41,34 @@ use Rattle.wrong_reports.proofs.WrongReads.{scan_says}
 use Rattle.wrong_reports.proofs.WrongMoves.{pull_says}
 use Rattle.wrong_reports.proofs.WrongVerdict.{the_key, one_read, one_object, node_is}
 use Rattle.wrong_reports.proofs.WrongRefusals.{syncs_leave}
+use Rattle.wrong_reports.proofs.WrongHelping.{stopped_says}
 
 -- SYNCS AND SCANS
 pub sync_elsewhere : IsUnlawful a_sync_of_another_colour
 sync_elsewhere run =
     let w = (only run.log _ _ _ _ (run.clients 0 _ refl).explained).explained.0 in
     cc (w)
+
+-- its proposal is the first event of the column, and its sync had looked at one
+pub own_step_seen : IsUnlawful a_sync_behind_an_own_later_step
+own_step_seen run =
+    let client = run.clients 0 _ refl in
+    let t = two run.log _ _ _ _ _ _ client.explained in
+    let kept_is = t.first.after_is ∙ t.first.explained.4 in
+    let said = t.second.explained in
+    let stopped = stopped_says run.log _ _ _ 2 _ (lit< tt) said.4 in
+    let h = (column_at a_sync_behind_an_own_later_step run 0 (proposed x) refl).history in
+    let p : 0 ∷ [] ≡ stopped.places 0 =
+        ap (places_of 0) h ∙ client.made 0 0 (lit< tt) (lit< tt)
+        ∙ ap (λ (kept : Kept). kept.made 0 0) (t.second.after_is ∙ stopped.after_is)
+        ∙ ap (λ (places : List ℕ). places ++ stopped.places 0) (ap (λ (kept : Kept). kept.made 0 0) kept_is) in
+    let Steps : ℕ → Type 0 = λ place. (t.kept.seen 0 0 ≤ place) × (en : Entry)
+    × (slice_get (run.log.histories 0 0) place ≡ Some en) × (en.by ≡ 0)
+    × IsStepOf (node_of (caller_of a_sync_behind_an_own_later_step.script 0) t.kept said.1 said.2).id en.event in
+    let step = subst (All Steps) (sym p) (stopped.says.begins.steps 0) 0 0 (lit< tt) in
+    let early = step.0 in
+    let seen = ap (λ (kept : Kept). kept.seen 0 0) kept_is in
+    omega (arith, early, seen)
 
 s_is_no_t : codes "s" ≡ codes "t" → ⊥
 s_is_no_t e = let f : 115 ≡ 116 = ap (λ t. slice_index t 0) e in omega (arith, f)

@@ -3,7 +3,7 @@ use Rattle.std.specs.Prelude.{ℕ, List, [], ◌∷◌, codes, Some, None}
 use Rattle.log_node.specs.declared.node.At.TheVariants.{Event, Look}
 use Rattle.log_node.specs.declared.marks.Mark.TheVariants as marks
 use Rattle.log_node.specs.declared.marks.Why.TheVariants.{Memory}
-use Rattle.log_node.specs.declared.marks.Outcome.TheVariants.{Gone, Final}
+use Rattle.log_node.specs.declared.marks.Outcome.TheVariants.{Open, Gone, Final}
 use Rattle.col_core.specs.declared.Event.TheVariants as made
 use Rattle.col_core.specs.declared.Entry.{Entry}
 use Rattle.script_text.specs.declared.script.What.TheVariants as whats
@@ -20,7 +20,7 @@ use Rattle.wrong_reports.specs.Cases.{Case, a, b, e, w, x, y, id, key, counts, o
 use Rattle.wrong_reports.specs.Cases.{replies, script, to_both, look, column, empty, by, enters, proposes, point, shows}
 use Rattle.wrong_reports.specs.Naming.{case, append, stood_at, one_node, trim, trimmed, trimmed_at}
 use Rattle.wrong_reports.specs.Shown.{shown, one_play}
-use Rattle.wrong_reports.specs.Rows.{row, settles, stood}
+use Rattle.wrong_reports.specs.Rows.{row, settles, stood, proposed}
 use Rattle.wrong_reports.specs.Reads.{raise, scanned, scan}
 use Rattle.wrong_reports.specs.Moves.{pulled, given_from, carried_one}
 use Rattle.wrong_reports.specs.Objects.{map, queue, tx, over, one_pair, read_at}
@@ -35,6 +35,21 @@ a_sync_of_another_colour = record {
   script = together (asks 8 a (whats.Sync x) ∷ []);
   report = shows (to_both (replies 8 words.Sync (answers.Synced (look y 0 (counts 0 0)) 0) ∷ []) []) []
       (empty e x ∷ empty e y ∷ []);
+}
+
+-- 8 sync ok x?1/0 plays 0
+-- 9 stop stopped 2
+-- row e a.0 a.0 x=1 y=- open
+-- column e x
+-- 0 a propose a.0 floor 0 wants 0 stamp 1
+-- = clock 1 line - queue a.0:1? cut 0 base 0
+abbrev pub a_sync_behind_an_own_later_step : Case
+a_sync_behind_an_own_later_step = record {
+  script = together (asks 8 a (whats.Sync x) ∷ asks 9 a (whats.Stop 2 on_both (codes "s")) ∷ []);
+  report = shows
+      (to_both (replies 8 words.Sync (answers.Synced (look x 1 (counts 0 0)) 0)
+      ∷ replies 9 words.Stop (answers.Stopped 2) ∷ []) [])
+      (row e a 0 (id a 0) (marks.Number 1) marks.None Open ∷ []) (proposed x ∷ empty e y ∷ []);
 }
 
 -- 6 append ok 1 x!0@0

@@ -84,6 +84,7 @@ pub use looks::a_refused_read_that_keeps_an_earlier_one_is_unlawful;
 pub use looks::a_scan_of_another_text_is_unlawful;
 pub use looks::a_scan_under_another_stamp_is_unlawful;
 pub use looks::a_sync_answered_as_a_trim_is_unlawful;
+pub use looks::a_sync_behind_an_own_later_step_is_unlawful;
 pub use looks::a_sync_of_another_colour_is_unlawful;
 pub use looks::a_trim_told_as_a_give_is_unlawful;
 pub use looks::a_trim_told_as_a_look_is_unlawful;

@@ -1,5 +1,6 @@
 // Syncs, reads, pulls and trims that look elsewhere or at another time than they may.
 ghost use Rattle.wrong_reports.specs.Cases.{IsUnlawful};
+ghost use Rattle.wrong_reports.specs.Looks.{a_sync_behind_an_own_later_step};
 ghost use Rattle.wrong_reports.specs.Looks.{a_sync_of_another_colour, a_scan_of_another_text};
 ghost use Rattle.wrong_reports.specs.Looks.{a_scan_under_another_stamp, a_trim_told_as_a_raise};
 ghost use Rattle.wrong_reports.specs.Looks.{a_raise_behind_what_was_seen, a_raise_that_was_seen};
@@ -15,6 +16,12 @@ ghost use Rattle.wrong_reports.specs.Looks.{a_causal_value_of_another_text};
 #[tactic(auto, using(crate::proofs::WrongLooks::sync_elsewhere))]
 pub fn a_sync_of_another_colour_is_unlawful()
     ensures { IsUnlawful a_sync_of_another_colour }
+{}
+
+/// The steps of a client's own append come after what it had seen.
+#[tactic(auto, using(crate::proofs::WrongLooks::own_step_seen))]
+pub fn a_sync_behind_an_own_later_step_is_unlawful()
+    ensures { IsUnlawful a_sync_behind_an_own_later_step }
 {}
 
 /// A scan shows the text that was appended.
