@@ -1,6 +1,7 @@
 -- What a reader takes from the report of a run.
 use Rattle.std.specs.Prelude.{ℕ, List}
 use Rattle.lawful_run.specs.Readings.{ReturnedAppendsStand, ClosingLinesRise, OneKey, OneCommand, OneOrder, NothingElseStands, ShownAsAppended, ShownOnce}
+use Rattle.lawful_run.specs.ObjectReadings.{ScansAreWhole, GetsAreFolds, CausalGetsAreFolds, DequeuesAreFolds, ReadsAreFolds, VerdictsAreFolds}
 use Rattle.script_text.specs.declared.script.Script.{Script}
 use Rattle.script_text.specs.Grammar.{IsScript}
 use Rattle.script_text.specs.Fitting.{IsFitting}
@@ -17,3 +18,10 @@ pub record LawsForReaders : Type 0 where
   pub nothing_else : NothingElseStands
   pub as_appended : ShownAsAppended
   pub once : ShownOnce
+  -- scans, and the answers of objects, are those over the nodes of closing lines
+  pub scans : ScansAreWhole
+  pub gets : GetsAreFolds
+  pub causal_gets : CausalGetsAreFolds
+  pub dequeues : DequeuesAreFolds
+  pub reads : ReadsAreFolds
+  pub verdicts : VerdictsAreFolds

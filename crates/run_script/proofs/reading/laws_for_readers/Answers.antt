@@ -12,4 +12,10 @@ returns g = record {
   nothing_else = g.nothing_else_stands.ensures;
   as_appended = g.shown_as_appended.ensures;
   once = g.shown_once.ensures;
+  scans = g.scans_are_whole.ensures;
+  gets = g.gets_are_folds.ensures;
+  causal_gets = g.causal_gets_are_folds.ensures;
+  dequeues = g.dequeues_are_folds.ensures;
+  reads = g.reads_are_folds.ensures;
+  verdicts = g.verdicts_are_folds.ensures;
 }
