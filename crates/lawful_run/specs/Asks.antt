@@ -101,7 +101,7 @@ manner_of (whats.Deq object) = Dequeuing
 -- a command that appends or makes a stamped read may help the appends of others
 abbrev pub may_help : Manner → Bool
 may_help Appending = true
-may_help Stopping = true
+may_help Stopping = false
 may_help Syncing = false
 may_help Moving = false
 may_help Getting = false

@@ -312,6 +312,7 @@ module _ (s : Store) (c : Client) (r : Region) (g : Hold) (k : ℕ) (colours : C
       goes = have_gone_on s c after r g h is changed;
       grows = grown_same c after refl;
       finished = λ finished. inl (finished_stays s c after r g h is changed refl finished);
+      idle = λ stops. absurd (stops refl);
       answer = (
         refl,
         subst (λ (i : Id). IsExplained s c after (AppendsAs colours text (record { id = i; row = None; stood = st })))
@@ -347,6 +348,7 @@ module _ (s : Store) (c : Client) (r : Region) (g : Hold) (k : ℕ) (colours : C
       goes = look_goes s c r g h k is there hold now but same sees;
       grows = grown_same c left refl;
       finished = λ finished. inl (look_finished s c r g h k is there hold now but same sees finished);
+      idle = λ stops. absurd (stops refl);
       answer = why;
       points = tt;
       full = λ used. (λ e. absurd (not_full used (cc e)), λ no_row. absurd (one_takes_none s c colours k None used one_colour no_row));

@@ -48,6 +48,7 @@ module _ (s : Store) (c : Client) (colours : Colours) (text : List ℕ) (stop : 
     goes = goes_same_holds (holds_of c);
     grows = grown_same c c refl;
     finished = λ finished. inl finished;
+    idle = λ stops helps. helps;
     answer = why;
     points = tt;
     full = λ used. (λ e. (full used).0 (cc (e)), λ none. ap Err ((full used).1 none));

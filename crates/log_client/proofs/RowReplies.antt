@@ -66,7 +66,7 @@ use Rattle.log_client.specs.declared.track.Track.{Track}
 use Rattle.log_client.specs.declared.answers.Appended.{Appended}
 use Rattle.log_client.specs.Fits.{Fits}
 use Rattle.log_client.specs.Ending.{IsNoMove}
-use Rattle.log_client.specs.Clients.{holds_of, seen_of, rows_of, tracks_of, caller_of, counts_in, IsClient, IsClosed, IsClosedIn, AllClosed, AreRows, Keeps, Finished}
+use Rattle.log_client.specs.Clients.{holds_of, seen_of, rows_of, tracks_of, caller_of, counts_in, IsClient, IsClosed, IsClosedIn, AllClosed, AreRows, Keeps, Finished, Helps}
 use Rattle.log_client.specs.Appends.{next_node, piece_of, AppendsAs, AppendRefused, HasNoRow, HasStopped}
 use Rattle.log_client.specs.Calls.{IsExplained}
 use Rattle.log_client.specs.Inside.{CallsAppend}
@@ -76,7 +76,7 @@ use Rattle.log_client.proofs.OwnMore.{own_nodes_row, step_no_single}
 use Rattle.log_client.proofs.Foreign.{Accounted, goes_accounted, foreign_but}
 use Rattle.log_client.proofs.Several.{begun_so, ends_at_colour, settled_everywhere, settled_outcome, settled_begun, stops_begun, stops_there, stand_in_all, stand_so}
 use Rattle.log_client.proofs.AtHome.{ChangesHome, gone_same, have_gone_on, home_after, others_after, sees_after, client_after}
-use Rattle.log_client.proofs.Helping.{helps_at_home, idle_at_home, idle_same}
+use Rattle.log_client.proofs.Helping.{helped_at_home, helps_at_home, idle_at_home, idle_on, idle_same}
 use Rattle.log_client.proofs.Growing.{grown_same}
 use Rattle.log_client.proofs.Looked.{IsPlain, client_looked, did_nothing, finished_stays, lawful_after, pulls_stay, tracks_stay}
 use Rattle.log_client.proofs.AppendReplies.{replicated, step_moves}
@@ -259,17 +259,18 @@ module _ (s : Store) (c e : Client) (r : Region) (g h : Hold) (colours : Colours
         (helps_at_home s c after r g h is changed Made goes whole)
 
     calls : (result : Result Appended MultiFault) → ((taken : ℕ) → result ≢ Err (faults.Full taken))
-        → (Finished c → Finished after ⊎ HasStopped result)
+        → (Finished c → Finished after ⊎ HasStopped result) → (stop ≢ None → Helps after → Helps c)
         → MatchResult result (λ a. (stop ≡ None) × IsExplained s c after (AppendsAs colours text a))
         (AppendRefused s c after colours text stop)
         → IfOk result (λ a. map (λ (p : Point). p.colour) a.stood.points ≡ members colours)
         → CallsAppend s c after colours text stop result
-    calls result not_full finished answer points = record {
+    calls result not_full finished idle answer points = record {
       client = row_client;
       same = (refl, refl);
       goes = have_gone_on s c after r g h is changed;
       grows = grown_same c after refl;
       finished = finished;
+      idle = idle;
       answer = answer;
       points = points;
       full = λ taken. (λ full. absurd (not_full taken full), λ none. absurd (has_row taken none));
@@ -279,6 +280,13 @@ module _ (s : Store) (c e : Client) (r : Region) (g h : Hold) (colours : Colours
   own_whole : (k : ℕ) (ev : event_types.Event) → IsStepOf x.id ev → IsHelp c.number ev → (id : Id) → IsStepOf id ev
       → IsComplete h id
   own_whole k ev step help id other = absurd (own_no_help c.number x.id ev step own_id help)
+
+  -- and so helps nobody
+  own_idle : (Made : ℕ → event_types.Event → Type 0) → GoesOn Made g h
+      → ((k : ℕ) (ev : event_types.Event) → Made k ev → IsStepOf x.id ev) → Helps after → Helps c
+  own_idle Made goes own =
+      helped_at_home s c after r g h is changed
+      (idle_on Made c.number g h changed.on goes (λ k ev m help. own_no_help c.number x.id ev (own k ev m) own_id help))
 
   -- WHAT IS KEPT
 
@@ -348,7 +356,8 @@ module _ (s : Store) (c e : Client) (r : Region) (g h : Hold) (colours : Colours
     settled_calls fault not_full why =
         calls (IsStepIn (core.own_append g x)) a.goes (steps_in (core.own_append g x))
         (λ k ev m. own_whole k ev m.1) (omega (arith, still)) (let low = is.floored in omega (arith, low, still)) (Err fault)
-        (λ taken e. not_full taken (cc e)) (λ finished. inl (finished_then settled_closed finished)) why tt
+        (λ taken e. not_full taken (cc e)) (λ finished. inl (finished_then settled_closed finished))
+        (λ stops. own_idle (IsStepIn (core.own_append g x)) a.goes (λ k ev m. m.1)) why tt
 
     module _ (objects : List Object) (kept : Kept) (keeps : Keeps s c objects kept) (rest : Rest)
         (fits : Fits (holds_of after) rest) where
@@ -419,7 +428,8 @@ module _ (s : Store) (c e : Client) (r : Region) (g h : Hold) (colours : Colours
   row_stopped steps a some asked still =
       calls (core.IsStepBefore x steps) a.goes (steps_before x steps) (λ k ev m. own_whole k ev m.2) (omega (arith, still))
       (let low = is.floored in omega (arith, low, still)) (Err (faults.Stopped steps))
-      (λ taken e. let f : ⊥ = cc (e) in f) (λ finished. inr (steps, some, refl)) (
+      (λ taken e. let f : ⊥ = cc (e) in f) (λ finished. inr (steps, some, refl))
+      (λ stops. own_idle (core.IsStepBefore x steps) a.goes (λ k ev m. m.2)) (
         asked,
         λ objects kept finished keeps. (
           kept_then objects kept keeps,
@@ -585,7 +595,7 @@ module _ (s : Store) (c e : Client) (r : Region) (g h : Hold) (colours : Colours
         (omega (arith, raised))
         (let low = is.floored in let stamp = stamp_is in let top = in_range in omega (arith, raised, stamp, top, low))
         (Ok (record { id = id; row = Some n; stood = st })) (λ taken e. let f : ⊥ = cc (e) in f)
-        (λ finished. inl (finished_then stands_closed_in finished)) (
+        (λ finished. inl (finished_then stands_closed_in finished)) (λ stops. absurd (stops none)) (
           none,
           subst (λ (i : Id). IsExplained s c after (AppendsAs colours text (record { id = i; row = Some n; stood = st })))
               (sym id_is) (λ objects kept finished keeps. (
@@ -622,6 +632,7 @@ module _ (s : Store) (c : Client) (r : Region) (g : Hold) (colours : Colours) (t
       goes = have_gone_on s c d r g g is ch;
       grows = grown_same c d tracks;
       finished = λ finished. inl (finished_stays s c d r g g is ch rows finished);
+      idle = λ stops. helped_at_home s c d r g g is ch (idle_same c.number g);
       answer = finds_nothing s c d colours text stop (did_nothing s c d r g g is ch (λ k. refl) floor count rows
           (λ k. ap (λ (l : List Track). counts_in (slice_get l k)) tracks));
       points = tt;

@@ -1,5 +1,5 @@
 -- What the functions of this crate say of each other: appends, and plays on a track.
-use Rattle.std.specs.Prelude.{◌≡◌, ◌⊎◌, ◌↔◌, ℕ, false, ◌≤◌, List, ◌++◌, length, map, Option, Some, None, slice_get, Result, Err, IfOk, MatchResult}
+use Rattle.std.specs.Prelude.{◌≡◌, ◌≢◌, ◌⊎◌, ◌↔◌, ℕ, false, ◌≤◌, List, ◌++◌, length, map, Option, Some, None, slice_get, Result, Err, IfOk, MatchResult}
 use Rattle.log_node.specs.declared.ids.Colours.{Colours}
 use Rattle.log_node.specs.declared.limits.TheConstants.{MAX_STAMP}
 use Rattle.log_node.specs.Seen.{PlacedNode}
@@ -25,7 +25,7 @@ use Rattle.log_client.specs.declared.answers.Synced.{Synced}
 use Rattle.log_client.specs.declared.faults.SyncFault.{SyncFault}
 use Rattle.log_client.specs.declared.faults.SyncFault.TheVariants.{Trimmed, NoMemory}
 use Rattle.log_client.specs.Fits.{HaveGoneOn}
-use Rattle.log_client.specs.Clients.{IsClient, Finished, Plays, holds_of}
+use Rattle.log_client.specs.Clients.{IsClient, Finished, Helps, Plays, holds_of}
 use Rattle.log_client.specs.Growing.{HasGrown}
 use Rattle.log_client.specs.Calls.{IsExplained, IsSame}
 use Rattle.log_client.specs.Appends.{AppendsAs, AppendRefused, HasNoRow, HasStopped}
@@ -38,6 +38,7 @@ pub record CallsAppend (s : Store) (c d : Client) (colours : Colours) (text : Li
   pub goes : HaveGoneOn (holds_of c) (holds_of d)
   pub grows : HasGrown c d
   pub finished : Finished c → Finished d ⊎ HasStopped result
+  pub idle : stop ≢ None → Helps d → Helps c
   pub answer : MatchResult result
       (λ a. (stop ≡ None) × IsExplained s c d (AppendsAs colours text a))
       (AppendRefused s c d colours text stop)

@@ -15,7 +15,7 @@ ghost use Rattle.append_core.specs.Standing.{StandsAlone};
 ghost use Rattle.append_core.specs.Several.{IsStopOf, Leaves, StandsInAll, own_row};
 ghost use Rattle.lawful_run.specs.Callers.{row_of};
 ghost use Rattle.log_client.specs.Fits.{HaveGoneOn};
-ghost use Rattle.log_client.specs.Clients.{IsClient, Finished, holds_of, rows_of, starts_of, tracks_of};
+ghost use Rattle.log_client.specs.Clients.{IsClient, Finished, Helps, holds_of, rows_of, starts_of, tracks_of};
 ghost use Rattle.log_client.specs.Growing.{HasGrown};
 ghost use Rattle.log_client.specs.Appends.{AreColoursOf, IsStopWithin, next_node, AppendsAs, AppendRefused, HasNoRow, HasStopped};
 ghost use Rattle.log_client.specs.Calls.{IsExplained, IsSame};
@@ -282,6 +282,8 @@ impl Client {
         ensures goes { HaveGoneOn (holds_of self.old) (holds_of self.new) }
         ensures grows { HasGrown self.old self.new }
         ensures finished { Finished self.old → Finished self.new ⊎ HasStopped result }
+        // An append that is to stop helps nobody.
+        ensures idle { stop ≢ None → Helps self.new → Helps self.old }
         ensures ok { IfOk result (λ a. IsExplained store.now self.old self.new (AppendsAs colours text a)) }
         ensures whole { OnOk result (stop ≡ None) }
         ensures points { IfOk result (λ a. map (λ (p : Point). p.colour) a.stood.points ≡ members colours) }

@@ -129,15 +129,15 @@ not_stopped c d result other finished done = elim (finished done) [
 
 module _ (s : Store) (c d : Client) (rests : IsClient s d) (same : IsSame c d)
     (goes : HaveGoneOn (holds_of c) (holds_of d)) (grows : HasGrown c d) where
-  -- a call that may have helped
-  pub gives_helping : (what : What) (answer : Answer) (Record : Log → Caller → Kept → Kept → Type 0)
-      → IsTrue (may_help (manner_of what))
+  -- a call that helped nobody, or may have helped
+  gives_so : (what : What) (answer : Answer) (Record : Log → Caller → Kept → Kept → Type 0)
+      → (Helps d → Helps c ⊎ IsTrue (may_help (manner_of what)))
       → (Finished c → Finished d ⊎ (IsTrue (is_stop what) × IsStopped answer))
       → IsExplained s c d Record
       → ((log : Log) (caller : Caller) (kept after : Kept) → Record log caller kept after
       → Explains log caller kept what answer [] after)
       → Gives s c d what answer []
-  gives_helping what answer Record may finished is explains = record {
+  gives_so what answer Record helps finished is explains = record {
     rests = rests;
     same = same;
     goes = goes;
@@ -145,8 +145,18 @@ module _ (s : Store) (c d : Client) (rests : IsClient s d) (same : IsSame c d)
     explained = λ objects kept done keeps.
         let e = is objects kept done keeps in (e.0, e.1, λ rest fits. explains _ _ kept e.0 (e.2 rest fits));
     finished = finished;
-    helps = λ helps. inr may;
+    helps = helps;
   }
+
+  -- one that may have helped
+  pub gives_helping : (what : What) (answer : Answer) (Record : Log → Caller → Kept → Kept → Type 0)
+      → IsTrue (may_help (manner_of what))
+      → (Finished c → Finished d ⊎ (IsTrue (is_stop what) × IsStopped answer))
+      → IsExplained s c d Record
+      → ((log : Log) (caller : Caller) (kept after : Kept) → Record log caller kept after
+      → Explains log caller kept what answer [] after)
+      → Gives s c d what answer []
+  gives_helping what answer Record may = gives_so what answer Record (λ helps. inr may)
 
   module _ (colours : Colours) (text : List ℕ) where
     pub gives_stood : (a : Appended) → (Finished c → Finished d) → IsExplained s c d (AppendsAs colours text a)
@@ -186,13 +196,14 @@ module _ (s : Store) (c d : Client) (rests : IsClient s d) (same : IsSame c d)
 
     -- STOPS
 
-    module _ (steps : ℕ) where
+    module _ (steps : ℕ) (idle : Helps d → Helps c) where
       pub gives_full_stop : (used : ℕ) → steps ≢ 0 → (Finished c → Finished d)
           → AppendRefused s c d colours text (Some steps) (faults.Full used)
           → Gives s c d (whats.Stop steps colours text) (answers.Full used) []
       gives_full_stop used later finished is =
-          gives_helping (whats.Stop steps colours text) (answers.Full used)
-          (λ log caller kept after. IsFull caller kept colours used × (after ≡ kept)) refl (λ done. inl (finished done)) is.1
+          gives_so (whats.Stop steps colours text) (answers.Full used)
+          (λ log caller kept after. IsFull caller kept colours used × (after ≡ kept)) (λ helps. inl (idle helps))
+          (λ done. inl (finished done)) is.1
           (λ log caller kept after r. commands.full_stop log caller kept after colours text steps used later r.0 r.1)
 
       pub gives_stopped : (shown : ℕ) → AppendRefused s c d colours text (Some steps) (faults.Stopped shown)
@@ -200,16 +211,16 @@ module _ (s : Store) (c d : Client) (rests : IsClient s d) (same : IsSame c d)
       gives_stopped shown is =
           let so : steps ≡ shown = (let e = is.0 in cc (e)) in
           subst (λ (k : ℕ). Gives s c d (whats.Stop k colours text) (answers.Stopped shown) []) (sym so)
-          (gives_helping (whats.Stop shown colours text) (answers.Stopped shown)
-          (λ log caller kept after. Stops log caller kept (node_of caller kept colours text) shown after) refl
-          (λ done. inr (refl, (shown, refl))) is.1
+          (gives_so (whats.Stop shown colours text) (answers.Stopped shown)
+          (λ log caller kept after. Stops log caller kept (node_of caller kept colours text) shown after)
+          (λ helps. inl (idle helps)) (λ done. inr (refl, (shown, refl))) is.1
           (λ log caller kept after r. commands.stopped log caller kept after colours text shown r))
 
       pub gives_no_stop : (Finished c → Finished d) → AppendRefused s c d colours text (Some steps) faults.NoMemory
           → Gives s c d (whats.Stop steps colours text) answers.NoMemory []
       gives_no_stop finished is =
-          gives_helping (whats.Stop steps colours text) answers.NoMemory (FindsNoMemory colours text (Some steps)) refl
-          (λ done. inl (finished done)) is
+          gives_so (whats.Stop steps colours text) answers.NoMemory (FindsNoMemory colours text (Some steps))
+          (λ helps. inl (idle helps)) (λ done. inl (finished done)) is
           (λ log caller kept after r. elim r [
             | inl none ↦ commands.no_memory log caller kept after (whats.Stop steps colours text) none
             | inr gone ↦ absurd (let e = gone.0 in let f : ⊥ = cc (e) in f)

@@ -31,7 +31,7 @@ use Rattle.wrong_reports.specs.Rows.{settles, proposed}
 use Rattle.wrong_reports.specs.Helping.{a_stop_for_the_stamps_end, phantom, a_phantom_of_another_region}
 use Rattle.wrong_reports.specs.Helping.{a_phantom_of_nobody, a_stopped_append_that_goes_on, a_stop_before_its_steps}
 use Rattle.wrong_reports.specs.Helping.{a_stop_after_other_steps, left_open_by_one_who_did_not_stop, a_row_left_open}
-use Rattle.wrong_reports.specs.Helping.{helped_by_b, one_who_only_syncs_helps, one_of_another_region_helps}
+use Rattle.wrong_reports.specs.Helping.{helped_by_b, one_who_only_syncs_helps, one_who_only_stops_helps, one_of_another_region_helps}
 use Rattle.wrong_reports.specs.Helping.{a_helped_append_left_open, a_helped_append_open_in_a_colour}
 use Rattle.wrong_reports.proofs.Tools.{only, column_at, some_same}
 use Rattle.wrong_reports.proofs.BegunRows.{one_row, second_row, only_row, at_row, in_rows}
@@ -169,6 +169,17 @@ syncs_only run =
     let h = (column_at one_who_only_syncs_helps run 0 (helped_by_b x) refl).history in
     let among = subst (λ (es : List Entry). Contains es help) h (1, lit< tt, refl) in
     only_syncs (run.helpers 0 0 help (lit< tt) (lit< tt) among (λ i. let f : 0 ≡ 1 = i in cc (f))).0
+
+only_stops : HasHelping one_who_only_stops_helps.script 1 → ⊥
+only_stops (command, (zero, lt, same), helps) = let m =
+    ap (λ (c : Command). may_help (manner_of c.what)) same in cc (m, helps)
+only_stops (command, (suc k, lt, same), helps) = let f : ⊥ = omega (arith, lt) in f
+
+pub stops_only : IsUnlawful one_who_only_stops_helps
+stops_only run =
+    let h = (column_at one_who_only_stops_helps run 0 (helped_by_b x) refl).history in
+    let among = subst (λ (es : List Entry). Contains es help) h (1, lit< tt, refl) in
+    only_stops (run.helpers 0 0 help (lit< tt) (lit< tt) among (λ i. let f : 0 ≡ 1 = i in cc (f))).0
 
 pub helps_elsewhere : IsUnlawful one_of_another_region_helps
 helps_elsewhere run =

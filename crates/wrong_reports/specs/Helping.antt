@@ -142,7 +142,20 @@ one_who_only_syncs_helps = record {
       (row e a 0 (id a 0) (marks.Number 1) (marks.Number 1) (Final 1) ∷ []) (helped_by_b x ∷ helped_by_b y ∷ []);
 }
 
--- the same by a client of the region w, who appends there
+-- 8 stop stopped 3
+-- 9 stop stopped 1
+-- row e a.0 a.0 x=1 y=1 final 1
+-- row e b.0 b.0 x=- y=- open
+-- column e x and column e y as before
+abbrev pub one_who_only_stops_helps : Case
+one_who_only_stops_helps = record {
+  script = together (asks 8 a (Stop 3 on_both (codes "s")) ∷ asks 9 b (Stop 1 on_both (codes "t")) ∷ []);
+  report = shows (to_both (replies 8 words.Stop (answers.Stopped 3) ∷ []) (replies 9 words.Stop (answers.Stopped 1) ∷ []))
+      (row e a 0 (id a 0) (marks.Number 1) (marks.Number 1) (Final 1)
+      ∷ row e b 0 (id b 0) marks.None marks.None Open ∷ []) (helped_by_b x ∷ helped_by_b y ∷ []);
+}
+
+-- as the first, by a client of the region w, who appends there
 abbrev pub one_of_another_region_helps : Case
 one_of_another_region_helps = record {
   script = script 2 2 (e ∷ w ∷ []) [] (asks 8 a (Stop 3 on_both (codes "s"))

@@ -4,7 +4,7 @@ ghost use Rattle.wrong_reports.specs.Helping.{a_phantom_of_another_region, a_pha
 ghost use Rattle.wrong_reports.specs.Helping.{a_stopped_append_that_goes_on, a_stop_before_its_steps};
 ghost use Rattle.wrong_reports.specs.Helping.{a_stop_after_other_steps, a_stop_for_the_stamps_end};
 ghost use Rattle.wrong_reports.specs.Helping.{left_open_by_one_who_did_not_stop, a_row_left_open};
-ghost use Rattle.wrong_reports.specs.Helping.{one_who_only_syncs_helps, one_of_another_region_helps};
+ghost use Rattle.wrong_reports.specs.Helping.{one_who_only_syncs_helps, one_who_only_stops_helps, one_of_another_region_helps};
 ghost use Rattle.wrong_reports.specs.Helping.{a_helped_append_left_open, a_stop_before_its_decision};
 ghost use Rattle.wrong_reports.specs.Helping.{a_stop_before_its_settling, a_helped_append_open_in_a_colour};
 
@@ -60,6 +60,12 @@ pub fn a_row_left_open_is_unlawful()
 #[tactic(auto, using(crate::proofs::WrongHelping::syncs_only))]
 pub fn one_who_only_syncs_helps_is_unlawful()
     ensures { IsUnlawful one_who_only_syncs_helps }
+{}
+
+/// A stop helps nobody.
+#[tactic(auto, using(crate::proofs::WrongHelping::stops_only))]
+pub fn one_who_only_stops_helps_is_unlawful()
+    ensures { IsUnlawful one_who_only_stops_helps }
 {}
 
 /// Who helps is of the column's region.

@@ -56,6 +56,7 @@ pub use helping::a_stop_for_the_stamps_end_is_unlawful;
 pub use helping::a_stopped_append_that_goes_on_is_unlawful;
 pub use helping::left_open_by_one_who_did_not_stop_is_unlawful;
 pub use helping::one_of_another_region_helps_is_unlawful;
+pub use helping::one_who_only_stops_helps_is_unlawful;
 pub use helping::one_who_only_syncs_helps_is_unlawful;
 pub use hidden::a_base_behind_what_was_seen_is_unlawful;
 pub use hidden::a_dequeues_hidden_look_at_nothing_is_unlawful;

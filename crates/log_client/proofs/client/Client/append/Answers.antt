@@ -65,6 +65,7 @@ returns g c =
       goes = e.goes;
       grows = e.grows;
       finished = e.finished;
+      idle = e.idle;
       ok = said_ok (c.args.stop ≡ None)
           (λ a. IsExplained c.args.store.now c.args.self.now c.append_alone.new.self
           (AppendsAs c.args.colours c.args.text a))
