@@ -6,12 +6,12 @@ pub use Rattle.log_client.proofs.LeftOpen.{open_row}
 pub use Rattle.log_client.proofs.FewColours.{few_colours}
 pub use Rattle.log_client.proofs.Forgetting.{rests_forgotten}
 pub use Rattle.log_client.proofs.Growing.{grown_same, grown_then}
-pub use Rattle.log_client.proofs.ItemsRead.{items_show, items_are_objects, made_from}
-pub use Rattle.log_client.proofs.ReadCalls.{line_is_own}
+pub use Rattle.log_client.proofs.ItemsRead.{items_show, items_are_objects, made_from, made_of, rising_head, rising_tail}
+pub use Rattle.log_client.proofs.ReadCalls.{line_is_own, line_rises}
 pub use Rattle.log_client.proofs.ReadLater.{behind_all, read_above}
 pub use Rattle.log_client.proofs.Explaining.{rests_same, rests_then}
 pub use Rattle.log_client.proofs.PlayedStamps.{stamps_played}
-pub use Rattle.log_client.proofs.ObjectNodes.{line_counted, first_are_own, snapshot_is_own}
+pub use Rattle.log_client.proofs.ObjectNodes.{line_counted, line_first, first_are_own, snapshot_is_own}
 pub use Rattle.log_client.proofs.ObjectFolds.{folds_none, folds_on, follows_later, folds_more, folds_stay}
 pub use Rattle.log_client.proofs.ObjectCalls.{explained_less, explained_then, first_position, one_known, one_started, tracks_long}
 pub use Rattle.log_client.proofs.ObjectCalls.{rests_synced, sync_hidden, sync_leaves, at_one, append_unshown, stands_behind, unread_leaves}

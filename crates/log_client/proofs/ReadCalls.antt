@@ -1,7 +1,7 @@
 -- A stamped read as the client's call leaves it.
 use Rattle.std.proofs.Common.{◌≡◌, ℕ, zero, suc, ◌<◌, ◌≤◌, max, List, [], ◌∷◌, ◌++◌, length, map, take, drop, Option, Some, None, refl, ap, sym, subst, ◌∙◌, inl, inr, arith, true, append-nil, length-append, take-append-drop}
 use Rattle.std.specs.Prelude.{slice_get, slice_index_or}
-use Rattle.std.specs.List.{All, AllZip, filter}
+use Rattle.std.specs.List.{All, AllZip, Contains, filter}
 use Rattle.std.proofs.lemmas.List.Elements.{All-contains}
 use Rattle.std.proofs.lemmas.List.{length-map}
 use mathlib.Core.List.{IsPrefix}
@@ -42,7 +42,7 @@ use Rattle.log_client.specs.Fits.{Fits}
 use Rattle.log_client.specs.Clients.{holds_of, seen_of, tracks_of, starts_of, counts_in, line_in, line_of, caller_of, IsClient, Keeps}
 use Rattle.log_client.specs.Calls.{IsExplained}
 use Rattle.log_client.specs.Items.{are_parts, AreItems}
-use Rattle.log_client.specs.StampedReads.{IsAppended, ShowsItem, raise_piece, sync_piece, HasRead, ReadsAs, ReadsOn, ReadsAll, ReadRefused, ShowsItems, is_behind}
+use Rattle.log_client.specs.StampedReads.{IsAppended, ShowsItem, raise_piece, sync_piece, HasRead, HoldsUpTo, ReadsAs, ReadsOn, ReadsAll, ReadRefused, ShowsItems, is_behind}
 use Rattle.log_client.specs.Reading.{RestsOn, KeepsAll, IsChosen, RaisesAll, RaisesFirst, raised_colours, IsCleared, AreCleared, HoldsLine, SyncsAll, SyncsEach, SyncsFirst, SyncsKeep, syncs_of, synced_colours, home_seen, keys_of, kept_raised, kept_synced}
 use Rattle.log_client.proofs.Lists.{got}
 use Rattle.log_client.proofs.Lines.{keys_prefix}
@@ -94,7 +94,8 @@ module _ (s : Store) (p : Client) (is : IsClient s p) where
   tracks_rising = all_from (λ (t : Track). AreRising (keys_of t.line)) (tracks_of p)
       (λ t i. let n = in_slice (tracks_of p) t i in track_rising n.0 t n.1)
 
-  line_rises : (k : ℕ) → AreRising (keys_of (line_in (slice_get (tracks_of p) k)))
+  -- the own line that it holds of a colour rises
+  pub line_rises : (k : ℕ) → AreRising (keys_of (line_in (slice_get (tracks_of p) k)))
   line_rises k = by_track (slice_get (tracks_of p) k) refl where
     by_track : (o : Option Track) → slice_get (tracks_of p) k ≡ o → AreRising (keys_of (line_in o))
     by_track None e = λ i j d lt there. absurd (let f : ⊥ = omega (arith, there) in f)
@@ -325,15 +326,38 @@ module _ (s : Store) (c b : Client) (set : Colours) (colours : List ℕ) (member
                 [] all_raised [] all_synced objects kept keeps rest z.0.0.1 z.1 (with_floor hid stamp) (inr refl),
           )
 
+      held : (y : Synced) → In y syncs → HoldsLine p stamp y
+      held y i = All-contains (HoldsLine p stamp) (syncs_of each.0) y all4.lines
+          (contains_in (syncs_of each.0) y (subst (In y) (sym each.1) i))
+
+      abbrev seen_by : Synced → List Entry
+      seen_by y = take y.events (home_seen p y.snapshot.colour)
+
+      prefix_seen : (y : Synced) → IsPrefix (seen_by y) (home_seen p y.snapshot.colour)
+      prefix_seen y = (
+        drop y.events (home_seen p y.snapshot.colour),
+        take-append-drop y.events (home_seen p y.snapshot.colour),
+      )
+
+      -- no node up to the stamp is lacking in the own lines
+      pub lines_held : ReadItemsLast → All (HoldsUpTo d stamp) colours
+      lines_held law = all_from (HoldsUpTo d stamp) colours (λ k i key low there.
+          let y = synced_of syncs k (subst (In k) (sym each.2) i) in
+          let h = held y.0 y.1 in
+          let whole = (prefix_seen y.0).1 in
+          subst (λ (m : ℕ). Contains (keys_of (line_of p m)) key) y.2
+          (subst (λ (l : List Key). Contains l key) (sym h.1)
+          (law p.region (length s.regions) (seen_by y.0) (prefix_seen y.0).0 stamp
+          (subst (λ (l : List Entry). IsColumnHistory p.region (length s.regions) (dated p.region l)) (sym whole)
+          (lawful s p on4.client y.0.snapshot.colour)) h.2.reached (clear_up_to stamp (seen_by y.0) h.2) key low
+          (subst (λ (l : List Entry). Contains (line l) key) (sym whole)
+          (subst (λ (m : ℕ). Contains (line (home_seen p m)) key) (sym y.2) there)))))
+
       -- the answer
       module _ (last : Option Key) (items : List PlacedNode)
           (are : AreItems (are_parts (tracks_of p) last stamp colours) items) where
         abbrev answer : List Raised → List Synced → StampedRead
         answer rs ys = record { stamp = stamp; raises = rs; syncs = ys; items = items }
-
-        held : (y : Synced) → In y syncs → HoldsLine p stamp y
-        held y i = All-contains (HoldsLine p stamp) (syncs_of each.0) y all4.lines
-            (contains_in (syncs_of each.0) y (subst (In y) (sym each.1) i))
 
         abbrev keys : List Key
         keys = read_items.all_keys (tracks_of p) last stamp colours items (λ k i. line_rises s p on4.client k) are
@@ -349,15 +373,6 @@ module _ (s : Store) (c b : Client) (set : Colours) (colours : List ℕ) (member
             (read_items.all_read (tracks_of p) last stamp colours items (λ k i. line_rises s p on4.client k) are)
 
         -- the keys are those of all that it has then seen
-        abbrev seen_by : Synced → List Entry
-        seen_by y = take y.events (home_seen p y.snapshot.colour)
-
-        prefix_seen : (y : Synced) → IsPrefix (seen_by y) (home_seen p y.snapshot.colour)
-        prefix_seen y = (
-          drop y.events (home_seen p y.snapshot.colour),
-          take-append-drop y.events (home_seen p y.snapshot.colour),
-        )
-
         whole_order : ReadItemsLast → IsRegionOrder (map (λ k. line (home_seen p k)) colours) stamp keys
         whole_order law =
             subst (λ (ls : List (List Key)). IsRegionOrder ls stamp keys)

@@ -22,7 +22,7 @@ use Rattle.log_client.specs.declared.faults.SyncFault.{SyncFault}
 use Rattle.log_client.specs.declared.faults.SyncFault.TheVariants as sync_faults
 use Rattle.client_law.specs.Knowing.{Rest, log_of}
 use Rattle.log_client.specs.Fits.{Fits, HaveGoneOn}
-use Rattle.log_client.specs.Clients.{holds_of, seen_of, IsClient}
+use Rattle.log_client.specs.Clients.{holds_of, line_of, seen_of, IsClient}
 use Rattle.log_client.specs.Calls.{IsExplained, IsSame}
 
 -- a raise and a sync as a reply shows them
@@ -61,6 +61,12 @@ pub record HasRead (c : Client) (colours : List ℕ) (stamp : ℕ) (keys : List 
   pub reached : All (λ colour. stamp ≤ clock (seen_of c c.region colour)) colours
   pub clear : All (λ colour. IsClearUpTo stamp (seen_of c c.region colour)) colours
   pub order : IsRegionOrder (map (λ colour. line (seen_of c c.region colour)) colours) stamp keys
+
+-- the own line that the client holds of the colour has all nodes up to the stamp that it has seen in the column's line
+abbrev pub HoldsUpTo : Client → ℕ → ℕ → Type 0
+HoldsUpTo c stamp colour =
+    (key : Key) → key.stamp ≤ stamp → Contains (line (seen_of c c.region colour)) key
+    → Contains (map (λ (item : PlacedNode). item.head.key) (line_of c colour)) key
 
 -- The read is one of these colours, with these keys, and its items show the nodes of those that come behind the last one.
 abbrev pub ReadsAs : List ℕ → Option Key → StampedRead → List Key → Log → Caller → Kept → Kept → Type 0

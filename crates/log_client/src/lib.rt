@@ -29,6 +29,7 @@ pub use client::Client;
 pub use closed::{Closed, ClosedRegions, RowNodes};
 pub use faults::{SyncFault, TrimFault};
 pub use laws::reads_go_on;
+pub use merging::count_up_to;
 pub use notes::Note;
 pub use object_fault::ObjectFault;
 pub use opening::Clients;

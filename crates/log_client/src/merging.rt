@@ -90,8 +90,8 @@ fn count_to(line: &[Item], last: Option<Key>) -> usize
     }
 }
 
-// How many items of a line have stamps up to this one.
-fn count_up_to(line: &[Item], stamp: u64) -> usize
+/// How many items of a line have stamps up to this one: they are its first.
+pub fn count_up_to(line: &[Item], stamp: u64) -> usize
     requires { AreRising (keys_of line.now) }
     ensures bound { result ≤ length line.now }
     ensures taken { take result line.now ≡ filter (λ (item : PlacedNode). nat_le item.head.key.stamp stamp) line.now }

@@ -16,7 +16,7 @@ ghost use Rattle.log_client.specs.Growing.{HasGrown};
 ghost use Rattle.log_client.specs.Calls.{IsSame};
 ghost use Rattle.log_client.specs.Appends.{AreColoursOf};
 ghost use Rattle.log_client.specs.Reading.{RestsOn, KeepsAll, IsChosen, RaisesOne, RaisesAll, RaisesFirst, IsCleared, AreCleared, SyncsEach, SyncsFirst, home_seen, key_above, raised_colours, synced_colours};
-ghost use Rattle.log_client.specs.StampedReads.{CanBeNamed, IsAboveSeen, ReadsOn, ReadsAll, ReadHidden, ReadRefused};
+ghost use Rattle.log_client.specs.StampedReads.{CanBeNamed, HoldsUpTo, IsAboveSeen, ReadsOn, ReadsAll, ReadHidden, ReadRefused};
 
 use crate::answers::{Raised, StampedRead, Synced};
 use crate::client::Client;
@@ -214,6 +214,7 @@ impl Client {
         ensures syncs { IfOk result (λ read. synced_colours read.syncs ≡ members colours) }
         ensures above { IfOk result (λ read. IsAboveSeen self.old (members colours) read.stamp) }
         ensures ok { IfOk result (ReadsOn store.now self.old self.new (members colours) last) }
+        ensures held { IfOk result (λ read. All (HoldsUpTo self.new read.stamp) (members colours)) }
         ensures named { IfOk result (λ read. CanBeNamed read.items) }
         ensures hidden { IfOk result (λ read. ReadHidden store.now self.old self.new (members colours)) }
         ensures err { IfErr result (ReadRefused store.now self.old self.new (members colours)) }

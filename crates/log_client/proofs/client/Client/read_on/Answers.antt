@@ -10,7 +10,7 @@ use Rattle.log_client.specs.StampedReads.{is_behind}
 use Rattle.log_client.proofs.Colours.{all_within}
 use Rattle.log_client.proofs.Explaining.{rests_then}
 use Rattle.log_client.proofs.NamedKeys.{items_named}
-use Rattle.log_client.proofs.ReadCalls.{reached_all, read_answered, read_rests, tracks_rising, unanswered, unraised, unsynced}
+use Rattle.log_client.proofs.ReadCalls.{lines_held, reached_all, read_answered, read_rests, tracks_rising, unanswered, unraised, unsynced}
 use Rattle.log_client.proofs.client.Client.read_on.Goals as goal
 
 pub clear_up_to-requires-clause-reached : goal.clear_up_to-requires-clause-reached
@@ -36,6 +36,7 @@ returns-in_default g c =
       syncs = tt;
       above = tt;
       ok = tt;
+      held = tt;
       named = tt;
       hidden = tt;
       err = unraised s x b c.args.colours (members c.args.colours) refl stamp e.rests e.keeps e.chosen e.floor e.above
@@ -67,6 +68,7 @@ returns-in_err-syncs g c =
       syncs = tt;
       above = tt;
       ok = tt;
+      held = tt;
       named = tt;
       hidden = tt;
       err = unsynced s x b c.args.colours (members c.args.colours) refl stamp e.rests e.keeps e.chosen e.floor e.above
@@ -110,6 +112,7 @@ returns-in_default-items_read g c =
       syncs = tt;
       above = tt;
       ok = tt;
+      held = tt;
       named = tt;
       hidden = tt;
       err = unanswered s x b c.args.colours (members c.args.colours) refl stamp e.rests e.keeps e.chosen e.floor e.above
@@ -152,6 +155,10 @@ returns g c =
       syncs = ap synced_colours c.into-2.ensures ∙ c.in_ok-syncs.ensures.ok.2;
       above = e.above;
       ok = ok;
+      held = lines_held s x b c.args.colours (members c.args.colours) refl stamp e.rests e.keeps e.chosen e.floor e.above
+          r q c.in-Ok.raises.items c.raise_all.ensures.rests up.ok up.colours k.rests k.keeps k.clear
+          c.sync_all.new.self c.sync_all.ensures.rests c.in_ok-syncs.syncs.items c.in_ok-syncs.ensures.ok c.max-self.result
+          c.max-self.ensures e.in_range c.read_items_last.ensures;
       named = items_named s _ on.client (members c.args.colours) stamp ok.0 ok.1 (is_behind c.args.last)
           c.in-Ok-items_read.items ok.2.0;
       hidden = unanswered s x b c.args.colours (members c.args.colours) refl stamp e.rests e.keeps e.chosen e.floor e.above
