@@ -1,6 +1,6 @@
-mod ValueLemmas
-mod FeedLemmas
-mod NothingRead
-mod MapAnswers
-mod ReadAnswers
+mod WriteLemmas
+mod LatestWrites
+mod LineLemmas
+mod MapLines
+mod MapReads
 pub mod CallerLemmas

@@ -1,3 +1,2 @@
-pub mod KeyValues
-pub mod Kept
+pub mod Writes
 pub mod Several

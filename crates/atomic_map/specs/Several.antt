@@ -1,12 +1,14 @@
 -- What a map of several keys keeps beside its client, and what its reads answer.
-use Rattle.std.specs.Prelude.{◌≡◌, ℕ, List, map, Some, slice_get}
-use Rattle.std.specs.Vec.{with_item}
+use Rattle.std.specs.Prelude.{◌≡◌, ◌⊎◌, ℕ, ◌<◌, ◌≤◌, List, [], length, map, take, Option, Some, None, slice_get}
+use Rattle.std.specs.List.{fold}
 use Rattle.log_node.specs.declared.ids.Key.{Key}
-use Rattle.log_node.specs.Seen.{PlacedNode}
+use Rattle.log_node.specs.declared.limits.TheConstants.{MAX_COLOURS}
 use Rattle.object_fold.specs.Nodes.{ObjectNode}
+use Rattle.object_fold.specs.Tables.{value_at}
 use Rattle.object_fold.specs.Maps.{Value, values_among}
 use Rattle.col_core.specs.Log.{Log}
 use Rattle.col_core.specs.Keeping.{Kept}
+use Rattle.playback.specs.Merging.{AreRising}
 use Rattle.lawful_run.specs.Asks.{shards}
 use Rattle.lawful_run.specs.Callers.{Caller}
 use Rattle.lawful_run.specs.Reads.{ReadsAt, AreRead}
@@ -17,27 +19,74 @@ use Rattle.log_client.specs.declared.answers.StampedRead.{StampedRead}
 use Rattle.log_client.specs.declared.object_fault.ObjectFault.{ObjectFault}
 use Rattle.log_client.specs.declared.object_fault.ObjectFault.TheVariants as faults
 use Rattle.log_client.specs.Calls.{IsExplained}
+use Rattle.log_client.specs.Clients.{line_of, tracks_of}
+use Rattle.log_client.specs.Reading.{keys_of}
 use Rattle.log_client.specs.StampedReads.{ReadHidden, ReadRefused, raise_piece, sync_piece}
-use Rattle.log_client.specs.Objects.{AreColours, IsAwayFrom}
-use Rattle.atomic_map.specs.declared.kept_read.KeptRead.{KeptRead}
+use Rattle.log_client.specs.Objects.{AreColours, Follows, IsAwayFrom, object_nodes}
+use Rattle.atomic_map.specs.declared.line_writes.LastWrite.{LastWrite}
+use Rattle.atomic_map.specs.declared.line_writes.LineWrites.{LineWrites}
 use Rattle.atomic_map.specs.declared.atomic.AtomicMap.{AtomicMap}
-use Rattle.atomic_map.specs.Kept.{FeedsFirst, HasSetOf, IsKeptRead}
+use Rattle.atomic_map.specs.Writes.{HoldsWrites, items_up_to, last_write, later_write, value_left}
 
--- The map is kept beside the client: its colours are the client's, and so is what was read of each set of its shards.
+-- WHAT IS KEPT
+
+-- The map is kept beside the client: its colours are the client's, and what is folded of a colour are the first nodes of the own
+-- line that the client has played of it.
 pub record IsAtomicMapOf (c : Client) (m : AtomicMap) : Type 0 where
   pub colours : AreColours c m.colours
-  pub reads : (n : ℕ) (kept : KeptRead) → slice_get m.reads.items n ≡ Some kept → IsKeptRead c m.colours kept
+  pub lines : (colour : ℕ) (line : LineWrites) → slice_get m.lines.items colour ≡ Some line
+      → Follows c colour line.count (HoldsWrites m.colours line)
 
 -- the one map is the other one, and what is folded may differ
 abbrev pub IsSameMap : AtomicMap → AtomicMap → Type 0
 IsSameMap m n = (n.home ≡ m.home) × (n.colours ≡ m.colours)
 
--- What is kept at a place has the first of these nodes more, and nothing else is changed.
-pub record FoldsAt (old new : AtomicMap) (place : ℕ) (kept : KeptRead) (items : List PlacedNode) : Type 0 where
-  pub then_kept : KeptRead
-  pub is : new ≡ record old { reads = with_item old.reads place then_kept }
-  pub same : HasSetOf kept then_kept
-  pub first : FeedsFirst kept then_kept items
+-- the one map has the other one's lines, and maybe more, of which nothing is folded
+pub record Opens (old new : AtomicMap) : Type 0 where
+  pub same : IsSameMap old new
+  pub lines : (colour : ℕ) (line : LineWrites) → slice_get new.lines.items colour ≡ Some line
+      → (slice_get old.lines.items colour ≡ Some line) ⊎ ((line.count ≡ 0) × (line.writes.entries ≡ []))
+
+-- The colour is one of the client, whose own line of it rises, and of that no node is folded that has a greater stamp than this.
+pub record CanGoOn (c : Client) (m : AtomicMap) (stamp colour : ℕ) : Type 0 where
+  pub within : colour < length (tracks_of c)
+  pub few : colour < MAX_COLOURS
+  pub rising : AreRising (keys_of (line_of c colour))
+  pub low : (line : LineWrites) → slice_get m.lines.items colour ≡ Some line
+      → line.count ≤ length (items_up_to stamp (line_of c colour))
+
+-- what is folded of the colour are the nodes of the client's own line up to the stamp
+pub record IsFolded (c : Client) (m : AtomicMap) (stamp colour : ℕ) : Type 0 where
+  pub line : LineWrites
+  pub there : slice_get m.lines.items colour ≡ Some line
+  pub whole : take line.count (line_of c colour) ≡ items_up_to stamp (line_of c colour)
+
+-- WHAT IS READ
+
+-- a key's last write in a line, if there is one
+abbrev pub write_in : Option LineWrites → List ℕ → Option LastWrite
+write_in None key = None
+write_in (Some line) key = value_at line.writes.entries key
+
+-- a key's last write in the lines of these colours
+abbrev pub latest_in : List LineWrites → List ℕ → List ℕ → Option LastWrite
+latest_in lines colours key =
+    fold (λ write colour. later_write write (write_in (slice_get lines colour) key)) None colours
+
+-- the values of keys by the lines of these colours
+abbrev pub values_in : List LineWrites → List ℕ → List (List ℕ) → List Value
+values_in lines colours keys = map (λ key. value_left (latest_in lines colours key)) keys
+
+-- A key's last write in the own lines, up to a stamp, that a client holds of some colours; the map has the first ones.
+abbrev pub latest_by_lines : Client → List ℕ → List ℕ → ℕ → List ℕ → Option LastWrite
+latest_by_lines c map_colours colours stamp key =
+    fold (λ write colour. later_write write
+    (last_write map_colours (object_nodes (items_up_to stamp (line_of c colour))) key)) None colours
+
+-- the values of keys by these lines
+abbrev pub values_by_lines : Client → List ℕ → List ℕ → ℕ → List (List ℕ) → List Value
+values_by_lines c map_colours colours stamp keys =
+    map (λ key. value_left (latest_by_lines c map_colours colours stamp key)) keys
 
 -- The read is of the shards of the keys, and the values are theirs after the nodes that it read.
 abbrev pub GetsAllAs : List ℕ → List (List ℕ) → List Value → StampedRead → Log → Caller → Kept → Kept → Type 0

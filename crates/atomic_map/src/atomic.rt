@@ -1,33 +1,34 @@
 // The map of several keys.
-ghost use Rattle.std.specs.Prelude.{◌≡◌, ◌≢◌, ◌<◌, ◌++◌, List, length, Some, Err, IfOk, IfErr, IfSome, slice_get};
+ghost use Rattle.std.specs.Prelude.{◌≡◌, ◌≢◌, ◌<◌, ◌≤◌, length, Some, Err, IfOk, IfErr, OnOk};
+ghost use Rattle.std.specs.List.{All};
+ghost use Rattle.std.specs.Option.{option_copied};
+ghost use Rattle.log_node.specs.Sets.{members};
 ghost use Rattle.object_form.specs.Forms.{ArePairs, form_text};
-ghost use Rattle.object_fold.specs.Nodes.{ObjectNode};
-ghost use Rattle.object_fold.specs.Maps.{values_among};
 ghost use Rattle.lawful_run.specs.Asks.{shards, keys_of};
 ghost use Rattle.log_client.specs.Clients.{IsClient};
 ghost use Rattle.log_client.specs.Reading.{RestsOn, raised_colours, synced_colours};
-ghost use Rattle.log_client.specs.Objects.{AreColours, StandsIn, PutRefused, object_nodes};
-ghost use Rattle.atomic_map.specs.KeyValues.{AreFew, HoldsValues};
-ghost use Rattle.atomic_map.specs.Several.{FoldsAt, IsAtomicMapOf, IsSameMap, GetsAll, GetAllRefused};
+ghost use Rattle.log_client.specs.Objects.{AreColours, StandsIn, PutRefused};
+ghost use Rattle.atomic_map.specs.Writes.{value_left};
+ghost use Rattle.atomic_map.specs.Several.{CanGoOn, IsAtomicMapOf, IsFolded, IsSameMap, GetsAll, GetAllRefused, Opens, latest_in, values_by_lines, values_in};
 
-use crate::kept_read::KeptRead;
+use crate::line_writes::{LastWrite, LineWrites, later_write};
 use fuzzy_io::Gate;
 use log_client::{
     Appended, Client, ObjectFault, StampedRead, Store, copied_pairs, key_shards, pair_shards,
-    reads_go_on,
 };
-use log_node::{ColourList, Colours, Form, Item, Keys, Pairs};
+use log_node::{ColourList, Colours, Form, Key, Keys, ListOf, MAX_COLOURS, Pairs, Text};
 use object_fold::Values;
 use std::alloc::{AllocError, Global};
 use std::sync::Wait;
 
-/// A map at a home region whose keys are put and got several at a time, for one client, with which all its calls are made. For
-/// each set of shards that was read together what is folded is kept.
+/// A map at a home region whose keys are put and got several at a time, for one client, with which all its calls are made. What
+/// is folded of each colour's line is kept, and the greatest key that was read.
 #[derive(Drop)]
 pub struct AtomicMap {
     pub(crate) home: u8,
     pub(crate) colours: ColourList,
-    pub(crate) reads: Vec<KeptRead>,
+    pub(crate) lines: Vec<LineWrites>,
+    pub(crate) last: Option<Key>,
 }
 
 // The bits of a set, which are 16.
@@ -46,7 +47,8 @@ impl AtomicMap {
         AtomicMap {
             home,
             colours,
-            reads: Vec::new(alloc),
+            lines: Vec::new(alloc),
+            last: None,
         }
     }
 
@@ -72,7 +74,6 @@ impl AtomicMap {
         ensures err { IfErr result (PutRefused (Some self.old.home) store.now client.old client.new
             (shards self.old.colours (keys_of pairs.now)) (form_text (Form.PutAll pairs.now))) }
     {
-        reads_go_on();
         if client.region() != self.home {
             return Err(ObjectFault::NotHome { home: self.home });
         }
@@ -84,59 +85,113 @@ impl AtomicMap {
         client.append_form(rt, alloc, store, gate, set, Form::PutAll { pairs: copy })
     }
 
-    // Where what was read of just these colours is kept.
-    fn find(&self, set: Colours) -> Option<usize>
-        ensures { IfSome result (λ place. (kept : KeptRead)
-            × (slice_get self.now.reads.items place ≡ Some kept) × (kept.set ≡ set)) }
+    // Lines for all colours, of which nothing is folded where they are new.
+    fn open_lines(&mut self, alloc: Global) -> Result<(), AllocError>
+        ensures opens { Opens self.old self.new }
+        ensures all { OnOk result (MAX_COLOURS ≤ length self.new.lines.items) }
     {
-        for place in 0..self.reads.len() {
-            if self.reads[place].set.0 == set.0 {
-                return Some(place);
-            }
+        for _place in self.lines.len()..MAX_COLOURS as usize {
+            self.lines.push(LineWrites::new(alloc))?;
         }
-        None
+        Ok(())
     }
 
-    // Where it is kept, which is begun where these colours were not read together before.
-    fn place_of(&mut self, alloc: Global, set: Colours) -> Result<usize, AllocError>
-        ensures same { IsSameMap self.old self.new }
-        ensures map { (client : Client) → IsAtomicMapOf client self.old → IsAtomicMapOf client self.new }
-        ensures place { IfOk result (λ place. (kept : KeptRead)
-            × (slice_get self.new.reads.items place ≡ Some kept) × (kept.set ≡ set)) }
-    {
-        match self.find(set) {
-            Some(place) => Ok(place),
-            None => {
-                let kept = KeptRead::open(alloc, self.colours.as_slice(), set)?;
-                self.reads.push(kept)?;
-                Ok(self.reads.len() - 1)
-            }
-        }
-    }
-
-    // The values of keys after what is kept at a place and the nodes that were read behind it, by which it folds on.
-    fn values(
+    // Folds on over what the client holds of these colours up to a stamp. Without memory the lines have come a part of the way.
+    fn fold_on(
         &mut self,
         alloc: Global,
-        place: usize,
-        items: &[Item],
+        client: &Client,
+        set: Colours,
+        stamp: u64,
+    ) -> Result<(), AllocError>
+        requires map { IsAtomicMapOf client.now self.old }
+        requires lines { MAX_COLOURS ≤ length self.old.lines.items }
+        requires goes { All (CanGoOn client.now self.old stamp) (members set) }
+        ensures same { IsSameMap self.old self.new }
+        ensures map { IsAtomicMapOf client.now self.new }
+        ensures lines { length self.new.lines.items ≡ length self.old.lines.items }
+        ensures whole { OnOk result (All (IsFolded client.now self.new stamp) (members set)) }
+    {
+        for colour in set.members() {
+            self.lines[colour as usize].fold_on(
+                alloc,
+                self.colours.as_slice(),
+                client.line(colour),
+                stamp,
+            )?;
+        }
+        Ok(())
+    }
+
+    // The last write of a key in the lines of these colours.
+    fn latest(&self, set: Colours, key: &[u8]) -> Option<&LastWrite>
+        requires { All (λ colour. colour < length self.now.lines.items) (members set) }
+        ensures { option_copied result ≡ latest_in self.now.lines.items (members set) key.now }
+    {
+        let mut latest = None;
+        for colour in set.members() {
+            latest = later_write(latest, self.lines[colour as usize].get(key));
+        }
+        latest
+    }
+
+    // The value that it leaves.
+    fn value(&self, alloc: Global, set: Colours, key: &[u8]) -> Result<Option<Text>, AllocError>
+        requires { All (λ colour. colour < length self.now.lines.items) (members set) }
+        ensures { IfOk result (λ value. value ≡ value_left (latest_in self.now.lines.items (members set) key.now)) }
+    {
+        match self.latest(set, key) {
+            None => Ok(None),
+            Some(write) => match &write.value {
+                None => Ok(None),
+                Some(value) => Ok(Some(Text::copied(alloc, value.as_bytes())?)),
+            },
+        }
+    }
+
+    // The values of keys by the lines of these colours.
+    fn values(&self, alloc: Global, set: Colours, keys: &Keys) -> Result<Values, AllocError>
+        requires { All (λ colour. colour < length self.now.lines.items) (members set) }
+        ensures many { IfOk result (λ values. length values ≡ length keys.now) }
+        ensures values { IfOk result (λ values. values ≡ values_in self.now.lines.items (members set) keys.now) }
+    {
+        let mut values = ListOf::new(alloc);
+        for key in keys.as_slice() {
+            let value = self.value(alloc, set, key.as_bytes())?;
+            values.push(value)?;
+        }
+        Ok(values)
+    }
+
+    // The values of keys after the nodes that a stamped read of these colours had: their lines fold on.
+    fn values_read(
+        &mut self,
+        alloc: Global,
+        client: &Client,
+        set: Colours,
+        read: &StampedRead,
         keys: &Keys,
     ) -> Result<Values, AllocError>
-        requires few { IfSome (slice_get self.old.reads.items place) (λ kept. AreFew kept.map.colours) }
-        requires place { place < length self.old.reads.items }
+        requires map { IsAtomicMapOf client.now self.old }
+        requires goes { All (CanGoOn client.now self.old read.now.stamp) (members set) }
         ensures same { IsSameMap self.old self.new }
-        ensures folds { (kept : KeptRead) → slice_get self.old.reads.items place ≡ Some kept
-            → FoldsAt self.old self.new place kept items.now }
+        ensures map { IsAtomicMapOf client.now self.new }
         ensures many { IfOk result (λ values. length values ≡ length keys.now) }
-        ensures values { (kept : KeptRead) (nodes : List ObjectNode) → slice_get self.old.reads.items place ≡ Some kept
-            → HoldsValues kept.map nodes → IfOk result (λ values. values
-            ≡ values_among kept.map.colours (nodes ++ object_nodes items.now) keys.now) }
+        ensures values { IfOk result (λ values. values
+            ≡ values_by_lines client.now self.old.colours (members set) read.now.stamp keys.now) }
     {
-        self.reads[place].values(alloc, items, keys)
+        self.open_lines(alloc)?;
+        self.fold_on(alloc, client, set, read.stamp)?;
+        self.last = match read.items.as_slice().last() {
+            Some(item) => Some(item.head.key),
+            None => self.last,
+        };
+        self.values(alloc, set, keys)
     }
 
     /// The values of keys after all nodes of their shards up to the stamp of a stamped read of these; of its nodes it answers
-    /// those that earlier reads of these shards did not have. Waits as the read does; the gate is for appends alone.
+    /// those that come behind the greatest key that earlier calls read and folded. Waits as the read does; the gate is for appends
+    /// alone.
     pub fn get_all<R: Wait, G: Gate>(
         &mut self,
         rt: &R,
@@ -160,17 +215,13 @@ impl AtomicMap {
         ensures err { IfErr result (GetAllRefused self.old.home store.now client.old client.new
             (shards self.old.colours keys.now)) }
     {
-        reads_go_on();
         if client.region() != self.home {
             return Err(ObjectFault::NotHome { home: self.home });
         }
         let set = key_shards(self.colours.as_slice(), keys.as_slice());
         let _bits = bits_of(set);
-        let Ok(place) = self.place_of(alloc, set) else {
-            return Err(ObjectFault::NoMemory);
-        };
-        match client.read_on(rt, alloc, store, set, self.reads[place].last) {
-            Ok(read) => match self.values(alloc, place, read.items.as_slice(), keys) {
+        match client.read_on(rt, alloc, store, set, self.last) {
+            Ok(read) => match self.values_read(alloc, client, set, &read, keys) {
                 Ok(values) => Ok((values, read)),
                 Err(_) => Err(ObjectFault::NoMemory),
             },

@@ -2,7 +2,6 @@
 #![tactic(auto)]
 
 mod atomic;
-mod kept_read;
-mod key_values;
+mod line_writes;
 
 pub use atomic::AtomicMap;

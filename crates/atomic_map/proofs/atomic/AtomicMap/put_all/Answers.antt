@@ -6,7 +6,7 @@ use Rattle.object_form.specs.Forms.{form_text}
 use Rattle.lawful_run.specs.Asks.{keys_of}
 use Rattle.log_client.specs.Objects.{PutRefused, StandsIn}
 use Rattle.log_client.proofs.CallerLemmas.{put_refused}
-use Rattle.atomic_map.proofs.MapAnswers.{keys_some, map_later, of_keys, of_store}
+use Rattle.atomic_map.proofs.MapLines.{keys_some, lines_later, of_keys, of_store}
 use Rattle.atomic_map.proofs.atomic.AtomicMap.put_all.Goals as goal
 
 pub append_form-requires-clause-colours : goal.append_form-requires-clause-colours
@@ -20,8 +20,8 @@ append_form-requires-clause-colours g c κs within =
 
 pub returns-clause-map : goal.returns-clause-map
 returns-clause-map g c =
-    map_later c.reads_go_on.ensures c.args.store.now c.args.client.now c.append_form.new.self c.append_form.ensures.client
-    c.args.self.now c.requires.client c.requires.map
+    lines_later c.args.store.now c.args.client.now c.append_form.new.self c.args.self.now c.requires.client
+    c.append_form.ensures.client c.requires.map
 
 pub returns-clause-ok : goal.returns-clause-ok
 returns-clause-ok g c =
