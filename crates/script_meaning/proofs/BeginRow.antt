@@ -311,8 +311,8 @@ module _ (objects : List Object) (w : World) (reached : IsReached w) (u : ℕ) (
       begun = of_row;
       steps = λ c n d lt.
           let s = place_facts (λ place. (e : Entry) × (slice_get (w3.histories own c) place ≡ Some e)
-              × (e.by ≡ u) × IsStepOf node.id e.event) c
-              (λ i e at_i s. (e, at_i, s.made, subst (λ (x : Id). IsStepOf x e.event) id_is s.of)) n d lt in
+          × (e.by ≡ u) × IsStepOf node.id e.event) c
+          (λ i e at_i s. (e, at_i, s.made, subst (λ (x : Id). IsStepOf x e.event) id_is s.of)) n d lt in
           (places_after c n d lt, s.0, s.1, s.2, s.3);
     }
 

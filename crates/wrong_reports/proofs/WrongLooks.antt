@@ -59,9 +59,9 @@ own_step_seen run =
     let stopped = stopped_says run.log _ _ _ 2 _ (lit< tt) said.4 in
     let h = (column_at a_sync_behind_an_own_later_step run 0 (proposed x) refl).history in
     let p : 0 ∷ [] ≡ stopped.places 0 =
-        ap (places_of 0) h ∙ client.made 0 0 (lit< tt) (lit< tt)
-        ∙ ap (λ (kept : Kept). kept.made 0 0) (t.second.after_is ∙ stopped.after_is)
-        ∙ ap (λ (places : List ℕ). places ++ stopped.places 0) (ap (λ (kept : Kept). kept.made 0 0) kept_is) in
+    ap (places_of 0) h ∙ client.made 0 0 (lit< tt) (lit< tt)
+    ∙ ap (λ (kept : Kept). kept.made 0 0) (t.second.after_is ∙ stopped.after_is)
+    ∙ ap (λ (places : List ℕ). places ++ stopped.places 0) (ap (λ (kept : Kept). kept.made 0 0) kept_is) in
     let Steps : ℕ → Type 0 = λ place. (t.kept.seen 0 0 ≤ place) × (en : Entry)
     × (slice_get (run.log.histories 0 0) place ≡ Some en) × (en.by ≡ 0)
     × IsStepOf (node_of (caller_of a_sync_behind_an_own_later_step.script 0) t.kept said.1 said.2).id en.event in
