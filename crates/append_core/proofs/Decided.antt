@@ -2,6 +2,7 @@
 use Rattle.std.proofs.Common.{◌≡◌, ◌≢◌, ℕ, ◌+◌, ◌<◌, List, length, map, Option, Some, None, slice_get, true, refl, ap, sym, subst, ◌∙◌, arith}
 use Rattle.std.proofs.lemmas.Option.{slice_get_within}
 use Rattle.std.proofs.lemmas.List.{length-map}
+use Rattle.log_node.specs.declared.limits.TheConstants.{MAX_COLOURS}
 use Rattle.log_node.specs.declared.node.Node.{Node}
 use Rattle.log_node.specs.declared.marks.Why.TheVariants.{StampEnd}
 use Rattle.log_node.specs.declared.marks.Mark.{Mark}
@@ -46,7 +47,7 @@ module _ (r : Region) (g h k : Hold) (x : Node) (points : List Point) (ended : O
             (λ d e s. step_more x (n + 1) (n + 2) d e (omega arith) s) was.goes) goes;
       }
 
-  module _ (low : (c : ℕ) → has x.colours c ≡ true → c < 64)
+  module _ (low : (c : ℕ) → has x.colours c ≡ true → c < MAX_COLOURS)
       (was : AreProposed r g h x points (length (members x.colours)) ended)
       (marked : (mark : ℕ → Mark) → KnowsMarks (view_of h) (own_row g) x mark
       → o ≡ outcome_of (map mark (members x.colours))) where

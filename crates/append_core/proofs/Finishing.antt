@@ -2,6 +2,7 @@
 use Rattle.std.proofs.Common.{◌≡◌, ◌≢◌, ℕ, ◌+◌, ◌<◌, ◌≤◌, List, length, Option, Some, None, Result, Ok, Err, slice_get, refl, ap, sym, subst, ◌∙◌, arith, inl, inr, ◌⊎◌}
 use Rattle.std.specs.Prelude.{IfSome, IfOk, IfErr, OnOk}
 use Rattle.std.proofs.lemmas.List.{length-map}
+use Rattle.log_node.specs.declared.limits.TheConstants.{MAX_COLOURS}
 use Rattle.log_node.specs.declared.ids.Row.{Row}
 use Rattle.log_node.specs.declared.node.At.{At}
 use Rattle.log_node.specs.declared.node.Node.{Node}
@@ -10,9 +11,9 @@ use Rattle.log_node.specs.declared.marks.Why.TheVariants.{Memory, StampEnd}
 use Rattle.log_node.specs.declared.marks.Outcome.TheVariants.{Gone, Final}
 use Rattle.log_node.specs.Seen.{BegunAppend}
 use Rattle.log_node.specs.Sets.{members}
+use Rattle.log_node.proofs.CallerLemmas.{members_few}
 use Rattle.col_core.specs.History.{entry_key}
 use Rattle.col_core.specs.Ids.{IsFinal}
-use Rattle.stamp_board.specs.Rows.{AreColours}
 use Rattle.stamp_board.specs.Seats.{IsLater, IsNext}
 use Rattle.stamp_board.specs.Views.{Grows, KnowsBegun}
 use Rattle.stamp_board.proofs.CallerLemmas.{Grows-refl, Learns-from, outcome_learnt}
@@ -32,7 +33,6 @@ use Rattle.append_core.specs.Several.{EntersThere, IsStepBefore, IsStopOf, Leave
 use Rattle.append_core.specs.Inside.{ArePointsOf, IsAhead, IsDone, IsPlaced, IsStopAt, colours_of}
 use Rattle.append_core.proofs.Helped.{helped_longer}
 use Rattle.append_core.proofs.Keeping.{begun_on, enters_later}
-use Rattle.append_core.proofs.Members.{members_few}
 use Rattle.append_core.proofs.Pointing.{point_has}
 
 -- a final append is final in the colour of each point
@@ -96,10 +96,6 @@ pub no_stop : (stop : Option ℕ) (n k : ℕ) → IfSome stop (λ s. (0 < s) × 
 no_stop None n k within is ahead = refl
 no_stop (Some s) n k within is ahead = absurd (let w = within.1 in let f : ⊥ = omega (arith, w, is, ahead) in f)
 
-pub leaves_stopped : (r : Region) (g h : Hold) (x : Node) (stop : Option ℕ) (steps : ℕ) → IsStopAt r g h x stop steps
-    → Leaves r g h x stop (faults.Stopped steps)
-leaves_stopped r g h x stop steps s = (s.0, inr (s.1, s.2))
-
 -- a stop that is not at once is after the first step or later
 pub first_ahead : (stop : Option ℕ) (n : ℕ) → IfSome stop (λ s. (0 < s) × (s ≤ n + n + 2)) → stop ≢ Some 1
     → IsAhead stop 1
@@ -148,11 +144,9 @@ begun_knows r g h x row b of is next begins =
           omega (arith, same, used);
     })
 
-pub points_few : (r : Region) (x : Node) (points : List Point) → AreColours r.board.size x.colours
-    → ArePointsOf points x.colours → length points ≤ 16
-points_few r x points colours of =
-    let few = r.board.is_size.3 in
-    let low = members_few x.colours (λ c it. let lt = colours.within c it in omega (arith, lt, few)) in
+pub points_few : (x : Node) (points : List Point) → ArePointsOf points x.colours → length points ≤ MAX_COLOURS
+points_few x points of =
+    let low = members_few x.colours in
     let same : length points ≡ length (members x.colours) =
     sym (length-map points (λ (p : Point). p.colour)) ∙ ap (λ (l : List ℕ). length l) of.same in
     omega (arith, low, same)

@@ -8,6 +8,7 @@ mod Places
 mod Placed
 mod Singles
 mod Members
+mod ByMember
 mod Keeping
 mod Pointing
 mod Proposed

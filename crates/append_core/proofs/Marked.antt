@@ -1,7 +1,7 @@
 -- What a hold knows of a begun append in the columns of its colours, and that it knows it later.
-use Rattle.std.proofs.Common.{◌≡◌, ◌≢◌, ℕ, ◌<◌, List, true, false, None, refl, sym, subst, ◌∙◌, arith, inl, inr}
-use Rattle.std.proofs.lemmas.Bool.{true≢false}
+use Rattle.std.proofs.Common.{◌≡◌, ◌≢◌, ℕ, ◌<◌, List, true, None, refl, sym, subst, arith, inl, inr}
 use mathlib.Core.List.{IsPrefix}
+use Rattle.log_node.specs.declared.limits.TheConstants.{MAX_COLOURS}
 use Rattle.log_node.specs.declared.ids.Colours.{Colours}
 use Rattle.log_node.specs.declared.marks.Mark.{Mark}
 use Rattle.log_node.specs.declared.marks.Mark.TheVariants as marks
@@ -26,24 +26,16 @@ use Rattle.append_core.specs.Settled.{IsMarkedThere, IsSettledOver, IsSettledNow
 use Rattle.append_core.proofs.Taking.{entered_proposed, entered_more}
 use Rattle.append_core.proofs.Lasting.{final_later, closed_later}
 
--- what a test of the colours that the code has says of the append
-pub has_colour : (b : BegunAppend) (set : Colours) (k : ℕ) → set ≡ b.colours → has set k ≡ true → has b.colours k ≡ true
-has_colour b set k is e = subst (λ (s : Colours). has s k ≡ true) is e
-
-pub lacks_colour : (b : BegunAppend) (set : Colours) (k : ℕ) → set ≡ b.colours → has set k ≡ false
-    → has b.colours k ≡ true → ⊥
-lacks_colour b set k is e it = true≢false (sym it ∙ subst (λ (s : Colours). has s k ≡ false) is e)
-
 module _ (r : Region) (h : Hold) (b : BegunAppend) (knows : KnowsAppend r h b) where
   -- its colours are those of the region
   pub colour_within : (c : ℕ) → has b.colours c ≡ true → c < r.board.size.colours
   colour_within c coloured =
       knows.knows.1.several.within c (subst (λ (s : Colours). has s c ≡ true) knows.knows.1.of.colours coloured)
 
-  pub below_all : (c : ℕ) → has b.colours c ≡ true → c < 16
+  pub below_all : (c : ℕ) → has b.colours c ≡ true → c < MAX_COLOURS
   below_all c coloured =
       let lt = colour_within c coloured in
-      let few = r.board.is_size.3 in
+      let few = r.board.is_size.few_colours in
       omega (arith, lt, few)
 
   -- all its marks are known where it is marked in each colour

@@ -1,7 +1,8 @@
--- The members of a set of colours rise, and are few.
-use Rattle.std.proofs.Common.{◌≡◌, ℕ, zero, suc, ◌+◌, ◌-◌, ◌<◌, ◌≤◌, Bool, true, false, cond, ◌∷◌, length, Some, slice_get, refl, sym, subst, ◌∙◌, arith, inl, inr}
+-- The members of a set of colours rise.
+use Rattle.std.proofs.Common.{◌≡◌, ℕ, zero, suc, ◌+◌, ◌<◌, ◌≤◌, Bool, true, false, cond, ◌∷◌, Some, slice_get, refl, sym, subst, ◌∙◌, arith, inl, inr}
 use Rattle.std.specs.List.{filter, range_with_len}
 use Rattle.std.proofs.lemmas.Bool.{cases_order, true≢false}
+use Rattle.log_node.specs.declared.limits.TheConstants.{MAX_COLOURS}
 use Rattle.log_node.specs.declared.ids.Colours.{Colours}
 use Rattle.log_node.specs.declared.marks.Mark.{Mark}
 use Rattle.log_node.specs.declared.marks.Mark.TheVariants as marks
@@ -39,25 +40,10 @@ module _ (test : ℕ → Bool) where
         by true (suc k) (suc l) less p q more low = more k l (omega (arith, less)) p q
         by false k l less p q more low = more k l less p q
 
-  few : (n a m : ℕ) → ((c : ℕ) → a ≤ c → test c ≡ true → c < a + m)
-      → length (filter test (range_with_len a n)) ≤ m
-  few zero a m below = omega arith
-  few (suc n) a m below = by (test a) refl (few n (a + 1)) where
-    by : (b : Bool) → test a ≡ b
-        → ((l : ℕ) → ((c : ℕ) → a + 1 ≤ c → test c ≡ true → c < a + 1 + l)
-        → length (filter test (range_with_len (a + 1) n)) ≤ l)
-        → length (cond b (a ∷ filter test (range_with_len (a + 1) n)) (filter test (range_with_len (a + 1) n))) ≤ m
-    by true is more =
-        let some = below a (omega arith) is in
-        let le = more (m - 1) (λ c low t. let lt = below c (omega (arith, low)) t in omega (arith, lt, some)) in
-        omega (arith, le, some)
-    by false is more =
-        more m (λ c low t. let lt = below c (omega (arith, low)) t in omega (arith, lt))
-
 module _ (set : Colours) where
   pub members_rise : (i j c d : ℕ) → i < j → slice_get (members set) i ≡ Some c → slice_get (members set) j ≡ Some d
       → c < d
-  members_rise = rises (has set) 64 0
+  members_rise = rises (has set) MAX_COLOURS 0
 
   pub members_once : (i j c d : ℕ) → slice_get (members set) i ≡ Some c → slice_get (members set) j ≡ Some d → c ≡ d
       → i ≡ j
@@ -76,9 +62,6 @@ module _ (set : Colours) where
     | inr (inl less) ↦ less
     | inr (inr gt) ↦ absurd (let less = members_rise j i d c gt f e in let g : ⊥ = omega (arith, less, lt) in g)
   ]
-
-  pub members_few : ((c : ℕ) → has set c ≡ true → c < 16) → length (members set) ≤ 16
-  members_few below = few (has set) 64 0 16 (λ c le h. let lt = below c h in omega (arith, lt))
 
 -- a mark for each colour of a set, of which some fact is had
 module _ (set : Colours) (Fact : ℕ → Mark → Type 0) (fact : (c : ℕ) → has set c ≡ true → (m : Mark) × Fact c m) where

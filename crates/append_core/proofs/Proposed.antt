@@ -4,6 +4,7 @@ use Rattle.std.specs.List.{All}
 use Rattle.std.proofs.lemmas.Bool.{cases_eq}
 use Rattle.std.proofs.lemmas.Option.{slice_get_within}
 use mathlib.Core.List.{IsPrefix}
+use Rattle.log_node.specs.declared.limits.TheConstants.{MAX_COLOURS}
 use Rattle.log_node.specs.declared.ids.Id.{Id}
 use Rattle.log_node.specs.declared.ids.Row.{Row}
 use Rattle.log_node.specs.declared.node.At.{At}
@@ -141,7 +142,7 @@ module _ (r : Region) (g h k : Hold) (x : Node) (c n : ℕ) (mark : Mark) (fresh
 ends_next : (h k : Hold) (x : Node) (row : Row) (n c : ℕ) (mark : Mark) (ended : Option ℕ)
     → ((d : ℕ) → IsPrefix (seen_in h d) (seen_in k d)) → Grows (view_of h) (view_of k)
     → slice_get (members x.colours) n ≡ Some c → mark ≢ marks.None → KnowsMark (view_of k) row c mark
-    → ((d : ℕ) → has x.colours d ≡ true → d < 64) → EndsAmong h x row n ended
+    → ((d : ℕ) → has x.colours d ≡ true → d < MAX_COLOURS) → EndsAmong h x row n ended
     → EndsAmong k x row (n + 1) (end_after ended c mark)
 ends_next h k x row n c mark (Some first) more grows here set known low ends = end_later h h k x more grows row first ends
 ends_next h k x row n c marks.None None more grows here set known low ends = absurd (set refl)
@@ -181,7 +182,7 @@ ends_next h k x row n c (marks.Fenced StampEnd) None more grows here set known l
 module _ (r : Region) (g h k : Hold) (x : Node) (c n : ℕ) (mark : Mark) (at : At) (fresh : IsNextOf r g x)
     (here : slice_get (members x.colours) n ≡ Some c) (but : SameBut c h k) (later : IsLater h.seat k.seat)
     (next : k.next ≡ h.next) (set : mark ≢ marks.None) (known : KnowsMark (view_of k) (own_row g) c mark)
-    (low : (d : ℕ) → has x.colours d ≡ true → d < 64)
+    (low : (d : ℕ) → has x.colours d ≡ true → d < MAX_COLOURS)
     (entered : (s : ℕ) → mark ≡ marks.Number s
     → HasProposal r.board.size r.number c (view_of k) (own_append g x) (seen_in k c) s)
     (answers : MatchAt at

@@ -46,9 +46,6 @@ module _ (r : Region) (g h k : Hold) (x : Node) (o : Outcome) (c n : ℕ) (at : 
     (closed : open_entry x.id (entries (entries_seen k c)) ≡ None)
     (stands : (f : ℕ) → o ≡ Final f → IsFinal (entries_seen k c) x.id f)
     (placed : place ≡ place_after (entries_seen k c) x.id o) where
-  abbrev count : ℕ
-  count = length (members x.colours)
-
   goes_by : (a : At)
       → MatchAt a (λ _. MakesOneIn c h k (told_settle h.passes.number x.id o) a) (λ _. LooksIn c h k a)
       → GoesOn (IsStepBefore x (n + 1 + length (members x.colours) + 2)) h k

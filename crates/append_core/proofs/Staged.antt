@@ -1,6 +1,7 @@
 -- The stages of an append one after another.
 use Rattle.std.proofs.Common.{◌≡◌, ◌≢◌, ℕ, ◌+◌, ◌<◌, List, length, map, Option, None, true, sym, subst, arith}
 use Rattle.std.proofs.lemmas.Option.{slice_get_within}
+use Rattle.log_node.specs.declared.limits.TheConstants.{MAX_COLOURS}
 use Rattle.log_node.specs.declared.node.Node.{Node}
 use Rattle.log_node.specs.declared.marks.Mark.{Mark}
 use Rattle.log_node.specs.declared.marks.Outcome.{Outcome}
@@ -38,13 +39,12 @@ proposes_none r g h x points s = record {
 
 -- the colours of an append that is known are few
 pub low_colours : (r : Region) (h : Hold) (b : BegunAppend) (g : Hold) (x : Node) → KnowsAppend r h b
-    → b ≡ own_append g x → (c : ℕ) → has x.colours c ≡ true → c < 64
+    → b ≡ own_append g x → (c : ℕ) → has x.colours c ≡ true → c < MAX_COLOURS
 low_colours r h b g x knows is c it =
-    let lt = below_all r h b knows c (subst (λ (a : BegunAppend). has a.colours c ≡ true) (sym is) it) in
-    omega (arith, lt)
+    below_all r h b knows c (subst (λ (a : BegunAppend). has a.colours c ≡ true) (sym is) it)
 
 module _ (r : Region) (g h : Hold) (x : Node) (points : List Point) (ended stop : Option ℕ)
-    (was : HasProposed r g h x points ended stop) (low : (c : ℕ) → has x.colours c ≡ true → c < 64) where
+    (was : HasProposed r g h x points ended stop) (low : (c : ℕ) → has x.colours c ≡ true → c < MAX_COLOURS) where
   -- it is marked in all colours
   pub all_marked : (b : BegunAppend) → b ≡ own_append g x → (c : ℕ) → has b.colours c ≡ true → IsMarkedThere h b c
   all_marked b is =

@@ -11,23 +11,20 @@ ghost use Rattle.append_core.specs.Helping.{IsStepIn};
 ghost use Rattle.append_core.specs.Settled.{IsMarkedThere, IsSettledNow};
 
 use chain_store::{Hold, Region};
-use log_node::{Begun, MAX_COLOURS, Outcome};
+use log_node::{Begun, Outcome};
 use std::sync::Wait;
 
-// The append is marked in the colour, where it has it.
+// The append is marked in one of its colours.
 fn mark_colour<R: Wait>(rt: &R, region: &Region, hold: &mut Hold, begun: &Begun, colour: u8)
     requires hold { IsHold region.now hold.old }
     requires begun { KnowsAppend region.now hold.old begun.now }
-    requires colour { colour < MAX_COLOURS }
+    requires colour { has begun.now.colours colour ≡ true }
     ensures hold { IsHold region.now hold.new }
     ensures seat { IsLater hold.old.seat hold.new.seat }
     ensures next { hold.new.next ≡ hold.old.next }
     ensures goes { GoesOn (IsStepIn begun.now) hold.old hold.new }
-    ensures marked { has begun.now.colours colour ≡ true → IsMarkedThere hold.new begun.now colour }
+    ensures marked { IsMarkedThere hold.new begun.now colour }
 {
-    if !begun.colours.has(colour) {
-        return;
-    }
     region.propose(rt, hold, colour, begun);
 }
 
@@ -41,12 +38,12 @@ fn mark<R: Wait>(rt: &R, region: &Region, hold: &mut Hold, begun: &Begun)
     ensures goes { GoesOn (IsStepIn begun.now) hold.old hold.new }
     ensures marked { (c : ℕ) → has begun.now.colours c ≡ true → IsMarkedThere hold.new begun.now c }
 {
-    for colour in 0..MAX_COLOURS {
+    for colour in begun.colours.members() {
         mark_colour(rt, region, hold, begun, colour);
     }
 }
 
-// The append, which is marked in the colour where it has it, is settled there with the outcome that its row keeps.
+// The append, which is marked in one of its colours, is settled there with the outcome that its row keeps.
 fn settle_colour<R: Wait>(
     rt: &R,
     region: &Region,
@@ -58,18 +55,15 @@ fn settle_colour<R: Wait>(
     requires hold { IsHold region.now hold.old }
     requires begun { KnowsAppend region.now hold.old begun.now }
     requires outcome { (outcome ≢ Outcome.Open) × KnowsOutcome (view_of hold.old) begun.now.row outcome }
-    requires colour { colour < MAX_COLOURS }
-    requires marked { has begun.now.colours colour ≡ true → IsMarkedThere hold.old begun.now colour }
+    requires colour { has begun.now.colours colour ≡ true }
+    requires marked { IsMarkedThere hold.old begun.now colour }
     ensures hold { IsHold region.now hold.new }
     ensures others { SameBut colour hold.old hold.new }
     ensures seat { IsLater hold.old.seat hold.new.seat }
     ensures next { hold.new.next ≡ hold.old.next }
     ensures goes { GoesOn (IsStepIn begun.now) hold.old hold.new }
-    ensures settled { has begun.now.colours colour ≡ true → IsSettledNow hold.new begun.now outcome colour }
+    ensures settled { IsSettledNow hold.new begun.now outcome colour }
 {
-    if !begun.colours.has(colour) {
-        return;
-    }
     region.settle(rt, hold, colour, begun, outcome);
 }
 
@@ -85,7 +79,7 @@ fn settle<R: Wait>(rt: &R, region: &Region, hold: &mut Hold, begun: &Begun, outc
     ensures goes { GoesOn (IsStepIn begun.now) hold.old hold.new }
     ensures settled { (c : ℕ) → has begun.now.colours c ≡ true → IsSettledNow hold.new begun.now outcome c }
 {
-    for colour in 0..MAX_COLOURS {
+    for colour in begun.colours.members() {
         settle_colour(rt, region, hold, begun, outcome, colour);
     }
 }

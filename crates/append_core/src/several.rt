@@ -126,7 +126,7 @@ fn perform<R: Wait, G: Gate>(
 ) -> Result<Stood, MultiFault>
     requires hold { IsHold region.now hold.old }
     requires begun { KnowsAppend region.now hold.old begun.now }
-    requires few { length points.items ≤ 16 }
+    requires few { length points.items ≤ MAX_COLOURS }
     requires points { ArePointsOf points.items begun.now.colours }
     requires stop { IfSome stop (λ steps. (0 < steps) × (steps ≤ length points.items + length points.items + 2)) }
     requires own { (g : Hold) × (x : Node) × IsNextOf region.now g x × (begun.now ≡ own_append g x)

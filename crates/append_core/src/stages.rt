@@ -15,7 +15,7 @@ use crate::course::Course;
 use crate::stood::Point;
 use chain_store::{Hold, Region};
 use fuzzy_io::Gate;
-use log_node::{Begun, Mark, Outcome, Why};
+use log_node::{Begun, MAX_COLOURS, Mark, Outcome, Why};
 use std::sync::Wait;
 
 // The first colour whose mark is a fence for the stamps' end, with the mark of one colour more.
@@ -44,7 +44,7 @@ fn propose_all<R: Wait, G: Gate>(
 ) -> Result<Option<u8>, u8>
     requires hold { IsHold region.now hold.old }
     requires begun { KnowsAppend region.now hold.old begun.now }
-    requires few { length points.old.items ≤ 16 }
+    requires few { length points.old.items ≤ MAX_COLOURS }
     requires points { ArePointsOf points.old.items begun.now.colours }
     ensures hold { IsHold region.now hold.new }
     ensures begun { KnowsAppend region.now hold.new begun.now }
@@ -87,12 +87,12 @@ fn settle_all<R: Wait, G: Gate>(
     requires hold { IsHold region.now hold.old }
     requires begun { KnowsAppend region.now hold.old begun.now }
     requires outcome { (outcome ≢ Outcome.Open) × KnowsOutcome (view_of hold.old) begun.now.row outcome }
-    requires few { (length points.now ≤ 16) × (length places.old ≡ 16) }
+    requires few { (length points.now ≤ MAX_COLOURS) × (length places.old ≡ MAX_COLOURS) }
     requires points { ArePointsOf points.now begun.now.colours }
     ensures hold { IsHold region.now hold.new }
     ensures seat { IsLater hold.old.seat hold.new.seat }
     ensures goes { GoesOn (IsStepIn begun.now) hold.old hold.new }
-    ensures places { length places.new ≡ 16 }
+    ensures places { length places.new ≡ MAX_COLOURS }
     ensures ok { IfOk result (λ _. (g : Hold) (x : Node) → IsNextOf region.now g x → begun.now ≡ own_append g x
         → HasDecided region.now g hold.old x outcome places.old course.stop
         → HasSettled region.now g hold.new x outcome places.new course.stop) }
@@ -126,14 +126,14 @@ pub(crate) fn take_steps<R: Wait, G: Gate>(
 ) -> Result<(Outcome, Option<u8>), u8>
     requires hold { IsHold region.now hold.old }
     requires begun { KnowsAppend region.now hold.old begun.now }
-    requires few { (length points.old.items ≤ 16) × (length places.old ≡ 16) }
+    requires few { (length points.old.items ≤ MAX_COLOURS) × (length places.old ≡ MAX_COLOURS) }
     requires points { ArePointsOf points.old.items begun.now.colours }
     requires own { (g : Hold) × (x : Node) × IsNextOf region.now g x × (begun.now ≡ own_append g x)
         × StopsAfter region.now g hold.old x 1 × IsAhead course.stop 1 }
     ensures hold { IsHold region.now hold.new }
     ensures points { ArePointsOf points.new.items begun.now.colours }
     ensures few { length points.new.items ≡ length points.old.items }
-    ensures places { length places.new ≡ 16 }
+    ensures places { length places.new ≡ MAX_COLOURS }
     ensures ok { IfOk result (λ r. (g : Hold) (x : Node) → IsNextOf region.now g x → begun.now ≡ own_append g x
         → StopsAfter region.now g hold.old x 1 → TakesAll region.now g hold.new x points.new.items places.new r.1 r.0 course.stop) }
     ensures err { IfErr result (λ steps. (g : Hold) (x : Node) → IsNextOf region.now g x → begun.now ≡ own_append g x

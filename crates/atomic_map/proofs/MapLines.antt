@@ -16,6 +16,7 @@ use Rattle.col_core.specs.declared.Entry.{Entry}
 use Rattle.col_core.specs.Computed.{dated}
 use Rattle.col_core.specs.History.{clock, entries, line}
 use Rattle.col_core.specs.Legal.{IsColumnHistory}
+use Rattle.log_node.proofs.CallerLemmas.{has-low}
 use Rattle.col_core.proofs.CallerLemmas.{In, clocks_rise, contains_in, in_append, in_filter, in_left, in_line, in_right}
 use Rattle.lawful_run.specs.Asks.{keys_of as pair_keys, shards}
 use Rattle.log_client.specs.declared.store.Store.{Store}
@@ -25,11 +26,11 @@ use Rattle.log_client.specs.Clients.{IsClient, line_of, seen_of, tracks_of}
 use Rattle.log_client.specs.Objects.{AreColours, FoldsFirst}
 use Rattle.log_client.specs.Reading.{RestsOn, home_seen, keys_of}
 use Rattle.log_client.specs.StampedReads.{IsAboveSeen, ReadsGoOn}
-use Rattle.log_client.proofs.CallerLemmas.{client_sees_on, follows_later, line_first, line_rises, made_from, rests_same, shards_set, tracks_long}
+use Rattle.log_client.proofs.CallerLemmas.{client_sees_on, follows_later, line_first, line_rises, made_from, rests_same, shards_of_store, tracks_long}
 use Rattle.atomic_map.specs.declared.line_writes.LineWrites.{LineWrites}
 use Rattle.atomic_map.specs.declared.atomic.AtomicMap.{AtomicMap}
 use Rattle.atomic_map.specs.Writes.{AreFew, HoldsWrites, items_up_to}
-use Rattle.atomic_map.specs.Several.{CanGoOn, IsAtomicMapOf, IsFolded, IsSameMap, Opens}
+use Rattle.atomic_map.specs.Several.{CanGoOn, HasSameLast, IsAtomicMapOf, IsFolded, Opens}
 use Rattle.atomic_map.proofs.LineLemmas.{front_up_to}
 
 -- COLOURS
@@ -50,18 +51,14 @@ of_keys set found colours keys asked are same all =
     are ∙ (ap (λ (l : List ℕ). shards l keys) same ∙ ap (shards colours) all)
 
 module _ (s : Store) (c : Client) (colours : List ℕ) (is : IsClient s c) (are : AreColours c colours) (keys : List (List ℕ))
-    (some : 0 < length keys) (set : Colours) (bits : set.0 < 2 ^ 16) (members_are : members set ≡ shards colours keys) where
+    (some : 0 < length keys) (set : Colours) (bits : set.0 < 2 ^ MAX_COLOURS) (members_are : members set ≡ shards colours keys) where
   -- the set of the shards of keys is of the store
   pub of_store : AreColoursOf s set
-  of_store =
-      let p = shards_set (length (tracks_of c)) colours are.some are.within are.few keys some set bits members_are in record {
-        some = p.0;
-        within = λ k of. let lt = p.1 k of in let long = is.colours in omega (arith, lt, long);
-      }
+  of_store = shards_of_store s c colours is are keys some set bits members_are
 
   -- and its colours are few
   pub few_members : (k : ℕ) → has set k ≡ true → k < MAX_COLOURS
-  few_members = (shards_set MAX_COLOURS colours are.some are.few are.few keys some set bits members_are).1
+  few_members k of = has-low set k bits of
 
 pub keys_some : (pairs : List Pair) → 1 ≤ length pairs → 0 < length (pair_keys pairs)
 keys_some [] none = absurd (let f : ⊥ = omega (arith, none) in f)
@@ -69,7 +66,7 @@ keys_some (p ∷ pairs) one = omega arith
 
 -- a member of a set
 has_member : (set : Colours) (k : ℕ) → In k (members set) → has set k ≡ true
-has_member set k i = (in_filter (has set) k (range_with_len 0 64) i).1
+has_member set k i = (in_filter (has set) k (range_with_len 0 MAX_COLOURS) i).1
 
 all_of : (P : ℕ → Type 0) (xs : List ℕ) → ((x : ℕ) → In x xs → P x) → All P xs
 all_of P [] each = All-nil P
@@ -98,18 +95,18 @@ map_later law s c d on m is of = lines_later s c d m is on of
 -- LINES THAT ARE NEW
 
 pub opens_none : (m : AtomicMap) → Opens m m
-opens_none m = record { same = (refl, refl); lines = λ colour one at. inl at }
+opens_none m = record { same = (refl, refl, refl); lines = λ colour one at. inl at }
 
-pub opens_same : (m n p : AtomicMap) → IsSameMap n p → p.lines.items ≡ n.lines.items → Opens m n → Opens m p
+pub opens_same : (m n p : AtomicMap) → HasSameLast n p → p.lines.items ≡ n.lines.items → Opens m n → Opens m p
 opens_same m n p same items o = record {
-  same = (same.0 ∙ o.same.0, same.1 ∙ o.same.1);
+  same = (same.0 ∙ o.same.0, same.1 ∙ o.same.1, same.2 ∙ o.same.2);
   lines = λ colour one at. o.lines colour one (ap (λ (l : List LineWrites). slice_get l colour) (sym items) ∙ at);
 }
 
-pub opens_more : (m n p : AtomicMap) (new : LineWrites) → IsSameMap n p → p.lines.items ≡ n.lines.items ++ new ∷ []
+pub opens_more : (m n p : AtomicMap) (new : LineWrites) → HasSameLast n p → p.lines.items ≡ n.lines.items ++ new ∷ []
     → new.count ≡ 0 → new.writes.entries ≡ [] → Opens m n → Opens m p
 opens_more m n p new same items none empty o = record {
-  same = (same.0 ∙ o.same.0, same.1 ∙ o.same.1);
+  same = (same.0 ∙ o.same.0, same.1 ∙ o.same.1, same.2 ∙ o.same.2);
   lines = λ colour one at. elim (split n.lines.items colour one (ap (λ (l : List LineWrites). slice_get l colour) (sym items) ∙ at)) [
     | inl early ↦ o.lines colour one early
     | inr is ↦ inr (ap (λ (x : LineWrites). x.count) (sym is) ∙ none, ap (λ (x : LineWrites). x.writes.entries) (sym is) ∙ empty)
@@ -198,7 +195,7 @@ set_elsewhere (z ∷ xs) (suc n) (suc j) x ne = set_elsewhere xs n j x (λ e. ne
 
 -- The lines of the first of these colours are folded up to the stamp.
 pub record FoldsLines (c : Client) (old new : AtomicMap) (stamp : ℕ) (first left all : List ℕ) : Type 0 where
-  pub same : IsSameMap old new
+  pub same : HasSameLast old new
   pub map : IsAtomicMapOf c new
   pub long : length new.lines.items ≡ length old.lines.items
   pub apart : first ++ left ≡ all
@@ -208,7 +205,7 @@ pub record FoldsLines (c : Client) (old new : AtomicMap) (stamp : ℕ) (first le
 pub none_folded : (c : Client) (m : AtomicMap) (stamp : ℕ) (all : List ℕ) → IsAtomicMapOf c m → All (CanGoOn c m stamp) all
     → FoldsLines c m m stamp [] all all
 none_folded c m stamp all of goes = record {
-  same = (refl, refl);
+  same = (refl, refl, refl);
   map = of;
   long = refl;
   apart = refl;

@@ -1,5 +1,5 @@
 -- What explains the answers to reads of several keys.
-use Rattle.std.proofs.Common.{◌≡◌, inl, inr, ℕ, zero, suc, List, [], ◌∷◌, ◌++◌, map, take, Option, Some, None, refl, ap, sym, subst, ◌∙◌, arith}
+use Rattle.std.proofs.Common.{◌≡◌, inl, inr, ℕ, zero, suc, ◌+◌, ◌-◌, List, [], ◌∷◌, ◌++◌, length, map, take, Option, Some, None, refl, ap, sym, subst, ◌∙◌, arith}
 use Rattle.std.specs.Prelude.{nat_le, slice_get}
 use Rattle.std.specs.List.{All, Contains, fold}
 use Rattle.std.proofs.lemmas.Bool.{le-leb, leb-true}
@@ -20,7 +20,6 @@ use Rattle.col_core.specs.Log.{Log}
 use Rattle.col_core.proofs.CallerLemmas.{In, contains_in, in_contains, in_filter, in_filter-back}
 use Rattle.lawful_run.specs.Asks.{shards}
 use Rattle.lawful_run.specs.Objects.{AreObjectNodes, IsObjectNode}
-use Rattle.lawful_run.specs.Reads.{ReadsAt}
 use Rattle.client_law.specs.Knowing.{Rest, log_of}
 use Rattle.log_client.specs.declared.store.Store.{Store}
 use Rattle.log_client.specs.declared.client.Client.{Client}
@@ -28,9 +27,9 @@ use Rattle.log_client.specs.declared.answers.StampedRead.{StampedRead}
 use Rattle.log_client.specs.declared.faults.SyncFault.{SyncFault}
 use Rattle.log_client.specs.Fits.{Fits}
 use Rattle.log_client.specs.Clients.{IsClient, caller_of, holds_of, line_of, seen_of, starts_of}
-use Rattle.log_client.specs.Objects.{object_nodes}
+use Rattle.log_client.specs.Objects.{last_after, object_nodes}
 use Rattle.log_client.specs.Reading.{home_seen, keys_of}
-use Rattle.log_client.specs.StampedReads.{HasRead, HoldsUpTo, ReadHidden, ReadRefused, ReadsOn, ShowsItem, raise_piece, sync_piece}
+use Rattle.log_client.specs.StampedReads.{HasRead, HoldsUpTo, ReadHidden, ReadRefused, ReadsAs, ReadsOn, ShowsItem}
 use Rattle.log_client.proofs.CallerLemmas.{line_is_own, line_rises, made_from, made_of}
 use Rattle.atomic_map.specs.declared.line_writes.LastWrite.{LastWrite}
 use Rattle.atomic_map.specs.declared.line_writes.LineWrites.{LineWrites}
@@ -204,7 +203,7 @@ module _ (s : Store) (d : Client) (ks : List ℕ) (stamp : ℕ) (keys : List Key
 pub gets_all : (s : Store) (c d : Client) (set : Colours) (colours : List ℕ) (asked : List (List ℕ))
     → members set ≡ shards colours asked → IsClient s d → (last : Option Key) (read : StampedRead)
     → ReadsOn s c d (members set) last read → All (HoldsUpTo d read.stamp) (members set) → (values : List Value)
-    → values ≡ values_by_lines d colours (members set) read.stamp asked → GetsAll s c d colours asked values read
+    → values ≡ values_by_lines d colours (members set) read.stamp asked → GetsAll s c d colours last asked values read
 gets_all s c d set colours asked are is last read reads held values by objects kept finished keeps =
     let x = reads.3 objects kept finished keeps in (
       x.0,
@@ -212,10 +211,8 @@ gets_all s c d set colours asked are is last read reads held values by objects k
       λ rest fits.
           let so = x.2 rest fits in
           let n = nodes_read s d (members set) read.stamp reads.0 is reads.1 held rest fits colours asked values by in (
-            subst (λ (l : List ℕ). ReadsAt (log_of (seen_of d) rest) (caller_of s d objects) kept l read.stamp
-                (map raise_piece read.raises) (map sync_piece read.syncs) x.0) are so.0,
             reads.0,
-            so.1,
+            subst (λ (l : List ℕ). ReadsAs l last read reads.0 (log_of (seen_of d) rest) (caller_of s d objects) kept x.0) are so,
             n.0,
             n.1,
             n.2,
@@ -230,3 +227,32 @@ read_refused s c d colours wanted fault same why = subst (λ (l : List ℕ). Rea
 pub read_hidden : (s : Store) (c d : Client) (colours wanted : List ℕ) → colours ≡ wanted → ReadHidden s c d colours
     → ReadHidden s c d wanted
 read_hidden s c d colours wanted same why = subst (λ (l : List ℕ). ReadHidden s c d l) same why
+
+-- THE LAST KEY
+
+last_at : (last : Option Key) (items : List PlacedNode) (item : PlacedNode) (n : ℕ) → n + 1 ≡ length items
+    → slice_get items n ≡ Some item → Some item.head.key ≡ last_after last items
+last_at last [] item n many at = absurd (omega (arith, many))
+last_at last (x ∷ []) item zero many at =
+    let same : x ≡ item = cc (at) in ap (λ (i : PlacedNode). Some i.head.key) (sym same)
+last_at last (x ∷ []) item (suc n) many at = absurd (omega (arith, many))
+last_at last (x ∷ y ∷ items) item zero many at = absurd (omega (arith, many))
+last_at last (x ∷ y ∷ items) item (suc n) many at = last_at (Some x.head.key) (y ∷ items) item n (omega (arith, many)) at
+
+-- the last of some items is there
+at_last : (items : List PlacedNode) (n : ℕ) → n + 1 ≡ length items → slice_get items n ≡ None → ⊥
+at_last [] n many none = let f : ⊥ = omega (arith, many) in f
+at_last (x ∷ items) zero many none = let f : ⊥ = cc (none) in f
+at_last (x ∷ items) (suc n) many none = at_last items n (omega (arith, many)) none
+
+-- the last key after items, of which this is the last one
+pub last_is : (last : Option Key) (items : List PlacedNode) (item : PlacedNode)
+    → Some item ≡ slice_get items (length items - 1) → Some item.head.key ≡ last_after last items
+last_is last [] item at = absurd (let f : ⊥ = cc (at) in f)
+last_is last (x ∷ items) item at = last_at last (x ∷ items) item (length (x ∷ items) - 1) (omega arith) (sym at)
+
+-- and after none
+pub last_same : (last : Option Key) (items : List PlacedNode) → None ≡ slice_get items (length items - 1)
+    → last ≡ last_after last items
+last_same last [] none = refl
+last_same last (x ∷ items) none = absurd (at_last (x ∷ items) (length (x ∷ items) - 1) (omega arith) (sym none))

@@ -11,7 +11,6 @@ use Rattle.col_core.specs.Keeping.{Kept}
 use Rattle.playback.specs.Merging.{AreRising}
 use Rattle.lawful_run.specs.Asks.{shards}
 use Rattle.lawful_run.specs.Callers.{Caller}
-use Rattle.lawful_run.specs.Reads.{ReadsAt, AreRead}
 use Rattle.lawful_run.specs.Objects.{AreObjectNodes}
 use Rattle.log_client.specs.declared.store.Store.{Store}
 use Rattle.log_client.specs.declared.client.Client.{Client}
@@ -21,7 +20,7 @@ use Rattle.log_client.specs.declared.object_fault.ObjectFault.TheVariants as fau
 use Rattle.log_client.specs.Calls.{IsExplained}
 use Rattle.log_client.specs.Clients.{line_of, tracks_of}
 use Rattle.log_client.specs.Reading.{keys_of}
-use Rattle.log_client.specs.StampedReads.{ReadHidden, ReadRefused, raise_piece, sync_piece}
+use Rattle.log_client.specs.StampedReads.{ReadHidden, ReadRefused, ReadsAs}
 use Rattle.log_client.specs.Objects.{AreColours, Follows, IsAwayFrom, object_nodes}
 use Rattle.atomic_map.specs.declared.line_writes.LastWrite.{LastWrite}
 use Rattle.atomic_map.specs.declared.line_writes.LineWrites.{LineWrites}
@@ -41,9 +40,13 @@ pub record IsAtomicMapOf (c : Client) (m : AtomicMap) : Type 0 where
 abbrev pub IsSameMap : AtomicMap → AtomicMap → Type 0
 IsSameMap m n = (n.home ≡ m.home) × (n.colours ≡ m.colours)
 
+-- the same, and the last key is the same
+abbrev pub HasSameLast : AtomicMap → AtomicMap → Type 0
+HasSameLast m n = (n.home ≡ m.home) × (n.colours ≡ m.colours) × (n.last ≡ m.last)
+
 -- the one map has the other one's lines, and maybe more, of which nothing is folded
 pub record Opens (old new : AtomicMap) : Type 0 where
-  pub same : IsSameMap old new
+  pub same : HasSameLast old new
   pub lines : (colour : ℕ) (line : LineWrites) → slice_get new.lines.items colour ≡ Some line
       → (slice_get old.lines.items colour ≡ Some line) ⊎ ((line.count ≡ 0) × (line.writes.entries ≡ []))
 
@@ -88,16 +91,16 @@ abbrev pub values_by_lines : Client → List ℕ → List ℕ → ℕ → List (
 values_by_lines c map_colours colours stamp keys =
     map (λ key. value_left (latest_by_lines c map_colours colours stamp key)) keys
 
--- The read is of the shards of the keys, and the values are theirs after the nodes that it read.
-abbrev pub GetsAllAs : List ℕ → List (List ℕ) → List Value → StampedRead → Log → Caller → Kept → Kept → Type 0
-GetsAllAs colours asked values read log caller kept after =
-    ReadsAt log caller kept (shards colours asked) read.stamp (map raise_piece read.raises) (map sync_piece read.syncs) after
-    × (keys : List Key) × AreRead log caller read.stamp (map sync_piece read.syncs) keys
+-- The read is of the shards of the keys and answers what comes behind the last key, and the values are the keys' after the nodes
+-- that it read.
+abbrev pub GetsAllAs : List ℕ → Option Key → List (List ℕ) → List Value → StampedRead → Log → Caller → Kept → Kept → Type 0
+GetsAllAs colours last asked values read log caller kept after =
+    (keys : List Key) × ReadsAs (shards colours asked) last read keys log caller kept after
     × (nodes : List ObjectNode) × AreObjectNodes log keys nodes × (values ≡ values_among colours nodes asked)
 
--- a read of several keys of a map with these colours answered with this
-abbrev pub GetsAll : Store → Client → Client → List ℕ → List (List ℕ) → List Value → StampedRead → Type 0
-GetsAll s c d colours asked values read = IsExplained s c d (GetsAllAs colours asked values read)
+-- a read of several keys of a map with these colours, which goes on from the last key, answered with this
+abbrev pub GetsAll : Store → Client → Client → List ℕ → Option Key → List (List ℕ) → List Value → StampedRead → Type 0
+GetsAll s c d colours last asked values read = IsExplained s c d (GetsAllAs colours last asked values read)
 
 -- why a read of several keys, whose shards have these colours, of a map at this home was refused
 abbrev pub GetAllRefused : ℕ → Store → Client → Client → List ℕ → ObjectFault → Type 0

@@ -1,5 +1,5 @@
 // The map of several keys.
-ghost use Rattle.std.specs.Prelude.{◌≡◌, ◌≢◌, ◌<◌, ◌≤◌, length, Some, Err, IfOk, IfErr, OnOk};
+ghost use Rattle.std.specs.Prelude.{◌≡◌, ◌≢◌, ◌<◌, ◌≤◌, length, Some, None, Err, IfOk, IfErr, OnOk, OnErr};
 ghost use Rattle.std.specs.List.{All};
 ghost use Rattle.std.specs.Option.{option_copied};
 ghost use Rattle.log_node.specs.Sets.{members};
@@ -7,22 +7,22 @@ ghost use Rattle.object_form.specs.Forms.{ArePairs, form_text};
 ghost use Rattle.lawful_run.specs.Asks.{shards, keys_of};
 ghost use Rattle.log_client.specs.Clients.{IsClient};
 ghost use Rattle.log_client.specs.Reading.{RestsOn, raised_colours, synced_colours};
-ghost use Rattle.log_client.specs.Objects.{AreColours, StandsIn, PutRefused};
+ghost use Rattle.log_client.specs.Objects.{AreColours, StandsIn, PutRefused, last_after};
 ghost use Rattle.atomic_map.specs.Writes.{value_left};
-ghost use Rattle.atomic_map.specs.Several.{CanGoOn, IsAtomicMapOf, IsFolded, IsSameMap, GetsAll, GetAllRefused, Opens, latest_in, values_by_lines, values_in};
+ghost use Rattle.atomic_map.specs.Several.{CanGoOn, IsAtomicMapOf, IsFolded, IsSameMap, HasSameLast, GetsAll, GetAllRefused, Opens, latest_in, values_by_lines, values_in};
 
 use crate::line_writes::{LastWrite, LineWrites, later_write};
 use fuzzy_io::Gate;
 use log_client::{
     Appended, Client, ObjectFault, StampedRead, Store, copied_pairs, key_shards, pair_shards,
 };
-use log_node::{ColourList, Colours, Form, Key, Keys, ListOf, MAX_COLOURS, Pairs, Text};
+use log_node::{ColourList, Colours, Form, Item, Key, Keys, ListOf, MAX_COLOURS, Pairs, Text};
 use object_fold::Values;
 use std::alloc::{AllocError, Global};
 use std::sync::Wait;
 
 /// A map at a home region whose keys are put and got several at a time, for one client, with which all its calls are made. What
-/// is folded of each colour's line is kept, and the greatest key that was read.
+/// is folded of each colour's line is kept, and the key of the last node that was answered.
 #[derive(Drop)]
 pub struct AtomicMap {
     pub(crate) home: u8,
@@ -31,17 +31,26 @@ pub struct AtomicMap {
     pub(crate) last: Option<Key>,
 }
 
-// The bits of a set, which are 16.
-fn bits_of(set: Colours) -> u16
-    ensures { result ≡ set.0 }
+fn key_of(item: &Item) -> Key
+    ensures { result ≡ item.now.head.key }
 {
-    set.0
+    item.head.key
+}
+
+// The last key after what a read answered.
+fn last_after(last: Option<Key>, read: &StampedRead) -> Option<Key>
+    ensures { result ≡ last_after last read.now.items }
+{
+    match read.items.as_slice().last() {
+        Some(item) => Some(key_of(item)),
+        None => last,
+    }
 }
 
 impl AtomicMap {
     /// The map of these colours at a home, of which nothing is folded. Takes no memory.
     pub fn open(alloc: Global, home: u8, colours: ColourList) -> AtomicMap
-        ensures of { (result.home ≡ home) × (result.colours ≡ colours) }
+        ensures of { (result.home ≡ home) × (result.colours ≡ colours) × (result.last ≡ None) }
         ensures map { (client : Client) → AreColours client colours → IsAtomicMapOf client result }
     {
         AtomicMap {
@@ -81,7 +90,6 @@ impl AtomicMap {
             return Err(ObjectFault::NoMemory);
         };
         let set = pair_shards(self.colours.as_slice(), pairs.as_slice());
-        let _bits = bits_of(set);
         client.append_form(rt, alloc, store, gate, set, Form::PutAll { pairs: copy })
     }
 
@@ -107,7 +115,7 @@ impl AtomicMap {
         requires map { IsAtomicMapOf client.now self.old }
         requires lines { MAX_COLOURS ≤ length self.old.lines.items }
         requires goes { All (CanGoOn client.now self.old stamp) (members set) }
-        ensures same { IsSameMap self.old self.new }
+        ensures same { HasSameLast self.old self.new }
         ensures map { IsAtomicMapOf client.now self.new }
         ensures lines { length self.new.lines.items ≡ length self.old.lines.items }
         ensures whole { OnOk result (All (IsFolded client.now self.new stamp) (members set)) }
@@ -174,7 +182,7 @@ impl AtomicMap {
     ) -> Result<Values, AllocError>
         requires map { IsAtomicMapOf client.now self.old }
         requires goes { All (CanGoOn client.now self.old read.now.stamp) (members set) }
-        ensures same { IsSameMap self.old self.new }
+        ensures same { HasSameLast self.old self.new }
         ensures map { IsAtomicMapOf client.now self.new }
         ensures many { IfOk result (λ values. length values ≡ length keys.now) }
         ensures values { IfOk result (λ values. values
@@ -182,16 +190,12 @@ impl AtomicMap {
     {
         self.open_lines(alloc)?;
         self.fold_on(alloc, client, set, read.stamp)?;
-        self.last = match read.items.as_slice().last() {
-            Some(item) => Some(item.head.key),
-            None => self.last,
-        };
         self.values(alloc, set, keys)
     }
 
     /// The values of keys after all nodes of their shards up to the stamp of a stamped read of these; of its nodes it answers
-    /// those that come behind the greatest key that earlier calls read and folded. Waits as the read does; the gate is for appends
-    /// alone.
+    /// those that come behind the last key, which is that of the last node that an earlier call answered. Waits as the read does;
+    /// the gate is for appends alone.
     pub fn get_all<R: Wait, G: Gate>(
         &mut self,
         rt: &R,
@@ -207,8 +211,10 @@ impl AtomicMap {
         ensures client { RestsOn store.now client.old client.new }
         ensures map { IsAtomicMapOf client.new self.new }
         ensures same { IsSameMap self.old self.new }
-        ensures ok { IfOk result (λ r. GetsAll store.now client.old client.new self.old.colours keys.now r.0 r.1) }
+        ensures ok { IfOk result (λ r. GetsAll store.now client.old client.new self.old.colours self.old.last keys.now r.0 r.1) }
         ensures many { IfOk result (λ r. length r.0 ≡ length keys.now) }
+        ensures last { IfOk result (λ r. self.new.last ≡ last_after self.old.last r.1.items) }
+        ensures stays { OnErr result (self.new.last ≡ self.old.last) }
         ensures raises { IfOk result (λ r. raised_colours r.1.raises ≡ shards self.old.colours keys.now) }
         ensures syncs { IfOk result (λ r. synced_colours r.1.syncs ≡ shards self.old.colours keys.now) }
         ensures away { client.old.region ≢ self.old.home → result ≡ Err (ObjectFault.NotHome self.old.home) }
@@ -219,10 +225,12 @@ impl AtomicMap {
             return Err(ObjectFault::NotHome { home: self.home });
         }
         let set = key_shards(self.colours.as_slice(), keys.as_slice());
-        let _bits = bits_of(set);
         match client.read_on(rt, alloc, store, set, self.last) {
             Ok(read) => match self.values_read(alloc, client, set, &read, keys) {
-                Ok(values) => Ok((values, read)),
+                Ok(values) => {
+                    self.last = last_after(self.last, &read);
+                    Ok((values, read))
+                }
                 Err(_) => Err(ObjectFault::NoMemory),
             },
             Err(fault) => Err(ObjectFault::Sync(fault)),

@@ -1,31 +1,20 @@
--- Sets of the two colours, by their bits.
-use Rattle.std.proofs.Common.{◌≡◌, ℕ, zero, suc, ◌<◌, ◌≤◌, true, false, length, refl, ap, sym, ◌∙◌, arith}
-use Rattle.std.specs.Prelude.{◌==◌}
-use Rattle.std.specs.Int.{bit_at}
-use Rattle.std.proofs.lemmas.Nat.Bits.{bit_at_above}
-use mathlib.Core.Logic.{dite}
-use native.Mathlib.Decide.{dec_le}
-use Rattle.log_node.specs.Sets.{has, members}
+-- The sets of the first of the two colours, and of both.
+use Rattle.std.proofs.Common.{◌≡◌, ℕ, ◌<◌, [], ◌∷◌, arith}
+use Rattle.std.specs.List.{All}
+use Rattle.std.proofs.lemmas.List.Elements.{All-cons, All-nil}
+use Rattle.log_node.specs.declared.limits.TheConstants.{MAX_COLOURS}
+use Rattle.log_node.specs.Sets.{set_of}
 use Rattle.log_client.specs.declared.store.Store.{Store}
 use Rattle.log_client.specs.Appends.{AreColoursOf}
+use Rattle.log_client.proofs.CallerLemmas.{listed_of_store, one_of_store}
 
-below_two : (bits c : ℕ) → bits ≤ 3 → has (record { 0 = bits }) c ≡ true → c < 2
-below_two bits c few of = dite (dec_le 2 c)
-    (λ le. absurd (let none : bit_at bits c ≡ 0 = bit_at_above bits 2 c (omega (arith, few)) le in
-    let no : has (record { 0 = bits }) c ≡ false = ap (λ (n : ℕ). n == 1) none in let both : true ≡ false = sym of ∙ no in
-    let f : ⊥ = cc (both) in f))
-    (λ lt. omega (arith, lt))
+pub first_of_store : (s : Store) → s.size.colours ≡ 2 → AreColoursOf s (set_of (0 ∷ []))
+first_of_store s two = one_of_store s 0 (omega (arith, two)) (omega arith)
 
-some_in : (bits : ℕ) → 0 < bits → bits ≤ 3 → 0 < length (members (record { 0 = bits }))
-some_in zero some few = absurd (let f : ⊥ = omega (arith, some) in f)
-some_in (suc zero) some few = let one : length (members (record { 0 = 1 })) ≡ 1 = refl in omega (arith, one)
-some_in (suc (suc zero)) some few = let one : length (members (record { 0 = 2 })) ≡ 1 = refl in omega (arith, one)
-some_in (suc (suc (suc zero))) some few = let two : length (members (record { 0 = 3 })) ≡ 2 = refl in omega (arith, two)
-some_in (suc (suc (suc (suc n)))) some few = absurd (let f : ⊥ = omega (arith, few) in f)
-
--- some of the two colours of a store
-pub few_colours : (s : Store) (bits : ℕ) → s.size.colours ≡ 2 → 0 < bits → bits ≤ 3 → AreColoursOf s (record { 0 = bits })
-few_colours s bits two some few = record {
-  some = some_in bits some few;
-  within = λ c of. let lt = below_two bits c few of in omega (arith, lt, two);
-}
+pub both_of_store : (s : Store) → s.size.colours ≡ 2 → AreColoursOf s (set_of (0 ∷ 1 ∷ []))
+both_of_store s two =
+    listed_of_store s (0 ∷ 1 ∷ []) (omega arith)
+    (both (λ (c : ℕ). c < s.size.colours) (omega (arith, two)) (omega (arith, two)))
+    (both (λ (c : ℕ). c < MAX_COLOURS) (omega arith) (omega arith)) where
+      both : (P : ℕ → Type 0) → P 0 → P 1 → All P (0 ∷ 1 ∷ [])
+      both P first second = All-cons P 0 (1 ∷ []) first (All-cons P 1 [] second (All-nil P))

@@ -1,11 +1,11 @@
 //! Clients of one region append, to one colour and to two, on one thread and on four; then a client of another region pulls
 //! the first colour, and syncs it.
 
-ghost use Rattle.std.specs.Prelude.{◌<◌, ◌≤◌};
+ghost use Rattle.std.specs.Prelude.{◌≤◌};
 
 mod jobs;
 
-use jobs::{Bits, append_beside, open, played, pulled};
+use jobs::{append_beside, open, played, pulled};
 use std::alloc::Global;
 use std::io;
 use std::rt::Clock;
@@ -17,8 +17,8 @@ const APPENDS: u64 = 100;
 
 const THREADS: [u8; 2] = [1, 4];
 
-// Sets of colours, by their bits.
-const COLOURS: [(&str, Bits); 2] = [("one colour", 1), ("two colours", 3)];
+// Whether nodes are appended to both colours.
+const COLOURS: [(&str, bool); 2] = [("one colour", false), ("two colours", true)];
 
 // How many nodes were pulled and played, and how long all appends, the pull and the sync took.
 #[derive(Clone, Copy)]
@@ -30,21 +30,19 @@ struct Done {
     sync: Duration,
 }
 
-// This many clients append this many nodes each to the colours of these bits; another pulls and syncs.
+// This many clients append this many nodes each, to the first colour or to both; another pulls and syncs.
 fn bench<R: Threads + Wait + Clock + Sync>(
     rt: &R,
     alloc: Global,
     threads: u8,
-    bits: Bits,
+    both: bool,
     appends: u64,
 ) -> io::Result<Done>
-    requires few { threads ≤ 4 }
-    requires some { 0 < bits }
-    requires within { bits ≤ 3 }
+    requires { threads ≤ 4 }
 {
     let (store, mut clients, mut away) = open(alloc, threads)?;
     let start = Instant::now(rt)?;
-    append_beside(rt, alloc, &store, clients.as_mut_slice(), bits, appends);
+    append_beside(rt, alloc, &store, clients.as_mut_slice(), both, appends);
     let appends = start.elapsed(rt)?;
     let start = Instant::now(rt)?;
     let pulled = pulled(rt, alloc, &store, &mut away);
@@ -68,9 +66,9 @@ fn each(time: Duration, many: u64) -> u128 {
 
 /// Says how many of the nodes that clients append are pulled and played.
 pub fn count<R: Threads + Wait + Print + Clock + Sync>(rt: &R, alloc: Global) -> io::Result<()> {
-    for (name, bits) in COLOURS {
+    for (name, both) in COLOURS {
         for threads in THREADS {
-            let done = bench(rt, alloc, threads, bits, APPENDS)?;
+            let done = bench(rt, alloc, threads, both, APPENDS)?;
             println!(rt;
                 "{name} threads {threads} pulled {} played {}",
                 done.pulled, done.played
@@ -87,9 +85,9 @@ pub fn measure<R: Threads + Wait + Print + Clock + Sync>(
     alloc: Global,
     appends: u64,
 ) -> io::Result<()> {
-    for (name, bits) in COLOURS {
+    for (name, both) in COLOURS {
         for threads in THREADS {
-            let done = bench(rt, alloc, threads, bits, appends)?;
+            let done = bench(rt, alloc, threads, both, appends)?;
             let append = each(done.appends, done.pulled);
             let pull = each(done.pull, done.pulled);
             let sync = each(done.sync, done.played);

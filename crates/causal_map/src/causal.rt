@@ -1,6 +1,7 @@
 // The causal map.
 ghost use Rattle.std.specs.Prelude.{◌≡◌, ◌<◌, IsTrue, ◌∷◌, [], length, None, IfOk, IfErr};
 ghost use Rattle.object_form.specs.Forms.{is_word, form_text};
+ghost use Rattle.log_client.specs.Calls.{AnswersSync};
 ghost use Rattle.log_client.specs.Clients.{IsClient, Helps, tracks_of};
 ghost use Rattle.log_client.specs.Reading.{RestsOn};
 ghost use Rattle.log_client.specs.Objects.{StandsIn, PutRefused, GetRefused};
@@ -91,6 +92,7 @@ impl CausalMap {
         ensures map { IsCausalMapOf client.new self.new }
         ensures same { self.new.colour ≡ self.old.colour }
         ensures ok { IfOk result (λ r. GetsMany store.now client.old client.new self.old.colour key.now r.0 r.1) }
+        ensures played { IfOk result (λ r. AnswersSync client.old client.new self.old.colour r.1) }
         ensures err { IfErr result (GetRefused None store.now client.old client.new self.old.colour) }
     {
         match client.sync(rt, alloc, store, self.colour) {

@@ -19,13 +19,6 @@ use Rattle.chain_store.specs.Openings.{Dealt, Got, HasNew, HaveAll, Zipped}
 use Rattle.chain_store.specs.Opening.{IsNewHold, AreNewHolds}
 use Rattle.chain_store.proofs.Holding.{got_set, set_other}
 
-pub dealt_none : (old : List ColumnPasses) (ps : List ColumnPass) (i : ℕ) → i ≡ length old → Dealt old old ps i
-dealt_none old ps i e = record {
-  same = refl;
-  got = λ n g l at. absurd (let w = slice_get_within old n g at in omega (arith, w, l, e));
-  early = λ n l. refl;
-}
-
 -- one client more got its pass
 pub dealt_one : (old now : List ColumnPasses) (ps : List ColumnPass) (i z m : ℕ) → z ≡ m → (c d : ColumnPasses) (p : ColumnPass)
     → Dealt old now ps i → i ≡ m + 1 → slice_get ps m ≡ Some p → slice_get now z ≡ Some c → Got c d p

@@ -1,6 +1,7 @@
 -- The outcome that a row keeps is that of the marks that a seat knows.
 use Rattle.std.proofs.Common.{◌≡◌, ◌≢◌, ℕ, List, [], ◌∷◌, map, refl, ap, sym, ◌∙◌, inl, inr}
 use Rattle.std.specs.List.{range_with_len}
+use Rattle.log_node.specs.declared.limits.TheConstants.{MAX_COLOURS}
 use Rattle.log_node.specs.declared.ids.Row.{Row}
 use Rattle.log_node.specs.declared.node.Node.{Node}
 use Rattle.log_node.specs.declared.marks.Mark.{Mark}
@@ -33,5 +34,5 @@ module _ (k : Size) (v w : View) (row : Row) (o : Outcome) (grows : Grows v w) (
       map_same (λ (c : ℕ). mark_in k ws row c) mark (members x.colours)
       (λ c i. possibly.1.marks row c (mark c)
       (mark_learnt v w row grows.size learns c (mark c)
-      (knows c (in_filter (has x.colours) c (range_with_len 0 64) i).1))) in
+      (knows c (in_filter (has x.colours) c (range_with_len 0 MAX_COLOURS) i).1))) in
       sym of_marks ∙ ap outcome_of each

@@ -6,6 +6,7 @@ use mathlib.Core.List.{IsPrefix}
 use Rattle.std.proofs.lemmas.List.{length-map}
 use Rattle.std.proofs.lemmas.Option.{slice_get_within}
 use Rattle.std.proofs.lemmas.Simd.{map-map}
+use Rattle.log_node.specs.declared.limits.TheConstants.{MAX_COLOURS}
 use Rattle.log_node.specs.declared.ids.Id.{Id}
 use Rattle.log_node.specs.declared.ids.Row.{Row}
 use Rattle.log_node.specs.declared.ids.Counts.{Counts}
@@ -71,7 +72,7 @@ pub record ColumnEnd : Type 0 where
 module _ (r : Region) (hs : List Hold) (closed : List Seated) (ws : List ℕ) (v : View)
     (tied : AreTied r.board r.number r.regions r.columns.items)
     (many : length hs ≡ r.board.size.clients)
-    (few : r.board.size.colours ≤ 64)
+    (few : r.board.size.colours ≤ MAX_COLOURS)
     (z : Closes r.board.size ws v (map (λ (h : Hold). h.seat) hs) (map (λ (s : Seated). s.seat) closed))
     (holder : ℕ → HoldOf r)
     (holders : (n : ℕ) → n < r.board.size.clients

@@ -4,6 +4,7 @@ use Rattle.std.specs.Prelude.{slice_get}
 use Rattle.std.specs.Vec.{with_item}
 use Rattle.std.proofs.lemmas.Bool.{cases_eq}
 use Rattle.std.proofs.lemmas.Option.{slice_get_read}
+use Rattle.log_node.specs.declared.limits.TheConstants.{MAX_CLIENTS}
 use Rattle.log_node.specs.declared.node.Node.{Node}
 use Rattle.log_node.specs.declared.node.At.{At}
 use Rattle.col_core.specs.declared.Event.{Event}
@@ -196,13 +197,13 @@ pub holder : (r : Region) (h : Hold) (k : ℕ) (c : ColumnCell) (p : ColumnPass)
     → k < r.board.size.colours → IsColumnAt r k c → p ≡ get_or (passes_of h) k p → IsHolder c h.passes.number p
 holder r h k c p is lt at e = is.passes.1 k c p at.there (reached r h k p is lt e)
 
--- the client is one of the board's, of which there are at most 16
+-- the client is one of the board's, of which there are no more than a log may have
 pub client_few : (r : Region) (h : Hold) → IsHold r h
-    → (h.passes.number < 16) × (h.passes.number < r.board.size.clients)
+    → (h.passes.number < MAX_CLIENTS) × (h.passes.number < r.board.size.clients)
 client_few r h is =
     let inside = is.clients.0 in
     let number = is.number in
-    let few = r.board.is_size.1 in
+    let few = r.board.is_size.few_clients in
     (omega (arith, inside, number, few), omega (arith, inside, number))
 
 -- a hold whose passes alone have changed, or that has given out more counts

@@ -8,6 +8,7 @@ use Rattle.std.proofs.lemmas.Option.{slice_get-get_or}
 use Rattle.std.proofs.lemmas.Bool.{false≢true}
 use Rattle.std.proofs.lemmas.Simd.{map-map}
 use Rattle.std.proofs.lemmas.List.FromFn.{length-range_with_len}
+use Rattle.log_node.specs.declared.limits.TheConstants.{MAX_COLOURS}
 use Rattle.log_node.specs.declared.ids.Id.{Id}
 use Rattle.log_node.specs.declared.ids.Row.{Row}
 use Rattle.log_node.specs.declared.ids.Counts.{Counts}
@@ -157,7 +158,7 @@ proposing row (Give region from) nodes e = absurd (false≢true e)
 proposing row (Carry region start heads) nodes e = absurd (false≢true e)
 proposing row (Trim counts) nodes e = absurd (false≢true e)
 
-module _ (region : ℕ) (k : Size) (ws : List ℕ) (v : View) (size : v.size ≡ k) (few : k.colours ≤ 64)
+module _ (region : ℕ) (k : Size) (ws : List ℕ) (v : View) (size : v.size ≡ k) (few : k.colours ≤ MAX_COLOURS)
     (board : MayBe k ws v)
     (node : Row → Node) (owned : Owned region k ws v node) where
   -- the row of a node that is known as begun

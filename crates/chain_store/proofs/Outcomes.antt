@@ -3,6 +3,7 @@ use Rattle.std.proofs.Common.{◌≡◌, ◌≢◌, ℕ, zero, suc, ◌+◌, ◌
 use Rattle.std.specs.Prelude.{◌==◌, ◌||◌, if◌then◌else◌, slice_index}
 use Rattle.std.specs.List.{list_any, range_with_len}
 use Rattle.std.proofs.lemmas.Bool.{eqb-true, cases_eq}
+use Rattle.log_node.specs.declared.limits.TheConstants.{MAX_COLOURS}
 use Rattle.log_node.specs.declared.ids.Colours.{Colours}
 use Rattle.log_node.specs.declared.ids.Row.{Row}
 use Rattle.log_node.specs.declared.node.Node.{Node}
@@ -65,11 +66,12 @@ number_small marks.None h = omega arith
 number_small (marks.Number n) h = let s = h.1 in omega (arith, s)
 number_small (marks.Fenced why) h = omega arith
 
-greatest_small : (cs : List ℕ) (g : ℕ → Mark) → ((c : ℕ) → IsMark (g c)) → greatest (map number_of (map g cs)) ≤ last_stamp
+greatest_small : (cs : List ℕ) (g : ℕ → Mark) → ((c : ℕ) → In c cs → IsMark (g c))
+    → greatest (map number_of (map g cs)) ≤ last_stamp
 greatest_small [] g h = omega arith
 greatest_small (c ∷ cs) g h =
-    let r = greatest_small cs g h in
-    let s = number_small (g c) (h c) in
+    let r = greatest_small cs g (λ d i. h d (inr i)) in
+    let s = number_small (g c) (h c (inl refl)) in
     omega (arith, r, s)
 
 in_map : (g : ℕ → Mark) (cs : List ℕ) (c : ℕ) → In c cs → In (g c) (map g cs)
@@ -84,11 +86,15 @@ in_range (suc n) a c le lt = elim (cases_eq a c) [
   | inr other ↦ inr (in_range n (a + 1) c (omega (arith, le, other)) (omega (arith, lt)))
 ]
 
-pub in_members : (set : Colours) (c : ℕ) → has set c ≡ true → c < 64 → In c (members set)
-in_members set c h lt = in_filter-back (has set) c (range_with_len 0 64) (in_range 64 0 c (omega arith) (omega (arith, lt))) h
+in_members : (set : Colours) (c : ℕ) → has set c ≡ true → c < MAX_COLOURS → In c (members set)
+in_members set c h lt =
+    in_filter-back (has set) c (range_with_len 0 MAX_COLOURS) (in_range MAX_COLOURS 0 c (omega arith) (omega (arith, lt))) h
+
+has_member : (set : Colours) (c : ℕ) → In c (members set) → has set c ≡ true
+has_member set c i = (in_filter (has set) c (range_with_len 0 MAX_COLOURS) i).1
 
 -- where the outcome of a set's marks is final, each of them is a number
-pub final_number : (mark : ℕ → Mark) (set : Colours) (c f : ℕ) → has set c ≡ true → c < 64
+pub final_number : (mark : ℕ → Mark) (set : Colours) (c f : ℕ) → has set c ≡ true → c < MAX_COLOURS
     → outcome_of (map mark (members set)) ≡ Final f → (n : ℕ) × (mark c ≡ marks.Number n)
 final_number mark set c f h lt e =
     let all = map mark (members set) in
@@ -125,7 +131,7 @@ pub no_end : (mark : ℕ → Mark) (set : Colours) → ((c : ℕ) → has set c 
     → outcome_of (map mark (members set)) ≡ Gone StampEnd → ⊥
 no_end mark set none e =
     let r = fence_in mark (members set) (end_fence (map mark (members set)) e) in
-    none r.0 (in_filter (has set) r.0 (range_with_len 0 64) r.1).1 r.2
+    none r.0 (has_member set r.0 r.1) r.2
 
 not_zero : (n : ℕ) → n ≢ 0 → (n == 0) ≡ false
 not_zero n ne = by_test ((n == 0) ≡ false) (n == 0) (λ t. absurd (ne (eqb-true n 0 t))) (λ z. z)
@@ -151,13 +157,16 @@ module _ (k : Size) (ws : List ℕ) (v : View) (may : MayBe k ws v) (row : Row) 
       (may.outcomes row (Final f) known)
 
   -- where a row keeps a final outcome, the mark of each of its colours has a number at most the final one
-  pub under_final : (c : ℕ) → has x.colours c ≡ true → c < 64 → IsUnder (mark_in k ws row c) f
+  pub under_final : (c : ℕ) → has x.colours c ≡ true → c < MAX_COLOURS → IsUnder (mark_in k ws row c) f
   under_final c h lt =
       let p = final_parts (marks_at k ws (row_at k row) x.colours) f of_marks in
       let g : ℕ → Mark = λ c. mark_in k ws row c in
       let r = number_in (marks_at k ws (row_at k row) x.colours) (g c)
       (in_map g (members x.colours) c (in_members x.colours c h lt)) p.0 p.1 p.2 in
-      let small = greatest_small (members x.colours) g (may.stamps row) in
+      let b = may.begun row x begun in
+      let within : (d : ℕ) → In d (members x.colours) → d < k.colours =
+      λ d i. (may.colours row b.0).within d (subst (λ (s : Colours). has s d ≡ true) (sym b.1) (has_member x.colours d i)) in
+      let small = greatest_small (members x.colours) g (λ d i. may.stamps row d (within d i)) in
       let is = p.3 in
       let le = r.2 in
       record {

@@ -5,6 +5,7 @@ use Rattle.std.specs.List.{All, Contains, filter, range_with_len}
 use Rattle.std.specs.Option.{option_map}
 use Rattle.std.proofs.lemmas.Bool.{cases_eq, cases_order}
 use Rattle.std.proofs.lemmas.Option.{slice_get_within, slice_get-get_or, slice_get-map, get_or_from_slice_get}
+use Rattle.log_node.specs.declared.limits.TheConstants.{MAX_COLOURS}
 use Rattle.log_node.specs.declared.ids.Colours.{Colours}
 use Rattle.log_node.specs.Sets.{has, members}
 use Rattle.col_core.proofs.CallerLemmas.{if_true}
@@ -119,7 +120,8 @@ passed test c a (suc n) le lt holds = elim (cases_eq c a) [
   next false r = r
 
 pub member_has : (set : Colours) (i c : ℕ) → slice_get (members set) i ≡ Some c → has set c ≡ true
-member_has set i c at = passes (has set) (range_with_len 0 64) i c at
+member_has set i c at = passes (has set) (range_with_len 0 MAX_COLOURS) i c at
 
-pub member_at : (set : Colours) (c : ℕ) → c < 64 → has set c ≡ true → (i : ℕ) × (slice_get (members set) i ≡ Some c)
-member_at set c lt holds = passed (has set) c 0 64 (omega arith) (omega (arith, lt)) holds
+pub member_at : (set : Colours) (c : ℕ) → c < MAX_COLOURS → has set c ≡ true
+    → (i : ℕ) × (slice_get (members set) i ≡ Some c)
+member_at set c lt holds = passed (has set) c 0 MAX_COLOURS (omega arith) (omega (arith, lt)) holds

@@ -10,7 +10,7 @@ use Rattle.log_node.specs.declared.ids.Row.{Row}
 use Rattle.log_node.specs.declared.ids.Counts.{Counts}
 use Rattle.log_node.specs.declared.ids.Colours.{Colours}
 use Rattle.log_node.specs.declared.node.Node.{Node}
-use Rattle.log_node.specs.declared.limits.TheConstants.{MAX_STAMP}
+use Rattle.log_node.specs.declared.limits.TheConstants.{MAX_COLOURS, MAX_STAMP}
 use Rattle.log_node.specs.Seen.{BegunAppend}
 use Rattle.log_node.specs.Order.{same_id, key_below}
 use Rattle.log_node.specs.Sets.{has}
@@ -319,7 +319,7 @@ module _ (column : ColumnState) (seat : ColumnSeat) (clients : ℕ) (log : List 
         r.4,
       )
 
-  module _ (colour : ℕ) (coloured : has x.colours colour ≡ true) (low : colour < 64)
+  module _ (colour : ℕ) (coloured : has x.colours colour ≡ true) (low : colour < MAX_COLOURS)
       (mark : mark_in (column_seen seat).size ws row colour ≡ set_mark seat row) where
     -- a row with a final outcome was proposed here, under a stamp that is not above it
     numbered_under : (f : ℕ) → KnowsOutcome (column_seen seat) row (Final f)
@@ -407,7 +407,7 @@ pub may_settle_begun : (s : Seated) (t : ColumnSeat) (size : Size) (begun : Begu
     → m ≡ set_mark s.seat row
     → Possibly size (column_seen t) (λ (ws : List ℕ). mark_in size ws row s.seat.colour ≡ m)
     → KnowsRow size s.column.region (column_seen s.seat) begun → has begun.colours s.column.colour ≡ true
-    → KnowsOutcome (column_seen s.seat) begun.row outcome → s.column.colour < 16
+    → KnowsOutcome (column_seen s.seat) begun.row outcome → s.column.colour < MAX_COLOURS
     → IsColumnHistory s.column.region s.column.regions (dated s.column.region s.column.journal)
     → (log : List Told) → Stands s log
     → MaySettle begun.id outcome (entries s.column.journal) MAX_STAMP
@@ -429,14 +429,13 @@ may_settle_begun s t size begun outcome row m is sized later none stood possibly
     (subst (λ (r : Row). mark_in size possibly.0 r s.column.colour ≡ set_mark t r) is
     (subst (λ (c : ℕ). mark_in size possibly.0 row c ≡ set_mark t row) s.same
     (possibly.2 ∙ stood ∙ sym (none row)))) in
-    let there = outcome_learnt v w begun.row later.grows.size learns outcome known in
-    let under : s.column.colour < 64 = omega (arith, low) in (
+    let there = outcome_learnt v w begun.row later.grows.size learns outcome known in (
       subst (λ (i : Id). MaySettle i outcome (entries s.column.journal) MAX_STAMP) (sym here.of.id)
           (may_settle s.column t w.size.clients log st.0 st.1 possibly.0 may begun.row x of lawful s.column.colour has_it
-          under mark outcome there),
+          low mark outcome there),
       λ f final closed. subst (λ (i : Id). IsFinal s.column.journal i f) (sym here.of.id)
           (was_settled s.column t w.size.clients log st.0 st.1 possibly.0 may begun.row x of lawful s.column.colour has_it
-          under mark f (subst (λ (o : Outcome). KnowsOutcome w begun.row o) final there)
+          low mark f (subst (λ (o : Outcome). KnowsOutcome w begun.row o) final there)
           (subst (λ (i : Id). open_entry i (entries s.column.journal) ≡ None) here.of.id closed)),
     )
 

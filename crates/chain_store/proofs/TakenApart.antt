@@ -57,16 +57,13 @@ pub ends_region : (r : Region) (hs : List Hold) (clients : List ColumnPasses) (s
     → Closed r hs closes
 ends_region r hs clients seats closed columns column_seats rows closes tied cells size holds cs ss ds ts many shut z
     ec er =
-    let some_clients = size.0 in
-    let some_colours = size.2 in
-    let few = size.3 in
     let holder = choose (λ (n : ℕ) (x : HoldOf r). (slice_get hs n ≡ Some x.hold) × (x.hold.passes.number ≡ n))
-    r.board.size.clients some_clients
+    r.board.size.clients size.some_clients
     (λ n lt. let count = holds.0 in let t = got hs n (omega (arith, lt, count)) in let h = holds.1 n t.0 t.1 in
     (record { hold = t.0; good = h.0 }, (t.1, h.1))) in
     let end = choose (λ (c : ℕ) (x : ColumnEnd). (slice_get r.columns.items c ≡ Some x.cell)
     × (slice_get closed c ≡ Some x.seated) × AreOfColour (map (λ (h : Hold). h.passes) hs) c x.passes)
-    r.board.size.colours some_colours
+    r.board.size.colours size.some_colours
     (λ c lt. let cell = got r.columns.items c (omega (arith, lt, cells)) in
     let s = got closed c (omega (arith, lt, cells, many)) in
     let e = shut c cell.0 s.0 cell.1 s.1 in (
@@ -79,5 +76,5 @@ ends_region r hs clients seats closed columns column_seats rows closes tied cell
     )) in
     let closing : Closes r.board.size z.0 z.1 (map (λ (h : Hold). h.seat) hs) (map (λ (s : Seated). s.seat) closed) =
     subst (λ (l : List Seat × List ColumnSeat). Closes r.board.size z.0 z.1 l.0 l.1) (λ i. (ss i, ts i)) z.2 in
-    region_closes r hs closed z.0 z.1 tied holds.0 (omega (arith, few)) closing holder.0 holder.1 end.0 end.1 closes
+    region_closes r hs closed z.0 z.1 tied holds.0 size.few_colours closing holder.0 holder.1 end.0 end.1 closes
     (many ∙ cells) (ec ∙ ds) (er ∙ z.3 ∙ ap (λ l. map (closed_row r.board.size z.0) (all_begun l)) ss)

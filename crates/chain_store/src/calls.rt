@@ -12,7 +12,7 @@ ghost use Rattle.chain_store.specs.Steps.{HasSingleCause};
 use crate::seated::Seated;
 use crate::turns::{begin, end};
 use column::ColumnFault;
-use log_node::{At, Key, Node};
+use log_node::{At, Key, MAX_CLIENTS, Node};
 use std::sync::{Arc, Wait};
 use turn_cell::{Cell, Pass};
 
@@ -34,7 +34,7 @@ pub fn single_in<R: Wait>(
     node: &Arc<Node>,
 ) -> Result<Single, ColumnFault>
     requires pass { IsHolder cell.now by pass.old }
-    requires client { (by < 16) × (by < (tag_in cell.now).size.clients) × (node.now.value.id.client ≡ by) }
+    requires client { (by < MAX_CLIENTS) × (by < (tag_in cell.now).size.clients) × (node.now.value.id.client ≡ by) }
     requires row { node.now.value.row ≡ None }
     requires node { FitsColumn (tag_in cell.now).region (tag_in cell.now).colour node.now.value }
     ensures pass { IsHolder cell.now by pass.new }

@@ -1,10 +1,10 @@
 // A column's beginning and end.
-ghost use Rattle.std.specs.Prelude.{◌≡◌, ◌<◌, ◌≤◌, length, IfOk};
+ghost use Rattle.std.specs.Prelude.{◌<◌, ◌≤◌, length, IfOk};
 ghost use Rattle.stamp_board.specs.Seats.{IsFreshColumn};
 ghost use Rattle.chain_store.specs.Passes.{IsCellOf, tag_in};
 ghost use Rattle.chain_store.specs.Ends.{AreNewHolders, AreHolders, EndsAs};
 
-use crate::seated::Seated;
+use crate::seated::{CLIENTS, Seated};
 use column::Column;
 use log_node::{MAX_COLOURS, MAX_REGIONS, Shape};
 use stamp_board::{Board, ColumnSeat};
@@ -34,7 +34,7 @@ pub fn open_column(
     let seated = Seated {
         column,
         seat,
-        entered: [0; 16],
+        entered: [0; CLIENTS],
     };
     Cell::open(alloc, seated, clients)
 }

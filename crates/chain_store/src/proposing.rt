@@ -15,7 +15,7 @@ ghost use Rattle.chain_store.specs.Steps.{MatchStep, MayRefuse, mark_after};
 
 use crate::seated::Seated;
 use column::ColumnFault;
-use log_node::{Begun, Mark, Marked, Node, Row, Why};
+use log_node::{Begun, MAX_CLIENTS, Mark, Marked, Node, Row, Why};
 use stamp_board::Board;
 use std::sync::Arc;
 
@@ -37,7 +37,7 @@ fn why(fault: ColumnFault) -> Why
 impl Seated {
     // The node enters as open under the next stamp, and its mark is not set yet.
     fn enter_open(&mut self, by: u8, node: &Arc<Node>) -> Result<u64, Why>
-        requires maker { (by < (column_seen self.old.seat).size.clients) × (node.now.value.id.client < 16) }
+        requires maker { (by < (column_seen self.old.seat).size.clients) × (node.now.value.id.client < MAX_CLIENTS) }
         requires row { node.now.value.row ≢ None }
         requires node { FitsColumn self.old.column.region self.old.column.colour node.now.value }
         ensures seat { self.new.seat ≡ self.old.seat }
@@ -89,7 +89,7 @@ impl Seated {
     // the mark is a fence.
     fn enter_marked(&mut self, board: &Board, by: u8, row: Row, node: &Arc<Node>) -> Step
         requires board { IsColumnOf board.now self.old.seat }
-        requires row { IsRowOf (column_seen self.old.seat) row node.now.value × (node.now.value.id.client < 16) }
+        requires row { IsRowOf (column_seen self.old.seat) row node.now.value × (node.now.value.id.client < MAX_CLIENTS) }
         requires node { FitsColumn self.old.column.region self.old.column.colour node.now.value }
         requires maker { by < (column_seen self.old.seat).size.clients }
         requires unset { set_mark self.old.seat row ≡ Mark.None }
@@ -117,7 +117,7 @@ impl Seated {
         requires board { IsColumnOf board.now self.old.seat }
         requires begun { KnowsRow board.now.size self.old.column.region (column_seen self.old.seat) begun.now }
         requires colour { has begun.now.colours self.old.column.colour ≡ true }
-        requires maker { (by < board.now.size.clients) × (begun.now.row.client < 16) }
+        requires maker { (by < board.now.size.clients) × (begun.now.row.client < MAX_CLIENTS) }
         ensures tag { tag_of self.new ≡ tag_of self.old }
         ensures seat { IsLaterColumn self.old.seat self.new.seat }
         ensures step { MatchStep result

@@ -1,9 +1,6 @@
 // What a column does under its turn.
-ghost use Rattle.std.specs.Prelude.{◌≡◌, ◌<◌, ◌≤◌, ◌^◌, true, false, None, length, slice_index, IfOk, IfErr, OnOk, OnErr};
-ghost use Rattle.col_core.specs.History.{has_entered};
-ghost use Rattle.col_core.specs.Computed.{dated};
-ghost use Rattle.col_core.specs.Legal.{IsColumnHistory};
-ghost use Rattle.column.specs.Columns.{stamp_for, HasEnterCause};
+ghost use Rattle.std.specs.Prelude.{◌≡◌, ◌<◌, ◌≤◌, true, None, slice_index, IfOk, IfErr, OnOk, OnErr};
+ghost use Rattle.column.specs.Columns.{stamp_for};
 ghost use Rattle.stamp_board.specs.Seats.{column_seen};
 ghost use Rattle.chain_store.specs.Histories.{FitsColumn};
 ghost use Rattle.chain_store.specs.Columns.{Gains, Stays, single_told, tag_of};
@@ -11,13 +8,13 @@ ghost use Rattle.chain_store.specs.Steps.{HasSingleCause};
 
 use crate::seated::Seated;
 use column::ColumnFault;
-use log_node::{At, Node};
+use log_node::{At, MAX_CLIENTS, Node};
 use std::sync::Arc;
 
 impl Seated {
     // Whether an id of the client with this count is above all that have entered.
     pub(crate) fn is_new(&self, client: u8, count: u64) -> bool
-        requires { client < 16 }
+        requires { client < MAX_CLIENTS }
         ensures { result ≡ true → slice_index self.now.entered client ≤ count }
     {
         self.entered[client as usize] <= count
@@ -25,7 +22,7 @@ impl Seated {
 
     /// The node enters as final under the next stamp.
     pub(crate) fn single(&mut self, by: u8, node: &Arc<Node>) -> Result<(At, u64), ColumnFault>
-        requires maker { (by < 16) × (by < (column_seen self.old.seat).size.clients) × (node.now.value.id.client ≡ by) }
+        requires maker { (by < MAX_CLIENTS) × (by < (column_seen self.old.seat).size.clients) × (node.now.value.id.client ≡ by) }
         requires row { node.now.value.row ≡ None }
         requires node { FitsColumn self.old.column.region self.old.column.colour node.now.value }
         ensures tag { tag_of self.new ≡ tag_of self.old }

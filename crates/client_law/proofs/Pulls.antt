@@ -1,27 +1,23 @@
 -- Pulls and trims.
-use Rattle.std.proofs.Common.{◌≡◌, ◌≢◌, ℕ, suc, ◌+◌, ◌<◌, ◌≤◌, List, [], ◌∷◌, ◌++◌, length, take, drop, Bool, true, false, refl, ap, sym, subst, ◌∙◌, inl, inr, ◌⊎◌, arith, length-append, append_assoc, append-nil, take-append-drop, eqb-true, eq-eqb}
+use Rattle.std.proofs.Common.{◌≡◌, ◌≢◌, ℕ, suc, ◌+◌, ◌<◌, ◌≤◌, List, [], ◌∷◌, ◌++◌, length, Bool, true, false, refl, ap, sym, subst, ◌∙◌, inl, inr, ◌⊎◌, arith, length-append, append_assoc, append-nil, eqb-true, eq-eqb}
 use Rattle.std.specs.Prelude.{◌==◌}
 use Rattle.std.specs.List.{All}
 use Rattle.std.proofs.lemmas.List.Elements.{All-nil, All-cons, All-append, All-weaker}
 use Rattle.log_node.specs.declared.node.At.{At}
 use Rattle.log_node.specs.declared.node.At.TheVariants.{Event, Look}
-use Rattle.col_core.specs.declared.Entry.{Entry}
 use Rattle.col_core.specs.declared.Event.TheVariants as events
-use Rattle.col_core.specs.Cuts.{chain}
-use Rattle.col_core.specs.Computed.{dated}
-use Rattle.col_core.specs.Legal.{IsColumnHistory}
-use Rattle.col_core.specs.Log.{places_of, first}
+use Rattle.col_core.specs.Log.{places_of}
 use Rattle.col_core.specs.Keeping.{Kept, updated_at, kept_after_event, seen_past}
-use Rattle.col_core.proofs.CallerLemmas.{by_test, lawful_beginning}
+use Rattle.col_core.proofs.CallerLemmas.{by_test}
 use Rattle.lawful_run.specs.Callers.{Caller}
-use Rattle.lawful_run.specs.Moves.{GivesAt, GivesTooLow, CarriesAt, with_places}
-use Rattle.lawful_run.proofs.CallerLemmas.{prefix_length, prefix_take}
+use Rattle.lawful_run.specs.Reads.{events_until}
+use Rattle.lawful_run.specs.Moves.{GivesAt, AsksFor, GivesTooLow, CarriesAt, with_places, kept_after_giving}
 use Rattle.client_law.specs.Knowing.{Seen, Rest, log_of, SeesOn}
 use Rattle.client_law.specs.Making.{own_steps, IsOwnStepAt, RiseFrom}
 use Rattle.client_law.specs.Kept.{IsKeptBy}
-use Rattle.client_law.specs.Moves.{home_dated, CarriesThere, PullsThere, PullsStand, KeptAfterPull, KeptAfterGives, TrimsStand}
+use Rattle.client_law.specs.Moves.{CarriesThere, PullsThere, PullsStand, KeptAfterPull, KeptAfterGives, TrimsStand}
 use Rattle.client_law.proofs.Lists.{at_new_at}
-use Rattle.client_law.proofs.Keeping.{chain_later, keeps_on, seen_on, known_on, under_on, made_on}
+use Rattle.client_law.proofs.Keeping.{keeps_on, seen_on, known_on, under_on, made_on}
 use Rattle.client_law.proofs.Events.{own_step, at_column, made_here, made_one, place_seen}
 use Rattle.client_law.proofs.Rows.{past_within}
 
@@ -105,13 +101,13 @@ module _ (old new : Seen) (rest : Rest) (caller : Caller) (region colour : ℕ) 
   )
 
   gives_stand : (too_low gives : List ℕ) → RiseFrom (length (old region colour)) (too_low ++ gives)
-      → All (GivesTooLow (log_of new rest) caller region colour) too_low
+      → (seen until : ℕ) → All (GivesTooLow (log_of new rest) caller region colour seen until) too_low
       → All (λ place. (from : ℕ) × GivesAt (log_of new rest) caller region colour place from) gives
       → All (IsOwnStepAt caller.client (old region colour) (new region colour)) (too_low ++ gives)
-  gives_stand too_low gives rising low all =
+  gives_stand too_low gives rising seen until low all =
       let each = All-append (λ place. (from : ℕ) × GivesAt (log_of new rest) caller region colour place from) too_low
       gives
-      (All-weaker (GivesTooLow (log_of new rest) caller region colour)
+      (All-weaker (GivesTooLow (log_of new rest) caller region colour seen until)
       (λ place. (from : ℕ) × GivesAt (log_of new rest) caller region colour place from) (λ place g. (g.0, g.1)) too_low
       low) all in
       let rise = rise_all (length (old region colour)) (too_low ++ gives) rising in
@@ -122,22 +118,12 @@ module _ (old new : Seen) (rest : Rest) (caller : Caller) (region colour : ℕ) 
 module _ (old new : Seen) (rest : Rest) (caller : Caller) (kept : Kept) (region colour nodes place : ℕ)
     (carry : At) (too_low : List ℕ) (on : SeesOn caller old new) (k : IsKeptBy old caller kept)
     (p : PullsThere old new rest caller region colour nodes place carry too_low) where
-  -- no more was held where the client had last seen its column than in all that it had seen
-  held_then : length (chain caller.own (first (log_of new rest) caller.own colour (kept.seen caller.own colour)) region)
-      ≤ length (chain caller.own (home_dated old caller colour) region)
-  held_then =
-      let own = caller.own in
-      let h = old own colour in
-      let n = kept.seen own colour in
-      let more = on.more own colour in
-      let same = prefix_take h (new own colour) n more (k.seen_within own colour) in
-      let lawful : IsColumnHistory own caller.regions (dated own h) =
-      lawful_beginning own caller.regions h more.0
-      (subst (λ (x : List Entry). IsColumnHistory own caller.regions (dated own x)) (sym more.1) (on.lawful own colour)) in
-      subst (λ (x : List Entry). length (chain own (dated own x) region) ≤ length (chain own (dated own h) region))
-      (sym same)
-      (prefix_length (chain own (dated own (take n h)) region) (chain own (dated own h) region)
-      (chain_later own caller.regions (take n h) h (drop n h, take-append-drop n h) lawful region))
+  -- a look of late is behind all that the client had seen
+  asks_since : (give from : ℕ)
+      → AsksFor (log_of new rest) caller region colour (length (old caller.own colour)) (events_until carry) give from
+      → AsksFor (log_of new rest) caller region colour (kept.seen caller.own colour) (events_until carry) give from
+  asks_since give from a =
+      let b = k.seen_within caller.own colour in let c = a.1 in (a.0, omega (arith, b, c), a.2, a.3)
 
   carries_at : (at : At) → CarriesThere old new caller region colour nodes at
       → CarriesAt (log_of new rest) caller kept region colour nodes at
@@ -149,17 +135,23 @@ module _ (old new : Seen) (rest : Rest) (caller : Caller) (kept : Kept) (region 
 pub pulls_stand : PullsStand
 pulls_stand old new rest caller kept region colour nodes place carry too_low on k p = record {
   another = p.another;
-  made_again = p.made_again;
+  made_again = All-weaker
+      (GivesTooLow (log_of new rest) caller region colour (length (old caller.own colour)) (events_until carry))
+      (GivesTooLow (log_of new rest) caller region colour (kept.seen caller.own colour) (events_until carry))
+      (λ give g. (
+        g.0,
+        g.1,
+        asks_since old new rest caller kept region colour nodes place carry too_low on k p give g.0 g.2,
+        g.3,
+      ))
+      too_low p.made_again;
   unseen =
       let a = k.seen_within region colour in
       let b = rise_last (length (old region colour)) place too_low p.rising in
       omega (arith, a, b);
   from = p.from;
   gives = p.gives;
-  asks_on =
-      let a = p.asks_on in
-      let b = held_then old new rest caller kept region colour nodes place carry too_low on k p in
-      omega (arith, a, b);
+  asks = asks_since old new rest caller kept region colour nodes place carry too_low on k p place p.from p.asks;
   carries = carries_at old new rest caller kept region colour nodes place carry too_low on k p carry p.carries;
   holds = p.holds;
 }
@@ -281,7 +273,8 @@ module _ (old new : Seen) (rest : Rest) (caller : Caller) (kept : Kept) (region 
 
 pub kept_after_pulling : KeptAfterPull
 kept_after_pulling old new rest caller kept region colour nodes place (Event there) too_low on m k p =
-    let gives = gives_stand old new rest caller region colour too_low (place ∷ []) p.rising p.made_again
+    let gives = gives_stand old new rest caller region colour too_low (place ∷ []) p.rising
+    (length (old caller.own colour)) there p.made_again
     (All-cons (λ place. (from : ℕ) × GivesAt (log_of new rest) caller region colour place from) place []
     (p.from, p.gives) (All-nil (λ place. (from : ℕ) × GivesAt (log_of new rest) caller region colour place from))) in
     let c = p.carries in
@@ -292,31 +285,37 @@ kept_after_pulling old new rest caller kept region colour nodes place (Event the
       own_step caller.client (events.Carry region c.1 c.2) 0 refl,
     ) m.carried m.others
 kept_after_pulling old new rest caller kept region colour nodes place (Look seen) too_low on m k p =
-    let gives = gives_stand old new rest caller region colour too_low (place ∷ []) p.rising p.made_again
+    let gives = gives_stand old new rest caller region colour too_low (place ∷ []) p.rising
+    (length (old caller.own colour)) seen p.made_again
     (All-cons (λ place. (from : ℕ) × GivesAt (log_of new rest) caller region colour place from) place []
     (p.from, p.gives) (All-nil (λ place. (from : ℕ) × GivesAt (log_of new rest) caller region colour place from))) in
     looked_kept old new rest caller kept region colour nodes place too_low on k p.another gives p.rising m.given seen
     p.carries.1 m.carried m.others
 
 pub kept_after_gives : KeptAfterGives
-kept_after_gives old new rest caller kept region colour too_low gives on m k rising low all =
-    let stand = gives_stand old new rest caller region colour too_low gives rising low all in
+kept_after_gives old new rest caller kept region colour looked too_low gives on m k rising g =
+    let own = caller.own in
+    let stand = gives_stand old new rest caller region colour too_low gives rising (kept.seen own colour) looked
+    g.made_again (λ n d lt. let x = g.given n d lt in (x.0, x.1)) in
     let within = gives_within old new caller region colour (too_low ++ gives) stand in
     let len = length (new region colour) in
     let first_seen : seen_past (kept.seen region colour) too_low ≤ len =
     past_within len (kept.seen region colour) too_low (seen_on caller old new kept on k region colour)
     (all_front (λ place. place < len) too_low gives within) in
     let seen_low = updated_at kept.seen region colour (seen_past (kept.seen region colour) too_low) region colour in
-    keeps_on caller old new kept (with_places (with_places kept region colour too_low) region colour gives) on k refl
+    keeps_on caller old new kept (kept_after_giving kept own region colour looked too_low gives) on k refl
     (omega arith)
-    (λ r c. twice (λ (n : ℕ). n ≤ length (new r c)) kept.seen region colour
+    (λ r c. at_new_at (λ (n : ℕ). n ≤ length (new r c))
+    (with_places (with_places kept region colour too_low) region colour gives).seen own colour looked r c
+    (λ er ec. at_column (λ a b. looked ≤ length (new a b)) r c own colour er ec g.there)
+    (λ _. twice (λ (n : ℕ). n ≤ length (new r c)) kept.seen region colour
     (seen_past (kept.seen region colour) too_low) (seen_past seen_low gives) r c
     (λ er ec. at_column (λ a b. seen_past seen_low gives ≤ length (new a b)) r c region colour er ec
     (past_within len seen_low gives
     (at_new_at (λ (n : ℕ). n ≤ len) kept.seen region colour (seen_past (kept.seen region colour) too_low) region colour
     (λ _ _. first_seen) (λ _. seen_on caller old new kept on k region colour))
     (all_back (λ place. place < len) too_low gives within)))
-    (λ _. seen_on caller old new kept on k r c))
+    (λ _. seen_on caller old new kept on k r c)))
     (known_on caller old new kept on k) (λ c. under_on caller old new kept on k kept.floor c (omega arith))
     (λ r c. added (λ (l : List ℕ). places_of caller.client (new r c) ≡ l) kept.made region colour too_low gives r c
     (λ er ec. at_column (λ a b. places_of caller.client (new a b)
@@ -330,7 +329,7 @@ kept_after_gives old new rest caller kept region colour too_low gives on m k ris
 -- TRIMS
 
 pub trims_stand : TrimsStand
-trims_stand old new rest caller kept colour place shown on k unseen there is = record {
+trims_stand old new rest caller kept colour place counts shown on k unseen there is = record {
   unseen = (let a = k.seen_within caller.own colour in omega (arith, a, unseen));
   trimmed = there;
   is_base = is;

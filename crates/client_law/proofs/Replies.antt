@@ -93,7 +93,7 @@ synced_there old new rest caller kept colour snapshot nodes on k l p = (
 
 pub lacked_there : LackedThere
 lacked_there old new rest caller kept colour shown on k is below =
-    (refl, inl refl, (0, omega arith, refl), trimmed_there old new rest caller kept colour shown on k is below, refl)
+    (refl, inl refl, ((0, omega arith, refl), trimmed_there old new rest caller kept colour shown on k is below, refl))
 
 pub pulled_there : PulledThere
 pulled_there old new rest caller kept region colour nodes place carry too_low on k p = (
@@ -109,8 +109,8 @@ pulled_there old new rest caller kept region colour nodes place carry too_low on
 )
 
 pub gave_for_memory : GaveForMemory
-gave_for_memory new rest caller kept region colour too_low gives low few all =
-    (refl, gave region colour too_low gives refl low few all)
+gave_for_memory new rest caller kept region colour looked too_low gives g =
+    (refl, gave region colour looked too_low gives refl g)
 
 pub trimmed_to : TrimmedTo
 trimmed_to old new rest caller kept colour place shown on k unseen there is = (
@@ -119,6 +119,6 @@ trimmed_to old new rest caller kept colour place shown on k unseen there is = (
   refl,
   place,
   refl,
-  trims_stand old new rest caller kept colour place shown on k unseen there is,
+  trims_stand old new rest caller kept colour place (kept.starts colour) shown on k unseen there is,
   refl,
 )

@@ -1,5 +1,5 @@
 -- Syncs, pulls and trims, from what a client has seen.
-use Rattle.std.specs.Prelude.{◌≡◌, ◌≢◌, ◌⊎◌, IsFalse, ℕ, ◌+◌, ◌≤◌, min, List, [], ◌∷◌, ◌++◌, length, take, Some, slice_get}
+use Rattle.std.specs.Prelude.{◌≡◌, ◌≢◌, ◌⊎◌, IsFalse, ℕ, ◌+◌, ◌≤◌, List, [], ◌∷◌, ◌++◌, length, take, Some, slice_get}
 use Rattle.std.specs.List.{All, AllZip}
 use Rattle.log_node.specs.declared.ids.Counts.{Counts}
 use Rattle.log_node.specs.declared.node.At.{At}
@@ -15,8 +15,8 @@ use Rattle.col_core.specs.PlayOrder.{Place, Stands, IsPlayOrder}
 use Rattle.col_core.specs.Log.{HasText}
 use Rattle.col_core.specs.Keeping.{Kept, kept_after_sync, seen_after}
 use Rattle.lawful_run.specs.Callers.{Caller}
-use Rattle.lawful_run.specs.Reads.{Syncs, ShowsPlayed, IsTrimmed, greatest_stamp}
-use Rattle.lawful_run.specs.Moves.{GivesAt, GivesTooLow, Pulls, with_places, kept_after_pull, Trims}
+use Rattle.lawful_run.specs.Reads.{Syncs, ShowsPlayed, IsTrimmed, greatest_stamp, events_until}
+use Rattle.lawful_run.specs.Moves.{GivesAt, AsksFor, GivesTooLow, Pulls, OnlyGives, kept_after_pull, kept_after_giving, TrimsBy}
 use Rattle.client_law.specs.Knowing.{Seen, Rest, log_of, SeesOn}
 use Rattle.client_law.specs.Making.{own_steps, RiseFrom, MakesNone, MakesOnly}
 use Rattle.client_law.specs.Kept.{IsKeptBy}
@@ -104,17 +104,18 @@ CarriesThere old new caller region colour nodes (Event place) =
 CarriesThere old new caller region colour nodes (Look seen) =
     (length (old caller.own colour) ≤ seen) × (seen ≤ length (new caller.own colour)) × (nodes ≡ 0)
 
--- Gives of late that were made again, and the last one, which asked from no lesser number than what had been seen to be
--- held, or the line's length; then the carry, after which all is held that stood in the line at the last give.
+-- Gives of late that were made again, and the last one, each from what was held at a look of late before the carry; then
+-- the carry, after which all is held that stood in the line at the last give.
 pub record PullsThere (old new : Seen) (rest : Rest) (caller : Caller) (region colour nodes place : ℕ) (carry : At)
     (too_low : List ℕ) : Type 0 where
   pub another : region ≢ caller.own
   pub rising : RiseFrom (length (old region colour)) (too_low ++ place ∷ [])
-  pub made_again : All (GivesTooLow (log_of new rest) caller region colour) too_low
+  pub made_again : All (GivesTooLow (log_of new rest) caller region colour (length (old caller.own colour))
+      (events_until carry)) too_low
   pub from : ℕ
   pub gives : GivesAt (log_of new rest) caller region colour place from
-  pub asks_on : min (length (line (take place (new region colour))))
-      (length (chain caller.own (home_dated old caller colour) region)) ≤ from
+  pub asks : AsksFor (log_of new rest) caller region colour (length (old caller.own colour)) (events_until carry) place
+      from
   pub carries : CarriesThere old new caller region colour nodes carry
   pub holds : length (line (take place (new region colour)))
       ≤ length (chain caller.own (dated caller.own (take (seen_after carry) (new caller.own colour))) region)
@@ -148,22 +149,20 @@ KeptAfterPull = (old new : Seen) (rest : Rest) (caller : Caller) (kept : Kept) (
 
 -- What is kept after a pull that gave and carried nothing.
 abbrev pub KeptAfterGives : Type 0
-KeptAfterGives = (old new : Seen) (rest : Rest) (caller : Caller) (kept : Kept) (region colour : ℕ)
+KeptAfterGives = (old new : Seen) (rest : Rest) (caller : Caller) (kept : Kept) (region colour looked : ℕ)
     (too_low gives : List ℕ) → SeesOn caller old new
     → MakesOnly caller.client region colour (length (too_low ++ gives)) old new
     → IsKeptBy old caller kept → RiseFrom (length (old region colour)) (too_low ++ gives)
-    → All (GivesTooLow (log_of new rest) caller region colour) too_low
-    → All (λ place. (from : ℕ) × GivesAt (log_of new rest) caller region colour place from) gives
-    → IsKeptBy new caller (with_places (with_places kept region colour too_low) region colour gives)
+    → OnlyGives (log_of new rest) caller kept region colour looked too_low gives
+    → IsKeptBy new caller (kept_after_giving kept caller.own region colour looked too_low gives)
 
 -- TRIMS
 
--- A trim by what the client has played, at a place that was not seen before, and the base of what it then saw. What is
--- kept then is what is kept after an event.
+-- A trim by the counts of a snapshot, at a place that was not seen before, and the base of what it then saw. What is kept
+-- then is what is kept after an event.
 abbrev pub TrimsStand : Type 0
-TrimsStand = (old new : Seen) (rest : Rest) (caller : Caller) (kept : Kept) (colour place : ℕ) (shown : Counts)
+TrimsStand = (old new : Seen) (rest : Rest) (caller : Caller) (kept : Kept) (colour place : ℕ) (counts shown : Counts)
     → SeesOn caller old new → IsKeptBy old caller kept → length (old caller.own colour) ≤ place
-    → slice_get (new caller.own colour) place
-    ≡ Some (record { by = caller.client; event = events.Trim (kept.starts colour); stamp = 0 })
+    → slice_get (new caller.own colour) place ≡ Some (record { by = caller.client; event = events.Trim counts; stamp = 0 })
     → shown ≡ base caller.own caller.regions (dated caller.own (take (place + 1) (new caller.own colour)))
-    → Trims (log_of new rest) caller kept colour place shown
+    → TrimsBy (log_of new rest) caller kept colour place counts shown

@@ -1,6 +1,5 @@
 -- What explains each reply, and what is kept after it: the answers to appends, stops, syncs, pulls and trims.
 use Rattle.std.specs.Prelude.{◌≡◌, ◌≢◌, IsFalse, ℕ, ◌+◌, ◌≤◌, List, [], ◌∷◌, length, take, Some, None, slice_get}
-use Rattle.std.specs.List.{All}
 use Rattle.log_node.specs.declared.ids.Colours.{Colours}
 use Rattle.log_node.specs.declared.ids.Counts.{Counts}
 use Rattle.log_node.specs.declared.node.At.{At}
@@ -24,7 +23,7 @@ use Rattle.lawful_run.specs.Callers.{Caller, node_of}
 use Rattle.lawful_run.specs.Asks.{AsksToAppend, Appending, Stopping, manner_of}
 use Rattle.lawful_run.specs.Appends.{kept_after_points}
 use Rattle.lawful_run.specs.Reads.{greatest_stamp}
-use Rattle.lawful_run.specs.Moves.{GivesAt, GivesTooLow, with_places, kept_after_pull}
+use Rattle.lawful_run.specs.Moves.{OnlyGives, kept_after_pull, kept_after_giving}
 use Rattle.lawful_run.specs.Explains.{Explains}
 use Rattle.client_law.specs.Knowing.{Seen, Rest, log_of, SeesOn}
 use Rattle.client_law.specs.Kept.{IsKeptBy}
@@ -119,11 +118,10 @@ PulledThere = (old new : Seen) (rest : Rest) (caller : Caller) (kept : Kept) (re
     (kept_after_pull kept caller.own region colour place carry too_low)
 
 abbrev pub GaveForMemory : Type 0
-GaveForMemory = (new : Seen) (rest : Rest) (caller : Caller) (kept : Kept) (region colour : ℕ)
-    (too_low gives : List ℕ) → All (GivesTooLow (log_of new rest) caller region colour) too_low → length gives ≤ 1
-    → All (λ place. (from : ℕ) × GivesAt (log_of new rest) caller region colour place from) gives
+GaveForMemory = (new : Seen) (rest : Rest) (caller : Caller) (kept : Kept) (region colour looked : ℕ)
+    (too_low gives : List ℕ) → OnlyGives (log_of new rest) caller kept region colour looked too_low gives
     → Explains (log_of new rest) caller kept (whats.Pull region colour) answers.NoMemory []
-    (with_places (with_places kept region colour too_low) region colour gives)
+    (kept_after_giving kept caller.own region colour looked too_low gives)
 
 abbrev pub TrimmedTo : Type 0
 TrimmedTo = (old new : Seen) (rest : Rest) (caller : Caller) (kept : Kept) (colour place : ℕ) (shown : Counts)

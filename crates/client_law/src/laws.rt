@@ -76,7 +76,7 @@ pub fn pulls_stand()
     ensures no_memory { KeptAfterGives }
 {}
 
-/// A trim is by what the client has played, and answers the base.
+/// A trim is by the counts of a snapshot, and answers the base.
 pub fn trims_stand()
     ensures { TrimsStand }
 {}

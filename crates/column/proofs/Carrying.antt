@@ -26,11 +26,6 @@ with_carried column by region items = next_column column (carry_entry column by 
 
 module _ (column : ColumnState) (by region : ℕ) (h : IsColumn column) (other : region ≢ column.region)
     (in_range : region < column.regions) where
-  pub carried_is : (items : List PlacedNode) → 0 < length items
-      → with_carried column by region items ≡ with_items column by region items
-  carried_is [] some = absurd (let f : ⊥ = omega (arith, some) in f)
-  carried_is (item ∷ items) some = refl
-
   pub carried_kept : (items : List PlacedNode) → 0 < length items → (counted notes base : Counts) (end : ℕ)
       → AreNumbers column counted notes base → end ≡ at counted region + length items
       → (opens spare capacity capacity' : ℕ) → IsRoomFor column opens spare capacity
@@ -58,13 +53,3 @@ pub carry_region : (column : ColumnState) (by region : ℕ) (items : List Placed
     → (with_items column by region items).region ≡ column.region
 carry_region column by region [] = refl
 carry_region column by region (item ∷ items) = refl
-
-pub carry_regions : (column : ColumnState) (by region : ℕ) (items : List PlacedNode)
-    → (with_items column by region items).regions ≡ column.regions
-carry_regions column by region [] = refl
-carry_regions column by region (item ∷ items) = refl
-
-pub carry_queue : (column : ColumnState) (by region : ℕ) (items : List PlacedNode)
-    → (with_items column by region items).queue ≡ column.queue
-carry_queue column by region [] = refl
-carry_queue column by region (item ∷ items) = refl

@@ -207,12 +207,3 @@ module _ (column : ColumnState) (h : IsColumn column) (region : ℕ) (lt : regio
   copy_length =
       sym (length_map (λ (i : PlacedNode). i.head) (copy_of column region))
       ∙ (ap length (h.copies.heads region lt other) ∙ length-drop (at (base_of column) region) (chains_of column region))
-
--- from a number that is no lower on there is nothing
-pub no_items : (column : ColumnState) (region from to : ℕ) → to ≤ from → AreItems column region from to []
-no_items column region from to le = record {
-  heads = sym (ap (λ (n : ℕ). take n (drop from (chains_of column region)))
-      (let e : to - from ≡ 0 = omega (arith, le) in e));
-  nodes = λ _ n i is. absurd (none-some i is);
-  carried = λ _ n i is. absurd (none-some i is);
-}

@@ -255,9 +255,6 @@ module _ (column : ColumnState) (by : ℕ) (counts : Counts) (h : IsColumn colum
   abbrev pub trimming : Entry
   trimming = record { by = by; event = events.Trim counts; stamp = 0 }
 
-  pub trim_next : IsLawfulEvent column.region column.regions (history_of column) trimming.event trimming.stamp
-  trim_next = refl
-
   -- the base then
   pub trimmed_is : (counted notes base cut : Counts) (n : AreNumbers column counted notes base) → cut ≡ cut_of column
       → vector (trimmed_base base notes cut counts column.region column.regions) ≡ base_after column by counts

@@ -1,6 +1,7 @@
 -- How many entries are open after one more, and after a settling.
-use Rattle.std.proofs.Common.{◌≡◌, ℕ, ◌+◌, ◌≤◌, true, false, cond, List, [], ◌∷◌, refl, ap, sym, ◌∙◌, arith, inl, inr}
+use Rattle.std.proofs.Common.{◌≡◌, ℕ, ◌+◌, ◌≤◌, Bool, true, false, cond, List, [], ◌∷◌, length, refl, ap, sym, ◌∙◌, arith, inl, inr}
 use Rattle.std.specs.Prelude.{not}
+use Rattle.std.specs.List.{filter}
 use Rattle.std.proofs.lemmas.Bool.{cond_both, cond-false, cases_Bool, and_parts, or_cases, not-true, true≢false}
 use Rattle.log_node.specs.declared.ids.Id.{Id}
 use Rattle.log_node.specs.Order.{same_id, key_below}
@@ -8,7 +9,7 @@ use Rattle.log_node.specs.declared.marks.Outcome.{Outcome}
 use Rattle.log_node.specs.declared.marks.Outcome.TheVariants.{Open, Gone, Final}
 use Rattle.log_node.specs.Standings.{Standing, is_open_id, with_entry, without_id, settled_entries}
 use Rattle.skeen_core.specs.Queues.{has_open, is_decided}
-use Rattle.column.specs.Inside.{open_count}
+use Rattle.column.specs.Columns.{open_count}
 
 -- one entry more
 pub count-with : (e : Standing) (es : List Standing) → open_count (with_entry e es) ≡ cond e.settled 0 1 + open_count es
@@ -59,3 +60,12 @@ count-settled id (Final f) es some decided =
     let a = count-with e (without_id id es) in
     let b = count-opened id es some in
     omega (arith, a, b)
+
+-- counted one by one, the open entries are those that are not final
+pub count-is : (es : List Standing) → length (filter (λ e. not e.settled) es) ≡ open_count es
+count-is [] = refl
+count-is (e ∷ es) = by e.settled (count-is es) where
+  by : (b : Bool) → length (filter (λ f. not f.settled) es) ≡ open_count es
+      → length (cond (not b) (e ∷ filter (λ f. not f.settled) es) (filter (λ f. not f.settled) es)) ≡ cond b 0 1 + open_count es
+  by true same = omega (arith, same)
+  by false same = omega (arith, same)

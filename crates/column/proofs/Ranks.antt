@@ -5,6 +5,7 @@ use Rattle.std.specs.Prelude.{◌==◌, slice_get, unwrap_or}
 use Rattle.std.specs.List.{filter, range_with_len}
 use Rattle.std.proofs.lemmas.Bool.{cond-true, cond-false, cases_Bool}
 use Rattle.log_node.specs.declared.ids.Counts.{Counts}
+use Rattle.log_node.specs.declared.limits.TheConstants.{MAX_COLOURS}
 use Rattle.log_node.specs.declared.node.Node.{Node}
 use Rattle.log_node.specs.Sets.{has}
 use Rattle.log_node.specs.Vectors.{zeros}
@@ -62,8 +63,8 @@ module _ (p : ℕ → Bool) where
             (filter p (range_with_len (from + 1) d)) f)))
 
 -- what a node wants of one of its colours
-pub wants_by_rank : (node : Node) (colour : ℕ) → colour < 64 → has node.colours colour ≡ true
+pub wants_by_rank : (node : Node) (colour : ℕ) → colour < MAX_COLOURS → has node.colours colour ≡ true
     → node_wants node colour
     ≡ unwrap_or (slice_get node.wants (length (filter (has node.colours) (range_with_len 0 colour)))) zeros
 wants_by_rank node colour lt in_set =
-    wants_at (has node.colours) 64 colour 0 colour node.wants lt (sym (zero-add colour)) in_set
+    wants_at (has node.colours) MAX_COLOURS colour 0 colour node.wants lt (sym (zero-add colour)) in_set

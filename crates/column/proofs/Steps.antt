@@ -1,5 +1,5 @@
 -- What each event keeps true of a column.
-use Rattle.std.proofs.Common.{◌≡◌, ◌≢◌, ◌⊎◌, inl, inr, ℕ, zero, suc, ◌<◌, ◌≤◌, max, true, false, List, [], ◌∷◌, ◌++◌, length, take}
+use Rattle.std.proofs.Common.{◌≡◌, ◌≢◌, ℕ, zero, suc, ◌<◌, ◌≤◌, max, true, false, List, [], ◌∷◌, ◌++◌, length, take}
 use Rattle.std.proofs.Common.{drop, Some, None, refl, ap, sym, subst, ◌∙◌, arith}
 use Rattle.std.specs.Prelude.{slice_get, IsSomeAnd, Option, map, ◌==◌}
 use Rattle.std.specs.List.{AllByRecursion, list_any}
@@ -13,7 +13,7 @@ use Rattle.log_node.specs.declared.node.Node.{Node}
 use Rattle.log_node.specs.Seen.{PlacedNode}
 use Rattle.log_node.specs.Sets.{has}
 use Rattle.log_node.specs.Vectors.{at, zeros}
-use Rattle.log_node.specs.declared.limits.TheConstants.{MAX_STAMP}
+use Rattle.log_node.specs.declared.limits.TheConstants.{MAX_COLOURS, MAX_STAMP}
 use Rattle.log_node.specs.declared.marks.Outcome.{Outcome}
 use Rattle.log_node.specs.declared.marks.Outcome.TheVariants.{Open, Gone, Final}
 use Rattle.log_node.specs.Standings.{Standing, is_open_id, open_entry, with_entry, settled_entries}
@@ -23,12 +23,12 @@ use Rattle.col_core.specs.declared.Event.{Event}
 use Rattle.col_core.specs.declared.Event.TheVariants as events
 use Rattle.col_core.specs.declared.Entry.{Entry}
 use Rattle.col_core.specs.History.{clock, last_stamp, next_stamp, entries, line, has_entered}
-use Rattle.col_core.specs.Cuts.{Dated, entries_of, carried, chain, noted_from, noted, trimmed_to, base, base_from}
+use Rattle.col_core.specs.Cuts.{Dated, entries_of, carried, noted_from, noted, trimmed_to, base, base_from}
 use Rattle.col_core.specs.Computed.{cut, dated}
 use Rattle.col_core.specs.Legal.{IsColumnHistory, IsLawfulEvent, IsSettling, MayEnter}
 use Rattle.col_core.proofs.CallerLemmas.{entries-append, clock-append, dated-append, same_id-refl, cut-is_greatest}
 use Rattle.column.specs.Entering.{EnteredNode}
-use Rattle.column.specs.Columns.{ColumnState, new_column, history_of, chains_of, held_of, copy_of, cut_of, base_of}
+use Rattle.column.specs.Columns.{ColumnState, new_column, history_of, chains_of, copy_of, cut_of, base_of}
 use Rattle.column.specs.Columns.{stamp_for, entered_node, single_event, propose_event, after_single, after_propose}
 use Rattle.column.specs.Columns.{after_settle, after_raise}
 use Rattle.column.specs.Inside.{IsColumn, IsEntered, AreCopies, AreNumbers, IsStillReached}
@@ -75,7 +75,7 @@ next_column column e queue copies = record {
 }
 
 -- nothing in it
-pub new_is : (region colour regions : ℕ) → region < 4 → colour < 16 → regions ≤ 4
+pub new_is : (region colour regions : ℕ) → region < 4 → colour < MAX_COLOURS → regions ≤ 4
     → IsColumn (new_column region colour regions)
 new_is region colour regions in_range in_colours few = record {
   in_range = in_range;

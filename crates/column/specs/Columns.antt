@@ -1,5 +1,5 @@
 -- What contracts see of a column, and what its calls make of it.
-use Rattle.std.specs.Prelude.{◌≡◌, ◌≢◌, ◌⊎◌, ℕ, ◌-◌, ◌<◌, ◌&&◌, nat_lt, Bool, true, false, IsTrue, not, min, max, List}
+use Rattle.std.specs.Prelude.{◌≡◌, ◌≢◌, ◌⊎◌, ℕ, ◌+◌, ◌-◌, ◌<◌, ◌==◌, ◌&&◌, ◌||◌, nat_lt, Bool, true, false, IsTrue, not, min, max, List}
 use Rattle.std.specs.Prelude.{[], ◌∷◌, ◌++◌, Option, Some, None, length, map, take, drop, slice_get, slice_index_or}
 use Rattle.std.specs.Prelude.{slice_set, if◌then◌else◌}
 use Rattle.log_node.specs.declared.ids.Id.{Id}
@@ -7,7 +7,7 @@ use Rattle.log_node.specs.declared.ids.Key.{Key}
 use Rattle.log_node.specs.declared.ids.Counts.{Counts}
 use Rattle.log_node.specs.declared.node.Node.{Node}
 use Rattle.log_node.specs.Order.{key_below}
-use Rattle.log_node.specs.Vectors.{at, vector, least, all_regions}
+use Rattle.log_node.specs.Vectors.{at, least, all_regions}
 pub use Rattle.log_node.specs.Vectors.{greater}
 use Rattle.log_node.specs.Seen.{PlacedNode, BegunAppend}
 use Rattle.log_node.specs.declared.marks.Outcome.{Outcome}
@@ -17,7 +17,7 @@ use Rattle.skeen_core.specs.Queues.{Queued, entry_under, entered_queue, settled_
 use Rattle.col_core.specs.declared.Event.{Event}
 use Rattle.col_core.specs.declared.Event.TheVariants as events
 use Rattle.col_core.specs.declared.Entry.{Entry}
-use Rattle.col_core.specs.History.{last_stamp, next_stamp, line, IsAtEnd}
+use Rattle.col_core.specs.History.{last_stamp, next_stamp, entries, line, IsAtEnd}
 use Rattle.log_node.specs.Reach.{Chains}
 use Rattle.col_core.specs.Cuts.{Dated, chain, base}
 use Rattle.col_core.specs.Computed.{cut, dated}
@@ -25,6 +25,8 @@ pub use Rattle.col_core.specs.Ids.{is_open_below}
 use Rattle.col_core.specs.Rows.{node_wants}
 use Rattle.column.specs.declared.faults.ColumnFault.{ColumnFault}
 use Rattle.column.specs.declared.faults.ColumnFault.TheVariants.{StampEnd, NoMemory}
+use Rattle.column.specs.declared.faults.OnlyFault.{OnlyFault}
+use Rattle.column.specs.declared.faults.OnlyFault.TheVariants as only
 use Rattle.column.specs.declared.given.Given.{Given}
 use Rattle.column.specs.Entering.{EnteredNode}
 
@@ -166,6 +168,25 @@ after_trim column by counts = record (after_event column by (events.Trim counts)
 abbrev pub HasEnterCause : ColumnState → ℕ → ColumnFault → Type 0
 HasEnterCause column floor (StampEnd clock) = (clock ≡ last_stamp) × IsAtEnd column.journal floor
 HasEnterCause column floor NoMemory = (column.queue.spare ≡ 0) × (IsAtEnd column.journal floor → ⊥)
+
+-- how many entries are open
+abbrev pub open_count : List Standing → ℕ
+open_count [] = 0
+open_count (e ∷ es) = (if e.settled then 0 else 1) + open_count es
+
+-- a node that may stand next alone finds the column moved on: an entry is open, or the line has not as many nodes as the
+-- node wants of its own region
+abbrev pub moved_from : ColumnState → Node → Bool
+moved_from column node =
+    nat_lt 0 (open_count (entries column.journal))
+    || not (length (line column.journal) == at (node_wants node column.colour) column.region)
+
+-- Why such a node did not enter: the column has moved on, which is told first; else it is as with any other node.
+abbrev pub HasOnlyCause : ColumnState → Node → OnlyFault → Type 0
+HasOnlyCause column node (only.Moved lined waiting events) = moved_from column node ≡ true
+HasOnlyCause column node (only.StampEnd colour clock) =
+    (moved_from column node ≡ false) × (colour ≡ column.colour) × HasEnterCause column node.floor (StampEnd clock)
+HasOnlyCause column node only.NoMemory = (moved_from column node ≡ false) × HasEnterCause column node.floor NoMemory
 
 -- a stored entry is open, and its key is below this one
 abbrev pub is_waiting_below : Key → Waiting EnteredNode → Bool

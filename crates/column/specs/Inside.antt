@@ -2,8 +2,8 @@
 use Rattle.std.specs.Prelude.{◌≡◌, ◌≢◌, ℕ, ◌+◌, ◌<◌, ◌≤◌, ◌==◌, min, max, true, IsTrue, List, [], ◌∷◌, Some, length}
 use Rattle.std.specs.Prelude.{map, drop, slice_get, if◌then◌else◌}
 use Rattle.std.specs.List.{AllByRecursion, fold, range_with_len}
-use Rattle.log_node.specs.declared.ids.Id.{Id}
 use Rattle.log_node.specs.declared.ids.Counts.{Counts}
+use Rattle.log_node.specs.declared.limits.TheConstants.{MAX_COLOURS}
 use Rattle.log_node.specs.declared.node.Node.{Node}
 use Rattle.log_node.specs.Seen.{PlacedNode}
 use Rattle.log_node.specs.Vectors.{at, IsWithin}
@@ -21,7 +21,7 @@ use Rattle.col_core.specs.Computed.{dated}
 use Rattle.col_core.specs.Legal.{IsColumnHistory}
 use Rattle.col_core.specs.Rows.{node_wants}
 use Rattle.column.specs.Entering.{EnteredNode}
-use Rattle.column.specs.Columns.{ColumnState, history_of, chains_of, held_of, copy_of, cut_of, base_of, HasRow}
+use Rattle.column.specs.Columns.{ColumnState, history_of, chains_of, held_of, copy_of, cut_of, base_of, open_count, HasRow}
 
 -- the event is the one by which a node enters
 abbrev pub EntersNode : ℕ → Node → Event → Type 0
@@ -50,11 +50,6 @@ abbrev pub Rises : List Standing → Type 0
 Rises [] = Unit {0}
 Rises (e ∷ es) = AllByRecursion (λ (f : Standing). IsTrue (key_below e.key f.key)) es × Rises es
 
--- how many entries are open
-abbrev pub open_count : List Standing → ℕ
-open_count [] = 0
-open_count (e ∷ es) = (if e.settled then 0 else 1) + open_count es
-
 -- for each other region the kept nodes have the heads of its chain from the base on
 pub record AreCopies (column : ColumnState) : Type 0 where
   pub of_each : length column.copies ≡ 4
@@ -65,7 +60,7 @@ pub record AreCopies (column : ColumnState) : Type 0 where
 -- what ties a column's queue and copies to its journal
 pub record IsColumn (column : ColumnState) : Type 0 where
   pub in_range : column.region < 4
-  pub in_colours : column.colour < 16
+  pub in_colours : column.colour < MAX_COLOURS
   pub few_regions : column.regions ≤ 4
   pub clock_is : column.queue.clock ≡ clock column.journal
   pub entries_are : column.queue.entries ≡ entries column.journal

@@ -9,6 +9,7 @@ mod faults;
 mod given;
 mod keys;
 mod moves;
+mod only;
 mod questions;
 mod reading;
 mod trimming;
@@ -18,6 +19,6 @@ mod wants;
 
 pub use column::Column;
 pub use entered::Entered;
-pub use faults::ColumnFault;
+pub use faults::{ColumnFault, OnlyFault};
 pub use given::Given;
 pub use views::Below;

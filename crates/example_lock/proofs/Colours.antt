@@ -4,13 +4,14 @@ use Rattle.std.specs.List.{Contains}
 use Rattle.std.proofs.lemmas.List.Elements.{All-cons, All-nil}
 use Rattle.log_node.specs.declared.limits.TheConstants.{MAX_COLOURS}
 use Rattle.log_node.specs.Sets.{members}
+use Rattle.log_node.proofs.CallerLemmas.{members-one}
 use Rattle.lawful_run.specs.Asks.{rising}
 use Rattle.log_client.specs.declared.store.Store.{Store}
 use Rattle.log_client.specs.declared.client.Client.{Client}
 use Rattle.log_client.specs.Appends.{AreColoursOf}
 use Rattle.log_client.specs.Clients.{IsClient, tracks_of}
 use Rattle.log_client.specs.Objects.{AreColours}
-use Rattle.log_client.proofs.CallerLemmas.{one_member, one_of_store}
+use Rattle.log_client.proofs.CallerLemmas.{one_of_store}
 use Rattle.region_fold.specs.Reads.{AreOwn}
 use Rattle.example_lock.specs.Desks.{lock_colours, lock_set}
 
@@ -33,5 +34,5 @@ rising_is = refl
 -- and of the lock's own colours
 pub own_is : AreOwn lock_colours (members lock_set)
 own_is =
-    subst (λ (l : List ℕ). AreOwn lock_colours l) (sym (one_member 0 (omega arith)))
+    subst (λ (l : List ℕ). AreOwn lock_colours l) (sym (members-one 0 (omega arith)))
     (λ colour among. subst (λ (l : List ℕ). Contains l colour) (sym rising_is) among)

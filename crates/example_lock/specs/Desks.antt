@@ -1,7 +1,8 @@
 -- Desks at a lock, and what they answer.
 use Rattle.std.specs.Prelude.{◌≡◌, ℕ, ◌<◌, ◌∷◌, [], List, Option, Some, codes, slice_get}
 use Rattle.log_node.specs.declared.ids.Colours.{Colours}
-use Rattle.log_node.specs.Sets.{members}
+use Rattle.log_node.specs.declared.ids.Key.{Key}
+use Rattle.log_node.specs.Sets.{members, set_of}
 use Rattle.object_fold.specs.Nodes.{ObjectNode}
 use Rattle.col_core.specs.Keeping.{Kept}
 use Rattle.lawful_run.specs.Asks.{rising}
@@ -32,7 +33,7 @@ abbrev pub lock_colours : List ℕ
 lock_colours = 0 ∷ []
 
 abbrev pub lock_set : Colours
-lock_set = record { 0 = 1 }
+lock_set = set_of lock_colours
 
 -- the desk's client rests beside the store, and what is folded are nodes that it has read
 pub record IsDesk (s : Store) (desk : Desk) : Type 0 where
@@ -43,16 +44,16 @@ pub record IsDesk (s : Store) (desk : Desk) : Type 0 where
 -- A node with this text stands under the stamp, and this is what it is told behind the nodes before it.
 abbrev pub Writes : Store → Client → Client → List ℕ → ℕ → Option ℕ → Type 0
 Writes s c d text stamp told =
-    (a : Appended) × (read : StampedRead) × (a.stood.key.stamp ≡ stamp)
-    × IsExplained s c d (TellsOwn told_behind lock_set text (rising lock_colours) told a read)
+    (a : Appended) × (read : StampedRead) × (last : Option Key) × (a.stood.key.stamp ≡ stamp)
+    × IsExplained s c d (TellsOwn told_behind lock_set text (rising lock_colours) last told a read)
 
 -- An ask stands under its token, and behind the nodes before it that many tickets are before its own.
 abbrev pub Asks : Store → Client → Client → Place → Type 0
 Asks s c d place =
-    (a : Appended) × (read : StampedRead) × (a.stood.key.stamp ≡ place.token)
+    (a : Appended) × (read : StampedRead) × (last : Option Key) × (a.stood.key.stamp ≡ place.token)
     × IsExplained s c d (λ log caller kept after.
     (stood : Kept) × AppendsAs lock_set (codes "ask") a log caller kept stood
-    × HasNodes (rising lock_colours) read (λ nodes. told_of told_behind nodes a.stood.key ≡ Some place.before) log caller stood after)
+    × HasNodes (rising lock_colours) last read (λ nodes. told_of told_behind nodes a.stood.key ≡ Some place.before) log caller stood after)
 
 -- A leave stands.
 abbrev pub Leaves : Store → Client → Client → Type 0
@@ -61,7 +62,7 @@ Leaves s c d = (stamp : ℕ) × (told : Option ℕ) × Writes s c d (codes "leav
 -- The ticket is the first one that the nodes leave which were read, if one is left.
 abbrev pub Looks : Store → Client → Client → Option Ticket → Type 0
 Looks s c d ticket =
-    (read : StampedRead) × ReadsNodes s c d lock_colours read (λ nodes. ticket ≡ slice_get (tickets_after nodes) 0)
+    (last : Option Key) × (read : StampedRead) × ReadsNodes s c d lock_colours last read (λ nodes. ticket ≡ slice_get (tickets_after nodes) 0)
 
 -- why a node with this text was refused, or was told nothing
 abbrev pub WriteRefused : Store → Client → Client → List ℕ → ObjectFault → Type 0

@@ -12,10 +12,8 @@ use region_fold::KeptFold;
 use std::alloc::Global;
 use std::sync::Wait;
 
-// The lock's one colour, as a list and as a set.
+// The lock's one colour.
 const COLOURS: [u8; 1] = [0];
-
-const SET: Colours = Colours(1);
 
 /// A place in the queue for the lock.
 #[derive(Clone, Copy, Debug, PartialEq, Eq)]
@@ -62,9 +60,10 @@ impl Desk {
             return Err(ObjectFault::NoMemory);
         };
         let client = &mut self.client;
+        let set = Colours::of(&COLOURS);
         let (told, own, _read) = self
             .kept
-            .append_and_read(rt, alloc, client, store, &OpenGate, &COLOURS, SET, text)?;
+            .append_and_read(rt, alloc, client, store, &OpenGate, &COLOURS, set, text)?;
         Ok((own.stood.key.stamp, told))
     }
 

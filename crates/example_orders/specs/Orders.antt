@@ -2,6 +2,7 @@
 use Rattle.std.specs.Prelude.{ℕ, List, [], ◌∷◌, ◌++◌, take, drop, codes}
 use Rattle.log_node.specs.declared.ids.Row.{Row}
 use Rattle.log_node.specs.declared.node.Shape.{Shape}
+use Rattle.log_node.specs.Sets.{set_of}
 use Rattle.log_node.specs.Vectors.{at}
 use Rattle.world_laws.specs.declared.steps.Step.{Step}
 use Rattle.world_laws.specs.declared.steps.Step.TheVariants as steps
@@ -19,7 +20,7 @@ row = record { client = 0; number = 0 }
 -- the steps of an append to both colours, in the writer's order
 abbrev pub writer : List Step
 writer =
-    steps.Begin 0 (record { 0 = 3 }) (codes "note") ∷ steps.Propose 0 row 0 ∷ steps.Propose 0 row 1 ∷ steps.Decide row
+    steps.Begin 0 (set_of (0 ∷ 1 ∷ [])) (codes "note") ∷ steps.Propose 0 row 0 ∷ steps.Propose 0 row 1 ∷ steps.Decide row
     ∷ steps.Settle 0 row 0 ∷ steps.Settle 0 row 1 ∷ []
 
 -- the reader plays the left colour after the first so many of them, and the right one after more

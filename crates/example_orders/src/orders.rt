@@ -59,7 +59,7 @@ fn writer_step(alloc: Global, number: u8) -> Result<Step, AllocError>
     match number {
         0 => Ok(Step::Begin {
             client: WRITER,
-            colours: Colours(3),
+            colours: Colours::of(&[LEFT, RIGHT]),
             text: Text::copied(alloc, b"note")?,
         }),
         1 => Ok(Step::Propose {

@@ -1,9 +1,10 @@
 -- Stalls, and what they count.
-use Rattle.std.specs.Prelude.{◌≡◌, ◌≤◌, ℕ, List, length, take, codes}
+use Rattle.std.specs.Prelude.{◌≡◌, ◌≤◌, ℕ, List, [], ◌∷◌, length, take, codes}
 use Rattle.std.specs.List.{count_by}
 use Rattle.std.specs.Str.{bytes_eq}
 use Rattle.log_node.specs.declared.ids.Colours.{Colours}
 use Rattle.log_node.specs.Seen.{PlacedNode}
+use Rattle.log_node.specs.Sets.{set_of}
 use Rattle.log_client.specs.declared.store.Store.{Store}
 use Rattle.log_client.specs.declared.client.Client.{Client}
 use Rattle.log_client.specs.Clients.{IsClient, played_of}
@@ -17,7 +18,7 @@ abbrev pub cups : ℕ
 cups = 0
 
 abbrev pub set_of_cups : Colours
-set_of_cups = record { 0 = 1 }
+set_of_cups = set_of (cups ∷ [])
 
 -- how many of these nodes bear the name
 abbrev pub count_of : List ℕ → List PlacedNode → ℕ

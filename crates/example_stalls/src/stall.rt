@@ -84,8 +84,9 @@ impl Stall {
         let Ok(text) = Text::copied(alloc, self.name(drink).as_bytes()) else {
             return Err(MultiFault::NoMemory);
         };
+        let set = Colours::of(&[CUPS]);
         self.client
-            .append(rt, alloc, store, &OpenGate, Colours(1), text, None)
+            .append(rt, alloc, store, &OpenGate, set, text, None)
     }
 
     /// Brings over what another region has sold. Answers how many cups were new.
@@ -157,6 +158,7 @@ impl Stall {
         ensures ok { IfOk result (ReadsAll store.now self.old.client self.new.client (cups ∷ [])) }
         ensures err { IfErr result (ReadRefused store.now self.old.client self.new.client (cups ∷ [])) }
     {
-        self.client.stamped_read(rt, alloc, store, Colours(1))
+        self.client
+            .stamped_read(rt, alloc, store, Colours::of(&[CUPS]))
     }
 }

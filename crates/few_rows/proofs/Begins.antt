@@ -6,8 +6,10 @@ use Rattle.std.specs.List.{filter, range_with_len}
 use Rattle.std.proofs.lemmas.Bool.{eqb-true, cases_lt}
 use Rattle.std.proofs.lemmas.List.Sums.{sum_by_push}
 use Rattle.log_node.specs.declared.ids.Colours.{Colours}
+use Rattle.log_node.specs.declared.ids.Counts.{Counts}
 use Rattle.log_node.specs.declared.node.At.{At}
 use Rattle.log_node.specs.declared.node.At.TheVariants.{Event, Look}
+use Rattle.log_node.specs.declared.limits.TheConstants.{MAX_COLOURS}
 use Rattle.log_node.specs.Seen.{PlacedNode}
 use Rattle.log_node.specs.Sets.{members}
 use Rattle.col_core.specs.Log.{Log}
@@ -27,8 +29,8 @@ use Rattle.lawful_run.specs.Callers.{Caller, node_of}
 use Rattle.lawful_run.specs.Asks.{shards, colours_of, AsksToAppend, Manner, Appending, Stopping, Syncing, Moving, Getting, Reading, Committing, Dequeuing, colours_synced, manner_of}
 use Rattle.lawful_run.specs.Appends.{Appends, AppendsUnshown, one_unshown, several_unshown, kept_after_points, HasNoStamp, none_for_one, none_for_several}
 use Rattle.lawful_run.specs.Moves.{with_places, kept_after_pull}
-use Rattle.lawful_run.specs.Reads.{kept_after_place, kept_after_piece, Raises, ClearSyncs, ReadsAt, HidesSyncs, HidesRead}
-use Rattle.lawful_run.specs.Refusals.{Hides, FindsNoMemory, nothing, gone, gave, hidden, kept_before, kept_behind}
+use Rattle.lawful_run.specs.Reads.{kept_after_place, kept_after_piece, Raises, ClearSyncs, ReadsAt, HidesSyncs, HidesRead, RefusesRead}
+use Rattle.lawful_run.specs.Refusals.{Hides, Refuses, FindsNoMemory, nothing, gone, gave, hidden, kept_before, kept_behind}
 use Rattle.lawful_run.specs.Stops.{Stops, stopped_at_once, stopped_after}
 use Rattle.lawful_run.specs.Explains.{Explains, Answers, Explained, start, next}
 use Rattle.script_beside.specs.Begins.{may_begin, begins_in}
@@ -70,14 +72,14 @@ beyond c a (suc n) le =
 
 -- one key has no two shards
 not_several : (colours key several : List ℕ) → several ≡ shards colours (key ∷ []) → 2 ≤ length several → ⊥
-not_several colours key several is two = at (cases_lt (shard_of colours key) 64) where
+not_several colours key several is two = at (cases_lt (shard_of colours key) MAX_COLOURS) where
   long : length several ≡ length (shards colours (key ∷ []))
   long = ap length is
 
-  at : (shard_of colours key < 64) ⊎ (64 ≤ shard_of colours key) → ⊥
+  at : (shard_of colours key < MAX_COLOURS) ⊎ (MAX_COLOURS ≤ shard_of colours key) → ⊥
   at (inl low) = let e = ap length (one_shard colours key low) in let f : ⊥ = omega (arith, two, long, e) in f
   at (inr high) =
-      let e = ap length (beyond (shard_of colours key) 0 64 (omega (arith, high))) in
+      let e = ap length (beyond (shard_of colours key) 0 MAX_COLOURS (omega (arith, high))) in
       let f : ⊥ = omega (arith, two, long, e) in f
 
 -- a command that asks for a node of several colours may begin a row
@@ -155,6 +157,25 @@ hides_rows log caller kept colours Reading after h = hidden_rows log caller kept
 hides_rows log caller kept colours Committing after h = hidden_rows log caller kept colours after h
 hides_rows log caller kept colours Dequeuing after h = syncs_rows log caller kept colours after h
 
+refused_rows : (log : Log) (caller : Caller) (kept : Kept) (colours : List ℕ) (colour : ℕ) (shown : Counts) (after : Kept)
+    → RefusesRead log caller kept colours colour shown after → KeepsRows kept after
+refused_rows log caller kept colours colour shown after r =
+    clears_rows log caller r.stamp r.raised r.syncs after r.syncing
+    ∙ raises_rows log caller r.stamp kept r.raises r.raised r.raising
+
+refuses_rows : (log : Log) (caller : Caller) (kept : Kept) (colours : List ℕ) (manner : Manner) (colour : ℕ)
+    (shown : Counts) (after : Kept) → Refuses log caller kept colours manner colour shown after → KeepsRows kept after
+refuses_rows log caller kept colours Appending colour shown after r = absurd r
+refuses_rows log caller kept colours Stopping colour shown after r = absurd r
+refuses_rows log caller kept colours Syncing colour shown after r = same_rows kept kept after r.2 refl
+refuses_rows log caller kept colours Moving colour shown after r = absurd r
+refuses_rows log caller kept colours Getting colour shown after r = syncs_rows log caller kept colours after r.2
+refuses_rows log caller kept colours Reading colour shown after r =
+    refused_rows log caller kept colours colour shown after r
+refuses_rows log caller kept colours Committing colour shown after r =
+    refused_rows log caller kept colours colour shown after r
+refuses_rows log caller kept colours Dequeuing colour shown after r = syncs_rows log caller kept colours after r.2
+
 -- APPENDS
 points_rows : (own : ℕ) (kept : Kept) (points : List PointPiece) → KeepsRows kept (kept_after_points kept own points)
 points_rows own kept [] = refl
@@ -196,7 +217,7 @@ module _ (log : Log) (caller : Caller) (kept : Kept) (what : What) where
   memory_begins after nothing = inl refl
   memory_begins after (gone colours text places asks g) =
       inr (several_may caller kept what colours text asks g.begins.several, refl)
-  memory_begins after (gave region colour too_low gives is low few all) = inl refl
+  memory_begins after (gave region colour looked too_low gives is g) = inl refl
   memory_begins after (hidden other h) =
       inl (hides_rows log caller kept (colours_synced caller what) (manner_of what) other h)
 
@@ -240,15 +261,15 @@ module _ (log : Log) (caller : Caller) (kept : Kept) (what : What) where
       (appends_begin log caller kept what e.3.0 e.3.1 e.3.2 s.0 None (point ∷ []) s.1 s.2)
       (same_rows s.1 _ after s.5 refl)
   explained_begins (answers.UnreadTrimmed stamp colour base) nodes after e =
-      let s = e.3.3 in
-      then_keeps what kept s.0 after (unshown_begins log caller kept what e.3.0 e.3.1 e.3.2 stamp s.0 s.1)
-      (hides_rows log caller s.0 (colours_synced caller what) (manner_of what) after s.3)
+      let s = e.2.3 in
+      then_keeps what kept s.0 after (unshown_begins log caller kept what e.2.0 e.2.1 e.2.2 stamp s.0 s.1)
+      (refuses_rows log caller s.0 (colours_synced caller what) (manner_of what) colour base after s.2)
   explained_begins (answers.UnreadNoMemory stamp) nodes after e =
       let s = e.2.3 in
       then_keeps what kept s.0 after (unshown_begins log caller kept what e.2.0 e.2.1 e.2.2 stamp s.0 s.1)
       (hides_rows log caller s.0 (colours_synced caller what) (manner_of what) after s.2)
   explained_begins (answers.Trimmed colour base) nodes after e =
-      inl (hides_rows log caller kept (colours_synced caller what) (manner_of what) after e.4)
+      inl (refuses_rows log caller kept (colours_synced caller what) (manner_of what) colour base after e.2)
   explained_begins (answers.NotHome home) nodes after e = inl (same_rows kept kept after e.1 refl)
 
 pub before_rows : (what : What) (kept : Kept) → KeepsRows kept (kept_before what kept)

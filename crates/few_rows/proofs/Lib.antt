@@ -1,4 +1,5 @@
 mod Begins
+mod Enough
 mod MoreFacts
 mod MoreReads
 mod MoreAppends

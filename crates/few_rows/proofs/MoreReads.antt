@@ -14,8 +14,8 @@ use Rattle.report_text.specs.declared.report.RaisePiece.{RaisePiece}
 use Rattle.report_text.specs.declared.report.SyncPiece.{SyncPiece}
 use Rattle.lawful_run.specs.Callers.{Caller}
 use Rattle.lawful_run.specs.Asks.{Manner, Appending, Stopping, Syncing, Moving, Getting, Reading, Committing, Dequeuing}
-use Rattle.lawful_run.specs.Reads.{Syncs, ShowsNode, ShowsPlayed, kept_after_piece, IsTrimmed, RaisesAt, kept_after_place, Raises, ClearSyncs, ReadsAt, HidesSync, not_played, played, HidesSyncs, HidesRead}
-use Rattle.lawful_run.specs.Refusals.{Hides}
+use Rattle.lawful_run.specs.Reads.{Syncs, ShowsNode, ShowsPlayed, kept_after_piece, IsTrimmed, RaisesAt, kept_after_place, Raises, ClearSyncs, ReadsAt, HidesSync, not_played, played, HidesSyncs, HidesRead, RefusesRead}
+use Rattle.lawful_run.specs.Refusals.{Hides, Refuses}
 use Rattle.few_rows.proofs.MoreFacts.{limited}
 
 all_zip_of : {A B : Type 0} (R S : A → B → Type 0) → ((x : A) (y : B) → R x y → S x y)
@@ -55,7 +55,7 @@ module _ (log : Log) (caller : Caller) (rows : ℕ) where
         (shows_more colour events) s.order nodes s.lines;
   }
 
-  pub trimmed_more : (kept : Kept) (colour : ℕ) (shown : Counts) → IsTrimmed log (limited caller rows) kept colour shown
+  trimmed_more : (kept : Kept) (colour : ℕ) (shown : Counts) → IsTrimmed log (limited caller rows) kept colour shown
       → IsTrimmed log caller kept colour shown
   trimmed_more kept colour shown t = record {
     events = t.events;
@@ -145,3 +145,36 @@ module _ (log : Log) (caller : Caller) (rows : ℕ) where
   hides_more kept colours Reading after h = hides_read_more kept colours after h
   hides_more kept colours Committing after h = hides_read_more kept colours after h
   hides_more kept colours Dequeuing after h = hides_syncs_more kept colours after h
+
+  refuses_read_more : (kept : Kept) (colours : List ℕ) (colour : ℕ) (shown : Counts) (after : Kept)
+      → RefusesRead log (limited caller rows) kept colours colour shown after
+      → RefusesRead log caller kept colours colour shown after
+  refuses_read_more kept colours colour shown after r = record {
+    stamp = r.stamp;
+    raises = r.raises;
+    syncs = r.syncs;
+    behind = r.behind;
+    raised_colours = r.raised_colours;
+    synced_before = r.synced_before;
+    above_floor = r.above_floor;
+    above_clocks = r.above_clocks;
+    chosen = r.chosen;
+    raised = r.raised;
+    raising = raises_more r.stamp kept r.raises r.raised r.raising;
+    syncing = clear_more r.stamp r.raised r.syncs after r.syncing;
+    trimmed = trimmed_more after colour shown r.trimmed;
+  }
+
+  pub refuses_more : (kept : Kept) (colours : List ℕ) (manner : Manner) (colour : ℕ) (shown : Counts) (after : Kept)
+      → Refuses log (limited caller rows) kept colours manner colour shown after
+      → Refuses log caller kept colours manner colour shown after
+  refuses_more kept colours Appending colour shown after r = absurd r
+  refuses_more kept colours Stopping colour shown after r = absurd r
+  refuses_more kept colours Syncing colour shown after r = (r.0, trimmed_more kept colour shown r.1, r.2)
+  refuses_more kept colours Moving colour shown after r = absurd r
+  refuses_more kept colours Getting colour shown after r =
+      (r.0, trimmed_more kept colour shown r.1, hides_syncs_more kept colours after r.2)
+  refuses_more kept colours Reading colour shown after r = refuses_read_more kept colours colour shown after r
+  refuses_more kept colours Committing colour shown after r = refuses_read_more kept colours colour shown after r
+  refuses_more kept colours Dequeuing colour shown after r =
+      (r.0, trimmed_more kept colour shown r.1, hides_syncs_more kept colours after r.2)

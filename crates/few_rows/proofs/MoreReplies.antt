@@ -1,7 +1,6 @@
 -- What a log explains to a client that may begin few rows, it explains too where the client may begin more, if a row
 -- was left for each command that may begin one.
 use Rattle.std.proofs.Common.{◌≡◌, true, ℕ, ◌<◌, ◌≤◌, List, [], ◌∷◌, None, sym, subst, ◌∙◌, arith}
-use Rattle.std.specs.List.{Contains}
 use Rattle.log_node.specs.declared.ids.Colours.{Colours}
 use Rattle.log_node.specs.declared.ids.Counts.{Counts}
 use Rattle.log_node.specs.declared.node.At.{At}
@@ -22,14 +21,14 @@ use Rattle.lawful_run.specs.Callers.{Caller, node_of}
 use Rattle.lawful_run.specs.Asks.{AsksToAppend, colours_synced, manner_of}
 use Rattle.lawful_run.specs.Appends.{IsFull}
 use Rattle.lawful_run.specs.Reads.{ReadsAt}
-use Rattle.lawful_run.specs.Moves.{CarriesAt, Pulls, Trims}
+use Rattle.lawful_run.specs.Moves.{CarriesAt, Pulls, OnlyGives, Trims}
 use Rattle.lawful_run.specs.Objects.{GetsValue, GetsValues, Takes}
-use Rattle.lawful_run.specs.Refusals.{Hides, FindsNoMemory, nothing, gone, gave, hidden, kept_before}
+use Rattle.lawful_run.specs.Refusals.{Hides, Refuses, FindsNoMemory, nothing, gone, gave, hidden, kept_before}
 use Rattle.lawful_run.specs.Explains.{Explains, Answers, Explained, start, next}
 use Rattle.script_beside.specs.Begins.{may_begin, begins_in}
 use Rattle.few_rows.proofs.Begins.{several_may, before_rows, one_that_begins, no_fewer, begun_rows}
 use Rattle.few_rows.proofs.MoreFacts.{limited, home_same, synced_same, asks_more, away_fewer}
-use Rattle.few_rows.proofs.MoreReads.{syncs_more, played_more, trimmed_more, read_more, hides_more}
+use Rattle.few_rows.proofs.MoreReads.{syncs_more, played_more, read_more, hides_more, refuses_more}
 use Rattle.few_rows.proofs.MoreAppends.{append_more, unshown_more, has_no_stamp_more, stops_more, for_memory_more}
 
 module _ (log : Log) (caller : Caller) (rows : ℕ) (few : rows ≤ caller.rows) where
@@ -48,9 +47,21 @@ module _ (log : Log) (caller : Caller) (rows : ℕ) (few : rows ≤ caller.rows)
     unseen = p.unseen;
     from = p.from;
     gives = p.gives;
-    asks_on = p.asks_on;
+    asks = p.asks;
     carries = carries_more kept region colour nodes carry p.carries;
     holds = p.holds;
+  }
+
+  only_gives_more : (kept : Kept) (region colour looked : ℕ) (too_low gives : List ℕ)
+      → OnlyGives log (limited caller rows) kept region colour looked too_low gives
+      → OnlyGives log caller kept region colour looked too_low gives
+  only_gives_more kept region colour looked too_low gives g = record {
+    another = g.another;
+    unseen = g.unseen;
+    there = g.there;
+    made_again = g.made_again;
+    once = g.once;
+    given = g.given;
   }
 
   trims_more : (kept : Kept) (colour place : ℕ) (shown : Counts)
@@ -87,14 +98,22 @@ module _ (log : Log) (caller : Caller) (rows : ℕ) (few : rows ≤ caller.rows)
       subst (λ (colours : List ℕ). Hides log caller kept colours (manner_of what) after) (synced_same caller rows what)
       (hides_more log caller rows kept (colours_synced (limited caller rows) what) (manner_of what) after h)
 
+  refused_more : (kept : Kept) (what : What) (colour : ℕ) (base : Counts) (after : Kept)
+      → Refuses log (limited caller rows) kept (colours_synced (limited caller rows) what) (manner_of what) colour base after
+      → Refuses log caller kept (colours_synced caller what) (manner_of what) colour base after
+  refused_more kept what colour base after r =
+      subst (λ (colours : List ℕ). Refuses log caller kept colours (manner_of what) colour base after)
+      (synced_same caller rows what)
+      (refuses_more log caller rows kept (colours_synced (limited caller rows) what) (manner_of what) colour base after r)
+
   memory_more : (kept : Kept) (what : What) (after : Kept) → FindsNoMemory log (limited caller rows) kept what after
       → FindsNoMemory log caller kept what after
   memory_more kept what after nothing = nothing
   memory_more kept what after (gone colours text places asks g) =
       gone colours text places (asks_more caller rows kept what colours text asks)
       (for_memory_more log caller rows few kept (node_of caller kept colours text) places g)
-  memory_more kept what after (gave region colour too_low gives is low few_gives all) =
-      gave region colour too_low gives is low few_gives all
+  memory_more kept what after (gave region colour looked too_low gives is g) =
+      gave region colour looked too_low gives is (only_gives_more kept region colour looked too_low gives g)
   memory_more kept what after (hidden then h) = hidden then (hidden_more kept what then h)
 
   explains_more : (kept : Kept) (what : What) (answer : Answer) (nodes : List PlacedNode) (after : Kept)
@@ -228,11 +247,10 @@ module _ (log : Log) (caller : Caller) (rows : ℕ) (few : rows ≤ caller.rows)
         ),
       )
   explains_more kept what (answers.UnreadTrimmed stamp colour base) nodes after left e =
-      let a = e.3 in
+      let a = e.2 in
       let s = a.3 in (
         e.0,
         e.1,
-        subst (λ (colours : List ℕ). Contains colours colour) (synced_same caller rows what) e.2,
         (
           a.0,
           a.1,
@@ -240,8 +258,7 @@ module _ (log : Log) (caller : Caller) (rows : ℕ) (few : rows ≤ caller.rows)
           (
             s.0,
             unshown_more log caller rows few kept (node_of caller kept a.0 a.1) stamp s.0 s.1,
-            trimmed_more log caller rows s.0 colour base s.2,
-            hidden_more s.0 what after s.3,
+            refused_more s.0 what colour base after s.2,
           ),
         ),
       )
@@ -264,9 +281,7 @@ module _ (log : Log) (caller : Caller) (rows : ℕ) (few : rows ≤ caller.rows)
   explains_more kept what (answers.Trimmed colour base) nodes after left e = (
     e.0,
     e.1,
-    subst (λ (colours : List ℕ). Contains colours colour) (synced_same caller rows what) e.2,
-    trimmed_more log caller rows kept colour base e.3,
-    hidden_more kept what after e.4,
+    refused_more kept what colour base after e.2,
   )
   explains_more kept what (answers.NotHome home) nodes after left e =
       (e.0, e.1, sym (home_same caller rows what) ∙ e.2, e.3)

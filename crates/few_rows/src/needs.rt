@@ -1,8 +1,8 @@
 // How many rows a store needs for each client.
 ghost use Rattle.std.specs.Prelude.{◌≡◌, ◌⊎◌, ◌<◌, ◌≤◌};
 
-/// How many rows a store needs for each client, where each may begin so many and so many commands
-/// may begin one.
+/// How many rows a store needs for each client, where each may begin so many and none has more commands than
+/// so many that may begin one.
 pub fn rows_for(allowed: u32, begins: usize) -> u32
     requires { 0 < allowed }
     ensures some { 0 < result }

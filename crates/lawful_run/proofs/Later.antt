@@ -27,30 +27,57 @@ use Rattle.object_fold.specs.Causal.{ChainNode}
 use Rattle.lawful_run.specs.Callers.{Caller, node_of}
 use Rattle.lawful_run.specs.Asks.{colours_synced, manner_of}
 use Rattle.lawful_run.specs.Appends.{Appends}
-use Rattle.lawful_run.specs.Reads.{ShowsKey}
-use Rattle.lawful_run.specs.Moves.{GivesAt, GivesTooLow, CarriesAt, Pulls, Trims}
+use Rattle.lawful_run.specs.Reads.{ShowsKey, events_until}
+use Rattle.lawful_run.specs.Moves.{GivesAt, AsksFor, GivesHeld, GivesTooLow, CarriesAt, Pulls, OnlyGives, Trims}
 use Rattle.lawful_run.specs.Objects.{AreObjectNodes, own_played, GetsValue, Takes, places_within, IsChainNode, GetsValues}
 use Rattle.lawful_run.specs.Refusals.{FindsNoMemory, nothing, gone, gave, hidden, kept_before}
 use Rattle.lawful_run.specs.Explains.{Explains, Answers, Explained, start, next}
 use Rattle.lawful_run.proofs.Prefixes.{prefix_take, get_within}
 use Rattle.lawful_run.proofs.LaterFacts.{all_zip_of, all_of, first_same, taken_same, still_there, entry_later, place_there, text_later, objects_later}
 use Rattle.lawful_run.proofs.LaterAppends.{append_later, unshown_later, has_no_stamp_later, stops_later, for_memory_later}
-use Rattle.lawful_run.proofs.LaterReads.{syncs_later, played_later, piece_same, trimmed_later, read_later, keys_later, shows_key_later, hides_later}
+use Rattle.lawful_run.proofs.LaterReads.{syncs_later, played_later, piece_same, read_later, keys_later, shows_key_later, hides_later, refuses_later}
 
 module _ (old new : Log) (later : IsLater old new) (caller : Caller) where
   gives_later : (region colour place from : ℕ) → GivesAt old caller region colour place from
       → GivesAt new caller region colour place from
   gives_later region colour place from g = entry_later old new later region colour place _ g
 
-  too_low_later : (region colour place : ℕ) → GivesTooLow old caller region colour place
-      → GivesTooLow new caller region colour place
-  too_low_later region colour place g =
+  asks_later : (region colour seen until place from : ℕ) → place ≤ length (old.histories region colour)
+      → until ≤ length (old.histories caller.own colour) → AsksFor old caller region colour seen until place from
+      → AsksFor new caller region colour seen until place from
+  asks_later region colour seen until place from there within a =
+      let le = a.2 in (
+        a.0,
+        a.1,
+        a.2,
+        a.3
+            ∙ (ap (λ (h : List Entry). min (length (line h))
+            (length (chain caller.own (first old caller.own colour a.0) region)))
+            (sym (taken_same old new later region colour place there))
+            ∙ ap (λ (h : List Dated). min (length (line (take place (new.histories region colour))))
+            (length (chain caller.own h region)))
+            (sym (first_same old new later caller.own colour a.0 (omega (arith, le, within))))),
+      )
+
+  held_later : (region colour seen until : ℕ) → until ≤ length (old.histories caller.own colour) → (place : ℕ)
+      → GivesHeld old caller region colour seen until place → GivesHeld new caller region colour seen until place
+  held_later region colour seen until within place g =
       let l = place_there old new later region colour place _ g.1 in (
         g.0,
         gives_later region colour place g.0 g.1,
+        asks_later region colour seen until place g.0 (omega (arith, l)) within g.2,
+      )
+
+  too_low_later : (region colour seen until : ℕ) → until ≤ length (old.histories caller.own colour) → (place : ℕ)
+      → GivesTooLow old caller region colour seen until place → GivesTooLow new caller region colour seen until place
+  too_low_later region colour seen until within place g =
+      let l = place_there old new later region colour place _ g.1 in (
+        g.0,
+        gives_later region colour place g.0 g.1,
+        asks_later region colour seen until place g.0 (omega (arith, l)) within g.2,
         subst
             (λ (h : List Dated). g.0 < at (base region caller.regions h) region)
-            (sym (first_same old new later region colour place (omega (arith, l)))) g.2,
+            (sym (first_same old new later region colour place (omega (arith, l)))) g.3,
       )
 
   carries_later : (kept : Kept) (region colour nodes : ℕ) (at : At)
@@ -60,13 +87,13 @@ module _ (old new : Log) (later : IsLater old new) (caller : Caller) where
   carries_later kept region colour nodes (Look events) c =
       (c.0, still_there old new later caller.own colour events c.1, c.2)
 
-  -- what was seen, and what a carry has seen, were there
+  -- what a carry looked at, and what it has seen, were there
   carry_there : (kept : Kept) (region colour nodes : ℕ) (at : At) → CarriesAt old caller kept region colour nodes at
-      → (kept.seen caller.own colour ≤ length (old.histories caller.own colour))
+      → (events_until at ≤ length (old.histories caller.own colour))
       × (seen_after at ≤ length (old.histories caller.own colour))
-  carry_there kept region colour nodes (Event place) c = let l =
-      place_there old new later caller.own colour place _ c.3 in let s = c.0 in (omega (arith, l, s), omega (arith, l))
-  carry_there kept region colour nodes (Look events) c = let l = c.1 in let s = c.0 in (omega (arith, l, s), l)
+  carry_there kept region colour nodes (Event place) c =
+      let l = place_there old new later caller.own colour place _ c.3 in (omega (arith, l), omega (arith, l))
+  carry_there kept region colour nodes (Look events) c = (c.1, c.1)
 
   pulls_later : (kept : Kept) (region colour nodes place : ℕ) (carry : At) (too_low : List ℕ)
       → Pulls old caller kept region colour nodes place carry too_low
@@ -77,23 +104,37 @@ module _ (old new : Log) (later : IsLater old new) (caller : Caller) where
       let line_same = taken_same old new later region colour place (omega (arith, l)) in
       record {
         another = p.another;
-        made_again = all_of (GivesTooLow old caller region colour) (GivesTooLow new caller region colour)
-            (too_low_later region colour) too_low p.made_again;
+        made_again = all_of (GivesTooLow old caller region colour (kept.seen caller.own colour) (events_until carry))
+            (GivesTooLow new caller region colour (kept.seen caller.own colour) (events_until carry))
+            (too_low_later region colour (kept.seen caller.own colour) (events_until carry) c.0) too_low p.made_again;
         unseen = p.unseen;
         from = p.from;
         gives = gives_later region colour place p.from p.gives;
-        asks_on = subst (λ (h : List Dated). min (length (line (take place (new.histories region colour))))
-            (length (chain caller.own h region)) ≤ p.from)
-            (sym (first_same old new later caller.own colour (kept.seen caller.own colour) c.0))
-            (subst (λ (h : List Entry). min (length (line h))
-            (length (chain caller.own (first old caller.own colour
-            (kept.seen caller.own colour)) region)) ≤ p.from) (sym line_same) p.asks_on);
+        asks = asks_later region colour (kept.seen caller.own colour) (events_until carry) place p.from
+            (omega (arith, l)) c.0 p.asks;
         carries = carries_later kept region colour nodes carry p.carries;
         holds = subst (λ (h : List Dated). length (line (take place (new.histories region colour))) ≤ length
             (chain caller.own h region))
             (sym (first_same old new later caller.own colour (seen_after carry) c.1))
             (subst (λ (h : List Entry). length (line h) ≤ length
             (chain caller.own (first old caller.own colour (seen_after carry)) region)) (sym line_same) p.holds);
+      }
+
+  only_gives_later : (kept : Kept) (region colour looked : ℕ) (too_low gives : List ℕ)
+      → OnlyGives old caller kept region colour looked too_low gives
+      → OnlyGives new caller kept region colour looked too_low gives
+  only_gives_later kept region colour looked too_low gives g =
+      let seen = kept.seen caller.own colour in
+      record {
+        another = g.another;
+        unseen = g.unseen;
+        there = still_there old new later caller.own colour looked g.there;
+        made_again = all_of (GivesTooLow old caller region colour seen looked)
+            (GivesTooLow new caller region colour seen looked) (too_low_later region colour seen looked g.there) too_low
+            g.made_again;
+        once = g.once;
+        given = all_of (GivesHeld old caller region colour seen looked) (GivesHeld new caller region colour seen looked)
+            (held_later region colour seen looked g.there) gives g.given;
       }
 
   trims_later : (kept : Kept) (colour place : ℕ) (shown : Counts) → Trims old caller kept colour place shown
@@ -166,10 +207,8 @@ module _ (old new : Log) (later : IsLater old new) (caller : Caller) where
   memory_later kept what after (gone colours text places asks g) =
       gone colours text places asks (for_memory_later old new later caller kept
       (node_of caller kept colours text) places g)
-  memory_later kept what after (gave region colour too_low gives is low few all) =
-      gave region colour too_low gives is (all_of (GivesTooLow old caller region colour)
-      (GivesTooLow new caller region colour) (too_low_later region colour) too_low low) few
-      (λ k d lt. let g = all k d lt in (g.0, gives_later region colour _ g.0 g.1))
+  memory_later kept what after (gave region colour looked too_low gives is g) =
+      gave region colour looked too_low gives is (only_gives_later kept region colour looked too_low gives g)
   memory_later kept what after (hidden then h) = hidden then
       (hides_later old new later caller kept (colours_synced caller what) (manner_of what) then h)
 
@@ -294,11 +333,10 @@ module _ (old new : Log) (later : IsLater old new) (caller : Caller) where
         ),
       )
   explains_later kept what (answers.UnreadTrimmed stamp colour base) nodes after e =
-      let a = e.3 in
+      let a = e.2 in
       let s = a.3 in (
         e.0,
         e.1,
-        e.2,
         (
           a.0,
           a.1,
@@ -306,8 +344,7 @@ module _ (old new : Log) (later : IsLater old new) (caller : Caller) where
           (
             s.0,
             unshown_later old new later caller kept (node_of caller kept a.0 a.1) stamp s.0 s.1,
-            trimmed_later old new later caller s.0 colour base s.2,
-            hides_later old new later caller s.0 (colours_synced caller what) (manner_of what) after s.3,
+            refuses_later old new later caller s.0 (colours_synced caller what) (manner_of what) colour base after s.2,
           ),
         ),
       )
@@ -330,10 +367,7 @@ module _ (old new : Log) (later : IsLater old new) (caller : Caller) where
   explains_later kept what (answers.Trimmed colour base) nodes after e = (
     e.0,
     e.1,
-    e.2,
-    trimmed_later old new later caller kept colour base e.3,
-    hides_later old new later caller kept
-        (colours_synced caller what) (manner_of what) after e.4,
+    refuses_later old new later caller kept (colours_synced caller what) (manner_of what) colour base after e.2,
   )
   explains_later kept what (answers.NotHome home) nodes after e = e
 

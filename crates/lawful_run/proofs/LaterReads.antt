@@ -20,8 +20,8 @@ use Rattle.report_text.specs.declared.report.SyncPiece.{SyncPiece}
 use Rattle.col_core.specs.RegionOrder.{IsRegionOrder, IsClearUpTo}
 use Rattle.lawful_run.specs.Callers.{Caller}
 use Rattle.lawful_run.specs.Asks.{Manner, Appending, Stopping, Syncing, Moving, Getting, Reading, Committing, Dequeuing}
-use Rattle.lawful_run.specs.Reads.{Syncs, ShowsNode, ShowsPlayed, played_stamp, kept_after_piece, IsTrimmed, RaisesAt, kept_after_place, Raises, ClearSyncs, events_until, IsReadStamp, IsAboveClocks, ReadsAt, lines_read, AreRead, ShowsKey, HidesSync, not_played, played, HidesSyncs, HidesRead}
-use Rattle.lawful_run.specs.Refusals.{Hides}
+use Rattle.lawful_run.specs.Reads.{Syncs, ShowsNode, ShowsPlayed, played_stamp, kept_after_piece, IsTrimmed, RaisesAt, kept_after_place, Raises, ClearSyncs, events_until, IsReadStamp, IsAboveClocks, ReadsAt, lines_read, AreRead, ShowsKey, HidesSync, not_played, played, HidesSyncs, HidesRead, RefusesRead}
+use Rattle.lawful_run.specs.Refusals.{Hides, Refuses}
 use Rattle.lawful_run.proofs.LaterFacts.{all_zip_of, first_same, taken_same, still_there, entry_later, place_there, text_later}
 
 module _ (old new : Log) (later : IsLater old new) (caller : Caller) where
@@ -267,3 +267,36 @@ module _ (old new : Log) (later : IsLater old new) (caller : Caller) where
   hides_later kept colours Reading after h = hides_read_later kept colours after h
   hides_later kept colours Committing after h = hides_read_later kept colours after h
   hides_later kept colours Dequeuing after h = hides_syncs_later kept colours after h
+
+  refuses_read_later : (kept : Kept) (colours : List ℕ) (colour : ℕ) (shown : Counts) (after : Kept)
+      → RefusesRead old caller kept colours colour shown after → RefusesRead new caller kept colours colour shown after
+  refuses_read_later kept colours colour shown after r = record {
+    stamp = r.stamp;
+    raises = r.raises;
+    syncs = r.syncs;
+    behind = r.behind;
+    raised_colours = r.raised_colours;
+    synced_before = r.synced_before;
+    above_floor = r.above_floor;
+    above_clocks = above_later kept colours r.stamp r.above_clocks;
+    chosen = chosen_later kept r.raises r.stamp
+        (λ raise among. each_there r.stamp kept r.raises r.raised r.raising raise among.0 among.1 among.2) r.chosen;
+    raised = r.raised;
+    raising = raises_later r.stamp kept r.raises r.raised r.raising;
+    syncing = clear_later r.stamp r.raised r.syncs after r.syncing;
+    trimmed = trimmed_later after colour shown r.trimmed;
+  }
+
+  pub refuses_later : (kept : Kept) (colours : List ℕ) (manner : Manner) (colour : ℕ) (shown : Counts) (after : Kept)
+      → Refuses old caller kept colours manner colour shown after
+      → Refuses new caller kept colours manner colour shown after
+  refuses_later kept colours Appending colour shown after r = absurd r
+  refuses_later kept colours Stopping colour shown after r = absurd r
+  refuses_later kept colours Syncing colour shown after r = (r.0, trimmed_later kept colour shown r.1, r.2)
+  refuses_later kept colours Moving colour shown after r = absurd r
+  refuses_later kept colours Getting colour shown after r =
+      (r.0, trimmed_later kept colour shown r.1, hides_syncs_later kept colours after r.2)
+  refuses_later kept colours Reading colour shown after r = refuses_read_later kept colours colour shown after r
+  refuses_later kept colours Committing colour shown after r = refuses_read_later kept colours colour shown after r
+  refuses_later kept colours Dequeuing colour shown after r =
+      (r.0, trimmed_later kept colour shown r.1, hides_syncs_later kept colours after r.2)

@@ -1,12 +1,12 @@
 -- How the answers to commands of objects are explained, put together from their parts: appends, syncs and folds.
-use Rattle.std.proofs.Common.{◌≡◌, ◌≢◌, ◌⊎◌, cond, inl, inr, ℕ, zero, suc, ◌+◌, ◌<◌, ◌≤◌, Bool, true, false, List, [], ◌∷◌, Option, Some, None, refl, sym, subst, ap, ◌∙◌, arith, eq-eqb}
-use Rattle.std.specs.Prelude.{◌==◌, ◌||◌}
-use Rattle.std.specs.List.{AllZip, Contains, filter, range_with_len}
-use Rattle.std.proofs.lemmas.Bool.{eqb-true, cases_lt}
+use Rattle.std.proofs.Common.{◌≡◌, ◌≢◌, inl, inr, ℕ, ◌<◌, List, [], ◌∷◌, Option, Some, None, refl, sym, subst, ap, ◌∙◌}
+use Rattle.std.specs.List.{AllZip, Contains}
 use Rattle.log_node.specs.declared.ids.Colours.{Colours}
 use Rattle.log_node.specs.declared.ids.Counts.{Counts}
 use Rattle.log_node.specs.declared.ids.Key.{Key}
 use Rattle.log_node.specs.declared.forms.Pair.{Pair}
+use Rattle.log_node.specs.declared.limits.TheConstants.{MAX_COLOURS}
+use Rattle.log_node.proofs.CallerLemmas.{members-one, members-set_of}
 use Rattle.object_fold.specs.Causal.{ChainNode, IsCausalAnswer}
 use Rattle.object_fold.specs.Maps.{Value, shard_value}
 use Rattle.object_fold.specs.Nodes.{ObjectNode, shard_of}
@@ -15,7 +15,6 @@ use Rattle.col_core.specs.History.{entry_key}
 use Rattle.col_core.specs.Cuts.{chain}
 use Rattle.col_core.specs.Log.{Log, first}
 use Rattle.col_core.specs.Keeping.{Kept, with_read}
-use Rattle.col_core.proofs.CallerLemmas.{by_test, apart, if_true, if_false}
 use Rattle.script_text.specs.declared.script.Kind.{Kind}
 use Rattle.script_text.specs.declared.script.Kind.TheVariants as kinds
 use Rattle.script_text.specs.declared.script.What.{What}
@@ -28,42 +27,16 @@ use Rattle.report_text.specs.declared.report.SyncPiece.{SyncPiece}
 use Rattle.lawful_run.specs.Callers.{Caller, node_of}
 use Rattle.lawful_run.specs.Asks.{kind_of, object_colours, colours_of, home_of, home_asked, colours_synced, rising, shards, AsksToAppend, Appending, Getting, Committing, Dequeuing, Manner, manner_of}
 use Rattle.lawful_run.specs.Appends.{Appends, AppendsUnshown}
-use Rattle.lawful_run.specs.Reads.{Syncs, IsTrimmed, HidesSyncs, kept_after_piece, ReadsAt, AreRead, HidesRead}
+use Rattle.lawful_run.specs.Reads.{Syncs, IsTrimmed, HidesSyncs, kept_after_piece, ReadsAt, AreRead, HidesRead, RefusesRead}
 use Rattle.lawful_run.specs.Objects.{AreObjectNodes, AreAnswers, IsChainNode, GetsValue, GetsValues, Takes, own_played, places_within, shown_verdict}
-use Rattle.lawful_run.specs.Refusals.{Hides, hidden}
+use Rattle.lawful_run.specs.Refusals.{Hides, Refuses, hidden}
 use Rattle.lawful_run.specs.Explains.{Explains}
 
--- the one colour of a range
-none_above : (c a n : ℕ) → c < a → filter (λ x. (c == x) || false) (range_with_len a n) ≡ []
-none_above c a zero lt = refl
-none_above c a (suc n) lt =
-    by_test _ (c == a)
-    (λ t. let e = eqb-true c a t in absurd (let f : ⊥ = omega (arith, lt, e) in f))
-    (λ f. passed (c == a) a (filter (λ x. (c == x) || false) (range_with_len (a + 1) n)) f
-    ∙ none_above c (a + 1) n (omega (arith, lt))) where
-      passed : (b : Bool) (x : ℕ) (xs : List ℕ) → b ≡ false → cond (b || false) (x ∷ xs) xs ≡ xs
-      passed true x xs e = absurd (let g : ⊥ = cc in g)
-      passed false x xs e = refl
-
-one_here : (c a n : ℕ) → a ≤ c → c < a + n → filter (λ x. (c == x) || false) (range_with_len a n) ≡ c ∷ []
-one_here c a zero le lt = absurd (let f : ⊥ = omega (arith, le, lt) in f)
-one_here c a (suc n) le lt = step (λ e. one_here c (a + 1) n e (omega (arith, lt))) (c == a) refl where
-  step : (a + 1 ≤ c → filter (λ x. (c == x) || false) (range_with_len (a + 1) n) ≡ c ∷ []) → (b : Bool)
-      → (c == a) ≡ b
-      → cond (b || false) (a ∷ filter (λ x. (c == x) || false) (range_with_len (a + 1) n))
-      (filter (λ x. (c == x) || false) (range_with_len (a + 1) n)) ≡ c ∷ []
-  step rest true t =
-      let e = eqb-true c a t in
-      ap (λ (l : List ℕ). a ∷ l) (none_above c (a + 1) n (omega (arith, e))) ∙ ap (λ (x : ℕ). x ∷ []) (sym e)
-  step rest false f = rest (above (cases_lt a c)) where
-    above : (a < c) ⊎ (c ≤ a) → a + 1 ≤ c
-    above (inl less) = omega (arith, less)
-    above (inr more) = absurd (apart (c == a) (eq-eqb c a (omega (arith, le, more))) f)
-
 -- one key has one shard
-pub one_shard : (colours key : List ℕ) → shard_of colours key < 64
+pub one_shard : (colours key : List ℕ) → shard_of colours key < MAX_COLOURS
     → shards colours (key ∷ []) ≡ shard_of colours key ∷ []
-one_shard colours key low = one_here (shard_of colours key) 0 64 (omega arith) (omega (arith, low))
+one_shard colours key low =
+    sym (members-set_of (shard_of colours key ∷ [])) ∙ members-one (shard_of colours key) low
 
 module _ (log : Log) (caller : Caller) (kept : Kept) where
   -- A put, a deletion, several puts at once and an enqueue are explained by their append.
@@ -77,7 +50,7 @@ module _ (log : Log) (caller : Caller) (kept : Kept) where
 
   -- A get of a map is explained by a sync of the key's shard, and the fold of the own nodes that its snapshot counts.
   pub explains_get : (object home : ℕ) (colours key : List ℕ) (sync : SyncPiece) (nodes : List ObjectNode)
-      → kind_of caller object ≡ Some (kinds.Map home colours) → shard_of colours key < 64
+      → kind_of caller object ≡ Some (kinds.Map home colours) → shard_of colours key < MAX_COLOURS
       → sync.colour ≡ shard_of colours key → Syncs log caller kept sync.colour sync.events sync.counts
       → AreObjectNodes log (own_played log caller sync) nodes
       → Explains log caller kept (whats.Get object key)
@@ -116,9 +89,8 @@ module _ (log : Log) (caller : Caller) (kept : Kept) where
   explains_get_trimmed what colour base after getting has trimmed hides = (
     refl,
     inr (inl getting),
-    has,
-    trimmed,
-    subst (λ (m : Manner). Hides log caller kept (colours_synced caller what) m after) (sym getting) hides,
+    subst (λ (m : Manner). Refuses log caller kept (colours_synced caller what) m colour base after) (sym getting)
+        (has, trimmed, hides),
   )
 
   pub explains_get_without : (what : What) (after : Kept) → manner_of what ≡ Getting
@@ -150,7 +122,6 @@ module _ (log : Log) (caller : Caller) (kept : Kept) where
   explains_unread what colours text stamp colour base stood after dequeuing has asks appends trimmed hides = (
     refl,
     inr dequeuing,
-    has,
     (
       colours,
       text,
@@ -158,8 +129,8 @@ module _ (log : Log) (caller : Caller) (kept : Kept) where
       (
         stood,
         appends,
-        trimmed,
-        subst (λ (m : Manner). Hides log caller stood (colours_synced caller what) m after) (sym dequeuing) hides,
+        subst (λ (m : Manner). Refuses log caller stood (colours_synced caller what) m colour base after) (sym dequeuing)
+            (has, trimmed, hides),
       ),
     ),
   )
@@ -211,15 +182,13 @@ module _ (log : Log) (caller : Caller) (kept : Kept) where
 
   -- Its node stands, and the read or the fold behind it was refused.
   pub explains_unruled : (what : What) (colours : Colours) (text : List ℕ) (stamp colour : ℕ) (base : Counts)
-      (stood after : Kept) → manner_of what ≡ Committing → Contains (colours_synced caller what) colour
-      → AsksToAppend caller kept what colours text
+      (stood after : Kept) → manner_of what ≡ Committing → AsksToAppend caller kept what colours text
       → AppendsUnshown log caller kept (node_of caller kept colours text) stamp stood
-      → IsTrimmed log caller stood colour base → HidesRead log caller stood (colours_synced caller what) after
+      → RefusesRead log caller stood (colours_synced caller what) colour base after
       → Explains log caller kept what (answers.UnreadTrimmed stamp colour base) [] after
-  explains_unruled what colours text stamp colour base stood after committing has asks appends trimmed hides = (
+  explains_unruled what colours text stamp colour base stood after committing asks appends refused = (
     refl,
     inl committing,
-    has,
     (
       colours,
       text,
@@ -227,8 +196,8 @@ module _ (log : Log) (caller : Caller) (kept : Kept) where
       (
         stood,
         appends,
-        trimmed,
-        subst (λ (m : Manner). Hides log caller stood (colours_synced caller what) m after) (sym committing) hides,
+        subst (λ (m : Manner). Refuses log caller stood (colours_synced caller what) m colour base after)
+            (sym committing) refused,
       ),
     ),
   )

@@ -28,9 +28,9 @@ use Rattle.lawful_run.specs.Callers.{Caller, node_of}
 use Rattle.lawful_run.specs.Asks.{Manner, Appending, Stopping, Syncing, Moving, Getting, Reading, Committing, Dequeuing, colours_synced, manner_of}
 use Rattle.lawful_run.specs.Appends.{EntersAt, StandsAt, Appends, AppendsUnshown, one_unshown, several_unshown, kept_after_points, HasNoStamp, none_for_one, none_for_several}
 use Rattle.lawful_run.specs.Stops.{Stops, stopped_at_once, stopped_after}
-use Rattle.lawful_run.specs.Reads.{Syncs, kept_after_piece, RaisesAt, kept_after_place, Raises, ClearSyncs, ReadsAt, HidesSync, not_played, played, HidesSyncs, HidesRead}
+use Rattle.lawful_run.specs.Reads.{Syncs, kept_after_piece, RaisesAt, kept_after_place, Raises, ClearSyncs, ReadsAt, HidesSync, not_played, played, HidesSyncs, HidesRead, RefusesRead}
 use Rattle.lawful_run.specs.Moves.{CarriesAt, Pulls, with_places, kept_after_pull}
-use Rattle.lawful_run.specs.Refusals.{Hides, FindsNoMemory, nothing, gone, gave, hidden, kept_before}
+use Rattle.lawful_run.specs.Refusals.{Hides, Refuses, FindsNoMemory, nothing, gone, gave, hidden, kept_before}
 use Rattle.lawful_run.specs.Explains.{Explains, Answers}
 use Rattle.lawful_run.proofs.Replies.{contains_at}
 use Rattle.lawful_run.proofs.Beginnings.{at_new, at_new_at, split, taken, front}
@@ -217,6 +217,22 @@ module _ (log : Log) (caller : Caller) (colour : ℕ)
   hides kept colours Committing after h = hidden_read kept colours after h
   hides kept colours Dequeuing after h = hidden_syncs kept colours after h
 
+  refused_read : (kept : Kept) (colours : List ℕ) (c : ℕ) (shown : Counts) (after : Kept)
+      → RefusesRead log caller kept colours c shown after → Onward kept after
+  refused_read kept colours c shown after r =
+      then_on (raises r.stamp kept r.raises r.raised r.raising) (pieces r.stamp r.raised r.syncs after r.syncing)
+
+  refuses : (kept : Kept) (colours : List ℕ) (manner : Manner) (c : ℕ) (shown : Counts) (after : Kept)
+      → Refuses log caller kept colours manner c shown after → Onward kept after
+  refuses kept colours Appending c shown after r = absurd r
+  refuses kept colours Stopping c shown after r = absurd r
+  refuses kept colours Syncing c shown after r = to_same kept after r.2 (same refl refl)
+  refuses kept colours Moving c shown after r = absurd r
+  refuses kept colours Getting c shown after r = hidden_syncs kept colours after r.2
+  refuses kept colours Reading c shown after r = refused_read kept colours c shown after r
+  refuses kept colours Committing c shown after r = refused_read kept colours c shown after r
+  refuses kept colours Dequeuing c shown after r = hidden_syncs kept colours after r.2
+
   -- appends
   enters : (kept : Kept) (node : Node) (c : ℕ) (place : At) → EntersAt log caller kept node c place
       → kept.seen caller.own c ≤ seen_after place
@@ -303,9 +319,14 @@ module _ (log : Log) (caller : Caller) (colour : ℕ)
   memory : (kept : Kept) (what : What) (after : Kept) → FindsNoMemory log caller kept what after → Onward kept after
   memory kept what after nothing = same refl refl
   memory kept what after (gone colours text places asks g) = begun kept places
-  memory kept what after (gave region c too_low places is low few all) =
-      then_on {middle = with_places kept region c too_low} (placed kept region c too_low)
-      (placed (with_places kept region c too_low) region c places)
+  memory kept what after (gave region c looked too_low places is g) =
+      let low = with_places kept region c too_low in
+      let given = with_places low region c places in
+      let same = other_column low.seen region c (seen_past (low.seen region c) places) c g.another
+      ∙ other_column kept.seen region c (seen_past (kept.seen region c) too_low) c g.another in
+      let unseen = g.unseen in
+      then_on {middle = low} (placed kept region c too_low)
+      (then_on {middle = given} (placed low region c places) (look given c looked (omega (arith, unseen, same))))
   memory kept what after (hidden later h) = hides kept (colours_synced caller what) (manner_of what) later h
 
   explained : (kept : Kept) (what : What) (answer : Answer) (nodes : List PlacedNode) (after : Kept)
@@ -347,14 +368,14 @@ module _ (log : Log) (caller : Caller) (colour : ℕ)
       then_on (appended kept (node_of caller kept a.0 a.1) s.0 None (point ∷ []) s.1 s.2)
       (to_same _ after s.5 (synced s.1 sync.colour sync.events _ sync.counts s.3))
   explained kept what (answers.UnreadTrimmed stamp c base) nodes after e =
-      let a = e.3 in
+      let a = e.2 in
       let s = a.3 in
-      then_on (unshown kept (node_of caller kept a.0 a.1) stamp s.0 s.1) (hides s.0 _ _ after s.3)
+      then_on (unshown kept (node_of caller kept a.0 a.1) stamp s.0 s.1) (refuses s.0 _ _ c base after s.2)
   explained kept what (answers.UnreadNoMemory stamp) nodes after e =
       let a = e.2 in
       let s = a.3 in
       then_on (unshown kept (node_of caller kept a.0 a.1) stamp s.0 s.1) (hides s.0 _ _ after s.2)
-  explained kept what (answers.Trimmed c base) nodes after e = hides kept _ _ after e.4
+  explained kept what (answers.Trimmed c base) nodes after e = refuses kept _ _ c base after e.2
   explained kept what (answers.NotHome home) nodes after e = to_same kept after e.1 (same refl refl)
 
   -- a command leaves past what was past

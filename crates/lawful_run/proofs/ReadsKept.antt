@@ -2,6 +2,7 @@
 use Rattle.std.proofs.Common.{◌≡◌, ◌⊎◌, ℕ, ◌+◌, ◌≤◌, List, [], ◌∷◌, ◌++◌, length, Option, Some, None, inl, inr, refl, ap, ◌∙◌, arith, length-append}
 use Rattle.std.specs.Prelude.{◌≢◌}
 use Rattle.log_node.specs.declared.forms.Version.{Version}
+use Rattle.log_node.specs.declared.ids.Counts.{Counts}
 use Rattle.log_node.specs.declared.node.At.{At}
 use Rattle.log_node.specs.declared.node.At.TheVariants.{Event, Look}
 use Rattle.log_node.specs.declared.node.Node.{Node}
@@ -23,8 +24,8 @@ use Rattle.lawful_run.specs.Callers.{Caller, node_of}
 use Rattle.lawful_run.specs.Asks.{Manner, Appending, Stopping, Syncing, Moving, Getting, Reading, Committing, Dequeuing, colours_synced, manner_of}
 use Rattle.lawful_run.specs.Appends.{Appends, AppendsUnshown, one_unshown, several_unshown, kept_after_points, HasNoStamp, none_for_one, none_for_several}
 use Rattle.lawful_run.specs.Moves.{with_places, kept_after_pull}
-use Rattle.lawful_run.specs.Reads.{kept_after_place, kept_after_piece, Raises, ClearSyncs, ReadsAt, HidesSyncs, HidesRead}
-use Rattle.lawful_run.specs.Refusals.{Hides, FindsNoMemory, nothing, gone, gave, hidden}
+use Rattle.lawful_run.specs.Reads.{kept_after_place, kept_after_piece, Raises, ClearSyncs, ReadsAt, HidesSyncs, HidesRead, RefusesRead}
+use Rattle.lawful_run.specs.Refusals.{Hides, Refuses, FindsNoMemory, nothing, gone, gave, hidden}
 use Rattle.lawful_run.specs.Stops.{Stops, stopped_at_once, stopped_after}
 use Rattle.lawful_run.specs.Explains.{Explains, Explained, start, next}
 use Rattle.lawful_run.proofs.HiddenReads.{kept_after_hidden}
@@ -92,6 +93,25 @@ hides_keep log caller kept colours Reading after h = hidden_keeps log caller kep
 hides_keep log caller kept colours Committing after h = hidden_keeps log caller kept colours after h
 hides_keep log caller kept colours Dequeuing after h = syncs_keep log caller kept colours after h
 
+refused_keeps : (log : Log) (caller : Caller) (kept : Kept) (colours : List ℕ) (colour : ℕ) (shown : Counts) (after : Kept)
+    → RefusesRead log caller kept colours colour shown after → KeepsReads kept after
+refused_keeps log caller kept colours colour shown after r =
+    clears_keep log caller r.stamp r.raised r.syncs after r.syncing
+    ∙ raises_keep log caller r.stamp kept r.raises r.raised r.raising
+
+refuses_keep : (log : Log) (caller : Caller) (kept : Kept) (colours : List ℕ) (manner : Manner) (colour : ℕ)
+    (shown : Counts) (after : Kept) → Refuses log caller kept colours manner colour shown after → KeepsReads kept after
+refuses_keep log caller kept colours Appending colour shown after r = absurd r
+refuses_keep log caller kept colours Stopping colour shown after r = absurd r
+refuses_keep log caller kept colours Syncing colour shown after r = same_kept kept after r.2
+refuses_keep log caller kept colours Moving colour shown after r = absurd r
+refuses_keep log caller kept colours Getting colour shown after r = syncs_keep log caller kept colours after r.2
+refuses_keep log caller kept colours Reading colour shown after r =
+    refused_keeps log caller kept colours colour shown after r
+refuses_keep log caller kept colours Committing colour shown after r =
+    refused_keeps log caller kept colours colour shown after r
+refuses_keep log caller kept colours Dequeuing colour shown after r = syncs_keep log caller kept colours after r.2
+
 points_keep : (own : ℕ) (kept : Kept) (points : List PointPiece) → KeepsReads kept (kept_after_points kept own points)
 points_keep own kept [] = refl
 points_keep own kept (p ∷ points) = points_keep own (kept_after_point kept own p.colour p.at p.position) points
@@ -123,7 +143,7 @@ module _ (log : Log) (caller : Caller) (kept : Kept) where
   memory_keeps : (what : What) (after : Kept) → FindsNoMemory log caller kept what after → KeepsReads kept after
   memory_keeps what after nothing = refl
   memory_keeps what after (gone colours text places asks g) = refl
-  memory_keeps what after (gave region colour too_low gives is low few all) = refl
+  memory_keeps what after (gave region colour looked too_low gives is g) = refl
   memory_keeps what after (hidden other h) =
       hides_keep log caller kept (colours_synced caller what) (manner_of what) other h
 
@@ -170,15 +190,15 @@ module _ (log : Log) (caller : Caller) (kept : Kept) where
       let s = e.3.3 in
       so_kept kept _ after s.5 (appends_keep (node_of caller kept e.3.0 e.3.1) s.0 None (point ∷ []) s.1 s.2)
   explained_keeps what (answers.UnreadTrimmed stamp colour base) nodes after e other =
-      let s = e.3.3 in
-      hides_keep log caller s.0 (colours_synced caller what) (manner_of what) after s.3
-      ∙ unshown_keeps (node_of caller kept e.3.0 e.3.1) stamp s.0 s.1
+      let s = e.2.3 in
+      refuses_keep log caller s.0 (colours_synced caller what) (manner_of what) colour base after s.2
+      ∙ unshown_keeps (node_of caller kept e.2.0 e.2.1) stamp s.0 s.1
   explained_keeps what (answers.UnreadNoMemory stamp) nodes after e other =
       let s = e.2.3 in
       hides_keep log caller s.0 (colours_synced caller what) (manner_of what) after s.2
       ∙ unshown_keeps (node_of caller kept e.2.0 e.2.1) stamp s.0 s.1
   explained_keeps what (answers.Trimmed colour base) nodes after e other =
-      hides_keep log caller kept (colours_synced caller what) (manner_of what) after e.4
+      refuses_keep log caller kept (colours_synced caller what) (manner_of what) colour base after e.2
   explained_keeps what (answers.NotHome home) nodes after e other = same_kept kept after e.1
 
 -- a client has no more ids than it has asked commands

@@ -134,7 +134,7 @@ module _ (script : Script) (report : Report) (run : LawfulRun script report) (cl
       let s = a.3 in
       (a.0, a.1, a.2, (s.0, at_points a.0 a.1 s.0 None (point ∷ []) s.1 s.2))
   returned what (answers.UnreadTrimmed stamp colour base) nodes after e n =
-      let a = e.3 in
+      let a = e.2 in
       let s = a.3 in
       (a.0, a.1, a.2, unshown a.0 a.1 stamp s.0 s.1)
   returned what (answers.UnreadNoMemory stamp) nodes after e n =

@@ -22,9 +22,9 @@ use Rattle.lawful_run.specs.Callers.{Caller}
 use Rattle.lawful_run.specs.Asks.{Manner, Appending, Stopping, Syncing, Moving, Getting, Reading, Committing, Dequeuing}
 use Rattle.col_core.specs.Ids.{IsStepOf}
 use Rattle.lawful_run.specs.Appends.{AreSteps}
-use Rattle.lawful_run.specs.Refusals.{Hides}
-use Rattle.lawful_run.specs.Reads.{kept_after_piece, RaisesAt, kept_after_place, Raises, ClearSyncs, ReadsAt, HidesSyncs, HidesRead}
-use Rattle.lawful_run.specs.Moves.{GivesAt, GivesTooLow, CarriesAt, Pulls, with_places}
+use Rattle.lawful_run.specs.Refusals.{Hides, Refuses}
+use Rattle.lawful_run.specs.Reads.{kept_after_piece, RaisesAt, kept_after_place, Raises, ClearSyncs, events_until, ReadsAt, HidesSyncs, HidesRead, RefusesRead}
+use Rattle.lawful_run.specs.Moves.{GivesAt, GivesHeld, GivesTooLow, CarriesAt, Pulls, with_places}
 
 -- a single of the id stands at the place
 pub record IsSingleAt (log : Log) (region colour place : ℕ) (id : Id) : Type 0 where
@@ -244,18 +244,40 @@ module _ (log : Log) (caller : Caller) where
   hides kept colours Committing after h = hidden_read kept colours after h
   hides kept colours Dequeuing after h = hidden_syncs kept colours after h
 
+  refused_read : (kept : Kept) (colours : List ℕ) (colour : ℕ) (shown : Counts) (after : Kept)
+      → RefusesRead log caller kept colours colour shown after → Quiet log kept after
+  refused_read kept colours colour shown after r =
+      quiet_then (raises r.stamp kept r.raises r.raised r.raising) (pieces r.stamp r.raised r.syncs after r.syncing)
+
+  pub refuses : (kept : Kept) (colours : List ℕ) (manner : Manner) (colour : ℕ) (shown : Counts) (after : Kept)
+      → Refuses log caller kept colours manner colour shown after → Quiet log kept after
+  refuses kept colours Appending colour shown after r = absurd r
+  refuses kept colours Stopping colour shown after r = absurd r
+  refuses kept colours Syncing colour shown after r = quiet_is r.2
+  refuses kept colours Moving colour shown after r = absurd r
+  refuses kept colours Getting colour shown after r = hidden_syncs kept colours after r.2
+  refuses kept colours Reading colour shown after r = refused_read kept colours colour shown after r
+  refuses kept colours Committing colour shown after r = refused_read kept colours colour shown after r
+  refuses kept colours Dequeuing colour shown after r = hidden_syncs kept colours after r.2
+
   -- PULLS
-  pub gives : (kept : Kept) (region colour : ℕ) (places : List ℕ) → All
+  gives : (kept : Kept) (region colour : ℕ) (places : List ℕ) → All
       (λ place. (from : ℕ) × GivesAt log caller region colour place from) places
       → Quiet log kept (with_places kept region colour places)
   gives kept region colour places all = more_places log kept region colour places (λ place id i s.
       let g = All-contains (λ (p : ℕ). (from : ℕ) × GivesAt log caller region colour p from) places place all i in
       no_single log region colour place id _ g.1 tt s)
 
-  pub too_low_gives : (kept : Kept) (region colour : ℕ) (places : List ℕ) → All
-      (GivesTooLow log caller region colour) places
+  pub held_gives : (kept : Kept) (region colour seen until : ℕ) (places : List ℕ) → All
+      (GivesHeld log caller region colour seen until) places
       → Quiet log kept (with_places kept region colour places)
-  too_low_gives kept region colour places all = gives kept region colour places
+  held_gives kept region colour seen until places all = gives kept region colour places
+      (λ k d lt. let g = all k d lt in (g.0, g.1))
+
+  pub too_low_gives : (kept : Kept) (region colour seen until : ℕ) (places : List ℕ) → All
+      (GivesTooLow log caller region colour seen until) places
+      → Quiet log kept (with_places kept region colour places)
+  too_low_gives kept region colour seen until places all = gives kept region colour places
       (λ k d lt. let g = all k d lt in (g.0, g.1))
 
   carry : (kept : Kept) (region colour nodes : ℕ) (at : At) (held : Kept)
@@ -272,7 +294,7 @@ module _ (log : Log) (caller : Caller) where
   pulls kept region colour nodes place at too_low after p e =
       quiet_to (kept_after_place (kept_after_event
       (with_places kept region colour too_low) region colour place) caller.own colour at) after e
-      (quiet_then (too_low_gives kept region colour too_low p.made_again)
+      (quiet_then (too_low_gives kept region colour (kept.seen caller.own colour) (events_until at) too_low p.made_again)
       (quiet_then (an_event log (with_places kept region colour too_low) region colour place _ p.gives tt)
       (carry (kept_after_event (with_places kept region colour too_low) region colour place) region colour nodes at kept
       p.carries)))

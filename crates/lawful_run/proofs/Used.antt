@@ -15,7 +15,7 @@ use Rattle.lawful_run.specs.Asks.{AsksToAppend, colours_synced}
 use Rattle.lawful_run.specs.Refusals.{kept_before, kept_behind}
 use Rattle.lawful_run.specs.Explains.{Explains, Answers}
 use Rattle.lawful_run.specs.Readings.{Told, Nowhere, told}
-use Rattle.lawful_run.proofs.Traces.{Quiet, quiet_self, quiet_then, quiet_is, quiet_to, an_event, read, hides, pulls}
+use Rattle.lawful_run.proofs.Traces.{Quiet, quiet_self, quiet_then, quiet_is, quiet_to, an_event, read, hides, refuses, pulls}
 use Rattle.lawful_run.proofs.LettingGo.{before_is, behind_is}
 use Rattle.lawful_run.proofs.Uses.{Leaves, uses_then, appends_use, unshown_use, no_stamp_use, stop_use, memory_use, quiet_same}
 
@@ -70,17 +70,17 @@ explained_use log caller kept what (answers.Took value point sync) nodes after e
     inr (uses_then (appends_use log caller kept what a.0 a.1 a.2 _ s.0 None (point ∷ []) s.1 (λ f. absurd cc) s.2)
     (quiet_to _ after s.5 (quiet_same log s.1 _ refl refl)))
 explained_use log caller kept what (answers.UnreadTrimmed stamp colour base) nodes after e =
-    let a = e.3 in
+    let a = e.2 in
     let s = a.3 in
     inr (uses_then (unshown_use log caller kept what a.0 a.1 a.2 _ stamp s.0 (λ f. absurd cc) s.1)
-    (hides log caller s.0 _ _ after s.3))
+    (refuses log caller s.0 _ _ colour base after s.2))
 explained_use log caller kept what (answers.UnreadNoMemory stamp) nodes after e =
     let a = e.2 in
     let s = a.3 in
     inr (uses_then (unshown_use log caller kept what a.0 a.1 a.2 _ stamp s.0 (λ f. absurd cc) s.1)
     (hides log caller s.0 _ _ after s.2))
 explained_use log caller kept what (answers.Trimmed colour base) nodes after e =
-    inl (hides log caller kept _ _ after e.4, refl)
+    inl (refuses log caller kept _ _ colour base after e.2, refl)
 explained_use log caller kept what (answers.NotHome home) nodes after e =
     inl (quiet_is e.1, refl)
 

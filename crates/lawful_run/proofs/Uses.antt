@@ -26,7 +26,7 @@ use Rattle.lawful_run.specs.Moves.{with_places}
 use Rattle.lawful_run.specs.Stops.{Stops, stopped_at_once, stopped_after}
 use Rattle.lawful_run.specs.Refusals.{FindsNoMemory, nothing, gone, gave, hidden}
 use Rattle.lawful_run.specs.Readings.{Told, Nowhere}
-use Rattle.lawful_run.proofs.Traces.{IsSingleAt, one_of, in_none, at_updated, at_updated_at, Made, Quiet, quiet_self, quiet_then, more_made, steps_are_none, hides, gives, too_low_gives}
+use Rattle.lawful_run.proofs.Traces.{IsSingleAt, one_of, in_none, at_updated, at_updated_at, Made, Quiet, quiet_self, quiet_then, more_made, steps_are_none, hides, held_gives, too_low_gives}
 
 -- what is made afterwards of singles is old, or the single of the node in this colour
 abbrev MadeOne : Log → Caller → Kept → ℕ → Id → Kept → Type 0
@@ -239,12 +239,11 @@ memory_use log caller kept what after nothing = inl (quiet_self log kept, refl)
 memory_use log caller kept what after (gone colours text places asks g) =
     inr (uses_row log caller kept what colours text asks Nowhere places (with_row kept) refl refl
     (inr (Memory, g.outcome)) g.begins)
-memory_use log caller kept what after (gave region colour too_low places is low few all) =
-    inl (
-      quiet_then (too_low_gives log caller kept region colour too_low low)
-          (gives log caller (with_places kept region colour too_low) region colour places all),
-      refl,
-    )
+memory_use log caller kept what after (gave region colour looked too_low places is g) =
+    let seen = kept.seen caller.own colour in
+    let q = quiet_then (too_low_gives log caller kept region colour seen looked too_low g.made_again)
+    (held_gives log caller (with_places kept region colour too_low) region colour seen looked places g.given) in
+    inl (record { ids = q.ids; made = q.made }, refl)
 memory_use log caller kept what after (hidden later h) =
     inl (hides log caller kept (colours_synced caller what) (manner_of what) later h, refl)
 

@@ -7,6 +7,7 @@ use Rattle.log_node.specs.declared.forms.Pair.{Pair}
 use Rattle.log_node.specs.declared.forms.Version.{Version}
 use Rattle.log_node.specs.declared.forms.Form.{Form}
 use Rattle.log_node.specs.declared.forms.Form.TheVariants as forms
+use Rattle.log_node.specs.declared.limits.TheConstants.{MAX_COLOURS}
 use Rattle.log_node.specs.Sets.{members}
 use Rattle.object_form.specs.Forms.{form_text}
 use Rattle.object_fold.specs.Nodes.{shard_of}
@@ -111,7 +112,7 @@ may_help Dequeuing = true
 
 -- the colours for which a test holds, in rising number
 abbrev pub colours_where : (ℕ → Bool) → List ℕ
-colours_where test = filter test (range_with_len 0 64)
+colours_where test = filter test (range_with_len 0 MAX_COLOURS)
 
 -- the colours of the shards of keys, in rising number
 abbrev pub shards : List ℕ → List (List ℕ) → List ℕ

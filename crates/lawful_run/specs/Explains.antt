@@ -1,6 +1,6 @@
 -- What the reply to a command says of the log, to a client that keeps what its earlier replies told.
 use Rattle.std.specs.Prelude.{◌≡◌, ◌≢◌, ◌⊎◌, ℕ, List, [], ◌∷◌, ◌++◌, length, Some, None}
-use Rattle.std.specs.List.{AllZip, Contains}
+use Rattle.std.specs.List.{AllZip}
 use Rattle.log_node.specs.declared.ids.Colours.{Colours}
 use Rattle.log_node.specs.declared.ids.Key.{Key}
 use Rattle.log_node.specs.declared.node.At.TheVariants.{Event}
@@ -24,10 +24,10 @@ use Rattle.lawful_run.specs.Callers.{Caller, node_of}
 use Rattle.lawful_run.specs.Asks.{kind_of, home_of, colours_of, home_asked, AsksToAppend, colours_synced, Appending, Stopping, Committing, Dequeuing, Syncing, Getting, Reading, manner_of}
 use Rattle.lawful_run.specs.Appends.{Appends, AppendsUnshown, HasNoStamp, IsFull}
 use Rattle.lawful_run.specs.Stops.{Stops}
-use Rattle.lawful_run.specs.Reads.{Syncs, ShowsPlayed, greatest_stamp, kept_after_piece, IsTrimmed, ReadsAt, AreRead, ShowsKey}
+use Rattle.lawful_run.specs.Reads.{Syncs, ShowsPlayed, greatest_stamp, kept_after_piece, ReadsAt, AreRead, ShowsKey}
 use Rattle.lawful_run.specs.Moves.{Pulls, kept_after_pull, Trims}
 use Rattle.lawful_run.specs.Objects.{AreObjectNodes, GetsValue, GetsValues, AreAnswers, Takes, shown_verdict}
-use Rattle.lawful_run.specs.Refusals.{FindsNoMemory, Hides, IsAway, IsHomeRefusal, kept_before, kept_behind}
+use Rattle.lawful_run.specs.Refusals.{FindsNoMemory, Hides, Refuses, IsAway, IsHomeRefusal, kept_before, kept_behind}
 
 -- the command is no stop before the first step, which is answered before anything is tried
 abbrev pub IsNoStopAtOnce : What → Type 0
@@ -117,11 +117,9 @@ Explains log caller kept what (answers.Took value point sync) nodes after =
     × (after ≡ kept_after_piece log caller stood sync))
 Explains log caller kept what (answers.UnreadTrimmed stamp colour base) nodes after =
     (nodes ≡ []) × ((manner_of what ≡ Committing) ⊎ (manner_of what ≡ Dequeuing))
-    × Contains (colours_synced caller what) colour
     × AppendsBy caller kept what (λ colours text. (stood : Kept)
     × AppendsUnshown log caller kept (node_of caller kept colours text) stamp stood
-    × IsTrimmed log caller stood colour base
-    × Hides log caller stood (colours_synced caller what) (manner_of what) after)
+    × Refuses log caller stood (colours_synced caller what) (manner_of what) colour base after)
 Explains log caller kept what (answers.UnreadNoMemory stamp) nodes after =
     (nodes ≡ []) × ((manner_of what ≡ Committing) ⊎ (manner_of what ≡ Dequeuing))
     × AppendsBy caller kept what (λ colours text. (stood : Kept)
@@ -129,8 +127,7 @@ Explains log caller kept what (answers.UnreadNoMemory stamp) nodes after =
     × Hides log caller stood (colours_synced caller what) (manner_of what) after)
 Explains log caller kept what (answers.Trimmed colour base) nodes after =
     (nodes ≡ []) × ((manner_of what ≡ Syncing) ⊎ ((manner_of what ≡ Getting) ⊎ (manner_of what ≡ Reading)))
-    × Contains (colours_synced caller what) colour × IsTrimmed log caller kept colour base
-    × Hides log caller kept (colours_synced caller what) (manner_of what) after
+    × Refuses log caller kept (colours_synced caller what) (manner_of what) colour base after
 Explains log caller kept what (answers.NotHome home) nodes after =
     (nodes ≡ []) × (after ≡ kept) × (home_asked caller what ≡ Some home) × (caller.own ≢ home)
 

@@ -10,9 +10,9 @@ use Rattle.col_core.specs.declared.Event.TheVariants as events
 use Rattle.col_core.specs.History.{line}
 use Rattle.col_core.specs.Cuts.{chain, base}
 use Rattle.col_core.specs.Log.{Log, first}
-use Rattle.col_core.specs.Keeping.{Kept, updated_at, kept_after_event, seen_after, seen_past}
+use Rattle.col_core.specs.Keeping.{Kept, updated_at, kept_after_event, kept_after_look, seen_after, seen_past}
 use Rattle.lawful_run.specs.Callers.{Caller}
-use Rattle.lawful_run.specs.Reads.{kept_after_place}
+use Rattle.lawful_run.specs.Reads.{kept_after_place, events_until}
 
 -- the client gave, at the place, the other region's line from this number on to its own region
 abbrev pub GivesAt : Log → Caller → ℕ → ℕ → ℕ → ℕ → Type 0
@@ -20,10 +20,25 @@ GivesAt log caller region colour place from =
     slice_get (log.histories region colour) place
     ≡ Some (record { by = caller.client; event = events.Give caller.own from; stamp = 0 })
 
--- a give of a pull that was made again, since what it asked for was trimmed: its number was below the base by then
-abbrev pub GivesTooLow : Log → Caller → ℕ → ℕ → ℕ → Type 0
-GivesTooLow log caller region colour place =
+-- A give at the place asks for this number: as many nodes as the client's own column held of the other region's line when
+-- the client looked, after some number of events from the one to the other; or the line's length at the give, if less.
+abbrev pub AsksFor : Log → Caller → ℕ → ℕ → ℕ → ℕ → ℕ → ℕ → Type 0
+AsksFor log caller region colour seen until place from =
+    (looked : ℕ) × (seen ≤ looked) × (looked ≤ until)
+    × (from ≡ min (length (line (take place (log.histories region colour))))
+    (length (chain caller.own (first log caller.own colour looked) region)))
+
+-- a give of what was held at a look at so many events or more of the client's own column, and at most so many
+abbrev pub GivesHeld : Log → Caller → ℕ → ℕ → ℕ → ℕ → ℕ → Type 0
+GivesHeld log caller region colour seen until place =
     (from : ℕ) × GivesAt log caller region colour place from
+    × AsksFor log caller region colour seen until place from
+
+-- a give of a pull that was made again, since what it asked for was trimmed: its number was below the base by then
+abbrev pub GivesTooLow : Log → Caller → ℕ → ℕ → ℕ → ℕ → ℕ → Type 0
+GivesTooLow log caller region colour seen until place =
+    (from : ℕ) × GivesAt log caller region colour place from
+    × AsksFor log caller region colour seen until place from
     × (from < at (base region caller.regions (first log region colour place)) region)
 
 -- The client carried so many nodes of the other region, by an event at a place that was not seen before; or none, when
@@ -38,17 +53,16 @@ CarriesAt log caller kept region colour nodes (Event place) =
 CarriesAt log caller kept region colour nodes (Look events) =
     (kept.seen caller.own colour ≤ events) × (events ≤ length (log.histories caller.own colour)) × (nodes ≡ 0)
 
--- A pull: a give at a place that was not seen before, from no lesser number than what the client had seen to be held,
--- or the line's length; then a carry, after which all is held that stood in the line at the give.
+-- A pull: a give at a place that was not seen before, from what was held at a look between what the client had seen and
+-- the carry; then the carry, after which all is held that stood in the line at the give.
 pub record Pulls (log : Log) (caller : Caller) (kept : Kept) (region colour nodes place : ℕ) (carry : At)
     (too_low : List ℕ) : Type 0 where
   pub another : region ≢ caller.own
-  pub made_again : All (GivesTooLow log caller region colour) too_low
+  pub made_again : All (GivesTooLow log caller region colour (kept.seen caller.own colour) (events_until carry)) too_low
   pub unseen : kept.seen region colour ≤ place
   pub from : ℕ
   pub gives : GivesAt log caller region colour place from
-  pub asks_on : min (length (line (take place (log.histories region colour))))
-      (length (chain caller.own (first log caller.own colour (kept.seen caller.own colour)) region)) ≤ from
+  pub asks : AsksFor log caller region colour (kept.seen caller.own colour) (events_until carry) place from
   pub carries : CarriesAt log caller kept region colour nodes carry
   pub holds : length (line (take place (log.histories region colour)))
       ≤ length (chain caller.own (first log caller.own colour (seen_after carry)) region)
@@ -65,9 +79,29 @@ abbrev pub kept_after_pull : Kept → ℕ → ℕ → ℕ → ℕ → At → Lis
 kept_after_pull kept own region colour place carry too_low =
     kept_after_place (kept_after_event (with_places kept region colour too_low) region colour place) own colour carry
 
--- A trim by the client's last snapshot, at a place that was not seen before; the base afterwards is this one.
-pub record Trims (log : Log) (caller : Caller) (kept : Kept) (colour place : ℕ) (shown : Counts) : Type 0 where
+-- A pull that carried nothing, for want of memory: gives from too low a number, and then at most one more. It looked at so
+-- many events of its own column, no fewer than were seen.
+pub record OnlyGives (log : Log) (caller : Caller) (kept : Kept) (region colour looked : ℕ)
+    (too_low gives : List ℕ) : Type 0 where
+  pub another : region ≢ caller.own
+  pub unseen : kept.seen caller.own colour ≤ looked
+  pub there : looked ≤ length (log.histories caller.own colour)
+  pub made_again : All (GivesTooLow log caller region colour (kept.seen caller.own colour) looked) too_low
+  pub once : length gives ≤ 1
+  pub given : All (GivesHeld log caller region colour (kept.seen caller.own colour) looked) gives
+
+-- what a client keeps after it
+abbrev pub kept_after_giving : Kept → ℕ → ℕ → ℕ → ℕ → List ℕ → List ℕ → Kept
+kept_after_giving kept own region colour looked too_low gives =
+    kept_after_look (with_places (with_places kept region colour too_low) region colour gives) own colour looked
+
+-- A trim by these counts, at a place that was not seen before; the base afterwards is this one.
+pub record TrimsBy (log : Log) (caller : Caller) (kept : Kept) (colour place : ℕ) (counts shown : Counts) : Type 0 where
   pub unseen : kept.seen caller.own colour ≤ place
   pub trimmed : slice_get (log.histories caller.own colour) place
-      ≡ Some (record { by = caller.client; event = events.Trim (kept.starts colour); stamp = 0 })
+      ≡ Some (record { by = caller.client; event = events.Trim counts; stamp = 0 })
   pub is_base : shown ≡ base caller.own caller.regions (first log caller.own colour (place + 1))
+
+-- a trim by the client's last snapshot
+abbrev pub Trims : Log → Caller → Kept → ℕ → ℕ → Counts → Type 0
+Trims log caller kept colour place shown = TrimsBy log caller kept colour place (kept.starts colour) shown

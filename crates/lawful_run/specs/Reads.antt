@@ -1,5 +1,5 @@
 -- What a sync and a stamped read say of the log.
-use Rattle.std.specs.Prelude.{◌≡◌, ◌⊎◌, IsFalse, ℕ, ◌≤◌, max, List, [], ◌∷◌, length, take, map, Some, slice_get}
+use Rattle.std.specs.Prelude.{◌≡◌, ◌⊎◌, IsFalse, ℕ, ◌≤◌, max, List, [], ◌∷◌, ◌++◌, length, take, map, Some, slice_get}
 use Rattle.std.specs.List.{All, AllZip, Contains}
 use Rattle.log_node.specs.declared.ids.Key.{Key}
 use Rattle.log_node.specs.declared.ids.Counts.{Counts}
@@ -186,3 +186,23 @@ pub record HidesRead (log : Log) (caller : Caller) (kept : Kept) (colours : List
   pub syncing : HidesSyncs log caller kept colours synced
   pub after_is : (after ≡ with_made synced caller.own places)
       ⊎ (after ≡ with_made (with_floor synced stamp) caller.own places)
+
+-- A stamped read of colours that was refused in this one, since nodes that its client lacks are trimmed there, as the base
+-- shows. All columns were raised to its stamp, the colours before this one were synced, and none behind it; the client
+-- keeps what it keeps of these raises and syncs, which no answer shows, and its floor does not rise to the stamp.
+pub record RefusesRead (log : Log) (caller : Caller) (kept : Kept) (colours : List ℕ) (colour : ℕ) (shown : Counts)
+    (after : Kept) : Type 0 where
+  pub stamp : ℕ
+  pub raises : List RaisePiece
+  pub syncs : List SyncPiece
+  -- the colours that were not synced
+  pub behind : List ℕ
+  pub raised_colours : map (λ (r : RaisePiece). r.colour) raises ≡ colours
+  pub synced_before : map (λ (s : SyncPiece). s.colour) syncs ++ colour ∷ behind ≡ colours
+  pub above_floor : kept.floor ≤ stamp
+  pub above_clocks : IsAboveClocks log caller kept colours stamp
+  pub chosen : IsReadStamp log caller kept raises stamp
+  pub raised : Kept
+  pub raising : Raises log caller stamp kept raises raised
+  pub syncing : ClearSyncs log caller stamp raised syncs after
+  pub trimmed : IsTrimmed log caller after colour shown

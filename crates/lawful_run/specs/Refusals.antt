@@ -1,7 +1,8 @@
 -- What a command that found no memory may have done, and when an object's home refuses.
-use Rattle.std.specs.Prelude.{◌≡◌, ◌≢◌, ◌⊎◌, ℕ, ◌≤◌, List, length, Option, Some, None}
-use Rattle.std.specs.List.{All}
+use Rattle.std.specs.Prelude.{◌≡◌, ◌≢◌, ◌⊎◌, ℕ, List, Option, Some, None, ◌≤◌, length}
+use Rattle.std.specs.List.{All, Contains}
 use Rattle.log_node.specs.declared.ids.Colours.{Colours}
+use Rattle.log_node.specs.declared.ids.Counts.{Counts}
 use Rattle.col_core.specs.Log.{Log}
 use Rattle.col_core.specs.Keeping.{Kept, with_made, with_row, with_read}
 use Rattle.script_text.specs.declared.script.What.{What}
@@ -11,11 +12,11 @@ use Rattle.report_text.specs.declared.report.Answer.TheVariants as answers
 use Rattle.lawful_run.specs.Callers.{Caller, node_of}
 use Rattle.lawful_run.specs.Asks.{AsksToAppend, colours_synced, Manner, Appending, Stopping, Syncing, Moving, Getting, Reading, Committing, Dequeuing, manner_of}
 use Rattle.lawful_run.specs.Appends.{IsGoneForMemory}
-use Rattle.lawful_run.specs.Reads.{HidesSyncs, HidesRead}
-use Rattle.lawful_run.specs.Moves.{GivesAt, GivesTooLow, with_places}
+use Rattle.lawful_run.specs.Reads.{HidesSyncs, HidesRead, IsTrimmed, RefusesRead}
+use Rattle.lawful_run.specs.Moves.{OnlyGives, kept_after_giving, GivesAt, GivesTooLow, with_places}
 
 -- What a command of this manner may have done in its syncs of these colours that its answer does not show, as where it
--- was refused; and what its client then keeps.
+-- found no memory; and what its client then keeps.
 abbrev pub Hides : Log → Caller → Kept → List ℕ → Manner → Kept → Type 0
 Hides log caller kept colours Appending after = after ≡ kept
 Hides log caller kept colours Stopping after = after ≡ kept
@@ -26,6 +27,21 @@ Hides log caller kept colours Reading after = HidesRead log caller kept colours 
 Hides log caller kept colours Committing after = HidesRead log caller kept colours after
 Hides log caller kept colours Dequeuing after = HidesSyncs log caller kept colours after
 
+-- What a command of this manner did that was refused in this one of the colours that it syncs, since nodes that its client
+-- lacks are trimmed there, as the base shows; and what its client then keeps. Only a command that syncs is refused so.
+abbrev pub Refuses : Log → Caller → Kept → List ℕ → Manner → ℕ → Counts → Kept → Type 0
+Refuses log caller kept colours Appending colour base after = ⊥
+Refuses log caller kept colours Stopping colour base after = ⊥
+Refuses log caller kept colours Syncing colour base after =
+    Contains colours colour × IsTrimmed log caller kept colour base × (after ≡ kept)
+Refuses log caller kept colours Moving colour base after = ⊥
+Refuses log caller kept colours Getting colour base after =
+    Contains colours colour × IsTrimmed log caller kept colour base × HidesSyncs log caller kept colours after
+Refuses log caller kept colours Reading colour base after = RefusesRead log caller kept colours colour base after
+Refuses log caller kept colours Committing colour base after = RefusesRead log caller kept colours colour base after
+Refuses log caller kept colours Dequeuing colour base after =
+    Contains colours colour × IsTrimmed log caller kept colour base × HidesSyncs log caller kept colours after
+
 -- What a command may have done that was answered with want of memory, and what its client then keeps.
 pub data FindsNoMemory (log : Log) (caller : Caller) (kept : Kept) (what : What) : Kept → Type 0 where
   -- nothing
@@ -35,11 +51,9 @@ pub data FindsNoMemory (log : Log) (caller : Caller) (kept : Kept) (what : What)
       → IsGoneForMemory log caller kept (node_of caller kept colours text) places
       → FindsNoMemory log caller kept what (with_made (with_row kept) caller.own places)
   -- a pull: it gave, once or again and again, and carried nothing
-  gave : (region colour : ℕ) (too_low gives : List ℕ) → what ≡ whats.Pull region colour
-      → All (GivesTooLow log caller region colour) too_low → length gives ≤ 1
-      → All (λ place. (from : ℕ) × GivesAt log caller region colour place from) gives
-      → FindsNoMemory log caller kept what
-      (with_places (with_places kept region colour too_low) region colour gives)
+  gave : (region colour looked : ℕ) (too_low gives : List ℕ) → what ≡ whats.Pull region colour
+      → OnlyGives log caller kept region colour looked too_low gives
+      → FindsNoMemory log caller kept what (kept_after_giving kept caller.own region colour looked too_low gives)
   -- a command that syncs or makes a stamped read
   hidden : (after : Kept) → Hides log caller kept (colours_synced caller what) (manner_of what) after
       → FindsNoMemory log caller kept what after

@@ -19,7 +19,7 @@ use Rattle.lawful_run.specs.Asks.{home_asked, AsksToAppend, colours_synced, Mann
 use Rattle.lawful_run.specs.Appends.{Appends, HasNoStamp, IsFull}
 use Rattle.lawful_run.specs.Reads.{Syncs, ShowsPlayed, greatest_stamp}
 use Rattle.lawful_run.specs.Moves.{Pulls, kept_after_pull}
-use Rattle.lawful_run.specs.Refusals.{Hides, kept_before, kept_behind}
+use Rattle.lawful_run.specs.Refusals.{Refuses, kept_before, kept_behind}
 use Rattle.lawful_run.specs.Explains.{Explains, Answers}
 use Rattle.lawful_run.specs.Readings.{told}
 use Rattle.load_script.specs.Summing.{appended, is_node, tells_node}
@@ -146,9 +146,9 @@ module _ (log : Log) (caller : Caller) (kept : Kept) (what : What) (after : Kept
   ]
   comes q (answers.Trimmed colour base) nodes n e = elim e.1 [
     | inl m ↦
-        let h : Hides log caller kept (colours_synced caller what) Syncing after =
-        subst (λ (x : Manner). Hides log caller kept (colours_synced caller what) x after) m e.4 in
-        unchanged (syncs_none what p m) refl h
+        let r : Refuses log caller kept (colours_synced caller what) Syncing colour base after =
+        subst (λ (x : Manner). Refuses log caller kept (colours_synced caller what) x colour base after) m e.2 in
+        unchanged (syncs_none what p m) refl r.2
     | inr (inl m) ↦ absurd (other_manner Getting m)
     | inr (inr m) ↦ absurd (other_manner Reading m)
   ]

@@ -34,7 +34,7 @@ use Rattle.lawful_run.specs.Reads.{kept_after_place}
 use Rattle.lawful_run.specs.Explains.{Explained, start, next}
 use Rattle.lawful_run.specs.Lawful.{LawfulRun}
 use Rattle.load_script.specs.Plain.{IsPlainWhat, IsPlain, IsUnwanting}
-use Rattle.load_script.proofs.Counts.{Distinct, few, pairs, in_pairs, length_pairs, four, sixteen, length_range, in_range}
+use Rattle.load_script.proofs.Counts.{Distinct, few, pairs, in_pairs, length_pairs, two, four, eight, length_range, in_range}
 use Rattle.load_script.proofs.Answers.{Comes, stood, without_stamp, full, synced, pulled, unchanged, answer_comes}
 use Rattle.load_script.proofs.Traces.{either, points_same}
 use Rattle.load_script.proofs.Stamps.{Given, Has, IsFine, client_shown, commands_plain, replies_unwanting, legal, fine, stamped, clock_stamped}
@@ -188,12 +188,18 @@ module _ (own regions : ℕ) (h : List Entry) (lawful : IsColumnHistory own regi
     ]
   ]
 
+-- at most two regions, four colours and eight clients, as a load has
+pub record IsLoadSized (script : Script) : Type 0 where
+  pub regions : script.shape.regions ≤ 2
+  pub colours : script.shape.colours ≤ 4
+  pub clients : length script.shape.homes ≤ 8
+
 -- a place for an entry: its region, its colour, its client and the client's count
 abbrev Slot : Type 0
 Slot = ℕ × (ℕ × (ℕ × ℕ))
 
 module _ (script : Script) (report : Report) (fits : IsFitting script) (plain : IsPlain script)
-    (run : LawfulRun script report)
+    (sized : IsLoadSized script) (run : LawfulRun script report)
     (unwanting : IsUnwanting report) where
   abbrev log : Log
   log = run.log
@@ -313,8 +319,8 @@ module _ (script : Script) (report : Report) (fits : IsFitting script) (plain : 
 
   -- the places that there are
   space : List Slot
-  space = pairs (range_with_len 0 4) (pairs (range_with_len 0 16)
-      (pairs (range_with_len 0 16) (range_with_len 0 (length script.commands))))
+  space = pairs (range_with_len 0 2) (pairs (range_with_len 0 4)
+      (pairs (range_with_len 0 8) (range_with_len 0 (length script.commands))))
 
   in_space : (s : ℕ) (g : IsGiven s) → In {A = Slot} (g.region, (g.colour, (g.id.client, g.id.count))) space
   unfolding space
@@ -325,27 +331,25 @@ module _ (script : Script) (report : Report) (fits : IsFitting script) (plain : 
       let many = nodes_few g.id.client client in
       let r = g.in_region in
       let c = g.in_colour in
-      let fr = fits.shape.few_regions in
-      let fc = fits.shape.few_colours in
-      let fk = fits.shape.few_clients in
-      in_pairs (range_with_len 0 4) (pairs (range_with_len 0 16)
-      (pairs (range_with_len 0 16) (range_with_len 0 (length script.commands))))
-      g.region (g.colour, (g.id.client, g.id.count)) (in_range 0 4 g.region (omega arith) (omega (arith, r, fr)))
-      (in_pairs (range_with_len 0 16) (pairs (range_with_len 0 16) (range_with_len 0 (length script.commands)))
-      g.colour (g.id.client, g.id.count) (in_range 0 16 g.colour (omega arith) (omega (arith, c, fc)))
-      (in_pairs (range_with_len 0 16) (range_with_len 0 (length script.commands)) g.id.client g.id.count
-      (in_range 0 16 g.id.client (omega arith) (omega (arith, client, fk)))
+      in_pairs (range_with_len 0 2) (pairs (range_with_len 0 4)
+      (pairs (range_with_len 0 8) (range_with_len 0 (length script.commands))))
+      g.region (g.colour, (g.id.client, g.id.count)) (in_range 0 2 g.region (omega arith) (omega (arith, r, sized.regions)))
+      (in_pairs (range_with_len 0 4) (pairs (range_with_len 0 8) (range_with_len 0 (length script.commands)))
+      g.colour (g.id.client, g.id.count) (in_range 0 4 g.colour (omega arith) (omega (arith, c, sized.colours)))
+      (in_pairs (range_with_len 0 8) (range_with_len 0 (length script.commands)) g.id.client g.id.count
+      (in_range 0 8 g.id.client (omega arith) (omega (arith, client, sized.clients)))
       (in_range 0 (length script.commands) g.id.count (omega arith) (omega (arith, count, many)))))
 
-  length_space : length space ≡ 4 * (16 * (16 * length script.commands))
+  length_space : length space ≡ 2 * (4 * (8 * length script.commands))
   unfolding space
   length_space =
-      let a = range_with_len 0 16 in
       let m = range_with_len 0 (length script.commands) in
-      length_pairs (range_with_len 0 4) (pairs a (pairs a m))
-      ∙ (four (length (pairs a (pairs a m))) ∙ ap (λ n. 4 * n)
-      (length_pairs a (pairs a m) ∙ (sixteen (length (pairs a m))
-      ∙ ap (λ n. 16 * n) (length_pairs a m ∙ (sixteen (length m) ∙ ap (λ n. 16 * n)
+      let k = pairs (range_with_len 0 8) m in
+      let c = pairs (range_with_len 0 4) k in
+      length_pairs (range_with_len 0 2) c
+      ∙ (two (length c) ∙ ap (λ n. 2 * n)
+      (length_pairs (range_with_len 0 4) k ∙ (four (length k)
+      ∙ ap (λ n. 4 * n) (length_pairs (range_with_len 0 8) m ∙ (eight (length m) ∙ ap (λ n. 8 * n)
       (length_range 0 (length script.commands)))))))
 
   -- no stamp is above the number of entries that there may be

@@ -76,13 +76,17 @@ length_pairs {A} {B} (x ∷ xs) bs =
     ∙ (ap (λ n. n + length (pairs xs bs)) (length-map bs (λ (y : B). (x, y))) ∙ ap (λ n. length bs + n)
     (length_pairs xs bs))
 
+pub two : (m : ℕ) → times 2 m ≡ 2 * m
+unfolding times
+two m = omega arith
+
 pub four : (m : ℕ) → times 4 m ≡ 4 * m
 unfolding times
 four m = omega arith
 
-pub sixteen : (m : ℕ) → times 16 m ≡ 16 * m
+pub eight : (m : ℕ) → times 8 m ≡ 8 * m
 unfolding times
-sixteen m = omega arith
+eight m = omega arith
 
 pub length_range : (a n : ℕ) → length (range_with_len a n) ≡ n
 length_range a zero = refl

@@ -14,13 +14,7 @@ use Rattle.load_script.specs.Summing.{appended, is_node, is_of_colour, is_of_row
 use Rattle.load_script.specs.Laws.{LoadsOfEights}
 use Rattle.load_script.proofs.Sums.{filter-append, filter_same}
 
--- the colours to which a choice appends
-set_of : Option ℕ → Option Colours
-set_of None = None
-set_of (Some set) = Some (record { 0 = set })
-
-appended_by : (o : Option ℕ) (choice client round : ℕ) → appended (asked_by o choice client round) ≡ set_of o
-unfolding set_of
+appended_by : (o : Option Colours) (choice client round : ℕ) → appended (asked_by o choice client round) ≡ o
 appended_by (Some set) choice' client round = refl
 appended_by None choice' client round =
     choice (λ (w : What). appended w ≡ None) (choice' == 6) (whats.Sync (round % 4))
@@ -33,7 +27,7 @@ module _ (t : ℕ → Option Colours → Bool) where
 
   -- how many commands pass in a round with this remainder
   in_round : ℕ → ℕ
-  in_round s = length (filter (λ client. t client (set_of (slice_get sets ((7 * client + s) % 8))))
+  in_round s = length (filter (λ client. t client (slice_get sets ((7 * client + s) % 8)))
       (range_with_len 0 8))
 
   mapped : (count round : ℕ) (xs : List ℕ)
@@ -58,11 +52,11 @@ module _ (t : ℕ → Option Colours → Bool) where
   one_round count round =
       mapped count round (range_with_len 0 CLIENTS)
       ∙ ap length (filter_same (λ client. of_command (command_of count round client))
-      (λ client. t client (set_of (slice_get sets ((7 * client + (3 * round + count) % 8) % 8))))
+      (λ client. t client (slice_get sets ((7 * client + (3 * round + count) % 8) % 8)))
       (range_with_len 0 CLIENTS)
       (λ client i. ap (t client) (appended_by (slice_get sets (choice_of count client round))
       (choice_of count client round) client round
-      ∙ ap (λ n. set_of (slice_get sets n)) (same_choice client round count))))
+      ∙ ap (slice_get sets) (same_choice client round count))))
 
   -- the sum over rounds
   rounds_sum : ℕ → ℕ → ℕ → ℕ
@@ -182,14 +176,14 @@ most_each t e = of_eights t (λ k. 48 * k) (omega arith) (λ k. omega (arith, e)
 column_eight : (region : ℕ) → (region ≡ 0) ⊎ (region ≡ 1) → (in_eight (to_column region 0) ≡ 8) ×
     (in_eight (to_column region 1) ≡ 12)
     × (in_eight (to_column region 2) ≡ 8) × (in_eight (to_column region 3) ≡ 4)
-unfolding in_round set_of
+unfolding in_round
 column_eight region (inl e) = subst (λ r. (in_eight (to_column r 0) ≡ 8) × (in_eight (to_column r 1) ≡ 12)
     × (in_eight (to_column r 2) ≡ 8) × (in_eight (to_column r 3) ≡ 4)) (sym e) (refl, refl, refl, refl)
 column_eight region (inr e) = subst (λ r. (in_eight (to_column r 0) ≡ 8) × (in_eight (to_column r 1) ≡ 12)
     × (in_eight (to_column r 2) ≡ 8) × (in_eight (to_column r 3) ≡ 4)) (sym e) (refl, refl, refl, refl)
 
 node_eight : (in_eight a_node ≡ 48) × (in_eight a_row ≡ 16)
-unfolding in_round set_of
+unfolding in_round
 node_eight = (refl, refl)
 
 pub loads_of_eights : LoadsOfEights

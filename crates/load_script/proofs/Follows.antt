@@ -38,7 +38,7 @@ use Rattle.load_script.proofs.Counts.{in_map}
 use Rattle.load_script.proofs.Answers.{Comes, stood, without_stamp, full, synced, pulled, unchanged, answer_comes}
 use Rattle.load_script.proofs.Traces.{trace, points_same}
 use Rattle.load_script.proofs.Stamps.{Has, home_within, commands_plain, stamped, clock_stamped}
-use Rattle.load_script.proofs.Bounds.{bounded, filtered, place_same}
+use Rattle.load_script.proofs.Bounds.{IsLoadSized, bounded, filtered, place_same}
 
 -- how many stand where a test holds of one
 abbrev pub one_if : Bool → ℕ
@@ -63,7 +63,7 @@ abbrev pub tells : ReplyLine → Bool
 tells reply = tells_node (told reply.answer)
 
 module _ (script : Script) (report : Report) (fits : IsFitting script) (plain : IsPlain script)
-    (run : LawfulRun script report)
+    (sized : IsLoadSized script) (run : LawfulRun script report)
     (unwanting : IsUnwanting report) (n : ℕ) (lt : n < length script.shape.homes) where
   abbrev log : Log
   log = run.log
@@ -74,10 +74,10 @@ module _ (script : Script) (report : Report) (fits : IsFitting script) (plain : 
   not_at_end : (colour events : ℕ) → colour < script.shape.colours → (floor : ℕ) → Has log script floor
       → IsAtEnd (take events (log.histories caller.own colour)) floor → ⊥
   not_at_end colour events lc floor h e =
-      let a = bounded script report fits plain run unwanting (clock (take events (log.histories caller.own colour)))
+      let a = bounded script report fits plain sized run unwanting (clock (take events (log.histories caller.own colour)))
       (clock_stamped script report fits plain run unwanting caller.own colour events
       (home_within script report fits plain run unwanting n lt) lc) in
-      let b = bounded script report fits plain run unwanting floor h in
+      let b = bounded script report fits plain sized run unwanting floor h in
       let f : ⊥ = omega (arith, a, b, e) in f
 
   module _ (kept : Kept) (floor : Has log script kept.floor) (rows : kept.rows < script.shape.rows) where

@@ -9,6 +9,7 @@ use Rattle.std.proofs.lemmas.List.Elements.{All-contains}
 use Rattle.log_node.specs.declared.ids.Colours.{Colours}
 use Rattle.log_node.specs.declared.ids.Id.{Id}
 use Rattle.log_node.specs.declared.ids.Key.{Key}
+use Rattle.log_node.specs.declared.limits.TheConstants.{MAX_COLOURS}
 use Rattle.log_node.specs.Order.{key_below}
 use Rattle.log_node.specs.Sets.{has, members}
 use Rattle.col_core.specs.History.{entry_key}
@@ -37,7 +38,7 @@ use Rattle.load_script.proofs.Sums.{passed, by_place, none_pass, get_range, leng
 use Rattle.load_script.proofs.Answers.{plain as is_plain, asks_append}
 use Rattle.load_script.proofs.Heads.{in_flat_map}
 use Rattle.load_script.proofs.Stamps.{client_shown, commands_plain, replies_unwanting, home_within, row_owner}
-use Rattle.load_script.proofs.Bounds.{get_map_back}
+use Rattle.load_script.proofs.Bounds.{IsLoadSized, get_map_back}
 use Rattle.load_script.proofs.Follows.{tells, all_follow}
 
 pub get_map : {A B : Type 0} (f : A → B) (xs : List A) (n : ℕ) (x : A) → slice_get xs n ≡ Some x → slice_get
@@ -80,7 +81,7 @@ of_told : (t : Told) → tells_node t ≡ true → t ≢ Nowhere
 of_told t e n = true≢false (sym e ∙ ap tells_node n)
 
 module _ (script : Script) (report : Report) (fits : IsFitting script) (plain : IsPlain script)
-    (run : LawfulRun script report)
+    (sized : IsLoadSized script) (run : LawfulRun script report)
     (unwanting : IsUnwanting report)
     (homes : (n : ℕ) → n < length script.shape.homes → slice_index script.shape.homes n ≡ home_of n)
     (returned : ReturnedAppendsStand) (one_command : OneCommand) (rising : ClosingLinesRise) (one_key : OneKey)
@@ -99,7 +100,7 @@ module _ (script : Script) (report : Report) (fits : IsFitting script) (plain : 
   client_follows n c there =
       let l = within_there report.clients n c there in
       let m = clients_many in
-      all_follow script report fits plain run unwanting n (omega (arith, l, m)) (run.clients n c there).explained
+      all_follow script report fits plain sized run unwanting n (omega (arith, l, m)) (run.clients n c there).explained
       (λ x i. i) (plain.rows n) (replies_unwanting script report fits plain run unwanting n c there)
 
   module _ (column : ColumnReport) (there : Contains report.columns column) where
@@ -143,7 +144,7 @@ module _ (script : Script) (report : Report) (fits : IsFitting script) (plain : 
         (sym (homes key.id.client lt) ∙ s.7) in
         let colour : is_of_colour column.colour (appended a.command.what) ≡ true =
         ap (λ (x : What). is_of_colour column.colour (appended x)) what
-        ∙ (in_filter (has s.2) column.colour (range_with_len 0 64) (in_contains (members s.2) column.colour s.6)).1 in
+        ∙ (in_filter (has s.2) column.colour (range_with_len 0 MAX_COLOURS) (in_contains (members s.2) column.colour s.6)).1 in
         let g : goes_to column.region column.colour a.command ≡ true =
         and_from (home_of a.command.client == column.region) (is_of_colour column.colour (appended a.command.what))
         (eq-eqb (home_of a.command.client) column.region home) colour in
@@ -215,8 +216,8 @@ module _ (script : Script) (report : Report) (fits : IsFitting script) (plain : 
         sym (ap (λ (x : What). is_of_colour column.colour (appended x)) what)
         ∙ (ap (λ (x : Command). is_of_colour column.colour (appended x.what)) same ∙ q.1) in
         let among : In column.colour (members s.1) =
-        in_filter-back (has s.1) column.colour (range_with_len 0 64)
-        (in_range 0 64 column.colour (omega arith) (let c = column_colour in let m = fits.shape.few_colours in
+        in_filter-back (has s.1) column.colour (range_with_len 0 MAX_COLOURS)
+        (in_range 0 MAX_COLOURS column.colour (omega arith) (let c = column_colour in let m = sized.colours in
         omega (arith, c, m))) colour in
         let w = stands_in report (slice_index script.shape.homes n) s.0 s.1 (told g.reply.answer) g.telling s.4
         column.colour among in

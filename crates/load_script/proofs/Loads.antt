@@ -5,6 +5,7 @@ use Rattle.std.specs.List.{All, filter, flat_map, list_all, range_with_len}
 use Rattle.std.proofs.lemmas.Bool.{eqb-true, and_parts, leb-true, ltb-true, false_from_ne_true}
 use Rattle.std.proofs.lemmas.List.{length-map}
 use Rattle.std.proofs.lemmas.List.Elements.{All-nil, All-cons}
+use Rattle.log_node.specs.declared.ids.Colours.{Colours}
 use Rattle.log_node.specs.Sets.{members}
 use Rattle.col_core.proofs.CallerLemmas.{In, contains_in, slice_in, choice}
 use Rattle.script_text.specs.declared.script.What.{What}
@@ -24,6 +25,7 @@ use Rattle.load_script.specs.Generated.{home_of, sets, asked_by, choice_of, comm
 use Rattle.load_script.specs.Plain.{IsPlainWhat, IsPlain, IsUnwanting}
 use Rattle.load_script.specs.Summing.{appended, appends, is_node, length_of, tells_node, load_summary, shown_summary}
 use Rattle.load_script.specs.Laws.{EachAppendStands, LoadsComeToTheirSummary}
+use Rattle.load_script.proofs.Bounds.{IsLoadSized}
 use Rattle.load_script.proofs.Counts.{in_map_back, range_in}
 use Rattle.load_script.proofs.Heads.{in_flat_map}
 use Rattle.load_script.proofs.Sums.{filter-append, map_same, map_twice, none_pass, index_range}
@@ -41,29 +43,28 @@ below_four (x ∷ xs) t c (inl e) = let p = and_parts (nat_lt x 4) (list_all (λ
 below_four (x ∷ xs) t c (inr i) = below_four xs (and_parts (nat_lt x 4) (list_all (λ c. nat_lt c 4) xs) t).1 c i
 
 -- a set of one of the first four colours or more
-abbrev is_fit : ℕ → Bool
+abbrev is_fit : Colours → Bool
 is_fit set =
-    list_all (λ c. nat_lt c 4) (members (record { 0 = set })) && nat_le 1 (length (members (record { 0 = set })))
-    && nat_le set 8
+    list_all (λ c. nat_lt c 4) (members set) && nat_le 1 (length (members set)) && nat_le set.0 8
 
 -- the sets are such
-sets_fit : (set : ℕ) → In set sets → HasColours 1 (record { 0 = set }) × AreBelow 4 (record { 0 = set })
+sets_fit : (set : Colours) → In set sets → HasColours 1 set × AreBelow 4 set
 sets_fit set i =
-    let low : Bool = list_all (λ c. nat_lt c 4) (members (record { 0 = set })) in
-    let some : Bool = nat_le 1 (length (members (record { 0 = set }))) in
-    let fit = and_parts (low && some) (nat_le set 8) (of set i) in
+    let low : Bool = list_all (λ c. nat_lt c 4) (members set) in
+    let some : Bool = nat_le 1 (length (members set)) in
+    let fit = and_parts (low && some) (nat_le set.0 8) (of set i) in
     let first = and_parts low some fit.0 in
-    let small = leb-true set 8 fit.1 in (
-      record { many = leb-true 1 (length (members (record { 0 = set }))) first.1; bits = omega (arith, small) },
-      all_of (λ c. c < 4) (members (record { 0 = set })) (below_four (members (record { 0 = set })) first.0),
+    let small = leb-true set.0 8 fit.1 in (
+      record { many = leb-true 1 (length (members set)) first.1; bits = omega (arith, small) },
+      all_of (λ c. c < 4) (members set) (below_four (members set) first.0),
     ) where
-      of : (set : ℕ) → In set sets → is_fit set ≡ true
-      of set (inl e) = subst (λ n. is_fit n ≡ true) e refl
-      of set (inr (inl e)) = subst (λ n. is_fit n ≡ true) e refl
-      of set (inr (inr (inl e))) = subst (λ n. is_fit n ≡ true) e refl
-      of set (inr (inr (inr (inl e)))) = subst (λ n. is_fit n ≡ true) e refl
-      of set (inr (inr (inr (inr (inl e))))) = subst (λ n. is_fit n ≡ true) e refl
-      of set (inr (inr (inr (inr (inr (inl e)))))) = subst (λ n. is_fit n ≡ true) e refl
+      of : (set : Colours) → In set sets → is_fit set ≡ true
+      of set (inl e) = subst (λ s. is_fit s ≡ true) e refl
+      of set (inr (inl e)) = subst (λ s. is_fit s ≡ true) e refl
+      of set (inr (inr (inl e))) = subst (λ s. is_fit s ≡ true) e refl
+      of set (inr (inr (inr (inl e)))) = subst (λ s. is_fit s ≡ true) e refl
+      of set (inr (inr (inr (inr (inl e))))) = subst (λ s. is_fit s ≡ true) e refl
+      of set (inr (inr (inr (inr (inr (inl e)))))) = subst (λ s. is_fit s ≡ true) e refl
       of set (inr (inr (inr (inr (inr (inr f)))))) = absurd f
 
 -- what is asked is an append, a sync or a pull that names what there is
@@ -73,7 +74,7 @@ Asks what = IsPlainWhat what × IsWithin 2 4 what × UsesObject [] what
 remains : (n : ℕ) → (n % 4 < 4) × (n % 2 < 2)
 remains n = (omega arith, omega arith)
 
-asks : (o : Option ℕ) (choice client round : ℕ) → ((set : ℕ) → o ≡ Some set → In set sets) → Asks
+asks : (o : Option Colours) (choice client round : ℕ) → ((set : Colours) → o ≡ Some set → In set sets) → Asks
     (asked_by o choice client round)
 asks (Some set) choice' client round among = (tt, sets_fit set (among set refl), tt)
 asks None choice' client round among =
@@ -171,6 +172,9 @@ module _ (count : ℕ) (small : count ≤ MAX_LOAD) where
     rows = λ client. let f = few_each count client 0 count in omega (arith, f, small);
   }
 
+  load_sized : IsLoadSized (load_script count)
+  load_sized = record { regions = omega arith; colours = omega arith; clients = omega arith }
+
   homes_are : (n : ℕ) → n < 8 → slice_index (map home_of (range_with_len 0 CLIENTS)) n ≡ home_of n
   homes_are n lt = index_range home_of 0 CLIENTS n (omega (arith, lt)) ∙ ap home_of
       (let e : 0 + n ≡ n = omega arith in e)
@@ -182,7 +186,7 @@ module _ (count : ℕ) (small : count ≤ MAX_LOAD) where
         → slice_get (commands_of (load_script count) client) k ≡ Some command → HasReply report client k reply
         → tells_node (told reply.answer) ≡ is_node (appended command.what)
     each_stands client k command reply asked there =
-        let f = (client_follows (load_script count) report load_fits load_plain run unwanting homes_are returned
+        let f = (client_follows (load_script count) report load_fits load_plain load_sized run unwanting homes_are returned
         one_command rising one_key nothing_else
         client there.0 there.1).0 in
         let a = get_map tells there.0.replies k reply there.2 in
@@ -195,7 +199,7 @@ module _ (count : ℕ) (small : count ≤ MAX_LOAD) where
     lengths =
         map_same (λ (c : ColumnReport). length c.line) (λ (c : ColumnReport). length_of (rounds_of count count)
         (c.region, c.colour)) report.columns
-        (λ c i. line_length (load_script count) report load_fits load_plain run unwanting homes_are returned
+        (λ c i. line_length (load_script count) report load_fits load_plain load_sized run unwanting homes_are returned
         one_command rising one_key nothing_else
         c (contains_in report.columns c i))
         ∙ (sym (map_twice (length_of (rounds_of count count)) (λ (c : ColumnReport). (c.region, c.colour))
@@ -204,9 +208,9 @@ module _ (count : ℕ) (small : count ≤ MAX_LOAD) where
 
     pub comes_to : shown_summary count report ≡ load_summary count
     comes_to =
-        let nodes = nodes_are (load_script count) report load_fits load_plain run unwanting homes_are returned
+        let nodes = nodes_are (load_script count) report load_fits load_plain load_sized run unwanting homes_are returned
         one_command rising one_key nothing_else in
-        let rows = rows_are (load_script count) report load_fits load_plain run unwanting homes_are returned
+        let rows = rows_are (load_script count) report load_fits load_plain load_sized run unwanting homes_are returned
         one_command rising one_key nothing_else in
         let made = λ (l : List ℕ) (n r : ℕ). let s : Summary = record
         { count = count; lengths = l; nodes = n; rows = r } in s in

@@ -34,7 +34,7 @@ use Rattle.report_text.specs.declared.report.PointPiece.{PointPiece}
 use Rattle.report_text.specs.declared.report.ReplyLine.{ReplyLine}
 use Rattle.lawful_run.specs.Callers.{Caller, node_of}
 use Rattle.lawful_run.specs.Appends.{Appends, kept_after_points, BeginsRow, HasNoStamp, none_for_one, none_for_several}
-use Rattle.lawful_run.specs.Reads.{ShowsNode, ShowsPlayed, greatest_stamp, kept_after_place}
+use Rattle.lawful_run.specs.Reads.{ShowsNode, ShowsPlayed, greatest_stamp, kept_after_place, events_until}
 use Rattle.lawful_run.specs.Moves.{GivesTooLow, CarriesAt, with_places}
 use Rattle.lawful_run.specs.Explains.{Explained, start, next}
 use Rattle.load_script.specs.Plain.{IsPlainWhat}
@@ -302,14 +302,14 @@ module _ (F : ℕ → Type 0) (colours : ℕ) (log : Log) (caller : Caller) (hol
           | inr x ↦ inr (new r c p x)
         ]
 
-  gives_later : (kept : Kept) → Trace F colours log caller kept → (region colour : ℕ) (places : List ℕ)
-      → All (GivesTooLow log caller region colour) places → Trace F colours log caller
+  gives_later : (kept : Kept) → Trace F colours log caller kept → (region colour seen until : ℕ) (places : List ℕ)
+      → All (GivesTooLow log caller region colour seen until) places → Trace F colours log caller
       (with_places kept region colour places)
-  gives_later kept t region colour places all =
+  gives_later kept t region colour seen until places all =
       later kept (with_places kept region colour places) t t.floor refl made where
         new : (r c p : ℕ) → (r ≡ region) × (c ≡ colour) × In p places → IsMade F log caller kept.ids r c p
         new r c p (x, y, i) =
-            let g = All-contains (GivesTooLow log caller region colour) places p all (contains_in places p i) in (
+            let g = All-contains (GivesTooLow log caller region colour seen until) places p all (contains_in places p i) in (
               _,
               ap (λ z. slice_get (log.histories z c) p) x ∙ (ap (λ z. slice_get (log.histories region z) p) y ∙ g.1),
               tt,
@@ -344,7 +344,8 @@ module _ (F : ℕ → Type 0) (colours : ℕ) (log : Log) (caller : Caller) (hol
   comes_later what answer regions kept after w t (pulled region colour count place carry too_low is tells p same) =
       subst (λ (k : Kept). Trace F colours log caller k) (sym same)
       (carry_later (kept_after_event (with_places kept region colour too_low) region colour place) kept
-      (event_later (with_places kept region colour too_low) (gives_later kept t region colour too_low p.made_again)
+      (event_later (with_places kept region colour too_low) (gives_later kept t region colour (kept.seen caller.own colour)
+      (events_until carry) too_low p.made_again)
       region colour place _ p.gives tt) region colour count carry p.carries)
   comes_later what answer regions kept after w t (unchanged none tells same) =
       subst (λ (k : Kept). Trace F colours log caller k) (sym same) t

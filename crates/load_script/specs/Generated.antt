@@ -1,6 +1,8 @@
 -- The script of a load, in which eight clients of two regions append, sync and pull by a simple rule.
 use Rattle.std.specs.Prelude.{ℕ, ◌+◌, ◌*◌, ◌%◌, ◌==◌, List, [], ◌∷◌, ◌++◌, map, Option, Some, None, decimal, codes, slice_get, if◌then◌else◌}
 use Rattle.std.specs.List.{flat_map, range_with_len}
+use Rattle.log_node.specs.declared.ids.Colours.{Colours}
+use Rattle.log_node.specs.Sets.{set_of}
 use Rattle.script_text.specs.declared.script.What.{What}
 use Rattle.script_text.specs.declared.script.What.TheVariants as whats
 use Rattle.script_text.specs.declared.script.Command.{Command}
@@ -16,16 +18,16 @@ abbrev pub choice_of : ℕ → ℕ → ℕ → ℕ
 choice_of count client round = (7 * client + 3 * round + count) % 8
 
 -- the sets of colours to which the choices 0 to 5 append: each colour alone, the first two, the middle two
-abbrev pub sets : List ℕ
-sets = 1 ∷ 2 ∷ 4 ∷ 8 ∷ 3 ∷ 6 ∷ []
+abbrev pub sets : List Colours
+sets = set_of (0 ∷ []) ∷ set_of (1 ∷ []) ∷ set_of (2 ∷ []) ∷ set_of (3 ∷ []) ∷ set_of (0 ∷ 1 ∷ []) ∷ set_of (1 ∷ 2 ∷ []) ∷ []
 
 -- the text of a client's node of a round
 abbrev pub node_text : ℕ → ℕ → List ℕ
 node_text client round = codes "t" ++ decimal client ++ codes "-" ++ decimal round
 
 -- an append to the set of a choice; a sync at choice 6, and a pull from the other region at choice 7
-abbrev pub asked_by : Option ℕ → ℕ → ℕ → ℕ → What
-asked_by (Some set) choice client round = whats.Append (record { 0 = set }) (node_text client round)
+abbrev pub asked_by : Option Colours → ℕ → ℕ → ℕ → What
+asked_by (Some set) choice client round = whats.Append set (node_text client round)
 asked_by None choice client round =
     if choice == 6 then whats.Sync (round % 4) else whats.Pull (home_of (client + 1)) (round % 4)
 

@@ -9,7 +9,14 @@ use script_text::{Command, What};
 use std::alloc::{AllocError, Global};
 
 // The sets of colours to which the choices 0 to 5 append.
-const SETS: [u16; 6] = [0b0001, 0b0010, 0b0100, 0b1000, 0b0011, 0b0110];
+const SETS: [Colours; 6] = [
+    Colours(0b0001),
+    Colours(0b0010),
+    Colours(0b0100),
+    Colours(0b1000),
+    Colours(0b0011),
+    Colours(0b0110),
+];
 
 fn text(alloc: Global, client: u8, round: u32) -> Result<Text, AllocError>
     ensures { IfOk result (λ text. text ≡ node_text client round) }
@@ -25,7 +32,7 @@ fn what(alloc: Global, choice: u32, client: u8, round: u32) -> Result<What, Allo
     let colour = (round % 4) as u8;
     match SETS.get(choice as usize) {
         Some(set) => Ok(What::Append {
-            colours: Colours(*set),
+            colours: *set,
             text: text(alloc, client, round)?,
         }),
         None if choice == 6 => Ok(What::Sync { colour }),

@@ -7,7 +7,7 @@ use Rattle.log_node.specs.declared.ids.Id.{Id}
 use Rattle.log_node.specs.declared.ids.Key.{Key}
 use Rattle.log_node.specs.declared.ids.Row.{Row}
 use Rattle.log_node.specs.declared.ids.Colours.{Colours}
-use Rattle.log_node.specs.declared.limits.TheConstants.{MAX_STAMP}
+use Rattle.log_node.specs.declared.limits.TheConstants.{MAX_COLOURS, MAX_STAMP}
 use Rattle.log_node.specs.declared.node.At.TheVariants.{Event}
 use Rattle.log_node.specs.declared.node.Node.{Node}
 use Rattle.log_node.specs.Sets.{has, members}
@@ -112,7 +112,7 @@ module _ (s : Store) (c : Client) (r : Region) (g : Hold) (k : ℕ) (colours : C
   single_next = appends_next s c r g colours text x is there at_g x_is
 
   has_it : has colours k ≡ true
-  has_it = (in_filter (has colours) k (range_with_len 0 64) (subst (In k) (sym one_colour) (inl refl))).1
+  has_it = (in_filter (has colours) k (range_with_len 0 MAX_COLOURS) (subst (In k) (sym one_colour) (inl refl))).1
 
   pub single_fits : FitsColumn r.number k x
   single_fits = fits_column s c r g colours text x is there at_g x_is k has_it

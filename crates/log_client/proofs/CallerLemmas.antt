@@ -3,7 +3,6 @@ pub use Rattle.log_client.proofs.Seeing.{sees_on, seen_there}
 pub use Rattle.log_client.proofs.Fitting.{fits_less, text_named}
 pub use Rattle.log_client.proofs.GoingOn.{client_sees_on, same_caller}
 pub use Rattle.log_client.proofs.LeftOpen.{open_row}
-pub use Rattle.log_client.proofs.FewColours.{few_colours}
 pub use Rattle.log_client.proofs.Forgetting.{rests_forgotten}
 pub use Rattle.log_client.proofs.Growing.{grown_same, grown_then}
 pub use Rattle.log_client.proofs.ItemsRead.{items_show, items_are_objects, made_from, made_of, rising_head, rising_tail}
@@ -15,10 +14,9 @@ pub use Rattle.log_client.proofs.ObjectNodes.{line_counted, line_first, first_ar
 pub use Rattle.log_client.proofs.ObjectFolds.{folds_none, folds_on, follows_later, folds_more, folds_stay}
 pub use Rattle.log_client.proofs.ObjectCalls.{explained_less, explained_then, first_position, one_known, one_started, tracks_long}
 pub use Rattle.log_client.proofs.ObjectCalls.{rests_synced, sync_hidden, sync_leaves, at_one, append_unshown, stands_behind, unread_leaves}
-pub use Rattle.log_client.proofs.ObjectColours.{one_member, one_of_store}
-pub use Rattle.log_client.proofs.ObjectAppends.{put_refused}
+pub use Rattle.log_client.proofs.ObjectAppends.{append_left, append_stood, put_refused}
 pub use Rattle.log_client.proofs.ObjectShards.{shard_in, shard_low}
-pub use Rattle.log_client.proofs.ColourSets.{rising_set, shard_rising, shards_set}
+pub use Rattle.log_client.proofs.ColourSets.{listed_of_store, one_of_store, shard_rising, shards_of_store}
 pub use Rattle.log_client.proofs.UnshownAppends.{several_are_unshown, unshown}
 pub use Rattle.log_client.proofs.ObjectReads.{reads_later, all_appended, all_explained, first_kept, all_kept, last_keys, rising_front}
 pub use Rattle.log_client.proofs.ObjectPlaces.{IsPlacedIn, PlayedIn, played_in, stood_there}

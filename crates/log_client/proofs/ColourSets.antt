@@ -1,17 +1,22 @@
--- The sets of the colours of shards, and of all colours of an object: each is one of the colours.
-use Rattle.std.proofs.Common.{◌≡◌, ◌≢◌, ◌⊎◌, inl, inr, ℕ, zero, suc, ◌+◌, ◌<◌, ◌≤◌, ◌^◌, Bool, true, false, cond, List, [], ◌∷◌, length, refl, ap, sym, subst, ◌∙◌, arith, eq-eqb}
-use Rattle.std.specs.Prelude.{◌==◌, ◌||◌, ◌%◌, slice_index_or, sum}
-use Rattle.std.specs.Int.{bit_at}
-use Rattle.std.specs.List.{All, Contains, filter, list_any, range_with_len}
-use Rattle.std.proofs.Math.Nat.{mod-lt}
+-- Sets of colours that are a store's: of listed colours, and of the shards of keys.
+use Rattle.std.proofs.Common.{◌≡◌, ◌≢◌, ◌⊎◌, inl, inr, ℕ, zero, suc, ◌+◌, ◌<◌, ◌≤◌, ◌^◌, Bool, true, false, List, [], ◌∷◌, length, refl, ap, sym, subst, ◌∙◌, arith, eq-eqb}
+use Rattle.std.specs.Prelude.{◌==◌, ◌||◌}
+use Rattle.std.specs.List.{All, list_any, range_with_len}
 use Rattle.std.proofs.lemmas.Bool.{or_cases, eqb-true, cases_lt, cases_eq}
-use Rattle.std.proofs.lemmas.List.Elements.{All-contains}
-use Rattle.std.proofs.lemmas.Nat.Bits.{bit_at_above}
+use Rattle.std.proofs.lemmas.List.Elements.{All-cons, All-contains, All-nil}
 use Rattle.log_node.specs.declared.ids.Colours.{Colours}
-use Rattle.log_node.specs.Sets.{has, members}
+use Rattle.log_node.specs.declared.limits.TheConstants.{MAX_COLOURS}
+use Rattle.log_node.specs.Sets.{has, members, set_of}
+use Rattle.log_node.proofs.CallerLemmas.{has-low, has-set_of, members-set_of}
 use Rattle.object_fold.specs.Nodes.{shard_of}
-use Rattle.col_core.proofs.CallerLemmas.{In, contains_in, in_filter, in_filter-back}
+use Rattle.col_core.proofs.CallerLemmas.{In, contains_in, in_contains, in_filter, in_filter-back}
 use Rattle.lawful_run.specs.Asks.{colours_where, shards, rising}
+use Rattle.log_client.specs.declared.store.Store.{Store}
+use Rattle.log_client.specs.declared.client.Client.{Client}
+use Rattle.log_client.specs.Appends.{AreColoursOf}
+use Rattle.log_client.specs.Clients.{IsClient, tracks_of}
+use Rattle.log_client.specs.Objects.{AreColours}
+use Rattle.log_client.proofs.ObjectShards.{shard_in}
 
 -- TESTS OF LISTS
 
@@ -48,77 +53,82 @@ in_some (y ∷ xs) x i = omega arith
 
 -- SETS
 
--- a colour of a set of 16 bits is among its members
-pub has_in : (set : Colours) → set.0 < 2 ^ 16 → (c : ℕ) → has set c ≡ true → In c (members set)
+-- a colour of a set is among its members
+has_in : (set : Colours) → set.0 < 2 ^ MAX_COLOURS → (c : ℕ) → has set c ≡ true → In c (members set)
 has_in set few c of =
-    let low = below (cases_lt c 16) in
-    in_filter-back (has set) c (range_with_len 0 64) (in_range 0 64 c (omega arith) (omega (arith, low))) of where
-      below : (c < 16) ⊎ (16 ≤ c) → c < 16
-      below (inl lt) = lt
-      below (inr le) = absurd (
-          let none : bit_at set.0 c ≡ 0 = bit_at_above set.0 16 c few le in
-          let no : has set c ≡ false = ap (λ (n : ℕ). n == 1) none in
-          let both : true ≡ false = sym of ∙ no in
-          let f : ⊥ = cc (both) in f
-          )
+    let low = has-low set c few of in
+    in_filter-back (has set) c (range_with_len 0 MAX_COLOURS) (in_range 0 MAX_COLOURS c (omega arith) (omega (arith, low))) of
 
--- The set of the colours for which a test holds: it has a colour that passes, and none that does not.
-pub where_set : (test : ℕ → Bool) (bound k : ℕ) → ((c : ℕ) → test c ≡ true → c < bound) → k < 64 → test k ≡ true
-    → (set : Colours) → set.0 < 2 ^ 16 → members set ≡ colours_where test
-    → (0 < length (members set)) × ((c : ℕ) → has set c ≡ true → c < bound)
-where_set test bound k below low passes_k set few are = (
-  in_some (members set) k (subst (In k) (sym are)
-      (in_filter-back test k (range_with_len 0 64) (in_range 0 64 k (omega arith) (omega (arith, low))) passes_k)),
-  λ c of. below c (in_filter test c (range_with_len 0 64) (subst (In c) are (has_in set few c of))).1,
-)
+-- there is a colour for which a test holds, where it holds for this one
+where_some : (test : ℕ → Bool) (k : ℕ) → k < MAX_COLOURS → test k ≡ true → 0 < length (colours_where test)
+where_some test k low passes_k =
+    in_some (colours_where test) k
+    (in_filter-back test k (range_with_len 0 MAX_COLOURS) (in_range 0 MAX_COLOURS k (omega arith) (omega (arith, low))) passes_k)
+
+-- the set of the colours for which a test holds has no other
+where_within : (test : ℕ → Bool) (set : Colours) → set.0 < 2 ^ MAX_COLOURS → members set ≡ colours_where test
+    → (c : ℕ) → has set c ≡ true → test c ≡ true
+where_within test set few are c of =
+    (in_filter test c (range_with_len 0 MAX_COLOURS) (subst (In c) are (has_in set few c of))).1
+
+-- OF A STORE
+
+-- the set of listed colours is of the store, if each of them is
+pub listed_of_store : (s : Store) (colours : List ℕ) → 0 < length colours → All (λ c. c < s.size.colours) colours
+    → All (λ c. c < MAX_COLOURS) colours → AreColoursOf s (set_of colours)
+listed_of_store s [] none all few = absurd (let f : ⊥ = omega (arith, none) in f)
+listed_of_store s (colour ∷ colours) some all few =
+    let listed = colour ∷ colours in record {
+      some = subst (λ (l : List ℕ). 0 < length l) (sym (members-set_of listed))
+          (where_some (λ c. list_any (λ d. d == c) listed) colour
+          (All-contains (λ d. d < MAX_COLOURS) listed colour few (contains_in listed colour (inl refl)))
+          (passed (λ d. d == colour) listed colour (inl refl) (eq-eqb colour colour refl)));
+      within = λ c of.
+          let r = passes (λ d. d == c) listed (sym (has-set_of listed c) ∙ of) in
+          subst (λ (n : ℕ). n < s.size.colours) (eqb-true r.0 c r.2)
+          (All-contains (λ d. d < s.size.colours) listed r.0 all (contains_in listed r.0 r.1));
+    }
+
+-- the set of one colour
+pub one_of_store : (s : Store) (colour : ℕ) → colour < s.size.colours → colour < MAX_COLOURS
+    → AreColoursOf s (set_of (colour ∷ []))
+one_of_store s colour lt few =
+    listed_of_store s (colour ∷ []) (omega arith)
+    (All-cons (λ (c : ℕ). c < s.size.colours) colour [] lt (All-nil (λ (c : ℕ). c < s.size.colours)))
+    (All-cons (λ (c : ℕ). c < MAX_COLOURS) colour [] few (All-nil (λ (c : ℕ). c < MAX_COLOURS)))
 
 -- SHARDS
-
-index_in : (xs : List ℕ) (k : ℕ) → k < length xs → In (slice_index_or xs k 0) xs
-index_in [] k lt = absurd (let f : ⊥ = omega (arith, lt) in f)
-index_in (x ∷ xs) zero lt = inl refl
-index_in (x ∷ xs) (suc k) lt = inr (index_in xs k (omega (arith, lt)))
 
 shard_below : (bound : ℕ) (colours : List ℕ) → 0 < length colours → All (λ c. c < bound) colours → (key : List ℕ)
     → shard_of colours key < bound
 shard_below bound colours some all key =
-    All-contains (λ c. c < bound) colours (shard_of colours key) all
-    (contains_in colours (shard_of colours key)
-    (index_in colours (sum key % length colours) (mod-lt (sum key) (omega (arith, some)))))
+    All-contains (λ c. c < bound) colours (shard_of colours key) all (shard_in colours key some)
 
--- the set of the shards of keys, of which there are some
-pub shards_set : (bound : ℕ) (colours : List ℕ) → 0 < length colours → All (λ c. c < bound) colours
-    → All (λ c. c < 16) colours → (keys : List (List ℕ)) → 0 < length keys → (set : Colours) → set.0 < 2 ^ 16
-    → members set ≡ shards colours keys → (0 < length (members set)) × ((c : ℕ) → has set c ≡ true → c < bound)
-shards_set bound colours some all few [] none set bits are = absurd (let f : ⊥ = omega (arith, none) in f)
-shards_set bound colours some all few (key ∷ keys) one set bits are =
-    where_set (λ c. list_any (λ k. shard_of colours k == c) (key ∷ keys)) bound (shard_of colours key)
-    (λ c t. let r = passes (λ k. shard_of colours k == c) (key ∷ keys) t in
-    subst (λ (n : ℕ). n < bound) (eqb-true (shard_of colours r.0) c r.2) (shard_below bound colours some all r.0))
-    (let low = shard_below 16 colours some few key in omega (arith, low))
-    (passed (λ k. shard_of colours k == shard_of colours key) (key ∷ keys) key (inl refl)
-    (eq-eqb (shard_of colours key) (shard_of colours key) refl)) set bits are
-
--- the set of all colours of an object, of which there are some
-pub rising_set : (bound : ℕ) (colours : List ℕ) → 0 < length colours → All (λ c. c < bound) colours
-    → All (λ c. c < 16) colours → (set : Colours) → set.0 < 2 ^ 16 → members set ≡ rising colours
-    → (0 < length (members set)) × ((c : ℕ) → has set c ≡ true → c < bound)
-rising_set bound [] none all few set bits are = absurd (let f : ⊥ = omega (arith, none) in f)
-rising_set bound (colour ∷ colours) some all few set bits are =
-    where_set (λ c. list_any (λ d. d == c) (colour ∷ colours)) bound colour
-    (λ c t. let r = passes (λ d. d == c) (colour ∷ colours) t in
-    subst (λ (n : ℕ). n < bound) (eqb-true r.0 c r.2)
-    (All-contains (λ d. d < bound) (colour ∷ colours) r.0 all (contains_in (colour ∷ colours) r.0 r.1)))
-    (let low = All-contains (λ d. d < 16) (colour ∷ colours) colour few (contains_in (colour ∷ colours) colour (inl refl)) in
-    omega (arith, low))
-    (passed (λ d. d == colour) (colour ∷ colours) colour (inl refl) (eq-eqb colour colour refl)) set bits are
+-- the set of the shards of keys, of which there are some, is of the store
+pub shards_of_store : (s : Store) (c : Client) (colours : List ℕ) → IsClient s c → AreColours c colours
+    → (keys : List (List ℕ)) → 0 < length keys → (set : Colours) → set.0 < 2 ^ MAX_COLOURS
+    → members set ≡ shards colours keys → AreColoursOf s set
+shards_of_store s c colours is are [] none set bits same = absurd (let f : ⊥ = omega (arith, none) in f)
+shards_of_store s c colours is are (key ∷ keys) some set bits same = record {
+  some = subst (λ (l : List ℕ). 0 < length l) (sym same)
+      (where_some (λ x. list_any (λ k. shard_of colours k == x) (key ∷ keys)) (shard_of colours key)
+      (shard_below MAX_COLOURS colours are.some are.few key)
+      (passed (λ k. shard_of colours k == shard_of colours key) (key ∷ keys) key (inl refl)
+      (eq-eqb (shard_of colours key) (shard_of colours key) refl)));
+  within = λ x of.
+      let r = passes (λ k. shard_of colours k == x) (key ∷ keys)
+      (where_within (λ y. list_any (λ k. shard_of colours k == y) (key ∷ keys)) set bits same x of) in
+      let lt = shard_below (length (tracks_of c)) colours are.some are.within r.0 in
+      subst (λ (n : ℕ). n < s.size.colours) (eqb-true (shard_of colours r.0) x r.2)
+      (let long = is.colours in omega (arith, lt, long));
+}
 
 -- a colour of the shards is one of the object
 pub shard_rising : (colours : List ℕ) → 0 < length colours → (keys : List (List ℕ)) (c : ℕ)
     → In c (shards colours keys) → In c (rising colours)
 shard_rising colours some keys c i =
-    let f = in_filter (λ d. list_any (λ k. shard_of colours k == d) keys) c (range_with_len 0 64) i in
+    let f = in_filter (λ d. list_any (λ k. shard_of colours k == d) keys) c (range_with_len 0 MAX_COLOURS) i in
     let r = passes (λ k. shard_of colours k == c) keys f.1 in
-    in_filter-back (λ x. list_any (λ d. d == x) colours) c (range_with_len 0 64) f.0
+    in_filter-back (λ x. list_any (λ d. d == x) colours) c (range_with_len 0 MAX_COLOURS) f.0
     (passed (λ d. d == c) colours (shard_of colours r.0)
-    (index_in colours (sum r.0 % length colours) (mod-lt (sum r.0) (omega (arith, some)))) r.2)
+    (in_contains colours (shard_of colours r.0) (shard_in colours r.0 some)) r.2)

@@ -2,6 +2,7 @@
 use Rattle.std.proofs.Common.{◌≡◌, ℕ, ◌<◌, List, ◌∷◌, ◌++◌, refl, subst, inl}
 use Rattle.std.specs.List.{All, range_with_len}
 use Rattle.log_node.specs.declared.ids.Colours.{Colours}
+use Rattle.log_node.specs.declared.limits.TheConstants.{MAX_COLOURS}
 use Rattle.log_node.specs.Sets.{has, members}
 use Rattle.col_core.proofs.CallerLemmas.{In, in_filter, in_right}
 use Rattle.log_client.specs.declared.store.Store.{Store}
@@ -10,7 +11,7 @@ use Rattle.log_client.proofs.HiddenReads.{all_from}
 
 -- a member is one of the store's
 pub member_within : (s : Store) (set : Colours) → AreColoursOf s set → (k : ℕ) → In k (members set) → k < s.size.colours
-member_within s set are k i = are.within k (in_filter (has set) k (range_with_len 0 64) i).1
+member_within s set are k i = are.within k (in_filter (has set) k (range_with_len 0 MAX_COLOURS) i).1
 
 pub next_within : (s : Store) (set : Colours) → AreColoursOf s set → (first : List ℕ) (k : ℕ) (left : List ℕ)
     → first ++ k ∷ left ≡ members set → k < s.size.colours

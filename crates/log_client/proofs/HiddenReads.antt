@@ -1,13 +1,13 @@
 -- A stamped read of which no answer tells, or only a part.
 use Rattle.std.proofs.Common.{◌≡◌, ◌≢◌, ◌⊎◌, inl, inr, ℕ, ◌+◌, ◌≤◌, max, Bool, cond, true, false, List, [], ◌∷◌, ◌++◌, length, map, take, refl, ap, sym, subst, ◌∙◌, arith, eq-eqb, append-nil, append_assoc}
-use Rattle.std.specs.Prelude.{IsFalse, ◌==◌}
+use Rattle.std.specs.Prelude.{◌==◌}
 use Rattle.std.specs.List.{All, Contains}
 use Rattle.std.proofs.lemmas.Bool.{cases_eq, ne_eqb, eqb-true}
 use Rattle.std.proofs.lemmas.List.Elements.{All-cons, All-nil}
 use Rattle.log_node.specs.declared.ids.Counts.{Counts}
 use Rattle.log_node.specs.declared.node.At.{At}
 use Rattle.log_node.specs.declared.node.At.TheVariants.{Event, Look}
-use Rattle.log_node.specs.Vectors.{at, IsWithin, is_within}
+use Rattle.log_node.specs.Vectors.{at, IsWithin}
 use Rattle.col_core.specs.declared.Entry.{Entry}
 use Rattle.col_core.specs.Cuts.{chain, base as base_of}
 use Rattle.col_core.specs.Computed.{dated}
@@ -18,7 +18,7 @@ use Rattle.col_core.specs.Keeping.{Kept, updated, seen_past, kept_after_sync}
 use Rattle.col_core.proofs.CallerLemmas.{In, by_test, if_true, if_false}
 use Rattle.report_text.specs.declared.report.RaisePiece.{RaisePiece}
 use Rattle.lawful_run.specs.Callers.{Caller}
-use Rattle.lawful_run.specs.Reads.{Syncs, RaisesAt, Raises, ClearSyncs, kept_after_place, played_stamp, IsTrimmed, HidesSync, HidesSyncs, played as plays}
+use Rattle.lawful_run.specs.Reads.{Syncs, RaisesAt, Raises, ClearSyncs, kept_after_place, played_stamp, HidesSync, HidesSyncs, played as plays}
 use Rattle.lawful_run.proofs.CallerLemmas.{prefix_take, syncs_later}
 use Rattle.client_law.proofs.CallerLemmas.{at_new_at}
 use Rattle.log_client.specs.Reading.{Playing, AreSyncs, kept_raised, kept_synced, syncs_of, synced_colours}
@@ -328,18 +328,6 @@ module _ (log : Log) (caller : Caller) where
               (kept_after_sync kept caller.own colour p.sync.events counts p.stamp) ps (after_less base kept p b a.0) a.3,
         )
 
-    -- they see more, and leave the starts of other colours
-    pub syncs_seen : (kept : Kept) (played : List Playing) → AreSyncs log caller stamp kept played → (k : ℕ)
-        → kept.seen caller.own k ≤ (kept_synced caller.own played kept).seen caller.own k
-    syncs_seen kept [] a k = omega arith
-    syncs_seen kept (p ∷ ps) a k =
-        let colour = p.sync.snapshot.colour in
-        let next = kept_after_sync kept caller.own colour p.sync.events p.sync.snapshot.counts p.stamp in
-        let later = syncs_seen next ps a.3 k in
-        let one = at_new_at (λ (n : ℕ). kept.seen caller.own k ≤ n) kept.seen caller.own colour p.sync.events caller.own k
-        (λ _ e. subst (λ (m : ℕ). kept.seen caller.own m ≤ p.sync.events) (sym e) a.0.unseen) (λ _. omega arith) in
-        omega (arith, later, one)
-
     -- one more
     pub syncs_more : (kept : Kept) (played : List Playing) (p : Playing) → AreSyncs log caller stamp kept played
         → AreSyncs log caller stamp (kept_synced caller.own played kept) (p ∷ [])
@@ -359,26 +347,6 @@ pub synced_more : (own : ℕ) (kept : Kept) (played : List Playing) (p : Playing
 synced_more own kept [] p = refl
 synced_more own kept (q ∷ qs) p =
     synced_more own (kept_after_sync kept own q.sync.snapshot.colour q.sync.events q.sync.snapshot.counts q.stamp) qs p
-
-pub synced_starts : (own : ℕ) (kept : Kept) (played : List Playing) (k : ℕ) → (In k (synced_colours (syncs_of played)) → ⊥)
-    → (kept_synced own played kept).starts k ≡ kept.starts k
-synced_starts own kept [] k away = refl
-synced_starts own kept (p ∷ ps) k away =
-    let colour = p.sync.snapshot.colour in
-    synced_starts own (kept_after_sync kept own colour p.sync.events p.sync.snapshot.counts p.stamp) ps k (λ i. away (inr i))
-    ∙ if_false (k == colour) p.sync.snapshot.counts (kept.starts k) (ne_eqb k colour (λ e. away (inl (sym e))))
-
--- what is trimmed was so before
-pub trimmed_before : (log : Log) (caller : Caller) (base kept : Kept) (k : ℕ) (shown : Counts)
-    → base.seen caller.own k ≤ kept.seen caller.own k → kept.starts k ≡ base.starts k
-    → IsTrimmed log caller kept k shown → IsTrimmed log caller base k shown
-trimmed_before log caller base kept k shown low same t = let unseen = t.unseen in record {
-  events = t.events;
-  unseen = omega (arith, low, unseen);
-  there = t.there;
-  is_base = t.is_base;
-  below = subst (λ (v : Counts). IsFalse (is_within shown v)) same t.below;
-}
 
 pub raised_more : (own : ℕ) (kept : Kept) (raises : List RaisePiece) (raise : RaisePiece)
     → kept_raised own (raises ++ raise ∷ []) kept

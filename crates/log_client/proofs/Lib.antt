@@ -55,7 +55,6 @@ mod Explaining
 mod HiddenReads
 mod Results
 mod Colours
-mod FewColours
 mod Raising
 mod ClearedHolds
 mod ReadStamps
@@ -67,12 +66,12 @@ mod MergedItems
 mod LineParts
 mod ItemsRead
 mod ReadLater
+mod Hearing
 mod ReadCalls
 mod NamedKeys
 mod ObjectNodes
 mod ObjectFolds
 mod ObjectCalls
-mod ObjectColours
 mod ObjectAppends
 mod ObjectShards
 mod ObjectReads

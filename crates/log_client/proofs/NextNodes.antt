@@ -65,7 +65,7 @@ module _ (s : Store) (c : Client) (r : Region) (g : Hold) (colours : Colours) (t
     by_used zero e = omega (arith, e)
     by_used (suc u) e =
         let on = (rests_there.owns.fit u (omega (arith, e))).on_board.1 in
-        let most = r.board.is_size.5 in
+        let most = r.board.is_size.few_rows in
         omega (arith, e, on, most)
 
   pub counts_on : c.count + 1 < 9223372036854775808

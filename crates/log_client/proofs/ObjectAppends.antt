@@ -1,5 +1,5 @@
 -- Appends of objects, as the client's own append leaves them.
-use Rattle.std.proofs.Common.{◌≡◌, ◌⊎◌, inl, inr, ℕ, ◌<◌, List, map, None, Option, Some, Ok, Err, Result, IfOk, IfErr, refl, sym, subst}
+use Rattle.std.proofs.Common.{◌≡◌, ◌⊎◌, inl, inr, ℕ, List, map, None, Option, Ok, Err, Result, IfOk, IfErr, refl, subst}
 use Rattle.log_node.specs.declared.ids.Colours.{Colours}
 use Rattle.log_node.specs.Sets.{members}
 use Rattle.append_core.specs.declared.stood.Point.{Point}

@@ -30,16 +30,6 @@ use Rattle.log_client.proofs.Once.{entered_once}
 use Rattle.log_client.proofs.OwnNodes.{Brings, ids_then, own_nodes_on, stands_then}
 use Rattle.log_client.proofs.Truly.{WasMade, made_split}
 
--- an event is a single of one id at most, and no step
-pub single_once : (a b : Id) (e : event_types.Event) → IsSingleOf a e → IsSingleOf b e → a ≡ b
-single_once a b (events.Single other floor wants) p q = sym p ∙ q
-single_once a b (events.Propose other floor wants) p q = absurd p
-single_once a b (events.Settle other outcome) p q = absurd p
-single_once a b (events.Raise to) p q = absurd p
-single_once a b (events.Give region from) p q = absurd p
-single_once a b (events.Carry region start heads) p q = absurd p
-single_once a b (events.Trim counts) p q = absurd p
-
 pub step_no_single : (a b : Id) (e : event_types.Event) → IsStepOf a e → IsSingleOf b e → ⊥
 step_no_single a b (events.Single other floor wants) p q = p
 step_no_single a b (events.Propose other floor wants) p q = q
@@ -150,24 +140,3 @@ module _ (number own : ℕ) (gs hs : List Hold) (g h : Hold) (nodes : List Node)
       | inr before ↦ inl (omega (arith, less, used, before))
     ];
   })
-
--- the nodes as before, where nothing was appended
-pub own_nodes_stay : (number own : ℕ) (gs hs : List Hold) (g h : Hold) (nodes : List Node)
-    → slice_get gs own ≡ Some g → slice_get hs own ≡ Some h
-    → ((k : ℕ) → k ≢ own → slice_get hs k ≡ slice_get gs k) → HasGoneOn g h → h.seat.used ≡ g.seat.used
-    → (Made : ℕ → event_types.Event → Type 0) → GoesOn Made g h
-    → ((c : ℕ) (e : event_types.Event) (a : Id) → Made c e → IsSingleOf a e → ⊥)
-    → HasOwnNodes number gs nodes → HasOwnNodes number hs nodes
-own_nodes_stay number own gs hs g h nodes old new others on used Made goes none has =
-    subst (HasOwnNodes number hs) (append-nil nodes)
-    (own_nodes_on number gs hs nodes [] has
-    (λ n y at. has.ids n y (ap (λ (l : List Node). slice_get l n) (sym (append-nil nodes)) ∙ at))
-    (one_changed number own gs hs g h (nodes ++ []) old new others
-    (record {
-      on = on;
-      singles = λ c n t y at made single. elim (made_split Made g h c n t goes at) [
-        | inl was ↦ inl was
-        | inr new ↦ absurd (none c t.entry.event y.id new single)
-      ];
-      rows = λ j less. inl (subst (λ (m : ℕ). j < m) used less);
-    })))

@@ -14,6 +14,7 @@ use Rattle.region_pull.specs.declared.pulled.PullFault.{PullFault}
 use Rattle.region_pull.specs.declared.pulled.PullFault.TheVariants.{SameRegion, NoMemory}
 use Rattle.region_pull.specs.Origins.{OfOrigin, AsksForHeld}
 use Rattle.region_pull.specs.Pulls.{Pulls, GivesAlone}
+use Rattle.region_pull.proofs.CallerLemmas.{looks_carries}
 use Rattle.log_client.specs.declared.store.Store.{Store}
 use Rattle.log_client.specs.declared.client.Client.{Client}
 use Rattle.log_client.specs.Fits.{HaveGoneOn}
@@ -49,12 +50,14 @@ module _ (s : Store) (c d : Client) (is : IsClient s c) (number : d.number ≡ c
     module _ (p : Pulled) (pulls : Pulls from to k g g' h h' p) where
       g_gave : (i : ℕ) (t : Told) → slice_get (made_in g' k) i ≡ Some t
           → WasMade g k t ⊎ ((asked : ℕ) × (t.entry.event ≡ events.Give to.number asked))
-      g_gave = gave_made (tag_at from k) (tag_at to k) g g' k (seen_in h k) (seen_in h' k) (pulls.too_low ++ pulls.last ∷ [])
+      g_gave = gave_made (tag_at from k) (tag_at to k) g g' k (seen_in h k) pulls.looked (pulls.too_low ++ pulls.last ∷ [])
           a.others pulls.asks
 
       h_carried : (i : ℕ) (t : Told) → slice_get (made_in h' k) i ≡ Some t
           → WasMade h k t ⊎ ((start : ℕ) × (heads : List Head) × (t.entry.event ≡ events.Carry from.number start heads))
-      h_carried = carried_made (tag_at from k) (tag_at to k) h h' k p.nodes (seen_in g' k) p.carry b.others pulls.carries
+      h_carried = carried_made (tag_at from k) (tag_at to k) h h' k p.nodes (seen_in g' k) p.carry b.others
+          (looks_carries (tag_at from k) (seen_in g' k) (tag_at to k) h.passes.number (seen_in h k) pulls.looked
+          (seen_in h' k) p.carry p.nodes pulls.looks pulls.carries)
 
       pulled_leaves : Leaves
       pulled_leaves = record {

@@ -2,6 +2,7 @@
 use Rattle.std.proofs.Common.{◌≡◌, ◌≢◌, ◌⊎◌, inl, inr, ℕ, zero, suc, ◌+◌, ◌<◌, ◌≤◌, List, [], ◌∷◌, ◌++◌, length, map, Some, refl, ap, sym, subst, ◌∙◌, arith, append-nil, length-append}
 use Rattle.std.specs.Prelude.{slice_get, slice_set}
 use Rattle.std.specs.List.{All}
+use mathlib.Core.List.{IsPrefix}
 use Rattle.std.proofs.lemmas.Bool.{cases_eq}
 use Rattle.std.proofs.lemmas.List.{length-map, map-append}
 use Rattle.std.proofs.lemmas.List.Elements.{All-nil, All-cons}
@@ -34,7 +35,8 @@ use Rattle.region_pull.specs.Origins.{OfOrigin, AsksForHeld}
 use Rattle.region_pull.specs.Pulls.{Gave, Asks, Pulls, GivesAlone}
 use Rattle.lawful_run.specs.Callers.{Caller}
 use Rattle.lawful_run.specs.Lawful.{IsHelp}
-use Rattle.lawful_run.specs.Moves.{GivesAt, GivesTooLow, kept_after_pull, with_places}
+use Rattle.lawful_run.proofs.CallerLemmas.{prefix_length}
+use Rattle.lawful_run.specs.Moves.{GivesHeld, GivesTooLow, OnlyGives, kept_after_pull, kept_after_giving}
 use Rattle.client_law.specs.Knowing.{Rest, log_of, SeesOn}
 use Rattle.client_law.specs.Making.{own_steps, MakesOnly, RiseFrom}
 use Rattle.client_law.specs.Kept.{IsKeptBy}
@@ -51,7 +53,8 @@ use Rattle.log_client.proofs.Seeing.{are_lawful, seen_there, sees_on}
 use Rattle.log_client.proofs.Steps.{none_made}
 use Rattle.log_client.proofs.Truly.{WasMade}
 use Rattle.log_client.proofs.TrulyPulled.{truly_pulled}
-use Rattle.log_client.proofs.Pulling.{place_of, places_of_gives, gives_at, too_low_there, rise_there, given_steps, pulls_there, makes_pull}
+use Rattle.log_client.proofs.Alone.{seen_long}
+use Rattle.log_client.proofs.Pulling.{place_of, places_of_gives, held_there, too_low_there, rise_there, given_steps, pulls_there, makes_pull}
 use Rattle.log_client.proofs.OwnNodes.{Brings, own_nodes_on}
 use Rattle.log_client.proofs.AtHome.{set_there, set_elsewhere, set_long, gone_same, gone_looked, are_regions}
 use Rattle.log_client.proofs.Staying.{track_longer, rows_longer, all_closed_longer}
@@ -454,42 +457,58 @@ module _ (s : Store) (c d : Client) (is : IsClient s c) (number : d.number ≡ c
           let who = caller objects in
           let asks = subst (λ z. Asks (tag_at from k) (tag_at to k) g.passes.number (seen_in g k) (seen_in g' k) (seen_in h k)
           (seen_in h' k) z) all alone.1 in
-          let rest_of = λ (rest : Rest). each_gave (GivesTooLow (log_of (seen_of d) rest) who n k) low
+          let whole = seen_in h' k in
+          let self : IsPrefix whole whole = ([], append-nil whole) in
+          let seen = kept.seen d.region k in
+          let looked = length (seen_of d d.region k) in
+          let since = (kept_by objects kept keeps).seen_within d.region k in
+          let long = seen_long (holds_of d) d.region h' (h_is objects) k in
+          let grown = prefix_length (seen_of c d.region k) (seen_of d d.region k) ((on objects).more d.region k) in
+          let rest_of = λ (rest : Rest). each_gave (GivesTooLow (log_of (seen_of d) rest) who n k seen looked) low
           (λ i x at. too_low_there (holds_of c) (holds_of d) who n k from to g g' h h' ch.first g_new (h_was objects)
           (h_is objects) (g_client objects) (h_client objects) (from_is objects) (to_is objects) (regions_are objects)
-          (far objects) rest (low ++ gives) asks i x (again i x at).0 (again i x at).1) in
-          let last_of = λ (rest : Rest). each_gave (λ place. (asked : ℕ) × GivesAt (log_of (seen_of d) rest) who n k place asked)
-          gives (λ i x at. (
-            x.from,
-            gives_at (holds_of c) (holds_of d) who n k from to g g' h h' ch.first g_new (h_was objects)
-                (h_is objects) (g_client objects) (h_client objects) (from_is objects) (to_is objects) (regions_are objects)
-                (far objects) rest (low ++ gives) asks (once i x at).0 x (once i x at).1,
-          )) in
+          (far objects) rest (low ++ gives) whole self asks seen looked since (omega (arith, long)) i x (again i x at).0
+          (again i x at).1) in
+          let last_of = λ (rest : Rest). each_gave (GivesHeld (log_of (seen_of d) rest) who n k seen looked) gives
+          (λ i x at. held_there (holds_of c) (holds_of d) who n k from to g g' h h' ch.first g_new (h_was objects)
+          (h_is objects) (g_client objects) (h_client objects) (from_is objects) (to_is objects) (regions_are objects)
+          (far objects) rest (low ++ gives) whole self asks seen looked since (omega (arith, long)) (once i x at).0 x
+          (once i x at).1) in
           let split = map-append place_of low gives in
           let rise = subst (RiseFrom (length (seen_of c n k))) split
           (rise_there (holds_of c) (holds_of d) who n k from to g g' h h' ch.first g_new (h_was objects)
           (h_is objects) (g_client objects) (h_client objects) (from_is objects) (to_is objects) (regions_are objects)
-          (far objects) no_rest (low ++ gives) asks) in
+          (far objects) no_rest (low ++ gives) whole self asks) in
           let steps = given_steps (holds_of c) (holds_of d) who n k from to g g' h h' ch.first g_new (h_was objects)
           (h_is objects) (g_client objects) (h_client objects) (from_is objects) (to_is objects) (regions_are objects)
-          (far objects) no_rest (low ++ gives) asks in
+          (far objects) no_rest (low ++ gives) whole self asks in
           let long = length-map (low ++ gives) place_of in
           let joined = ap length split in
           let only : MakesOnly d.number n k (length (map place_of low ++ map place_of gives)) (seen_of c) (seen_of d) = record {
             here = omega (arith, steps, long, joined);
             others = λ r i ne. elsewhere objects r i ne;
           } in
-          let few_places : length (map place_of gives) ≤ 1 = (let z = length-map gives place_of in omega (arith, z, few)) in (
-            with_places (with_places kept n k (map place_of low)) n k (map place_of gives),
+          let few_places : length (map place_of gives) ≤ 1 = (let z = length-map gives place_of in omega (arith, z, few)) in
+          let only_gives : (rest : Rest)
+          → OnlyGives (log_of (seen_of d) rest) who kept n k looked (map place_of low) (map place_of gives) =
+          λ rest. record {
+            another = far objects;
+            unseen = omega (arith, since, grown);
+            there = omega arith;
+            made_again = rest_of rest;
+            once = few_places;
+            given = last_of rest;
+          } in (
+            kept_after_giving kept d.region n k looked (map place_of low) (map place_of gives),
             record {
-              by = kept_after_gives (seen_of c) (seen_of d) no_rest who kept n k (map place_of low) (map place_of gives)
-                  (on objects) only (kept_by objects kept keeps) rise (rest_of no_rest) (last_of no_rest);
+              by = kept_after_gives (seen_of c) (seen_of d) no_rest who kept n k looked (map place_of low)
+                  (map place_of gives) (on objects) only (kept_by objects kept keeps) rise (only_gives no_rest);
               floor = keeps.floor ∙ sym floor;
               ids = keeps.ids ∙ sym count;
               rows = keeps.rows ∙ ap length (sym rows);
               starts = λ i. keeps.starts i ∙ ap (λ l. counts_in (slice_get l i)) (sym tracks);
             },
-            λ rest fits. (map place_of low, map place_of gives, rest_of rest, few_places, last_of rest, refl),
+            λ rest fits. (looked, map place_of low, map place_of gives, only_gives rest, refl),
           ) where
             elsewhere : (objects : List Object) (r i : ℕ) → (r ≢ n) ⊎ (i ≢ k)
                 → own_steps d.number (seen_of d r i) ≡ own_steps d.number (seen_of c r i)

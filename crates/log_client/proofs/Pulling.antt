@@ -1,6 +1,7 @@
 -- Pulls: from what a pull says of two holds to what a client knows.
 use Rattle.std.proofs.Common.{◌≡◌, ◌≢◌, ℕ, suc, ◌+◌, ◌<◌, ◌≤◌, min, List, [], ◌∷◌, ◌++◌, length, map, take, Some, true, slice_get, refl, ap, sym, subst, ◌∙◌, inl, inr, ◌⊎◌, arith, length-append, take_all}
 use Rattle.std.specs.List.{All}
+use mathlib.Core.List.{IsPrefix}
 use Rattle.std.proofs.lemmas.List.{length-map, map-append, take-map}
 use Rattle.std.proofs.lemmas.List.Elements.{All-nil, All-cons}
 use Rattle.log_node.specs.declared.ids.Counts.{Counts}
@@ -24,9 +25,11 @@ use Rattle.chain_store.specs.Holds.{entries_seen, seen_in}
 use Rattle.region_pull.specs.declared.pulled.Pulled.{Pulled}
 use Rattle.region_pull.specs.Pulls.{Gave, Asks, before_gave, told_gave, CarriesLine}
 use Rattle.region_pull.specs.Pulls.{Pulls as HoldPulls}
+use Rattle.region_pull.proofs.CallerLemmas.{carries_more, looks_carries}
 use Rattle.lawful_run.specs.Callers.{Caller}
-use Rattle.lawful_run.specs.Moves.{GivesAt, GivesTooLow}
-use Rattle.lawful_run.proofs.CallerLemmas.{get-append, get_within}
+use Rattle.lawful_run.specs.Reads.{events_until}
+use Rattle.lawful_run.specs.Moves.{GivesAt, AsksFor, GivesHeld, GivesTooLow}
+use Rattle.lawful_run.proofs.CallerLemmas.{get-append, get_within, prefix_length, prefix_take}
 use Rattle.client_law.specs.Knowing.{Rest, log_of}
 use Rattle.client_law.specs.Making.{own_steps, RiseFrom}
 use Rattle.client_law.specs.Moves.{CarriesThere, PullsThere, MakesPull, carry_count}
@@ -76,9 +79,9 @@ module _ (gs hs : List Hold) (caller : Caller) (region colour : ℕ) (from to : 
     (from_is : from.number ≡ region) (to_is : to.number ≡ caller.own) (regions_are : from.regions ≡ caller.regions)
     (apart : region ≢ caller.own) (rest : Rest) where
   -- the gives, among what is now seen of the other region
-  module _ (gives : List Gave)
+  module _ (gives : List Gave) (looked : List Told) (more : IsPrefix looked (seen_in h' colour))
       (asks : Asks (tag_at from colour) (tag_at to colour) g.passes.number (seen_in g colour) (seen_in g' colour)
-      (seen_in h colour) (seen_in h' colour) gives) where
+      (seen_in h colour) looked gives) where
     gave_entry : (x : Gave) → (told_gave g.passes.number to.number x).entry
         ≡ record { by = caller.client; event = events.Give caller.own x.from; stamp = 0 }
     gave_entry x i = record { by = g_is i; event = events.Give (to_is i) x.from; stamp = 0 }
@@ -101,11 +104,48 @@ module _ (gs hs : List Hold) (caller : Caller) (region colour : ℕ) (from to : 
         ∙ (ap (λ (n : ℕ). base region n (dated region (entries_in (before_gave (seen_in g' colour) x)))) regions_are
         ∙ ap (λ (l : List Entry). base region caller.regions (dated region l)) (before_there x))
 
-    pub too_low_there : (i : ℕ) (x : Gave) → slice_get gives i ≡ Some x → i + 1 < length gives
-        → GivesTooLow (log_of (seen_by hs) rest) caller region colour x.place
-    too_low_there i x at lt = (
+    -- what the own column had at a look
+    looked_there : (n : ℕ) → n ≤ length looked → held_in (tag_at to colour) (take n looked) from.number
+        ≡ length (chain caller.own (dated caller.own (take n (seen_by hs caller.own colour))) region)
+    looked_there n le =
+        ap (λ (m : ℕ). length (chain m (dated m (entries_in (take n looked))) from.number)) to_is
+        ∙ (ap (λ (m : ℕ). length (chain caller.own (dated caller.own (entries_in (take n looked))) m)) from_is
+        ∙ ap (λ (l : List Entry). length (chain caller.own (dated caller.own l) region))
+        (ap entries_in (sym (prefix_take looked (seen_in h' colour) n more le))
+        ∙ (sym (take-map (λ (t : Told). t.entry) n (seen_in h' colour))
+        ∙ ap (take n) (sym (seen_there hs caller.own h' h_new colour)))))
+
+    -- what a give asks for, between any two numbers of events that leave room for its look
+    pub asks_there : (seen until : ℕ) → seen ≤ length (seen_by gs caller.own colour) → length looked ≤ until
+        → (i : ℕ) (x : Gave) → slice_get gives i ≡ Some x
+        → AsksFor (log_of (seen_by hs) rest) caller region colour seen until x.place x.from
+    asks_there seen until since before i x at =
+        let on = asks.on i x at in
+        let long = seen_long gs caller.own h h_old colour in
+        let unseen = on.unseen in
+        let there = on.there in (
+          on.looked,
+          omega (arith, since, long, unseen),
+          omega (arith, there, before),
+          on.number
+              ∙ (ap (λ (l : List Entry). min (length (line l))
+              (held_in (tag_at to colour) (take on.looked looked) from.number)) (before_there x)
+              ∙ ap (min (length (line (take x.place (seen_by hs region colour))))) (looked_there on.looked on.there)),
+        )
+
+    pub held_there : (seen until : ℕ) → seen ≤ length (seen_by gs caller.own colour) → length looked ≤ until
+        → (i : ℕ) (x : Gave) → slice_get gives i ≡ Some x
+        → GivesHeld (log_of (seen_by hs) rest) caller region colour seen until x.place
+    held_there seen until since before i x at =
+        (x.from, gives_at i x at, asks_there seen until since before i x at)
+
+    pub too_low_there : (seen until : ℕ) → seen ≤ length (seen_by gs caller.own colour) → length looked ≤ until
+        → (i : ℕ) (x : Gave) → slice_get gives i ≡ Some x → i + 1 < length gives
+        → GivesTooLow (log_of (seen_by hs) rest) caller region colour seen until x.place
+    too_low_there seen until since before i x at lt = (
       x.from,
       gives_at i x at,
+      asks_there seen until since before i x at,
       subst (λ (n : ℕ). x.from < number_at (base region caller.regions (dated region (take x.place (seen_by hs region colour)))) n)
           from_is
           (subst (λ (c : Counts). x.from < number_at c from.number) (base_there x) (asks.again i x at lt)),
@@ -134,14 +174,28 @@ module _ (gs hs : List Hold) (caller : Caller) (region colour : ℕ) (from to : 
         omega (arith, counted, many, new, old)
 
   -- what is held of the other region's chain
-  held_there : (k : Hold) (ks : List Hold) → slice_get ks caller.own ≡ Some k
+  chain_there : (k : Hold) (ks : List Hold) → slice_get ks caller.own ≡ Some k
       → held_in (tag_at to colour) (seen_in k colour) from.number
       ≡ length (chain caller.own (dated caller.own (seen_by ks caller.own colour)) region)
-  held_there k ks at =
+  chain_there k ks at =
       ap (λ (n : ℕ). length (chain n (dated n (entries_seen k colour)) from.number)) to_is
       ∙ (ap (λ (n : ℕ). length (chain caller.own (dated caller.own (entries_seen k colour)) n)) from_is
       ∙ ap (λ (l : List Entry). length (chain caller.own (dated caller.own l) region))
       (sym (seen_there ks caller.own k at colour)))
+
+  -- what it had seen before a carry, or a look that found none
+  looked_until : (looked : List Told) (carry : At) (nodes : ℕ)
+      → CarriesLine (tag_at from colour) (seen_in g' colour) (tag_at to colour) h.passes.number looked
+      (seen_in h' colour) carry nodes
+      → length looked ≤ events_until carry
+  looked_until looked carry nodes (inl (looks, none)) =
+      let le = prefix_length looked (seen_in h' colour) looks.0.more in
+      let is = ap events_until looks.1 in
+      omega (arith, le, is)
+  looked_until looked carry nodes (inr (told, items, m, is, many, some, of)) =
+      let le = prefix_length looked m.before m.more in
+      let at = ap events_until m.place in
+      omega (arith, le, at)
 
   -- after the carry, or the look that found none, no more was seen
   seen_whole : (carry : At) (nodes : ℕ)
@@ -207,22 +261,36 @@ module _ (gs hs : List Hold) (caller : Caller) (region colour : ℕ) (from to : 
       omega (arith, counted, at)
 
   module _ (p : Pulled) (pulls : HoldPulls from to colour g g' h h' p) where
+    -- the carry, from what was seen before the pull
+    carried_since : CarriesLine (tag_at from colour) (seen_in g' colour) (tag_at to colour) h.passes.number
+        (seen_in h colour) (seen_in h' colour) p.carry p.nodes
+    carried_since = looks_carries (tag_at from colour) (seen_in g' colour) (tag_at to colour) h.passes.number
+        (seen_in h colour) pulls.looked (seen_in h' colour) p.carry p.nodes pulls.looks pulls.carries
+
+    looked_more : IsPrefix pulls.looked (seen_in h' colour)
+    looked_more = carries_more (tag_at from colour) (seen_in g' colour) (tag_at to colour) h.passes.number
+        pulls.looked (seen_in h' colour) p.carry p.nodes pulls.carries
+
     pub pulls_there : PullsThere (seen_by gs) (seen_by hs) rest caller region colour p.nodes pulls.last.place p.carry
         (places_of_gives pulls.too_low)
     pulls_there =
         let all = pulls.too_low ++ pulls.last ∷ [] in
         let last_at = got_last pulls.too_low pulls.last in
-        let on = asks_last in
+        let seen = length (seen_by gs caller.own colour) in
+        let until = events_until p.carry in
+        let before = looked_until pulls.looked p.carry p.nodes pulls.carries in
         record {
           another = apart;
           rising = subst (RiseFrom (length (seen_by gs region colour)))
-              (map-append place_of pulls.too_low (pulls.last ∷ [])) (rise_there all pulls.asks);
-          made_again = each_place (GivesTooLow (log_of (seen_by hs) rest) caller region colour) pulls.too_low
-              (λ i x at. too_low_there all pulls.asks i x (in_front i x at) (before_last i x at));
+              (map-append place_of pulls.too_low (pulls.last ∷ [])) (rise_there all pulls.looked looked_more pulls.asks);
+          made_again = each_place (GivesTooLow (log_of (seen_by hs) rest) caller region colour seen until) pulls.too_low
+              (λ i x at. too_low_there all pulls.looked looked_more pulls.asks seen until (omega arith) before i x
+              (in_front i x at) (before_last i x at));
           from = pulls.last.from;
-          gives = gives_at all pulls.asks (length pulls.too_low) pulls.last last_at;
-          asks_on = on;
-          carries = carries_there p.carry p.nodes pulls.carries;
+          gives = gives_at all pulls.looked looked_more pulls.asks (length pulls.too_low) pulls.last last_at;
+          asks = asks_there all pulls.looked looked_more pulls.asks seen until (omega arith) before
+              (length pulls.too_low) pulls.last last_at;
+          carries = carries_there p.carry p.nodes carried_since;
           holds = held_at_end;
         } where
           in_front : (i : ℕ) (x : Gave) → slice_get pulls.too_low i ≡ Some x
@@ -239,36 +307,27 @@ module _ (gs hs : List Hold) (caller : Caller) (region colour : ℕ) (from to : 
           line_before : length (line (entries_in (before_gave (seen_in g' colour) pulls.last)))
               ≡ length (line (take pulls.last.place (seen_by hs region colour)))
           line_before = ap (λ (l : List Entry). length (line l))
-              (before_there (pulls.too_low ++ pulls.last ∷ []) pulls.asks pulls.last)
-
-          asks_last : min (length (line (take pulls.last.place (seen_by hs region colour))))
-              (length (chain caller.own (dated caller.own (seen_by gs caller.own colour)) region)) ≤ pulls.last.from
-          asks_last =
-              let less = (pulls.asks.on (length pulls.too_low) pulls.last (got_last pulls.too_low pulls.last)).no_less in
-              subst (λ (n : ℕ). min n (length (chain caller.own (dated caller.own (seen_by gs caller.own colour)) region))
-              ≤ pulls.last.from) line_before
-              (subst (λ (n : ℕ). min (length (line (entries_in (before_gave (seen_in g' colour) pulls.last)))) n
-              ≤ pulls.last.from) (held_there h gs h_old) less)
+              (before_there (pulls.too_low ++ pulls.last ∷ []) pulls.looked looked_more pulls.asks pulls.last)
 
           held_at_end : length (line (take pulls.last.place (seen_by hs region colour)))
               ≤ length (chain caller.own (dated caller.own (take (seen_after p.carry) (seen_by hs caller.own colour))) region)
           held_at_end =
               subst (λ (l : List Entry). length (line (take pulls.last.place (seen_by hs region colour)))
-              ≤ length (chain caller.own (dated caller.own l) region)) (sym (seen_whole p.carry p.nodes pulls.carries))
+              ≤ length (chain caller.own (dated caller.own l) region)) (sym (seen_whole p.carry p.nodes carried_since))
               (subst (λ (n : ℕ). n ≤ length (chain caller.own (dated caller.own (seen_by hs caller.own colour)) region))
               line_before
               (subst (λ (n : ℕ). length (line (entries_in (before_gave (seen_in g' colour) pulls.last))) ≤ n)
-              (held_there h' hs h_new) pulls.holds))
+              (chain_there h' hs h_new) pulls.holds))
 
     -- its steps are the gives and the carry, where all else was only seen
     pub makes_pull : ((r c : ℕ) → (c ≢ colour) ⊎ ((r ≢ region) × (r ≢ caller.own))
         → seen_by hs r c ≡ seen_by gs r c)
         → MakesPull caller region colour (length (places_of_gives pulls.too_low) + 1) (carry_count p.carry) (seen_by gs) (seen_by hs)
     makes_pull others =
-        let given = given_steps (pulls.too_low ++ pulls.last ∷ []) pulls.asks in
+        let given = given_steps (pulls.too_low ++ pulls.last ∷ []) pulls.looked looked_more pulls.asks in
         let sum = length-append pulls.too_low (pulls.last ∷ []) in
         let low = length-map pulls.too_low place_of in
-        let carried = carried_steps p.carry p.nodes pulls.carries in
+        let carried = carried_steps p.carry p.nodes carried_since in
         let new = ap (λ (l : List Entry). length (own_steps caller.client l)) (seen_there hs caller.own h' h_new colour)
         ∙ subst (λ (n : ℕ). length (own_steps caller.client (entries_seen h' colour))
         ≡ length (own_steps n (entries_seen h' colour))) (sym h_is) refl in

@@ -7,9 +7,7 @@ use Rattle.std.proofs.lemmas.List.{length-map}
 use mathlib.Core.List.{IsPrefix}
 use Rattle.log_node.specs.declared.limits.TheConstants.{MAX_STAMP}
 use Rattle.log_node.specs.declared.ids.Key.{Key}
-use Rattle.log_node.specs.declared.ids.Colours.{Colours}
 use Rattle.log_node.specs.Order.{key_below}
-use Rattle.log_node.specs.Sets.{members}
 use Rattle.log_node.specs.Vectors.{at}
 use Rattle.log_node.proofs.CallerLemmas.{at-zeros}
 use Rattle.log_node.specs.Seen.{PlacedNode}
@@ -20,7 +18,7 @@ use Rattle.col_core.specs.Legal.{IsColumnHistory}
 use Rattle.col_core.specs.Keeping.{Kept, with_floor}
 use Rattle.col_core.specs.Log.{Log}
 use Rattle.col_core.specs.RegionOrder.{IsRegionOrder, IsClearUpTo}
-use Rattle.col_core.proofs.CallerLemmas.{In, contains_in, in_contains, in_right, in_slice}
+use Rattle.col_core.proofs.CallerLemmas.{In, contains_in, in_slice}
 use Rattle.playback.specs.Merging.{AreRising}
 use Rattle.chain_store.specs.declared.hold.Hold.{Hold}
 use Rattle.chain_store.specs.Holds.{entries_seen}
@@ -52,7 +50,7 @@ use Rattle.log_client.proofs.Growing.{grown_same}
 use Rattle.log_client.proofs.Explaining.{keeps_same, rests_same, rests_then}
 use Rattle.log_client.proofs.HiddenReads.{all_from}
 use Rattle.log_client.proofs.ClearedHolds.{cleared_longer}
-use Rattle.log_client.proofs.SyncingAll.{not_both, clear_up_to}
+use Rattle.log_client.proofs.SyncingAll.{clear_up_to}
 use Rattle.log_client.proofs.ReadStamps.{home_lawful}
 use Rattle.log_client.proofs.ItemsRead as read_items
 use Rattle.log_client.proofs.ItemsRead.{line_rising, none_behind, shown}
@@ -228,7 +226,7 @@ whole_lines : (p : Client) (syncs : List Synced)
 whole_lines p [] = refl
 whole_lines p (y ∷ syncs) = ap (λ (ls : List (List Key)). line (home_seen p y.snapshot.colour) ∷ ls) (whole_lines p syncs)
 
-module _ (s : Store) (c b : Client) (set : Colours) (colours : List ℕ) (members_are : colours ≡ members set) (stamp : ℕ) (on1 : RestsOn s c b) (k1 : KeepsAll s c b)
+module _ (s : Store) (c b : Client) (colours : List ℕ) (stamp : ℕ) (on1 : RestsOn s c b) (k1 : KeepsAll s c b)
     (chosen : IsChosen c b colours stamp) (low : c.floor ≤ stamp)
     (above : All (λ k. clock (home_seen c k) ≤ stamp) colours) where
   -- a raise found no memory
@@ -270,28 +268,17 @@ module _ (s : Store) (c b : Client) (set : Colours) (colours : List ℕ) (member
               reply.hides_read s c b r q p colours stamp raises f.played on1 k1 chosen low above on2 all2 on3 k3 on4 k4 []
               all_raised f.left f.apart objects kept keeps rest z.0.0.1 z.1 _ (inl refl),
         )
-    unsynced p (sync_faults.Trimmed shown base) on4 f = (
-      contains_in colours shown
-          (subst (In shown) f.apart (in_right shown (synced_colours (syncs_of f.played)) f.left
-          (in_contains f.left shown (f.why stamp cleared).0))),
-      λ objects kept finished keeps.
-          let k4 = f.all stamp cleared in
-          let x = reply.keeps_all s c b r q p colours stamp raises f.played on1 k1 chosen low above on2 all2 on3 k3 on4 k4 []
-          all_raised f.left f.apart objects kept finished keeps in (
-            reply.hidden s c b r q p colours stamp raises f.played on1 k1 chosen low above on2 all2 on3 k3 on4 k4 []
-                all_raised f.left f.apart objects kept keeps,
-            reply.keeps_hidden s c b r q p colours stamp raises f.played on1 k1 chosen low above on2 all2 on3 k3 on4 k4 []
-                all_raised f.left f.apart objects kept keeps x.0,
-            λ rest fits. let z = x.1 rest fits in (
-              reply.lacked s c b r q p colours stamp raises f.played on1 k1 chosen low above on2 all2 on3 k3 on4 k4 []
-                  all_raised f.left f.apart objects kept keeps finished shown base
-                  (not_both (synced_colours (syncs_of f.played)) f.left set (f.apart ∙ members_are) shown
-                  (in_contains f.left shown (f.why stamp cleared).0)) (f.why stamp cleared).1 rest fits z.0.0.1 z.1,
-              reply.hides_read s c b r q p colours stamp raises f.played on1 k1 chosen low above on2 all2 on3 k3 on4 k4 []
-                  all_raised f.left f.apart objects kept keeps rest z.0.0.1 z.1 _ (inl refl),
-            ),
-          ),
-    )
+    unsynced p (sync_faults.Trimmed shown base) on4 f = λ objects kept finished keeps.
+        let k4 = f.all stamp cleared in
+        let why = f.why stamp cleared in
+        let x = reply.keeps_all s c b r q p colours stamp raises f.played on1 k1 chosen low above on2 all2 on3 k3 on4 k4 []
+        all_raised f.left f.apart objects kept finished keeps in (
+          kept_synced p.region f.played (kept_raised p.region (map raise_piece raises) kept),
+          x.0,
+          λ rest fits. let z = x.1 rest fits in
+              reply.refuses_read s c b r q p colours stamp raises f.played on1 k1 chosen low above on2 all2 on3 k3 on4 k4 []
+              all_raised f.left f.apart objects kept keeps finished refl shown base why.0 why.1 why.2 rest fits z.0.0.1 z.1,
+        )
 
     -- all were synced
     module _ (p : Client) (on4 : RestsOn s q p) (syncs : List Synced) (each : SyncsEach s q p colours syncs) (floor : ℕ)

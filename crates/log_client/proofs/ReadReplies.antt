@@ -19,7 +19,7 @@ use Rattle.script_text.specs.declared.script.Object.{Object}
 use Rattle.report_text.specs.declared.report.RaisePiece.{RaisePiece}
 use Rattle.lawful_run.specs.Callers.{Caller}
 use Rattle.report_text.specs.declared.report.SyncPiece.{SyncPiece}
-use Rattle.lawful_run.specs.Reads.{IsTrimmed, RaisesAt, Raises, kept_after_place, HidesSyncs, HidesRead, ReadsAt, IsAboveClocks, IsReadStamp, events_until}
+use Rattle.lawful_run.specs.Reads.{IsTrimmed, RaisesAt, Raises, kept_after_place, HidesSyncs, HidesRead, RefusesRead, ReadsAt, IsAboveClocks, IsReadStamp, events_until}
 use Rattle.lawful_run.proofs.CallerLemmas.{hides_more, hides_none, prefix_length, prefix_take, raises_later}
 use Rattle.client_law.specs.Knowing.{Rest, log_of, SeesOn}
 use Rattle.client_law.specs.Kept.{IsKeptBy}
@@ -33,7 +33,7 @@ use Rattle.log_client.specs.StampedReads.{raise_piece, sync_piece}
 use Rattle.log_client.specs.Reading.{RestsOn, KeepsWith, KeepsAll, IsChosen, RaisesOne, RaisesAll, kept_raised, raised_colours, Playing, AreSyncs, SyncsKeep, kept_synced, syncs_of, synced_colours, home_seen}
 use Rattle.log_client.proofs.GoingOn.{same_caller}
 use Rattle.log_client.proofs.Explaining.{keeps_less, log_then, rests_then, sees_then, keeps_then}
-use Rattle.log_client.proofs.HiddenReads.{all_from, clear_syncs, events_at, hidden_raises, hides_syncs, past_within, place_in, raised_away, raised_here, raised_less, raised_more, raised_same, raises_more, synced_same, synced_starts, syncs_seen, trimmed_before}
+use Rattle.log_client.proofs.HiddenReads.{all_from, clear_syncs, events_at, hidden_raises, hides_syncs, past_within, place_in, raised_away, raised_here, raised_less, raised_more, raised_same, raises_more, synced_same}
 use Rattle.log_client.proofs.ClearedHolds.{clock_grows}
 use Rattle.log_client.proofs.ReadStamps.{home_clock, home_lawful, home_more}
 
@@ -340,14 +340,18 @@ module _ (s : Store) (c b r q p : Client) (colours : List ℕ) (stamp : ℕ) (ra
           ))
     ]
 
+    whole_colours : raise_left ≡ [] → map (λ (r : RaisePiece). r.colour) pieces ≡ colours
+    whole_colours all_raised =
+        colours_of_pieces raises
+        ∙ (sym (append-nil (raised_colours raises))
+        ∙ (ap (λ (l : List ℕ). raised_colours raises ++ l) (sym all_raised) ∙ raise_apart))
+
     pub reads_at : (rest : Rest) → raise_left ≡ [] → sync_left ≡ [] → Before (log_of (seen_of p) rest) caller kept
         → AreSyncs (log_of (seen_of p) rest) caller stamp (raised kept) played
         → ReadsAt (log_of (seen_of p) rest) caller kept colours stamp pieces (map sync_piece (syncs_of played))
         (with_floor (synced kept) stamp)
     reads_at rest all_raised all_synced raising syncing = record {
-      raised_colours = colours_of_pieces raises
-          ∙ (sym (append-nil (raised_colours raises))
-          ∙ (ap (λ (l : List ℕ). raised_colours raises ++ l) (sym all_raised) ∙ raise_apart));
+      raised_colours = whole_colours all_raised;
       synced_colours = colours_of_syncs (syncs_of played)
           ∙ (sym (append-nil (synced_colours (syncs_of played)))
           ∙ (ap (λ (l : List ℕ). synced_colours (syncs_of played) ++ l) (sym all_synced) ∙ sync_apart));
@@ -424,24 +428,30 @@ module _ (s : Store) (c b r q p : Client) (colours : List ℕ) (stamp : ℕ) (ra
       after_is = is;
     }
 
-    -- what it lacks of a colour that was not synced
-    pub lacked : Finished c → (shown : ℕ) (base : Counts) → (In shown (synced_colours (syncs_of played)) → ⊥)
+    -- the play of the next colour was refused
+    pub refuses_read : Finished c → raise_left ≡ [] → (shown : ℕ) (base : Counts) (behind : List ℕ)
+        → sync_left ≡ shown ∷ behind
         → KeepsWith s q p (kept_synced q.region played) (λ log caller x.
         IsTrimmed log caller (kept_synced caller.own played x) shown base) → (rest : Rest) → Fits (holds_of p) rest
         → Before (log_of (seen_of p) rest) caller kept → AreSyncs (log_of (seen_of p) rest) caller stamp (raised kept) played
-        → IsTrimmed (log_of (seen_of p) rest) caller kept shown base
-    lacked finished shown base away w rest fits raising syncing =
-        let at_q = keeps_q objects kept finished keeps in
-        let done = (rests_then s c r q (rests_then s c b r on1 on2) on3).finished finished in
-        let t = (w objects (raised kept) done at_q.0).1 rest fits in
-        let log = log_of (seen_of p) rest in
-        let first = (raised_less log caller stamp kept kept pieces (raised kept)
-        (record { floor = refl; starts = refl; seen = λ m. omega arith; known = λ m. omega arith }) raising) in
-        let a = first.seen shown in
-        let z = syncs_seen log caller stamp (raised kept) played syncing shown in
-        trimmed_before log caller kept (synced kept) shown base (omega (arith, a, z))
-        (synced_starts own (raised kept) played shown away
-        ∙ ap (λ (f : ℕ → Counts). f shown) (raised_same own pieces kept).starts) t
+        → RefusesRead (log_of (seen_of p) rest) caller kept colours shown base (synced kept)
+    refuses_read finished all_raised shown base behind next w rest fits raising syncing = record {
+      stamp = stamp;
+      raises = pieces;
+      syncs = map sync_piece (syncs_of played);
+      behind = behind;
+      raised_colours = whole_colours all_raised;
+      synced_before = ap (λ (l : List ℕ). l ++ shown ∷ behind) (colours_of_syncs (syncs_of played))
+          ∙ (ap (λ (l : List ℕ). synced_colours (syncs_of played) ++ l) (sym next) ∙ sync_apart);
+      above_floor = above_floor;
+      above_clocks = above_clocks rest;
+      chosen = chosen_there rest all_raised;
+      raised = raised kept;
+      raising = raising;
+      syncing = clear_syncs (log_of (seen_of p) rest) caller stamp (raised kept) played syncing;
+      trimmed = (w objects (raised kept) ((rests_then s c r q (rests_then s c b r on1 on2) on3).finished finished)
+          (keeps_q objects kept finished keeps).0).1 rest fits;
+    }
 
     -- it keeps what is kept of it
     place_seen : (k place : ℕ) → In place (places k) → place + 1 ≤ length (home_seen p k)

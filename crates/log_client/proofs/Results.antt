@@ -8,7 +8,3 @@ ok_then (Err e) P Q f p = p
 pub on_err : {A E : Type 0} (r : Result A E) (P : Type 0) → P → OnErr r P
 on_err (Ok a) P p = tt
 on_err (Err e) P p = p
-
-pub err_then : {A E : Type 0} (r : Result A E) (P Q : E → Type 0) → ((e : E) → P e → Q e) → IfErr r P → IfErr r Q
-err_then (Ok a) P Q f p = p
-err_then (Err e) P Q f p = f e p

@@ -480,7 +480,7 @@ module _ (s : Store) (c e : Client) (r : Region) (g h : Hold) (colours : Colours
       known = subst (λ (w : Row). KnowsOutcome (view_of h) w (Final a.stamp))
           (λ i. record { client = sym same i; number = sym used i }) a.outcome;
       in_colours = λ k of. inr (
-          let n = member_at x.colours k (let lt = within k of in let few = r.board.is_size.3 in omega (arith, lt, few)) of in
+          let n = member_at x.colours k (let lt = within k of in let few = r.board.is_size.few_colours in omega (arith, lt, few)) of in
           let p = unmapped (λ (q : Point). q.colour) st.points n.0 k
           (ap (λ (l : List ℕ). slice_get l n.0) a.colours ∙ n.1) in
           subst (λ (m : ℕ). (has_entered x.id (entries_seen h m) ≡ true)

@@ -5,6 +5,7 @@ use Rattle.std.specs.List.{All, filter, range_with_len}
 use Rattle.std.proofs.lemmas.List.Elements.{All-cons, All-nil}
 use Rattle.log_node.specs.declared.ids.Id.{Id}
 use Rattle.log_node.specs.declared.ids.Colours.{Colours}
+use Rattle.log_node.specs.declared.limits.TheConstants.{MAX_COLOURS}
 use Rattle.log_node.specs.declared.node.At.{At}
 use Rattle.log_node.specs.declared.node.At.TheVariants.{Event, Look}
 use Rattle.log_node.specs.declared.node.Node.{Node}
@@ -86,7 +87,7 @@ once_from test a (suc n) i j c at to = by_bool (test a) i j at to (λ k l e f. o
 
 pub member_once : (set : Colours) (i j c : ℕ) → slice_get (members set) i ≡ Some c → slice_get (members set) j ≡ Some c
     → i ≡ j
-member_once set i j c at to = once_from (has set) 0 64 i j c at to
+member_once set i j c at to = once_from (has set) 0 MAX_COLOURS i j c at to
 
 -- what holds of each item, by place
 all_by : {A : Type 0} (P : A → Type 0) (xs : List A) → ((n : ℕ) (x : A) → slice_get xs n ≡ Some x → P x) → All P xs

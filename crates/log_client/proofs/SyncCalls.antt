@@ -17,8 +17,9 @@ use Rattle.col_core.specs.Keeping.{kept_after_sync}
 use Rattle.lawful_run.specs.Reads.{greatest_stamp}
 use Rattle.log_client.specs.Fits.{HaveGoneOn}
 use Rattle.log_client.specs.Clients.{holds_of, tracks_of, IsClient, IsTrack, Finished, Helps}
+use Rattle.log_client.proofs.Lists.{got}
 use Rattle.log_client.specs.Inside.{PlaysOn, IsRefusedOn}
-use Rattle.log_client.specs.Calls.{IsExplained, SyncsAs, SyncRefused, AnswersSync, nodes_played}
+use Rattle.log_client.specs.Calls.{IsExplained, IsOfColumn, SyncsAs, SyncRefused, AnswersSync, nodes_played}
 use Rattle.log_client.specs.Reading.{PlaysColour, RefusesColour, kept_after_playing}
 use Rattle.log_client.specs.Growing.{HasGrown}
 use Rattle.log_client.proofs.Growing.{grown_at, grown_same}
@@ -58,6 +59,16 @@ refused_by_plays s c d k sync_faults.NoMemory why = λ objects kept finished kee
   (why objects kept finished keeps).0,
   λ rest fits. refl,
 )
+
+-- the snapshot of a client's track is of its column
+pub snapshot_there : (s : Store) (c : Client) (k : ℕ) (track : Track) → IsClient s c → k < length (tracks_of c)
+    → track ≡ slice_index_or c.tracks.items k track → IsOfColumn c k track.snapshot
+snapshot_there s c k track is lt there =
+    let many = is.holds.0 in
+    let within = is.region in
+    let home = got (holds_of c) c.region (omega (arith, many, within)) in
+    let t = (is.home home.0 home.1).tracks k track (slice_get_read (tracks_of c) (length (tracks_of c)) k track refl lt there) in
+    (t.region, t.of_colour)
 
 -- the client's hold and its track of a colour
 module _ (s : Store) (c : Client) (r : Region) (g : Hold) (k : ℕ) (old : Track) (is : IsClient s c)

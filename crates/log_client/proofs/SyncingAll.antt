@@ -35,7 +35,6 @@ use Rattle.log_client.proofs.HiddenReads.{all_from, are_syncs_later, synced_more
 use Rattle.log_client.proofs.ClearedHolds.{cleared_longer}
 use Rattle.log_client.proofs.PlayedStamps.{stamps_played}
 use Rattle.log_client.proofs.ReadStamps.{home_more, home_lawful}
-use Rattle.log_client.proofs.Lists.{got_onward}
 use Rattle.log_client.proofs.Several.{member_once}
 
 -- CLEARED
@@ -69,18 +68,6 @@ apart_from xs k ys set is m i same =
     let late : slice_get (members set) (length xs) ≡ Some k =
     ap (λ (l : List ℕ). slice_get l (length xs)) (sym is) ∙ at_end xs k ys in
     let e = member_once set n.0 (length xs) k early late in
-    let f : ⊥ = omega (arith, lt, e) in f
-
-pub not_both : (xs ys : List ℕ) (set : Colours) → xs ++ ys ≡ members set → (k : ℕ) → In k ys → In k xs → ⊥
-not_both xs ys set is k late early =
-    let n = in_slice xs k early in
-    let m = in_slice ys k late in
-    let lt = slice_get_within xs n.0 k n.1 in
-    let first : slice_get (members set) n.0 ≡ Some k =
-    ap (λ (l : List ℕ). slice_get l n.0) (sym is) ∙ prefix_get xs (xs ++ ys) n.0 k (ys, refl) n.1 in
-    let second : slice_get (members set) (length xs + m.0) ≡ Some k =
-    ap (λ (l : List ℕ). slice_get l (length xs + m.0)) (sym is) ∙ got_onward xs ys m.0 k m.1 in
-    let e = member_once set n.0 (length xs + m.0) k first second in
     let f : ⊥ = omega (arith, lt, e) in f
 
 -- THE SYNCS
@@ -254,7 +241,8 @@ module _ (s : Store) (c d e : Client) (k : ℕ) (left colours : List ℕ) (syncs
     apart = apart;
     all = less (λ log caller kept. IsTrimmed log caller kept k base) why.1;
     why = λ stamp cleared. (
-      contains_in (k ∷ left) shown (inl (sym why.0)),
+      left,
+      ap (λ (n : ℕ). n ∷ left) (sym why.0),
       λ objects kept finished keeps.
           let r = stay (λ log caller kept. IsTrimmed log caller kept k base) why.1 stamp cleared objects kept finished keeps in (
             r.0,

@@ -45,13 +45,6 @@ heard_along g h note k = record {
   next = k.next;
 }
 
--- a hold as it is knows the same
-same_itself : (g : Hold) → KnowsSame g g
-same_itself g = record { number = refl; seen = λ c. refl; seat = later_same g.seat; view = refl; next = refl }
-
-pub same_all : (gs : List Hold) → KnowSame gs gs
-same_all gs n g h a b = subst (KnowsSame g) (same_Some g h (sym a ∙ b)) (same_itself g)
-
 -- holds by region, of which one has changed
 pub holds_set : (rs : List Region) (hs : List Hold) (i : ℕ) (r : Region) (h k : Hold) → slice_get rs i ≡ Some r
     → slice_get hs i ≡ Some h → IsHold r k → AreHoldsIn rs hs → AreHoldsIn rs (slice_set hs i k)

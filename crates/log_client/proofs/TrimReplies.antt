@@ -150,9 +150,7 @@ module _ (s : Store) (c : Client) (r : Region) (g h : Hold) (k : ℕ) (is : IsCl
           λ rest fits. (
             p.0,
             p.1,
-            λ same_counts. trims_stand (seen_of c) (seen_of after) rest caller kept k p.0 answer on keeps.by p.2
-                (subst (λ (v : Counts). slice_get (seen_of after c.region k) p.0
-                ≡ Some (record { by = c.number; event = events.Trim v; stamp = 0 })) same_counts p.3) p.4,
+            trims_stand (seen_of c) (seen_of after) rest caller kept k p.0 counts answer on keeps.by p.2 p.3 p.4,
             refl,
           ),
         )

@@ -1,6 +1,5 @@
 -- What a client's calls answer, and what explains it.
-use Rattle.std.specs.Prelude.{◌≡◌, ◌≢◌, ◌⊎◌, ℕ, ◌≤◌, List, ◌++◌, length, drop}
-use Rattle.std.specs.List.{All}
+use Rattle.std.specs.Prelude.{◌≡◌, ◌≢◌, ◌⊎◌, ℕ, List, ◌++◌, length, drop}
 use Rattle.log_node.specs.declared.ids.Counts.{Counts}
 use Rattle.log_node.specs.declared.node.At.{At}
 use Rattle.log_node.specs.declared.node.At.TheVariants.{Event}
@@ -10,7 +9,7 @@ use Rattle.col_core.specs.Keeping.{Kept, kept_after_sync, kept_after_event}
 use Rattle.script_text.specs.declared.script.Object.{Object}
 use Rattle.lawful_run.specs.Callers.{Caller}
 use Rattle.lawful_run.specs.Reads.{Syncs, ShowsPlayed, IsTrimmed, greatest_stamp}
-use Rattle.lawful_run.specs.Moves.{GivesAt, GivesTooLow, Pulls, Trims, with_places, kept_after_pull}
+use Rattle.lawful_run.specs.Moves.{Pulls, OnlyGives, TrimsBy, kept_after_pull, kept_after_giving}
 use Rattle.client_law.specs.Knowing.{Rest, log_of}
 use Rattle.playback.specs.declared.player.Snapshot.{Snapshot}
 use Rattle.region_pull.specs.declared.pulled.Pulled.{Pulled}
@@ -71,10 +70,10 @@ SyncRefused s c d colour sync_faults.NoMemory = DidNothing s c d
 
 -- MOVES
 
--- The trim by these counts, at the place, answered the base; by the client's own counts it is that of its last snapshot.
+-- The trim by these counts, at the place, answered the base.
 abbrev pub TrimsAs : ℕ → Counts → At → Counts → Log → Caller → Kept → Kept → Type 0
 TrimsAs colour counts at base log caller kept after =
-    (place : ℕ) × (at ≡ Event place) × (counts ≡ kept.starts colour → Trims log caller kept colour place base)
+    (place : ℕ) × (at ≡ Event place) × TrimsBy log caller kept colour place counts base
     × (after ≡ kept_after_event kept caller.own colour place)
 
 -- the snapshot is of the client's column of the colour
@@ -97,9 +96,8 @@ PullsAs region colour p log caller kept after =
 -- Gives were made, and nothing was carried.
 abbrev pub GaveAlone : ℕ → ℕ → Log → Caller → Kept → Kept → Type 0
 GaveAlone region colour log caller kept after =
-    (too_low gives : List ℕ) × All (GivesTooLow log caller region colour) too_low × (length gives ≤ 1)
-    × All (λ place. (from : ℕ) × GivesAt log caller region colour place from) gives
-    × (after ≡ with_places (with_places kept region colour too_low) region colour gives)
+    (looked : ℕ) × (too_low gives : List ℕ) × OnlyGives log caller kept region colour looked too_low gives
+    × (after ≡ kept_after_giving kept caller.own region colour looked too_low gives)
 
 -- Why nothing was pulled: both regions are one, and nothing was done; or memory was refused, and only gives were made.
 abbrev pub PullRefused : Store → Client → Client → ℕ → ℕ → PullFault → Type 0

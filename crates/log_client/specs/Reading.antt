@@ -189,15 +189,15 @@ SyncsEach s c d colours syncs =
     (played : List Playing) × (syncs_of played ≡ syncs) × (synced_colours syncs ≡ colours)
     × ((stamp : ℕ) → AreCleared c stamp colours → SyncsAll s c d stamp played)
 
--- a play of one of the colours that are left was refused, after these
+-- the play of the first colour that is left was refused, after these
 abbrev pub RefusesLeft : Store → Client → Client → List Playing → List ℕ → SyncFault → Type 0
 RefusesLeft s c d played left (sync_faults.Trimmed shown base) =
-    Contains left shown
+    (behind : List ℕ) × (left ≡ shown ∷ behind)
     × KeepsWith s c d (kept_synced c.region played) (λ log caller kept.
     IsTrimmed log caller (kept_synced caller.own played kept) shown base)
 RefusesLeft s c d played left sync_faults.NoMemory = Unit {0}
 
--- The first of these colours were synced, and a play of the others was refused, or memory.
+-- The first of these colours were synced, and the play of the next was refused, or memory.
 pub record SyncsFirst (s : Store) (c d : Client) (colours : List ℕ) (fault : SyncFault) : Type 0 where
   pub played : List Playing
   pub left : List ℕ

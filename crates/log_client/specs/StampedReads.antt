@@ -12,7 +12,7 @@ use Rattle.col_core.specs.Keeping.{Kept}
 use Rattle.report_text.specs.declared.report.RaisePiece.{RaisePiece}
 use Rattle.report_text.specs.declared.report.SyncPiece.{SyncPiece}
 use Rattle.lawful_run.specs.Callers.{Caller}
-use Rattle.lawful_run.specs.Reads.{ReadsAt, AreRead, IsTrimmed, HidesRead}
+use Rattle.lawful_run.specs.Reads.{ReadsAt, AreRead, HidesRead, RefusesRead}
 use Rattle.log_client.specs.declared.store.Store.{Store}
 use Rattle.log_client.specs.declared.client.Client.{Client}
 use Rattle.log_client.specs.declared.answers.Raised.{Raised}
@@ -118,11 +118,9 @@ ReadsGoOn =
 abbrev pub ReadHidden : Store → Client → Client → List ℕ → Type 0
 ReadHidden s c d colours = IsExplained s c d (λ log caller kept after. HidesRead log caller kept colours after)
 
--- Why a stamped read was refused: a node of one of its colours that was not played is trimmed, as the base shows; or memory
--- was refused. What it did before stands.
+-- Why a stamped read was refused: a node of one of its colours that was not played is trimmed, as the base shows, and those
+-- before it are played; or memory was refused. What it did before stands.
 abbrev pub ReadRefused : Store → Client → Client → List ℕ → SyncFault → Type 0
 ReadRefused s c d colours (sync_faults.Trimmed colour base) =
-    Contains colours colour
-    × IsExplained s c d (λ log caller kept after.
-    IsTrimmed log caller kept colour base × HidesRead log caller kept colours after)
+    IsExplained s c d (λ log caller kept after. RefusesRead log caller kept colours colour base after)
 ReadRefused s c d colours sync_faults.NoMemory = ReadHidden s c d colours

@@ -23,7 +23,9 @@ pub struct Client {
 
 impl Client {
     ghost use Rattle.std.specs.Prelude.{◌≡◌, ◌<◌, ◌≤◌, length};
-    ghost use Rattle.log_client.specs.Clients.{tracks_of, starts_of, played_of, line_of};
+    ghost use Rattle.log_client.specs.declared.store.Store.{Store};
+    ghost use Rattle.log_client.specs.Calls.{IsOfColumn};
+    ghost use Rattle.log_client.specs.Clients.{IsClient, tracks_of, starts_of, played_of, line_of};
     ghost use Rattle.log_client.specs.Forgetting.{HasForgotten};
 
     /// The client's number.
@@ -59,7 +61,8 @@ impl Client {
     /// The snapshot of the client's last sync of the colour that was not refused; all zeros before.
     pub fn snapshot(&self, colour: u8) -> Snapshot
         requires { colour < length (tracks_of self.now) }
-        ensures { result.counts ≡ starts_of self.now colour }
+        ensures counts { result.counts ≡ starts_of self.now colour }
+        ensures column { (store : Store) → IsClient store self.now → IsOfColumn self.now colour result }
     {
         self.tracks[colour as usize].snapshot
     }

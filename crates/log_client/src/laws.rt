@@ -1,4 +1,5 @@
-// Laws of what clients have read.
+// Laws of what clients have read and heard.
+ghost use Rattle.log_client.specs.Notes.{HearersHaveSeen};
 ghost use Rattle.log_client.specs.StampedReads.{ReadsGoOn};
 
 use lawful_run::read_items_last;
@@ -10,3 +11,9 @@ pub fn reads_go_on()
 {
     read_items_last();
 }
+
+/// Who hears a note has seen all that its teller had: where an answer to an append of the teller says that the node stands, it
+/// stands for the hearer too, and a sync plays all of it that can be played.
+pub fn hearers_have_seen()
+    ensures { HearersHaveSeen }
+{}

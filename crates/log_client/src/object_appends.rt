@@ -71,6 +71,6 @@ impl Client {
         ensures ok { IfOk result (StandsIn store.now self.old self.new (colour ∷ []) (form_text form)) }
         ensures err { IfErr result (StandsNot store.now self.old self.new (colour ∷ []) (form_text form)) }
     {
-        self.append_form(rt, alloc, store, gate, Colours(1 << colour), form)
+        self.append_form(rt, alloc, store, gate, Colours::of(&[colour]), form)
     }
 }

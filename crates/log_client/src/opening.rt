@@ -10,7 +10,7 @@ use crate::played::PlayedNodes;
 use crate::store::Store;
 use crate::track::Track;
 use chain_store::{Hold, Region};
-use log_node::{Counts, ListOf, MAX_REGIONS, Shape};
+use log_node::{Counts, ListOf, MAX_CLIENTS, MAX_REGIONS, Shape};
 use playback::Snapshot;
 use stamp_board::Size;
 use std::alloc::{AllocError, Global};
@@ -46,7 +46,7 @@ fn fresh_tracks(alloc: Global, region: u8, colours: u8) -> Result<Vec<Track>, Al
 
 // A client of each home, which has no hold yet.
 fn fresh_clients(alloc: Global, shape: &Shape) -> Result<Vec<Client>, AllocError>
-    requires { length shape.now.homes ≤ 16 }
+    requires { length shape.now.homes ≤ MAX_CLIENTS }
     ensures fresh { IfOk result (λ clients. AreFreshClients shape.now clients.items) }
     ensures holds { IfOk result (λ clients. HaveNoHolds clients.items) }
 {

@@ -2,7 +2,7 @@
 ghost use Rattle.std.specs.Prelude.{◌≡◌, ◌<◌, ◌++◌, length, map};
 ghost use Rattle.std.specs.List.{All};
 ghost use Rattle.log_node.specs.Sets.{members};
-ghost use Rattle.lawful_run.specs.Asks.{rising, shards, keys_of};
+ghost use Rattle.lawful_run.specs.Asks.{shards, keys_of};
 ghost use Rattle.log_client.specs.Objects.{version_keys};
 
 use log_node::{Colours, MAX_COLOURS, Pair, Text, Version};
@@ -14,9 +14,9 @@ pub fn key_shards(colours: &[u8], keys: &[Text]) -> Colours
     requires few { All (λ colour. colour < MAX_COLOURS) colours.now }
     ensures { members result ≡ shards colours.now keys.now }
 {
-    let mut set = Colours(0);
+    let mut set = Colours::NONE;
     for key in keys {
-        set = Colours(set.0 | 1 << shard_of(colours, key.as_bytes()));
+        set = set.with(shard_of(colours, key.as_bytes()));
     }
     set
 }
@@ -27,9 +27,9 @@ pub fn pair_shards(colours: &[u8], pairs: &[Pair]) -> Colours
     requires few { All (λ colour. colour < MAX_COLOURS) colours.now }
     ensures { members result ≡ shards colours.now (keys_of pairs.now) }
 {
-    let mut set = Colours(0);
+    let mut set = Colours::NONE;
     for pair in pairs {
-        set = Colours(set.0 | 1 << shard_of(colours, pair.key.as_bytes()));
+        set = set.with(shard_of(colours, pair.key.as_bytes()));
     }
     set
 }
@@ -40,24 +40,12 @@ pub fn transaction_shards(colours: &[u8], versions: &[Version], pairs: &[Pair]) 
     requires few { All (λ colour. colour < MAX_COLOURS) colours.now }
     ensures { members result ≡ shards colours.now (version_keys versions.now ++ keys_of pairs.now) }
 {
-    let mut set = Colours(0);
+    let mut set = Colours::NONE;
     for version in versions {
-        set = Colours(set.0 | 1 << shard_of(colours, version.key.as_bytes()));
+        set = set.with(shard_of(colours, version.key.as_bytes()));
     }
     for pair in pairs {
-        set = Colours(set.0 | 1 << shard_of(colours, pair.key.as_bytes()));
-    }
-    set
-}
-
-/// The colours as a set.
-pub fn colour_set(colours: &[u8]) -> Colours
-    requires few { All (λ colour. colour < MAX_COLOURS) colours.now }
-    ensures { members result ≡ rising colours.now }
-{
-    let mut set = Colours(0);
-    for colour in colours {
-        set = Colours(set.0 | 1 << *colour);
+        set = set.with(shard_of(colours, pair.key.as_bytes()));
     }
     set
 }

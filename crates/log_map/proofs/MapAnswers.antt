@@ -1,38 +1,32 @@
 -- What a map keeps while its client goes on, and what explains a get's answer.
-use Rattle.std.proofs.Common.{◌≡◌, ◌≢◌, ◌⊎◌, inl, inr, ℕ, zero, suc, ◌+◌, ◌<◌, ◌≤◌, List, [], ◌∷◌, length, map, take, drop, Option, Some, None, Global, Vec, set, length-set, length-append, get_or, ◌++◌, refl, ap, sym, subst, ◌∙◌, arith}
-use Rattle.std.specs.Prelude.{slice_get, slice_index, slice_index_or, sum, ◌%◌, IfOk, Result}
+use Rattle.std.proofs.Common.{◌≡◌, ◌⊎◌, inl, inr, ℕ, zero, suc, ◌+◌, ◌<◌, List, [], ◌∷◌, length, Some, set, length-set, length-append, get_or, ◌++◌, refl, ap, sym, subst, ◌∙◌, arith}
+use Rattle.std.specs.Prelude.{slice_get, slice_index_or, IfOk, Result}
 use Rattle.std.specs.declared.alloc.AllocError.{AllocError}
 use Rattle.std.specs.Vec.{with_item}
 use Rattle.std.proofs.lemmas.Option.{slice_get_read}
 use Rattle.log_node.specs.Seen.{PlacedNode}
 use Rattle.lawful_run.proofs.CallerLemmas.{get_within}
 use Rattle.std.specs.List.{All, Contains}
-use Rattle.std.proofs.Math.Nat.{mod-lt}
 use Rattle.std.proofs.lemmas.List.Elements.{All-contains}
-use Rattle.log_node.specs.declared.limits.TheConstants.{MAX_COLOURS}
-use Rattle.log_node.specs.declared.ids.Counts.{Counts}
 use Rattle.log_node.specs.Vectors.{at}
 use Rattle.object_fold.specs.Maps.{Value, shard_value}
-use Rattle.object_fold.specs.Nodes.{shard_of}
 use Rattle.object_fold.specs.States.{IsShardMap, HasShardOf}
-use Rattle.col_core.specs.Keeping.{Kept, kept_after_sync}
-use Rattle.col_core.proofs.CallerLemmas.{In, contains_in, in_contains, slice_in}
-use Rattle.script_text.specs.declared.script.Object.{Object}
+use Rattle.col_core.specs.Keeping.{kept_after_sync}
 use Rattle.playback.specs.declared.player.Snapshot.{Snapshot}
 use Rattle.lawful_run.specs.Reads.{Syncs, greatest_stamp, played_stamp}
 use Rattle.log_client.specs.declared.store.Store.{Store}
 use Rattle.log_client.specs.declared.client.Client.{Client}
 use Rattle.log_client.specs.declared.answers.Synced.{Synced}
-use Rattle.client_law.specs.Knowing.{Rest, log_of}
+use Rattle.client_law.specs.Knowing.{log_of}
 use Rattle.log_client.specs.Clients.{IsClient, caller_of, line_of, seen_of, starts_of, tracks_of}
 use Rattle.log_client.specs.Calls.{AnswersSync, IsExplained, SyncsAs, nodes_played}
 use Rattle.log_client.specs.Reading.{RestsOn}
 use Rattle.log_client.specs.StampedReads.{sync_piece}
 use Rattle.log_client.specs.Objects.{AreColours, FoldsFirst, Follows, object_nodes}
-use Rattle.log_client.proofs.CallerLemmas.{folds_none, follows_later, one_started, shard_in, snapshot_is_own, stamps_played, tracks_long}
+use Rattle.log_client.proofs.CallerLemmas.{folds_none, follows_later, one_started, snapshot_is_own, stamps_played, tracks_long}
 use Rattle.log_map.specs.declared.kept_shard.KeptShard.{KeptShard}
 use Rattle.log_map.specs.declared.map.LogMap.{LogMap}
-use Rattle.log_map.specs.Maps.{AreFresh, Gets, IsMapOf, IsSameMap, IsShardOf}
+use Rattle.log_map.specs.Maps.{AreFresh, Gets, IsMapOf, IsShardOf}
 
 module _ (c : Client) (colours : List ℕ) (are : AreColours c colours) where
   pub within : (colour : ℕ) → Contains colours colour → colour < length (tracks_of c)
@@ -175,9 +169,6 @@ map_with c m place colour old new line of there is here same folds =
     (record m { shards = with_item m.shards place new }) refl refl refl
 
 -- OPENED
-
-pub none_fresh : (colours : List ℕ) → AreFresh colours 0 []
-none_fresh colours = record { many = refl; each = λ n colour shard there at. absurd (let f : ⊥ = cc (at) in f) }
 
 -- one shard more
 pub fresh_more : (colours : List ℕ) (n colour d : ℕ) (shards : List KeptShard) (shard : KeptShard) → n < length colours

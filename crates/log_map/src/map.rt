@@ -4,6 +4,7 @@ ghost use Rattle.std.specs.List.{Contains};
 ghost use Rattle.object_form.specs.Forms.{is_word, form_text};
 ghost use Rattle.object_fold.specs.Nodes.{shard_of};
 ghost use Rattle.object_fold.specs.Maps.{shard_value};
+ghost use Rattle.log_client.specs.Calls.{AnswersSync};
 ghost use Rattle.log_client.specs.Clients.{IsClient, Helps, line_of};
 ghost use Rattle.log_client.specs.Reading.{RestsOn};
 ghost use Rattle.log_client.specs.Objects.{AreColours, StandsIn, PutRefused, GetRefused, object_nodes};
@@ -169,6 +170,7 @@ impl LogMap {
         ensures same { IsSameMap self.old self.new }
         ensures ok { IfOk result (λ r. Gets store.now client.old client.new self.old.colours
             (shard_of self.old.colours key.now) key.now r.0 r.1) }
+        ensures played { IfOk result (λ r. AnswersSync client.old client.new (shard_of self.old.colours key.now) r.1) }
         ensures away { client.old.region ≢ self.old.home → result ≡ Err (ObjectFault.NotHome self.old.home) }
         ensures err { IfErr result (GetRefused (Some self.old.home) store.now client.old client.new
             (shard_of self.old.colours key.now)) }

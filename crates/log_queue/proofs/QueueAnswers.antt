@@ -1,28 +1,22 @@
 -- What a queue keeps while its client goes on, and what explains a dequeue's answer.
-use Rattle.std.proofs.Common.{◌≡◌, ◌≢◌, ℕ, ◌+◌, ◌<◌, ◌≤◌, List, [], ◌∷◌, length, map, take, get_or, Option, Some, None, Result, Ok, Err, IfOk, IfErr, refl, ap, sym, subst, ◌∙◌, arith}
-use Rattle.std.specs.Prelude.{MatchResult, slice_get}
+use Rattle.std.proofs.Common.{◌≡◌, ℕ, ◌<◌, ◌≤◌, List, [], ◌∷◌, length, map, take, get_or, Option, refl, ap, sym, subst, ◌∙◌, arith}
 use Rattle.log_node.specs.declared.ids.Colours.{Colours}
 use Rattle.log_node.specs.declared.ids.Counts.{Counts}
 use Rattle.log_node.specs.declared.limits.TheConstants.{MAX_COLOURS}
-use Rattle.log_node.specs.declared.node.Node.{Node}
-use Rattle.log_node.specs.Sets.{members}
 use Rattle.log_node.specs.Seen.{PlacedNode}
 use Rattle.log_node.specs.Vectors.{at}
-use Rattle.object_fold.specs.Nodes.{ObjectNode}
 use Rattle.object_fold.specs.Maps.{Value}
 use Rattle.object_fold.specs.Queues.{front_after}
 use Rattle.object_fold.specs.States.{IsQueue}
 use Rattle.col_core.specs.History.{line}
-use Rattle.col_core.specs.Log.{Log}
-use Rattle.col_core.specs.Keeping.{Kept, updated, kept_after_sync, kept_after_single}
+use Rattle.col_core.specs.Keeping.{Kept, kept_after_sync}
 use Rattle.script_text.specs.declared.script.Object.{Object}
-use Rattle.report_text.specs.declared.report.PointPiece.{PointPiece}
 use Rattle.append_core.specs.declared.stood.Point.{Point}
 use Rattle.playback.specs.declared.player.Snapshot.{Snapshot}
-use Rattle.lawful_run.specs.Callers.{Caller, node_of}
+use Rattle.lawful_run.specs.Callers.{node_of}
 use Rattle.lawful_run.specs.Appends.{Appends}
 use Rattle.lawful_run.specs.Objects.{AreObjectNodes}
-use Rattle.lawful_run.specs.Reads.{Syncs, kept_after_piece, greatest_stamp, played_stamp}
+use Rattle.lawful_run.specs.Reads.{Syncs, greatest_stamp, played_stamp}
 use Rattle.lawful_run.proofs.CallerLemmas.{append_later}
 use Rattle.client_law.specs.Knowing.{Rest, log_of}
 use Rattle.log_client.specs.declared.store.Store.{Store}
@@ -31,17 +25,14 @@ use Rattle.log_client.specs.declared.answers.Appended.{Appended}
 use Rattle.log_client.specs.declared.answers.Synced.{Synced}
 use Rattle.log_client.specs.declared.faults.SyncFault.{SyncFault}
 use Rattle.log_client.specs.declared.faults.SyncFault.TheVariants as sync_faults
-use Rattle.log_client.specs.declared.object_fault.ObjectFault.{ObjectFault}
 use Rattle.log_client.specs.declared.object_fault.ObjectFault.TheVariants as faults
 use Rattle.log_client.specs.Fits.{Fits}
 use Rattle.log_client.specs.Clients.{IsClient, Finished, Keeps, caller_of, holds_of, line_of, seen_of, starts_of, tracks_of}
 use Rattle.log_client.specs.Calls.{AnswersSync, IsExplained, SyncsAs, SyncRefused, nodes_played}
 use Rattle.log_client.specs.Reading.{RestsOn}
 use Rattle.log_client.specs.Appends.{AppendsAs, piece_of}
-use Rattle.log_client.specs.StampedReads.{sync_piece}
 use Rattle.log_client.specs.Objects.{Follows, StandsIn, object_nodes}
 use Rattle.log_client.proofs.CallerLemmas.{at_one, explained_then, first_position, fits_less, folds_none, follows_later, line_counted, first_are_own, one_known, one_started, stamps_played, stands_behind, sync_hidden, sync_leaves, tracks_long, unread_leaves}
-use Rattle.log_queue.specs.declared.kept_queue.KeptQueue.{KeptQueue}
 use Rattle.log_queue.specs.declared.queue.LogQueue.{LogQueue}
 use Rattle.log_queue.specs.Queues.{DeqRefused, Dequeues, IsQueueOf, TakesAs, dequeue_text}
 
@@ -60,15 +51,6 @@ queue_later s c d q is on of = record {
   colour = let lt = of.colour in let same = tracks_long s c d is on.client in omega (arith, lt, same);
   few = of.few;
   folds = follows_later c d q.colour q.kept.count (IsQueue q.kept.queue) on.grows of.folds;
-}
-
--- where only the fold went on
-pub queue_folded : (c : Client) (q r : LogQueue) → IsQueueOf c q → r.colour ≡ q.colour
-    → Follows c q.colour r.kept.count (IsQueue r.kept.queue) → IsQueueOf c r
-queue_folded c q r of same folds = record {
-  colour = subst (λ (n : ℕ). n < length (tracks_of c)) (sym same) of.colour;
-  few = subst (λ (n : ℕ). n < MAX_COLOURS) (sym same) of.few;
-  folds = subst (λ (n : ℕ). Follows c n r.kept.count (IsQueue r.kept.queue)) (sym same) folds;
 }
 
 -- the front after the nodes before the point
@@ -157,7 +139,7 @@ module _ (s : Store) (c m d : Client) (colour : ℕ) (a : Appended) (is : IsClie
           → (fits : Fits (holds_of d) rest) (after : Kept) → Keeps s d objects after
           → ((stood : Kept) × AppendsAs set dequeue_text a (log_of (seen_of d) rest) (caller_of s d objects) kept stood
           × SyncsAs d colour z (log_of (seen_of d) rest) (caller_of s d objects) stood after)
-          → TakesAs set a.stood.key.stamp p z value (log_of (seen_of d) rest) (caller_of s d objects) kept after
+          → TakesAs set a p z value (log_of (seen_of d) rest) (caller_of s d objects) kept after
       answered objects kept finished keeps rest fits after kept_after (stood, appends, syncs) =
           let log = log_of (seen_of d) rest in
           let caller = caller_of s d objects in
@@ -195,4 +177,7 @@ module _ (s : Store) (c m d : Client) (colour : ℕ) (a : Appended) (is : IsClie
                 ∙ (ap (kept_after_sync stood caller.own colour z.events z.snapshot.counts) stamps
                 ∙ ap (λ (k : ℕ). kept_after_sync stood caller.own k z.events z.snapshot.counts
                 (played_stamp log caller stood k z.events z.snapshot.counts)) (sym synced)),
+            appends.0,
+            appends.1,
+            q.no_row,
           )

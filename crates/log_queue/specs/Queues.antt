@@ -38,14 +38,16 @@ pub record IsQueueOf (c : Client) (q : LogQueue) : Type 0 where
 abbrev pub dequeue_text : List ℕ
 dequeue_text = form_text forms.Dequeue
 
--- The own node stands at the point; behind it the colour was synced; and the node takes the value, by those before it.
-abbrev pub TakesAs : Colours → ℕ → Point → Synced → Value → Log → Caller → Kept → Kept → Type 0
-TakesAs set stamp point y value log caller kept after =
+-- The own node, with the id that is answered, stands at the point; behind it the colour was synced; and the node takes the value,
+-- by those before it.
+abbrev pub TakesAs : Colours → Appended → Point → Synced → Value → Log → Caller → Kept → Kept → Type 0
+TakesAs set a point y value log caller kept after =
     (stood : Kept)
-    × Appends log caller kept (node_of caller kept set dequeue_text) stamp None (piece_of point ∷ []) stood
+    × Appends log caller kept (node_of caller kept set dequeue_text) a.stood.key.stamp None (piece_of point ∷ []) stood
     × Syncs log caller stood y.snapshot.colour y.events y.snapshot.counts
     × Takes log caller (piece_of point) value
     × (after ≡ kept_after_piece log caller stood (sync_piece y))
+    × (a.id ≡ (node_of caller kept set dequeue_text).id) × (a.stood.key.id ≡ a.id) × (a.row ≡ None)
 
 -- a dequeue of a queue on this colour answered with this
 pub record Dequeues (s : Store) (c d : Client) (colour : ℕ) (value : Value) (a : Appended) (y : Synced) : Type 0 where
@@ -55,7 +57,7 @@ pub record Dequeues (s : Store) (c d : Client) (colour : ℕ) (value : Value) (a
   pub point_is : a.stood.points ≡ point ∷ []
   pub point_there : point.colour ≡ colour
   pub synced : y.snapshot.colour ≡ colour
-  pub explained : IsExplained s c d (TakesAs set a.stood.key.stamp point y value)
+  pub explained : IsExplained s c d (TakesAs set a point y value)
 
 -- why a dequeue of a queue at this home on this colour was refused
 abbrev pub DeqRefused : ℕ → Store → Client → Client → ℕ → ObjectFault → Type 0

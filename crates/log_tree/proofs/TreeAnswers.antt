@@ -1,15 +1,12 @@
 -- What explains the answers to changes and reads of a tree.
-use Rattle.std.proofs.Common.{◌≡◌, ℕ, ◌<◌, List, [], ◌∷◌, ◌++◌, length, Option, Some, None, Result, IfOk, refl, ap, sym, subst, ◌∙◌, arith, append-nil}
+use Rattle.std.proofs.Common.{◌≡◌, ℕ, ◌<◌, List, [], ◌∷◌, ◌++◌, length, Option, Some, Result, IfOk, ap, sym, subst, ◌∙◌, arith, append-nil}
 use Rattle.std.specs.Prelude.{IsTrue, unwrap_or}
 use Rattle.std.specs.declared.alloc.AllocError.{AllocError}
 use Rattle.log_node.specs.declared.ids.Colours.{Colours}
 use Rattle.log_node.specs.declared.ids.Key.{Key}
 use Rattle.log_node.specs.Sets.{members}
 use Rattle.object_fold.specs.Nodes.{ObjectNode, nodes_before}
-use Rattle.col_core.specs.Log.{Log}
-use Rattle.col_core.specs.Keeping.{Kept}
 use Rattle.lawful_run.specs.Asks.{rising, shards}
-use Rattle.lawful_run.specs.Callers.{Caller}
 use Rattle.log_client.specs.declared.store.Store.{Store}
 use Rattle.log_client.specs.declared.client.Client.{Client}
 use Rattle.log_client.specs.declared.answers.Appended.{Appended}
@@ -18,7 +15,7 @@ use Rattle.log_client.specs.declared.object_fault.ObjectFault.{ObjectFault}
 use Rattle.log_client.specs.declared.object_fault.ObjectFault.TheVariants as faults
 use Rattle.log_client.specs.Calls.{IsExplained}
 use Rattle.log_client.proofs.CallerLemmas.{explained_less}
-use Rattle.region_fold.specs.Folds.{AreWriters, told_among, told_of}
+use Rattle.region_fold.specs.Folds.{told_among, told_of}
 use Rattle.region_fold.specs.Reads.{HasNodes, IsOwn, ReadsNodes, TellRefused, TellsOwn}
 use Rattle.tree_fold.specs.declared.change.Change.{Change}
 use Rattle.tree_fold.specs.declared.change.Change.TheVariants.{Make, Remove, Move}
@@ -59,12 +56,12 @@ tells_change nodes node key text r its_key its_text told =
     (subst (λ (k : Key). IfOk r (λ v. v ≡ trees.told_of k.stamp (tree_after nodes) (change_of text))) (sym its_key) told)
 
 -- a read after which this follows from what is held
-pub reads_so : (s : Store) (c d : Client) (colours : List ℕ) (read : StampedRead) (Holds Has : List ObjectNode → Type 0)
-    → ((nodes : List ObjectNode) → Holds nodes → Has nodes) → ReadsNodes s c d colours read Holds
-    → ReadsNodes s c d colours read Has
-reads_so s c d colours read Holds Has so reads =
-    explained_less s c d (HasNodes (rising colours) read Holds) (HasNodes (rising colours) read Has)
-    (λ log caller before after r. (r.0, r.1, r.2, r.3, r.4, so r.3 r.5)) reads
+pub reads_so : (s : Store) (c d : Client) (colours : List ℕ) (last : Option Key) (read : StampedRead)
+    (Holds Has : List ObjectNode → Type 0) → ((nodes : List ObjectNode) → Holds nodes → Has nodes)
+    → ReadsNodes s c d colours last read Holds → ReadsNodes s c d colours last read Has
+reads_so s c d colours last read Holds Has so reads =
+    explained_less s c d (HasNodes (rising colours) last read Holds) (HasNodes (rising colours) last read Has)
+    (λ log caller before after r. (r.0, r.1, r.2, r.3, so r.2 r.4)) reads
 
 -- WHAT A CHANGE IS TOLD
 
@@ -81,19 +78,19 @@ module _ (back : ReadsBack) (change : Change) (is : IsChange change) where
       ap (told_among telling nodes) own.among ∙ ap (trees.told_of stamp tree) its_change in
       same ∙ ap (λ (t : Told). Some t) (sym (ap (λ (o : Option Told). unwrap_or o d) (own.answer_is ∙ same)))
 
-  pub changes : (s : Store) (c d : Client) (colours : List ℕ) (set : Colours) (told : Option Told) (other : Told)
-      (a : Appended) (read : StampedRead) → members set ≡ shards colours (change_keys change)
-      → IsExplained s c d (TellsOwn telling set (change_text change) (rising colours) told a read)
-      → Changes s c d colours change (unwrap_or told other) a read
-  changes s c d colours set told other a read are tells = record {
+  pub changes : (s : Store) (c d : Client) (colours : List ℕ) (last : Option Key) (set : Colours) (told : Option Told)
+      (other : Told) (a : Appended) (read : StampedRead) → members set ≡ shards colours (change_keys change)
+      → IsExplained s c d (TellsOwn telling set (change_text change) (rising colours) last told a read)
+      → Changes s c d colours last change (unwrap_or told other) a read
+  changes s c d colours last set told other a read are tells = record {
     set = set;
     members_are = are;
-    explained = explained_less s c d (TellsOwn telling set (change_text change) (rising colours) told a read)
-        (ChangesAs set (change_text change) (rising colours) (unwrap_or told other) a read)
+    explained = explained_less s c d (TellsOwn telling set (change_text change) (rising colours) last told a read)
+        (ChangesAs set (change_text change) (rising colours) last (unwrap_or told other) a read)
         (λ log caller kept after t. (
           t.0,
           t.1,
-          (t.2.0, t.2.1, t.2.2, t.2.3, t.2.4, has_told t.2.3 a told other t.2.5),
+          (t.2.0, t.2.1, t.2.2, t.2.3, has_told t.2.2 a told other t.2.4),
         )) tells;
   }
 

@@ -1,6 +1,7 @@
 -- What a tree keeps beside its client, and what its changes and reads answer.
-use Rattle.std.specs.Prelude.{◌≡◌, ℕ, List, take, ◌++◌, Some}
+use Rattle.std.specs.Prelude.{◌≡◌, ℕ, List, take, ◌++◌, Option, Some}
 use Rattle.log_node.specs.declared.ids.Colours.{Colours}
+use Rattle.log_node.specs.declared.ids.Key.{Key}
 use Rattle.log_node.specs.Sets.{members}
 use Rattle.col_core.specs.Log.{Log}
 use Rattle.col_core.specs.Keeping.{Kept}
@@ -16,7 +17,7 @@ use Rattle.log_client.specs.Appends.{AppendsAs}
 use Rattle.log_client.specs.Calls.{IsExplained}
 use Rattle.log_client.specs.StampedReads.{ReadHidden, ReadRefused}
 use Rattle.log_client.specs.Objects.{AreColours, IsAwayFrom, StandsNot}
-use Rattle.region_fold.specs.Folds.{told_of}
+use Rattle.region_fold.specs.Folds.{last_before, told_of}
 use Rattle.region_fold.specs.Reads.{HasNodes, KeepsFold, UntoldLeaves}
 use Rattle.tree_fold.specs.declared.change.Change.{Change}
 use Rattle.tree_fold.specs.declared.change.Change.TheVariants.{Make, Remove, Move}
@@ -47,17 +48,19 @@ change_keys (Remove path) = first_name path
 change_keys (Move source target) = first_name source ++ first_name target
 
 -- The change stands, and this is what it is told after the nodes before it, among those of the stamped read behind it.
-abbrev pub ChangesAs : Colours → List ℕ → List ℕ → Told → Appended → StampedRead → Log → Caller → Kept → Kept → Type 0
-ChangesAs set text colours told a read log caller kept after =
+abbrev pub ChangesAs : Colours → List ℕ → List ℕ → Option Key → Told → Appended → StampedRead → Log → Caller → Kept → Kept
+    → Type 0
+ChangesAs set text colours last told a read log caller kept after =
     (stood : Kept) × AppendsAs set text a log caller kept stood
-    × HasNodes colours read (λ nodes. told_of telling nodes a.stood.key ≡ Some told) log caller stood after
+    × HasNodes colours (last_before last a.stood.key) read (λ nodes. told_of telling nodes a.stood.key ≡ Some told) log caller
+    stood after
 
--- A change of a tree with these colours was told this.
-pub record Changes (s : Store) (c d : Client) (colours : List ℕ) (change : Change) (told : Told) (a : Appended)
-    (read : StampedRead) : Type 0 where
+-- A change of a tree with these colours, which has folded up to the last key, was told this.
+pub record Changes (s : Store) (c d : Client) (colours : List ℕ) (last : Option Key) (change : Change) (told : Told)
+    (a : Appended) (read : StampedRead) : Type 0 where
   pub set : Colours
   pub members_are : members set ≡ shards colours (change_keys change)
-  pub explained : IsExplained s c d (ChangesAs set (change_text change) (rising colours) told a read)
+  pub explained : IsExplained s c d (ChangesAs set (change_text change) (rising colours) last told a read)
 
 -- why a change was refused of a tree with these colours at this home
 abbrev pub ChangeRefused : ℕ → Store → Client → Client → List ℕ → Change → ObjectFault → Type 0

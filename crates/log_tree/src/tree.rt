@@ -16,7 +16,7 @@ use crate::folded::Folded;
 use fuzzy_io::Gate;
 use log_client::{Appended, Client, ObjectFault, StampedRead, Store, key_shards};
 use log_node::{ColourList, Keys, ListOf, Names, Text};
-use region_fold::{KeptFold, bits_of};
+use region_fold::KeptFold;
 use std::alloc::{AllocError, Global};
 use std::sync::Wait;
 use tree_fold::{Change, Path, Told, reads_back, write_change};
@@ -83,7 +83,7 @@ impl LogTree {
         ensures client { RestsOn store.now client.old client.new }
         ensures tree { IsTreeOf client.new self.new }
         ensures same { IsSameTree self.old self.new }
-        ensures ok { IfOk result (λ read. ReadsNodes store.now client.old client.new self.old.colours read
+        ensures ok { IfOk result (λ read. ReadsNodes store.now client.old client.new self.old.colours self.old.kept.last read
             (HasTree self.new.kept.state)) }
         ensures raises { IfOk result (λ read. raised_colours read.raises ≡ rising self.old.colours) }
         ensures syncs { IfOk result (λ read. synced_colours read.syncs ≡ rising self.old.colours) }
@@ -120,7 +120,8 @@ impl LogTree {
         ensures client { RestsOn store.now client.old client.new }
         ensures tree { IsTreeOf client.new self.new }
         ensures same { IsSameTree self.old self.new }
-        ensures ok { IfOk result (λ r. Changes store.now client.old client.new self.old.colours change.now r.0 r.1 r.2) }
+        ensures ok { IfOk result (λ r. Changes store.now client.old client.new self.old.colours self.old.kept.last change.now
+            r.0 r.1 r.2) }
         ensures points { IfOk result (λ r. map (λ (p : Point). p.colour) r.1.stood.points
             ≡ shards self.old.colours (change_keys change.now)) }
         ensures raises { IfOk result (λ r. raised_colours r.2.raises ≡ rising self.old.colours) }
@@ -137,7 +138,6 @@ impl LogTree {
         };
         let colours = self.colours.as_slice();
         let set = key_shards(colours, keys.as_slice());
-        let _bits = bits_of(set);
         let Ok(text) = write_change(alloc, change) else {
             return Err(ObjectFault::NoMemory);
         };
@@ -152,7 +152,7 @@ impl LogTree {
     }
 
     /// The names in a path after all nodes of the tree's colours up to the stamp of a stamped read of these, or nothing where
-    /// the path is not there. The read answers the nodes that earlier ones did not have. Waits as the read does; the gate is
+    /// the path is not there. The read answers the nodes that were not folded before. Waits as the read does; the gate is
     /// for appends alone.
     pub fn list<R: Wait, G: Gate>(
         &mut self,
@@ -168,7 +168,8 @@ impl LogTree {
         ensures client { RestsOn store.now client.old client.new }
         ensures tree { IsTreeOf client.new self.new }
         ensures same { IsSameTree self.old self.new }
-        ensures ok { IfOk result (λ r. ReadsNodes store.now client.old client.new self.old.colours r.1 (NamesAfter path.now r.0)) }
+        ensures ok { IfOk result (λ r. ReadsNodes store.now client.old client.new self.old.colours self.old.kept.last r.1
+            (NamesAfter path.now r.0)) }
         ensures raises { IfOk result (λ r. raised_colours r.1.raises ≡ rising self.old.colours) }
         ensures syncs { IfOk result (λ r. synced_colours r.1.syncs ≡ rising self.old.colours) }
         ensures away { client.old.region ≢ self.old.home → result ≡ Err (ObjectFault.NotHome self.old.home) }
@@ -198,7 +199,8 @@ impl LogTree {
         ensures client { RestsOn store.now client.old client.new }
         ensures tree { IsTreeOf client.new self.new }
         ensures same { IsSameTree self.old self.new }
-        ensures ok { IfOk result (λ r. ReadsNodes store.now client.old client.new self.old.colours r.1 (ValueAfter path.now r.0)) }
+        ensures ok { IfOk result (λ r. ReadsNodes store.now client.old client.new self.old.colours self.old.kept.last r.1
+            (ValueAfter path.now r.0)) }
         ensures raises { IfOk result (λ r. raised_colours r.1.raises ≡ rising self.old.colours) }
         ensures syncs { IfOk result (λ r. synced_colours r.1.syncs ≡ rising self.old.colours) }
         ensures away { client.old.region ≢ self.old.home → result ≡ Err (ObjectFault.NotHome self.old.home) }

@@ -12,7 +12,7 @@ use Rattle.log_node.specs.declared.forms.Form.TheVariants as forms
 use Rattle.log_node.specs.Texts.{IsTextLength}
 use Rattle.object_form.specs.Forms.{dot, equals, at_sign, bar, is_letter_or_digit, is_word, is_writer, pair_text, pairs_text, writer_text, version_text, versions_text, form_text, IsForm}
 use Rattle.object_form.proofs.NumberLemmas.{decimal_short}
-use Rattle.object_form.proofs.VersionLaws.{ranged}
+use Rattle.object_form.proofs.KeyLemmas.{ranged}
 
 word_size : (bs : List ℕ) → is_word bs ≡ true → length bs ≤ 16
 word_size bs h =

@@ -1,7 +1,7 @@
+pub mod CallerLemmas
 mod NumberLemmas
 mod JoinLemmas
 mod KeyLemmas
-mod ListLemmas
 mod CutLemmas
 mod PairLaws
 mod VersionLaws

@@ -1,82 +1,25 @@
 -- Versions: what is written of them is read as them, and what is read as versions is written of them.
-use Rattle.std.proofs.Common.{◌≡◌, ℕ, ◌-◌, ◌^◌, ◌<◌, ◌≤◌, true, false, ◌&&◌, ◌||◌, eqb, leb, List, [], ◌∷◌, ◌++◌, length, map, Option, Some, None, inl, inr, refl, ap, sym, arith}
+use Rattle.std.proofs.Common.{◌≡◌, ℕ, ◌<◌, true, ◌||◌, List, [], ◌∷◌, length, map, Option, Some, None, inl, inr, refl, arith}
 use Rattle.std.specs.List.{list_all}
-use Rattle.std.specs.Fmt.{decimal}
-use Rattle.std.proofs.lemmas.Bool.{and_parts, or_cases, or_right, cases_Bool, both_ways, false_from_ne_true, leb-true, le-leb}
+use Rattle.std.proofs.lemmas.Bool.{and_parts, or_cases, or_right}
 use Rattle.std.proofs.lemmas.Slice.Eq.{bytes_eq-Decides}
 use Rattle.log_node.specs.declared.ids.Key.{Key}
 use Rattle.log_node.specs.declared.forms.Version.{Version}
-use Rattle.object_form.specs.Forms.{comma, dash, dot, at_sign, bar, is_word, is_writer, writer_text, version_text}
-use Rattle.object_form.specs.Readings.{before, after, is_digit, is_key, key_of, is_dash, writer_of, is_version, version_of}
-use Rattle.object_form.proofs.CutLemmas.{Lacks, lacks_append, lacks_by, word_lacks, before_cut, after_cut, cut_back}
-use Rattle.object_form.proofs.NumberLemmas.{decimal_digits, decimal_value, decimal_within, number_back}
-use Rattle.object_form.proofs.KeyLemmas.{key_parts}
+use Rattle.object_form.specs.Forms.{comma, dash, at_sign, bar, is_word, is_writer, writer_text, version_text}
+use Rattle.object_form.specs.Readings.{before, after, is_key, key_in, is_dash, is_version, version_of}
+use Rattle.object_form.proofs.CutLemmas.{Lacks, lacks_append, word_lacks, before_cut, after_cut, cut_back}
+use Rattle.object_form.proofs.KeyLemmas.{ranged, key_read, key_lacks, key_back, key_ranged}
 use Rattle.object_form.proofs.PairLaws.{AllLack}
-
--- the numbers of a writer that may be
-pub record IsRanged (key : Key) : Type 0 where
-  pub stamp_some : 1 ≤ key.stamp
-  pub stamp : key.stamp ≤ 2 ^ 62 - 1
-  pub client : key.id.client ≤ 255
-  pub count : key.id.count ≤ 2 ^ 63 - 1
-
-pub ranged : (key : Key) → is_writer (Some key) ≡ true → IsRanged key
-ranged key h =
-    let s = leb 1 key.stamp in
-    let t = leb key.stamp (2 ^ 62 - 1) in
-    let c = leb key.id.client 255 in
-    let n = leb key.id.count (2 ^ 63 - 1) in
-    let three = and_parts (s && t && c) n h in
-    let two = and_parts (s && t) c three.0 in
-    let one = and_parts s t two.0 in
-    record {
-      stamp_some = leb-true 1 key.stamp one.0;
-      stamp = leb-true key.stamp (2 ^ 62 - 1) one.1;
-      client = leb-true key.id.client 255 two.1;
-      count = leb-true key.id.count (2 ^ 63 - 1) three.1;
-    }
-
--- no sign but a digit stands in a number
-number_lacks : (sign n : ℕ) → is_digit sign ≡ false → n < 2 ^ 64 → Lacks sign (decimal n)
-number_lacks sign n fails lt = lacks_by is_digit sign fails (decimal n) (decimal_digits n lt)
 
 -- what is read of the text of a writer
 pub record WriterRead (writer : Option Key) : Type 0 where
   pub test : (is_dash (writer_text writer) || is_key (writer_text writer)) ≡ true
-  pub same : writer_of (writer_text writer) ≡ writer
+  pub same : key_in (writer_text writer) ≡ writer
   pub lack_comma : Lacks comma (writer_text writer)
   pub lack_bar : Lacks bar (writer_text writer)
 
 is_dash_is : (bs : List ℕ) → is_dash bs ≡ true → bs ≡ dash ∷ []
 is_dash_is bs h = (bytes_eq-Decides bs (dash ∷ [])).0 h
-
-key_no_dash : (bs : List ℕ) → is_key bs ≡ true → is_dash bs ≡ false
-key_no_dash bs key = false_from_ne_true (is_dash bs) (λ h. both_ways (is_key (dash ∷ [])) refl (rw (is_dash_is bs h) at key))
-
-key_read : (key : Key) → IsRanged key → (is_key (writer_text (Some key)) ≡ true) × (key_of (writer_text (Some key)) ≡ key)
-key_read key r =
-    let s : key.stamp < 2 ^ 63 = omega (arith, r.stamp) in
-    let c : key.id.client < 2 ^ 63 = omega (arith, r.client) in
-    let n : key.id.count < 2 ^ 63 = omega (arith, r.count) in
-    let later = decimal key.id.client ++ dot ∷ decimal key.id.count in
-    let no_dot = number_lacks dot key.stamp refl (omega arith) in
-    let no_dot_later = number_lacks dot key.id.client refl (omega arith) in
-    let e1 = before_cut dot (decimal key.stamp) later no_dot in
-    let e2 = after_cut dot (decimal key.stamp) later no_dot in
-    let e3 = before_cut dot (decimal key.id.client) (decimal key.id.count) no_dot_later in
-    let e4 = after_cut dot (decimal key.id.client) (decimal key.id.count) no_dot_later in
-    rw (e1, e2, e3, e4) (
-      rw (decimal_within 1 (2 ^ 62 - 1) key.stamp r.stamp_some r.stamp s, decimal_within 0 255 key.id.client (omega arith) r.client c, decimal_within 0 (2 ^ 63 - 1) key.id.count (omega arith) r.count n) refl,
-      rw (decimal_value key.stamp (omega arith), decimal_value key.id.client (omega arith), decimal_value key.id.count (omega arith)) refl,
-    )
-
-key_lacks : (sign : ℕ) (key : Key) → is_digit sign ≡ false → eqb dot sign ≡ false → IsRanged key → Lacks sign (writer_text (Some key))
-key_lacks sign key fails other r =
-    lacks_append sign (decimal key.stamp) (dot ∷ (decimal key.id.client ++ dot ∷ decimal key.id.count)) (number_lacks sign key.stamp fails (omega (arith, r.stamp))) (
-      other,
-      lacks_append sign (decimal key.id.client) (dot ∷ decimal key.id.count) (number_lacks sign key.id.client fails (omega (arith, r.client)))
-          (other, number_lacks sign key.id.count fails (omega (arith, r.count))),
-    )
 
 writer_read : (writer : Option Key) → is_writer writer ≡ true → WriterRead writer
 writer_read None h = record { test = refl; same = refl; lack_comma = (refl, tt); lack_bar = (refl, tt) }
@@ -86,7 +29,7 @@ writer_read (Some key) h =
     let text = writer_text (Some key) in
     record {
       test = or_right (is_dash text) (is_key text) k.0;
-      same = rw (key_no_dash text k.0) (ap (λ (x : Key). Some x) k.1);
+      same = rw (k.0, k.1) refl;
       lack_comma = key_lacks comma key refl refl r;
       lack_bar = key_lacks bar key refl refl r;
     }
@@ -129,20 +72,10 @@ writer_some bs h = elim (or_cases (is_dash bs) (is_key bs) h) [
   | inr key ↦ key_some bs key
 ]
 
-key_back : (bs : List ℕ) → is_key bs ≡ true → writer_text (Some (key_of bs)) ≡ bs
-key_back bs h =
-    let k = key_parts bs h in
-    let later = after dot bs in
-    rw (number_back 1 (2 ^ 62 - 1) (before dot bs) k.stamp, number_back 0 255 (before dot later) k.client, number_back 0 (2 ^ 63 - 1) (after dot later) k.count, cut_back dot later (omega (arith, k.count.some)))
-    (cut_back dot bs (later_some later k.client.some)) where
-      later_some : (ds : List ℕ) → 0 < length (before dot ds) → 0 < length ds
-      later_some [] some = some
-      later_some (d ∷ ds) some = omega arith
-
-writer_back : (bs : List ℕ) → (is_dash bs || is_key bs) ≡ true → writer_text (writer_of bs) ≡ bs
-writer_back bs h = elim (cases_Bool (is_dash bs)) [
-  | inl none ↦ rw none (sym (is_dash_is bs none))
-  | inr other ↦ rw other (key_back bs (rw other at h))
+writer_back : (bs : List ℕ) → (is_dash bs || is_key bs) ≡ true → writer_text (key_in bs) ≡ bs
+writer_back bs h = elim (or_cases (is_dash bs) (is_key bs) h) [
+  | inl none ↦ rw (is_dash_is bs none) refl
+  | inr key ↦ rw key (key_back bs key)
 ]
 
 pub version_back : (bs : List ℕ) → is_version bs ≡ true → version_text (version_of bs) ≡ bs
@@ -161,18 +94,12 @@ versions_back (x ∷ xs) h =
 pub version_word : (bs : List ℕ) → is_version bs ≡ true → is_word (before at_sign bs) ≡ true
 version_word bs h = (and_parts (is_word (before at_sign bs)) (is_dash (after at_sign bs) || is_key (after at_sign bs)) h).0
 
-key_ranged : (bs : List ℕ) → is_key bs ≡ true → is_writer (Some (key_of bs)) ≡ true
-key_ranged bs h =
-    let k = key_parts bs h in
-    let key = key_of bs in
-    rw (le-leb 1 key.stamp k.stamp.least, le-leb key.stamp (2 ^ 62 - 1) k.stamp.most, le-leb key.id.client 255 k.client.most, le-leb key.id.count (2 ^ 63 - 1) k.count.most) refl
-
-writer_ranged : (bs : List ℕ) → (is_dash bs || is_key bs) ≡ true → is_writer (writer_of bs) ≡ true
-writer_ranged bs h = elim (cases_Bool (is_dash bs)) [
-  | inl none ↦ rw none refl
-  | inr other ↦ rw other (key_ranged bs (rw other at h))
+writer_ranged : (bs : List ℕ) → (is_dash bs || is_key bs) ≡ true → is_writer (key_in bs) ≡ true
+writer_ranged bs h = elim (or_cases (is_dash bs) (is_key bs) h) [
+  | inl none ↦ rw (is_dash_is bs none) refl
+  | inr key ↦ rw key (key_ranged bs key)
 ]
 
-pub version_writer : (bs : List ℕ) → is_version bs ≡ true → is_writer (writer_of (after at_sign bs)) ≡ true
+pub version_writer : (bs : List ℕ) → is_version bs ≡ true → is_writer (key_in (after at_sign bs)) ≡ true
 version_writer bs h =
     writer_ranged (after at_sign bs) (and_parts (is_word (before at_sign bs)) (is_dash (after at_sign bs) || is_key (after at_sign bs)) h).1

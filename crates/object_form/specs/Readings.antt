@@ -70,6 +70,10 @@ key_of bytes = record {
   };
 }
 
+-- the key that the bytes name, if they name one
+abbrev pub key_in : List ℕ → Option Key
+key_in bytes = if is_key bytes then Some (key_of bytes) else None
+
 abbrev pub is_dash : List ℕ → Bool
 is_dash bytes = bytes_eq bytes (dash ∷ [])
 
@@ -77,11 +81,9 @@ is_dash bytes = bytes_eq bytes (dash ∷ [])
 abbrev pub is_version : List ℕ → Bool
 is_version bytes = is_word (before at_sign bytes) && (is_dash (after at_sign bytes) || is_key (after at_sign bytes))
 
-abbrev pub writer_of : List ℕ → Option Key
-writer_of bytes = if is_dash bytes then None else Some (key_of bytes)
-
+-- its writer is none where a dash stands, which names no key
 abbrev pub version_of : List ℕ → Version
-version_of bytes = record { key = before at_sign bytes; writer = writer_of (after at_sign bytes) }
+version_of bytes = record { key = before at_sign bytes; writer = key_in (after at_sign bytes) }
 
 -- parts that are at most two versions, with distinct keys
 abbrev pub are_versions : List (List ℕ) → Bool

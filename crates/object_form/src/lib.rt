@@ -7,5 +7,6 @@ mod reading;
 mod writing;
 
 pub use laws::{forms_fit, reads_as_one, reads_back, texts_differ};
+pub use pieces::{are_letters_or_digits, cut, is_word, read_key};
 pub use reading::read_form;
-pub use writing::write_form;
+pub use writing::{put_key, write_form};

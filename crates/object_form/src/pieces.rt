@@ -1,17 +1,12 @@
-// The pieces of a text: what stands about a sign, words, numbers, pairs and versions.
-ghost use Rattle.std.specs.Prelude.{◌≡◌, ◌≤◌, ◌==◌, IfOk, IsTrue, length, map};
+// The pieces of a text: what stands about a sign, words, numbers, keys, pairs and versions.
+ghost use Rattle.std.specs.Prelude.{◌≡◌, ◌≤◌, ◌==◌, IfOk, IsTrue, length, map, Some, None, if◌then◌else◌};
 ghost use Rattle.std.specs.List.{list_all, list_any, slice_split};
 ghost use Rattle.std.specs.Str.{bytes_eq};
 ghost use Rattle.object_form.specs.Forms.{is_letter_or_digit, is_word, are_distinct};
-ghost use Rattle.object_form.specs.Readings.{before, after, parts, pieces_in, is_digit, is_number, number_value, is_number_from, is_pair, are_pairs, is_key, is_dash, is_version, are_versions};
+ghost use Rattle.object_form.specs.Readings.{before, after, parts, pieces_in, is_digit, is_number, number_value, is_number_from, is_pair, are_pairs, key_in, is_dash, is_version, are_versions};
 
+use log_node::{Id, Key, MAX_STAMP};
 use std::alloc::{AllocError, Global};
-
-/// The greatest stamp of a writer.
-const MAX_STAMP: u64 = (1 << 62) - 1;
-
-/// The greatest number of a client.
-const MAX_CLIENT: u64 = 255;
 
 /// The greatest count of a client.
 const MAX_COUNT: u64 = (1 << 63) - 1;
@@ -36,7 +31,8 @@ pub fn parts_of(alloc: Global, bytes: &[u8]) -> Result<Vec<&[u8]>, AllocError>
     bytes.split(|b| *b == b',').collect(alloc)
 }
 
-fn are_letters_or_digits(bytes: &[u8]) -> bool
+/// Small letters and digits alone.
+pub fn are_letters_or_digits(bytes: &[u8]) -> bool
     ensures { result ≡ list_all is_letter_or_digit bytes.now }
 {
     bytes
@@ -68,8 +64,8 @@ fn is_number(bytes: &[u8]) -> bool
     }
 }
 
-/// The number that the digits are.
-pub fn number_value(digits: &[u8]) -> u64
+// The number that the digits are.
+fn number_value(digits: &[u8]) -> u64
     requires digits { IsTrue (list_all is_digit digits.now) }
     requires few { length digits.now ≤ 19 }
     ensures { result ≡ number_value digits.now }
@@ -81,14 +77,37 @@ pub fn number_value(digits: &[u8]) -> u64
     value
 }
 
-fn is_number_from(low: u64, high: u64, digits: &[u8]) -> bool
-    ensures { result ≡ is_number_from low high digits.now }
+// The number that the digits are, where it is one from the one to the other.
+fn number_from(low: u64, high: u64, digits: &[u8]) -> Option<u64>
+    ensures { result ≡ (if is_number_from low high digits.now then Some (number_value digits.now) else None) }
 {
     if !is_number(digits) {
-        return false;
+        return None;
     }
     let value = number_value(digits);
-    low <= value && value <= high
+    if low <= value && value <= high {
+        Some(value)
+    } else {
+        None
+    }
+}
+
+/// The key that STAMP.CLIENT.COUNT names: numbers in the ranges of a writer, without leading zeros.
+pub fn read_key(bytes: &[u8]) -> Option<Key>
+    ensures { result ≡ key_in bytes.now }
+{
+    let (stamp, id) = cut(bytes, b'.');
+    let (client, count) = cut(id, b'.');
+    let stamp = number_from(1, MAX_STAMP, stamp)?;
+    let client = number_from(0, 255, client)?;
+    let count = number_from(0, MAX_COUNT, count)?;
+    Some(Key {
+        stamp,
+        id: Id {
+            client: client as u8,
+            count,
+        },
+    })
 }
 
 /// KEY=VALUE.
@@ -134,18 +153,8 @@ pub fn are_pairs(most: usize, pieces: &[&[u8]]) -> bool
     pieces.len() <= most && are_all_pairs(pieces) && have_distinct_keys(pieces, b'=')
 }
 
-fn is_key(bytes: &[u8]) -> bool
-    ensures { result ≡ is_key bytes.now }
-{
-    let (stamp, id) = cut(bytes, b'.');
-    let (client, count) = cut(id, b'.');
-    is_number_from(1, MAX_STAMP, stamp)
-        && is_number_from(0, MAX_CLIENT, client)
-        && is_number_from(0, MAX_COUNT, count)
-}
-
-/// The dash that stands for no writer.
-pub fn is_dash(bytes: &[u8]) -> bool
+// The dash that stands for no writer.
+fn is_dash(bytes: &[u8]) -> bool
     ensures { result ≡ is_dash bytes.now }
 {
     bytes == b"-".as_slice()
@@ -155,7 +164,7 @@ fn is_version(bytes: &[u8]) -> bool
     ensures { result ≡ is_version bytes.now }
 {
     let (key, writer) = cut(bytes, b'@');
-    is_word(key) && (is_dash(writer) || is_key(writer))
+    is_word(key) && (is_dash(writer) || read_key(writer).is_some())
 }
 
 fn are_all_versions(pieces: &[&[u8]]) -> bool

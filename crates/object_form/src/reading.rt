@@ -1,13 +1,10 @@
 // The form of a text.
-ghost use Rattle.std.specs.Prelude.{◌≡◌, IfOk, IsTrue, map};
-ghost use Rattle.object_form.specs.Forms.{equals, at_sign, dot, bar, IsReading};
-ghost use Rattle.object_form.specs.Readings.{form_of, form_after, pair_of, version_of, key_of, writer_of, pieces_in, is_pair, is_key, is_dash, is_version, before, after, put_of, delete_of, put_all_of, transaction_of, enqueue_of, dequeue_of, causal_of};
-ghost use Rattle.std.specs.List.{list_all};
+ghost use Rattle.std.specs.Prelude.{◌≡◌, IfOk, map};
+ghost use Rattle.object_form.specs.Forms.{equals, at_sign, bar, IsReading};
+ghost use Rattle.object_form.specs.Readings.{form_of, form_after, pair_of, version_of, key_in, pieces_in, is_pair, before, after, put_of, delete_of, put_all_of, transaction_of, enqueue_of, dequeue_of, causal_of};
 
-use crate::pieces::{
-    are_pairs, are_versions, cut, is_dash, is_pair, is_word, number_value, parts_of,
-};
-use log_node::{Form, Id, Key, ListOf, Pair, Pairs, Text, Version, Versions};
+use crate::pieces::{are_pairs, are_versions, cut, is_pair, is_word, parts_of, read_key};
+use log_node::{Form, ListOf, Pair, Pairs, Text, Version, Versions};
 use std::alloc::{AllocError, Global};
 
 fn pair_of(alloc: Global, bytes: &[u8]) -> Result<Pair, AllocError>
@@ -30,37 +27,18 @@ fn pairs_of(alloc: Global, pieces: &[&[u8]]) -> Result<Pairs, AllocError>
     Ok(pairs)
 }
 
-fn key_of(bytes: &[u8]) -> Key
-    requires { IsTrue (is_key bytes.now) }
-    ensures { result ≡ key_of bytes.now }
-{
-    let (stamp, id) = cut(bytes, b'.');
-    let (client, count) = cut(id, b'.');
-    Key {
-        stamp: number_value(stamp),
-        id: Id {
-            client: number_value(client) as u8,
-            count: number_value(count),
-        },
-    }
-}
-
 fn version_of(alloc: Global, bytes: &[u8]) -> Result<Version, AllocError>
-    requires { IsTrue (is_version bytes.now) }
     ensures { IfOk result (λ version. version ≡ version_of bytes.now) }
 {
     let (key, writer) = cut(bytes, b'@');
     let key = Text::copied(alloc, key)?;
-    let writer = if is_dash(writer) {
-        None
-    } else {
-        Some(key_of(writer))
-    };
-    Ok(Version { key, writer })
+    Ok(Version {
+        key,
+        writer: read_key(writer),
+    })
 }
 
 fn versions_of(alloc: Global, pieces: &[&[u8]]) -> Result<Versions, AllocError>
-    requires { IsTrue (list_all is_version (pieces_in pieces.now)) }
     ensures { IfOk result (λ versions. versions ≡ map version_of (pieces_in pieces.now)) }
 {
     let mut versions = ListOf::new(alloc);

@@ -33,7 +33,8 @@ fn put_pairs(bytes: &mut Vec<u8>, pairs: &[Pair]) -> Result<(), AllocError>
     Ok(())
 }
 
-fn put_key(bytes: &mut Vec<u8>, key: &Key) -> Result<(), AllocError>
+/// Writes a key, its stamp, client and count with dots, behind these bytes. `AllocError` where memory is refused.
+pub fn put_key(bytes: &mut Vec<u8>, key: &Key) -> Result<(), AllocError>
     ensures { OnOk result (bytes.new.items ≡ bytes.old.items ++ writer_text (Some key.now)) }
 {
     put_number(bytes, key.stamp)?;

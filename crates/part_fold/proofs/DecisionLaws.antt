@@ -10,11 +10,10 @@ use Rattle.log_node.specs.declared.ids.Key.{Key}
 use Rattle.log_node.specs.declared.forms.Form.TheVariants.{Plain}
 use Rattle.log_node.specs.Texts.{IsTextLength}
 use Rattle.object_form.specs.Forms.{dot, equals, is_writer, writer_text}
-use Rattle.object_form.specs.Readings.{before, after, is_key, key_of, form_of}
+use Rattle.object_form.specs.Readings.{before, after, is_key, key_of, key_in, form_of}
+use Rattle.object_form.proofs.CallerLemmas.{before_cut, after_cut, cut_back, ranged, key_read, key_lacks, key_back, key_ranged}
 use Rattle.part_fold.specs.declared.decision.Decision.{Decision}
-use Rattle.part_fold.specs.Decisions.{outcome_text, decision_text, IsDecision, HasText, outcome_of, key_in, decision_by, decision_after, decision_of}
-use Rattle.part_fold.proofs.CutLemmas.{before_cut, after_cut, cut_back}
-use Rattle.part_fold.proofs.KeyLemmas.{ranged, key_read, key_lacks, key_back, key_ranged}
+use Rattle.part_fold.specs.Decisions.{outcome_text, decision_text, IsDecision, HasText, outcome_of, decision_by, decision_after, decision_of}
 
 -- ---- what is written is read
 

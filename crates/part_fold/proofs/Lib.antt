@@ -1,6 +1,3 @@
-mod NumberLemmas
-mod CutLemmas
-mod KeyLemmas
 mod DecisionLaws
 mod WaitingLemmas
 mod DecidedLemmas

@@ -3,7 +3,7 @@ use Rattle.std.specs.Prelude.{◌≡◌, Bool, IsTrue, true, false, ℕ, ◌==�
 use Rattle.std.specs.Str.{bytes_eq}
 use Rattle.log_node.specs.declared.ids.Key.{Key}
 use Rattle.object_form.specs.Forms.{equals, writer_text, is_writer}
-use Rattle.object_form.specs.Readings.{before, after, is_key, key_of}
+use Rattle.object_form.specs.Readings.{before, after, key_in}
 use Rattle.part_fold.specs.declared.decision.Decision.{Decision}
 
 -- 1 where the transaction commits, else 0
@@ -28,10 +28,6 @@ abbrev pub outcome_of : List ℕ → Option Bool
 outcome_of bytes =
     if bytes_eq bytes (codes "1") then Some true
     else (if bytes_eq bytes (codes "0") then Some false else None)
-
--- the key that stands before the sign, if that is one
-abbrev pub key_in : List ℕ → Option Key
-key_in bytes = if is_key bytes then Some (key_of bytes) else None
 
 -- a decision is a key and an outcome
 abbrev pub decision_by : Option Key → Option Bool → Option Decision

@@ -1,10 +1,10 @@
 // What became of a transaction, as a node says it: its text, written and read.
-ghost use Rattle.std.specs.Prelude.{◌≡◌, ◌++◌, ◌∷◌, Some, IfOk, OnOk, decimal};
+ghost use Rattle.std.specs.Prelude.{◌≡◌, ◌++◌, ◌∷◌, Some, IfOk, OnOk};
 ghost use Rattle.object_form.specs.Forms.{writer_text, equals};
 ghost use Rattle.part_fold.specs.Decisions.{IsDecision, outcome_of, decision_text, decision_after, decision_of};
 
-use crate::pieces::{cut, key_in};
 use log_node::{Key, Text};
+use object_form::{cut, put_key, read_key};
 use std::alloc::{AllocError, Global};
 
 /// The decision on a transaction: its node's key, and whether it commits.
@@ -14,21 +14,11 @@ pub struct Decision {
     pub commits: bool,
 }
 
-fn put_number(bytes: &mut Vec<u8>, number: u64) -> Result<(), AllocError>
-    ensures { OnOk result (bytes.new.items ≡ bytes.old.items ++ decimal number) }
-{
-    bytes.extend_from_slice(itoa::Buffer::new().format(number).as_bytes())
-}
-
 fn put_decision(bytes: &mut Vec<u8>, decision: Decision) -> Result<(), AllocError>
     ensures { OnOk result (bytes.new.items ≡ bytes.old.items ++ decision_text decision) }
 {
     bytes.extend_from_slice(b"z:")?;
-    put_number(bytes, decision.key.stamp)?;
-    bytes.push(b'.')?;
-    put_number(bytes, u64::from(decision.key.id.client))?;
-    bytes.push(b'.')?;
-    put_number(bytes, decision.key.id.count)?;
+    put_key(bytes, &decision.key)?;
     bytes.extend_from_slice(if decision.commits { b"=1" } else { b"=0" })
 }
 
@@ -57,7 +47,7 @@ fn decision_after(bytes: &[u8]) -> Option<Decision>
     ensures { result ≡ decision_after bytes.now }
 {
     let (key, outcome) = cut(bytes, b'=');
-    let key = key_in(key)?;
+    let key = read_key(key)?;
     let commits = outcome_of(outcome)?;
     Some(Decision { key, commits })
 }

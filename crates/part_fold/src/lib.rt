@@ -6,7 +6,6 @@ mod decision;
 mod laws;
 mod part;
 mod part_fold;
-mod pieces;
 mod transaction;
 
 pub use decision::{Decision, read_decision, write_decision};

@@ -69,11 +69,11 @@ absent_next own items n item d lt is a other =
     ∙ ap object_nodes (ap (λ (x : PlacedNode). take n items ++ x ∷ []) (sym is) ∙ sym (take_more items n d lt)))
     (absent_more own (object_nodes (take n items)) (object_node item ∷ []) a (other, tt))
 
-found_cond : {A : Type 0} (b : Bool) (x y : A) → b ≡ true → cond b x y ≡ x
+pub found_cond : {A : Type 0} (b : Bool) (x y : A) → b ≡ true → cond b x y ≡ x
 found_cond true x y e = refl
 found_cond false x y e = absurd (let f : ⊥ = cc in f)
 
-passed_cond : {A : Type 0} (b : Bool) (x y : A) → b ≡ false → cond b x y ≡ y
+pub passed_cond : {A : Type 0} (b : Bool) (x y : A) → b ≡ false → cond b x y ≡ y
 passed_cond true x y e = absurd (let f : ⊥ = cc in f)
 passed_cond false x y e = refl
 

@@ -2,4 +2,5 @@ mod FoldLemmas
 mod OwnNodes
 mod ReadAnswers
 mod TellAnswers
+mod TxAnswers
 pub mod CallerLemmas

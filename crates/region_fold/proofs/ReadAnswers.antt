@@ -1,5 +1,5 @@
 -- What an object keeps while its client goes on, and what explains the answers to its reads.
-use Rattle.std.proofs.Common.{◌≡◌, inl, inr, ℕ, ◌<◌, ◌^◌, Bool, true, false, List, [], ◌++◌, length, take, drop, Option, Some, None, Result, Ok, Err, IfOk, refl, sym, subst, arith, take-append-drop}
+use Rattle.std.proofs.Common.{◌≡◌, inl, inr, ℕ, ◌<◌, Bool, true, false, List, [], ◌++◌, length, take, drop, Option, Some, None, Result, Ok, Err, IfOk, refl, ap, sym, subst, ◌∙◌, take-append-drop}
 use Rattle.std.specs.Prelude.{IsTrue}
 use Rattle.std.specs.List.{All}
 use Rattle.std.proofs.lemmas.Bool.{cases_Bool}
@@ -8,7 +8,7 @@ use Rattle.log_node.specs.declared.ids.Colours.{Colours}
 use Rattle.log_node.specs.declared.ids.Key.{Key}
 use Rattle.log_node.specs.Seen.{PlacedNode}
 use Rattle.log_node.specs.Order.{key_below, same_key}
-use Rattle.log_node.specs.Sets.{members}
+use Rattle.log_node.specs.Sets.{members, set_of}
 use Rattle.log_node.proofs.CallerLemmas.{key-irrefl, same_key-is}
 use Rattle.object_form.specs.Forms.{is_writer}
 use Rattle.object_fold.specs.Nodes.{ObjectNode, object_node}
@@ -23,55 +23,42 @@ use Rattle.log_client.specs.declared.answers.StampedRead.{StampedRead}
 use Rattle.log_client.specs.declared.faults.SyncFault.{SyncFault}
 use Rattle.log_client.specs.Appends.{AreColoursOf}
 use Rattle.log_client.specs.Calls.{IsExplained}
-use Rattle.log_client.specs.Clients.{IsClient, holds_of, seen_of, tracks_of}
+use Rattle.log_client.specs.Clients.{IsClient, caller_of, holds_of, seen_of}
 use Rattle.log_client.specs.Fits.{Fits}
 use Rattle.log_client.specs.Reading.{RestsOn}
 use Rattle.log_client.specs.StampedReads.{CanBeNamed, IsAboveSeen, ReadsAs, ReadsGoOn, ReadsOn, is_behind}
 use Rattle.log_client.specs.Objects.{AreColours, KeepsRead, object_nodes}
-use Rattle.log_client.proofs.CallerLemmas.{all_appended, all_explained, behind_all, explained_less, first_kept, fits_less, reads_later, rising_front, rising_set, shard_rising, shards_set, tracks_long}
+use Rattle.log_client.proofs.CallerLemmas.{all_appended, all_explained, behind_all, explained_less, first_kept, fits_less, listed_of_store, reads_later, rising_front, shard_rising, tracks_long}
 use Rattle.region_fold.specs.declared.kept_fold.KeptFold.{KeptFold}
-use Rattle.region_fold.specs.Folds.{AreWriters, FeedsAll, FeedsFirst, IsAbsent, told_of}
+use Rattle.region_fold.specs.Folds.{AreWriters, FeedsAll, FeedsFirst, IsAbsent, last_before, told_of}
 use Rattle.region_fold.specs.Reads.{Answers, AreOwn, Fetches, HasNodes, KeepsFold}
+use Rattle.region_fold.proofs.FoldLemmas.{found_cond, passed_cond}
 use Rattle.region_fold.proofs.OwnNodes.{others_absent}
 
 -- the set of all colours is of the store
-pub all_of_store : (s : Store) (c : Client) (colours : List ℕ) → IsClient s c → AreColours c colours → (set : Colours)
-    → set.0 < 2 ^ 16 → members set ≡ rising colours → AreColoursOf s set
-all_of_store s c colours is are set bits same =
-    let p = rising_set (length (tracks_of c)) colours are.some are.within are.few set bits same in record {
-      some = p.0;
-      within = λ k of. let lt = p.1 k of in let long = is.colours in omega (arith, lt, long);
-    }
+pub all_of_store : (s : Store) (c : Client) (colours : List ℕ) → IsClient s c → AreColours c colours
+    → AreColoursOf s (set_of colours)
+all_of_store s c colours is are =
+    listed_of_store s colours are.some (subst (λ (n : ℕ). All (λ k. k < n) colours) is.colours are.within) are.few
 
 -- a read of that set is one of all colours
-pub fetches : (s : Store) (c d : Client) (colours : List ℕ) → AreColours c colours → (set : Colours) → set.0 < 2 ^ 16
-    → members set ≡ rising colours → (last : Option Key) (read : StampedRead) → IsAboveSeen c (members set) read.stamp
+pub fetches : (s : Store) (c d : Client) (colours : List ℕ) (set : Colours) → AreColoursOf s set → members set ≡ rising colours
+    → (last : Option Key) (read : StampedRead) → IsAboveSeen c (members set) read.stamp
     → ReadsOn s c d (members set) last read → CanBeNamed read.items → Fetches s c d (rising colours) last read
-fetches s c d colours of set bits same last read above reads named = record {
-  some = subst (λ (l : List ℕ). 0 < length l) same
-      (rising_set (length (tracks_of c)) colours of.some of.within of.few set bits same).0;
+fetches s c d colours set of same last read above reads named = record {
+  some = subst (λ (l : List ℕ). 0 < length l) same of.some;
   above = subst (λ (l : List ℕ). IsAboveSeen c l read.stamp) same above;
   reads = subst (λ (l : List ℕ). ReadsOn s c d l last read) same reads;
   named = named;
 }
 
-pub fetched : (s : Store) (c d : Client) (colours : List ℕ) → AreColours c colours → (set : Colours) → set.0 < 2 ^ 16
-    → members set ≡ rising colours → (last : Option Key) (r : Result StampedRead SyncFault)
-    → IfOk r (λ read. IsAboveSeen c (members set) read.stamp) → IfOk r (ReadsOn s c d (members set) last)
-    → IfOk r (λ read. CanBeNamed read.items) → IfOk r (Fetches s c d (rising colours) last)
-fetched s c d colours of set bits same last (Ok read) above reads named =
-    fetches s c d colours of set bits same last read above reads named
-fetched s c d colours of set bits same last (Err fault) above reads named = tt
-
--- and so is that of the shards of some keys
-pub shards_of_store : (s : Store) (c : Client) (colours : List ℕ) → IsClient s c → AreColours c colours
-    → (keys : List (List ℕ)) → 0 < length keys → (set : Colours) → set.0 < 2 ^ 16 → members set ≡ shards colours keys
-    → AreColoursOf s set
-shards_of_store s c colours is are keys some set bits same =
-    let p = shards_set (length (tracks_of c)) colours are.some are.within are.few keys some set bits same in record {
-      some = p.0;
-      within = λ k of. let lt = p.1 k of in let long = is.colours in omega (arith, lt, long);
-    }
+pub fetched : (s : Store) (c d : Client) (colours : List ℕ) (set : Colours) → AreColoursOf s set → members set ≡ rising colours
+    → (last : Option Key) (r : Result StampedRead SyncFault) → IfOk r (λ read. IsAboveSeen c (members set) read.stamp)
+    → IfOk r (ReadsOn s c d (members set) last) → IfOk r (λ read. CanBeNamed read.items)
+    → IfOk r (Fetches s c d (rising colours) last)
+fetched s c d colours set of same last (Ok read) above reads named =
+    fetches s c d colours set of same last read above reads named
+fetched s c d colours set of same last (Err fault) above reads named = tt
 
 -- the shards of keys are colours of the object
 pub shards_own : (colours : List ℕ) → 0 < length colours → (keys : List (List ℕ)) → AreOwn colours (shards colours keys)
@@ -118,6 +105,14 @@ module _ {F : Type 0} (Holds : F → List ObjectNode → Type 0) where
     | inr f ↦ (let a = anew f in ([], a.1, inl (a.0, refl), no_writers))
   ]
 
+  -- and the key behind which it goes on
+  pub last_stays : (old new : KeptFold F) (own : Key) → (is_behind old.last own ≡ true → new ≡ old)
+      → (is_behind old.last own ≡ false → (new.last ≡ None) × Holds new.state []) → new.last ≡ last_before old.last own
+  last_stays old new own same anew = elim (cases_Bool (is_behind old.last own)) [
+    | inl t ↦ ap (λ (k : KeptFold F). k.last) (same t) ∙ sym (found_cond (is_behind old.last own) old.last None t)
+    | inr f ↦ (anew f).0 ∙ sym (passed_cond (is_behind old.last own) old.last None f)
+  ]
+
   -- READS
 
   module _ (law : ReadsGoOn) (s : Store) (c d : Client) (colours : List ℕ) (on : RestsOn s c d) (kept : KeptFold F)
@@ -135,14 +130,13 @@ module _ {F : Type 0} (Holds : F → List ObjectNode → Type 0) where
 
     -- and after all of them
     pub has_nodes : (new : KeptFold F) → FeedsAll Holds kept new read.items
-        → IsExplained s c d (HasNodes colours read (λ nodes. Holds new.state nodes × AreWriters nodes))
+        → IsExplained s c d (HasNodes colours kept.last read (λ nodes. Holds new.state nodes × AreWriters nodes))
     has_nodes new all =
         let Has : List ObjectNode → Type 0 = λ nodes. Holds new.state nodes × AreWriters nodes in
         explained_less s c d
         (λ log caller before after. ReadsAs colours kept.last read f.reads.0 log caller before after
         × (ns : List ObjectNode) × AreObjectNodes log f.reads.0 ns × Has ns)
-        (HasNodes colours read Has)
-        (λ log caller before after r. (r.0.0, f.reads.0, r.0.1, r.1, r.2, r.3))
+        (HasNodes colours kept.last read Has) (λ log caller before after r. (f.reads.0, r.0, r.1, r.2, r.3))
         (all_explained law s c d colours kept.last k.0 read f.some on f.above f.reads k.2 Has
         (all.1 k.0 k.1, more_writers k.0 read.items k.3 f.named))
 
@@ -167,17 +161,17 @@ module _ {F : Type 0} (Holds : F → List ObjectNode → Type 0) where
       pub answers : {T : Type 0} (told : List ObjectNode → ObjectNode → Option T) (answer : Option T)
           → ((nodes : List ObjectNode) → Holds kept.state nodes → IsAbsent own nodes
           → answer ≡ told_of told (nodes ++ object_nodes read.items) own)
-          → Answers told s c d colours own answer read
-      answers told answer tells = (
+          → (last : Option Key) → kept.last ≡ last_before last own → Answers told s c d colours last own answer read
+      answers told answer tells last same = (
         f.reads.0,
         f.reads.1,
         λ objects before finished keeps.
             let x = f.reads.3 objects before finished keeps in (
               x.0,
               x.1,
-              λ rest fits. let y = x.2 rest fits in (
-                y.0,
-                y.1,
+              λ rest fits. (
+                subst (λ (l : Option Key). ReadsAs colours l read f.reads.0 (log_of (seen_of d) rest) (caller_of s d objects) before x.0)
+                    same (x.2 rest fits),
                 k.0 ++ object_nodes read.items,
                 all_appended law s c d colours kept.last k.0 read f.some on f.above f.reads k.2 rest fits,
                 tells k.0 k.1 (not_folded k.2 rest fits),

@@ -1,5 +1,5 @@
 -- What explains the answers to appends: the append and the stamped read behind it.
-use Rattle.std.proofs.Common.{◌≡◌, ◌⊎◌, inl, inr, ℕ, ◌≤◌, List, [], ◌∷◌, map, Option, Some, None, Result, Ok, Err, refl, ap, sym, subst, ◌∙◌, arith}
+use Rattle.std.proofs.Common.{◌≡◌, ℕ, ◌≤◌, List, [], ◌∷◌, map, Option, Some, None, refl, ap, sym, subst, ◌∙◌, arith}
 use Rattle.std.specs.Prelude.{slice_get}
 use Rattle.log_node.specs.declared.ids.Colours.{Colours}
 use Rattle.log_node.specs.declared.ids.Id.{Id}
@@ -12,13 +12,11 @@ use Rattle.col_core.specs.Keeping.{Kept}
 use Rattle.col_core.proofs.CallerLemmas.{In, contains_in, in_contains, slice_in}
 use Rattle.script_text.specs.declared.script.Object.{Object}
 use Rattle.append_core.specs.declared.stood.Point.{Point}
-use Rattle.append_core.specs.declared.several.MultiFault.{MultiFault}
-use Rattle.append_core.specs.declared.several.MultiFault.TheVariants as append_faults
 use Rattle.lawful_run.specs.Appends.{Appends, AppendsUnshown}
 use Rattle.lawful_run.specs.Asks.{rising}
 use Rattle.lawful_run.specs.Callers.{Caller, node_of}
 use Rattle.lawful_run.specs.Objects.{AreObjectNodes}
-use Rattle.lawful_run.specs.Reads.{AreRead, HidesRead, IsTrimmed, ReadsAt}
+use Rattle.lawful_run.specs.Reads.{HidesRead, RefusesRead}
 use Rattle.lawful_run.proofs.CallerLemmas.{append_later, unshown_later}
 use Rattle.client_law.specs.Knowing.{Rest, log_of}
 use Rattle.log_client.specs.declared.store.Store.{Store}
@@ -27,45 +25,15 @@ use Rattle.log_client.specs.declared.answers.Appended.{Appended}
 use Rattle.log_client.specs.declared.answers.StampedRead.{StampedRead}
 use Rattle.log_client.specs.declared.faults.SyncFault.{SyncFault}
 use Rattle.log_client.specs.declared.faults.SyncFault.TheVariants as sync_faults
-use Rattle.log_client.specs.Appends.{AppendRefused, AppendsAs, HasStopped, piece_of}
-use Rattle.log_client.specs.Calls.{IsExplained, IsSame}
-use Rattle.log_client.specs.Clients.{Finished, IsClient, Keeps, caller_of, holds_of, seen_of}
-use Rattle.log_client.specs.Fits.{HaveGoneOn}
-use Rattle.log_client.specs.Growing.{HasGrown}
+use Rattle.log_client.specs.Appends.{AppendsAs, piece_of}
+use Rattle.log_client.specs.Calls.{IsExplained}
+use Rattle.log_client.specs.Clients.{Keeps, caller_of, seen_of}
 use Rattle.log_client.specs.Reading.{RestsOn, home_seen}
-use Rattle.log_client.specs.StampedReads.{ReadRefused, raise_piece, sync_piece}
+use Rattle.log_client.specs.StampedReads.{ReadRefused, ReadsAs}
 use Rattle.log_client.proofs.CallerLemmas.{append_unshown, explained_then, made_from, several_are_unshown, unshown}
-use Rattle.region_fold.specs.Folds.{told_of}
+use Rattle.region_fold.specs.Folds.{last_before, told_of}
 use Rattle.region_fold.specs.Reads.{Answers, AreOwn, TellsOwn, UntoldLeaves}
 use Rattle.region_fold.proofs.OwnNodes.{is_own, key_itself, own_stands}
-
--- WHERE THE CLIENT IS THEN
-
--- an append of which no stop was asked leaves the client at rest
-pub rests_appended : (s : Store) (c d : Client) (r : Result Appended MultiFault) → IsClient s d → IsSame c d
-    → HaveGoneOn (holds_of c) (holds_of d) → HasGrown c d → (Finished c → Finished d ⊎ HasStopped r)
-    → ((steps : ℕ) → r ≡ Err (append_faults.Stopped steps) → ⊥) → RestsOn s c d
-rests_appended s c d r is same goes grown finished not = record {
-  client = is;
-  same = same;
-  goes = goes;
-  grows = grown;
-  finished = λ f. elim (finished f) [ inl done ↦ done | inr stopped ↦ absurd (not stopped.0 stopped.2) ];
-}
-
--- it was not stopped where it stands
-pub stood_not : (r : Result Appended MultiFault) (a : Appended) → r ≡ Ok a → (steps : ℕ)
-    → r ≡ Err (append_faults.Stopped steps) → ⊥
-stood_not r a is steps e = let f : ⊥ = cc (is, e) in f
-
--- nor where it was refused
-pub left_not : (s : Store) (c d : Client) (set : Colours) (text : List ℕ) (r : Result Appended MultiFault)
-    (fault : MultiFault) → r ≡ Err fault → AppendRefused s c d set text None fault → (steps : ℕ)
-    → r ≡ Err (append_faults.Stopped steps) → ⊥
-left_not s c d set text r fault is why steps e =
-    let same : fault ≡ append_faults.Stopped steps = cc (is, e) in
-    let asked = (subst (AppendRefused s c d set text None) same why).0 in
-    let f : ⊥ = cc (asked) in f
 
 -- WHERE THE APPEND IS NOT SHOWN
 
@@ -140,14 +108,13 @@ pub untold_leaves : (s : Store) (c m d : Client) (set : Colours) (text : List �
     → map (λ (p : Point). p.colour) a.stood.points ≡ members set → ReadRefused s m d colours fault
     → UntoldLeaves s c d (members set) text a.stood.key.stamp colours fault
 untold_leaves s c m d set text a colours (sync_faults.Trimmed shown base) x y stands points why = (
-  why.0,
   set,
   refl,
   explained_then s c m d (Unshown s c m set text a stands points)
-      (λ log caller stood after. IsTrimmed log caller stood shown base × HidesRead log caller stood colours after) x y
+      (λ log caller stood after. RefusesRead log caller stood colours shown base after) x y
       (λ old new caller kept after later. unshown_later old new later caller kept (node_of caller kept set text)
       a.stood.key.stamp after)
-      (any_unshown s c m set text a stands points) why.1,
+      (any_unshown s c m set text a stands points) why,
 )
 untold_leaves s c m d set text a colours sync_faults.NoMemory x y stands points why = (
   set,
@@ -163,70 +130,68 @@ untold_leaves s c m d set text a colours sync_faults.NoMemory x y stands points 
 
 module _ {T : Type 0} (told : List ObjectNode → ObjectNode → Option T) (s : Store) (c m d : Client) (colours : List ℕ)
     (set : Colours) (text : List ℕ) (within : AreOwn colours (members set))
-    (answer : Option T) (a : Appended) (read : StampedRead) (x : RestsOn s c m) (y : RestsOn s m d)
-    (stands : IsExplained s c m (AppendsAs set text a)) (answers : Answers told s m d (rising colours) a.stood.key answer read)
-  where
-    -- what the read says of it
-    abbrev Told : Log → Caller → Kept → Kept → Type 0
-    Told log caller kept after =
-        ReadsAt log caller kept (rising colours) read.stamp (map raise_piece read.raises) (map sync_piece read.syncs) after
-        × AreRead log caller read.stamp (map sync_piece read.syncs) answers.0
-        × (nodes : List ObjectNode) × AreObjectNodes log answers.0 nodes × (answer ≡ told_of told nodes a.stood.key)
+    (last : Option Key) (answer : Option T) (a : Appended) (read : StampedRead) (x : RestsOn s c m) (y : RestsOn s m d)
+    (stands : IsExplained s c m (AppendsAs set text a))
+    (answers : Answers told s m d (rising colours) last a.stood.key answer read) where
+  -- what the read says of it
+  abbrev Told : Log → Caller → Kept → Kept → Type 0
+  Told log caller kept after =
+      ReadsAs (rising colours) (last_before last a.stood.key) read answers.0 log caller kept after
+      × (nodes : List ObjectNode) × AreObjectNodes log answers.0 nodes × (answer ≡ told_of told nodes a.stood.key)
 
-    -- the own node is among those that were read
-    own_read : (objects : List Object) (kept stood : Kept) (rest : Rest)
-        → AppendsAs set text a (log_of (seen_of d) rest) (caller_of s d objects) kept stood → stood.floor ≤ read.stamp
-        → In a.stood.key answers.0
-        × (slice_get ((log_of (seen_of d) rest).nodes a.stood.key.id.client) a.stood.key.id.count
-        ≡ Some (node_of (caller_of s d objects) kept set text))
-    own_read objects kept stood rest append above =
-        let log = log_of (seen_of d) rest in
-        let caller = caller_of s d objects in
-        let node = node_of caller kept set text in
-        let own = own_stands log caller kept node a.stood.key.stamp a.row (map piece_of a.stood.points) stood append.2 in
-        let its_id : a.stood.key.id ≡ node.id = append.1 ∙ append.0 in
-        let key : entry_key a.stood.key.stamp node.id ≡ a.stood.key = ap (entry_key a.stood.key.stamp) (sym its_id) in
-        let low = own.floor in
-        let coloured : In own.colour (rising colours) =
-        in_contains (rising colours) own.colour
-        (within own.colour (contains_in (members set) own.colour own.among)) in
-        let its_line = line (home_seen d own.colour) in (
-          in_contains answers.0 a.stood.key
-              (answers.1.order.all its_line a.stood.key
-              (contains_in (map (λ k. line (home_seen d k)) (rising colours)) its_line
-              (made_from (λ k. line (home_seen d k)) (rising colours) own.colour coloured))
-              (contains_in its_line a.stood.key (subst (λ (k : Key). In k its_line) key
-              (slice_in its_line own.position (entry_key a.stood.key.stamp node.id) own.there)))
-              (omega (arith, low, above))),
-          ap (λ (i : Id). slice_get (log.nodes i.client) i.count) its_id ∙ own.next,
-        )
+  -- the own node is among those that were read
+  own_read : (objects : List Object) (kept stood : Kept) (rest : Rest)
+      → AppendsAs set text a (log_of (seen_of d) rest) (caller_of s d objects) kept stood → stood.floor ≤ read.stamp
+      → In a.stood.key answers.0
+      × (slice_get ((log_of (seen_of d) rest).nodes a.stood.key.id.client) a.stood.key.id.count
+      ≡ Some (node_of (caller_of s d objects) kept set text))
+  own_read objects kept stood rest append above =
+      let log = log_of (seen_of d) rest in
+      let caller = caller_of s d objects in
+      let node = node_of caller kept set text in
+      let own = own_stands log caller kept node a.stood.key.stamp a.row (map piece_of a.stood.points) stood append.2 in
+      let its_id : a.stood.key.id ≡ node.id = append.1 ∙ append.0 in
+      let key : entry_key a.stood.key.stamp node.id ≡ a.stood.key = ap (entry_key a.stood.key.stamp) (sym its_id) in
+      let low = own.floor in
+      let coloured : In own.colour (rising colours) =
+      in_contains (rising colours) own.colour
+      (within own.colour (contains_in (members set) own.colour own.among)) in
+      let its_line = line (home_seen d own.colour) in (
+        in_contains answers.0 a.stood.key
+            (answers.1.order.all its_line a.stood.key
+            (contains_in (map (λ k. line (home_seen d k)) (rising colours)) its_line
+            (made_from (λ k. line (home_seen d k)) (rising colours) own.colour coloured))
+            (contains_in its_line a.stood.key (subst (λ (k : Key). In k its_line) key
+            (slice_in its_line own.position (entry_key a.stood.key.stamp node.id) own.there)))
+            (omega (arith, low, above))),
+        ap (λ (i : Id). slice_get (log.nodes i.client) i.count) its_id ∙ own.next,
+      )
 
-    pub tells : IsExplained s c d (TellsOwn told set text (rising colours) answer a read)
-    tells objects kept finished keeps =
-        let r = explained_then s c m d (AppendsAs set text a) Told x y
-        (λ old new caller k after later g. (
-          g.0,
-          g.1,
-          append_later old new later caller k (node_of caller k set text) a.stood.key.stamp a.row (map piece_of a.stood.points)
-              after g.2,
-        )) stands answers.2 objects kept finished keeps in (
-          r.0,
-          r.1,
-          λ rest fits.
-              let z = r.2 rest fits in
-              let log = log_of (seen_of d) rest in
-              let caller = caller_of s d objects in
-              let own = own_read objects kept z.0 rest z.1 z.2.0.above_floor in (
-                z.0,
-                z.1,
-                (
-                  z.2.0,
-                  answers.0,
-                  z.2.1,
-                  z.2.2,
-                  z.2.3,
-                  is_own told log a.stood.key answers.0 z.2.2 (node_of caller kept set text) answer (key_itself a.stood.key)
-                      z.2.3 own.0 own.1 z.2.4,
-                ),
+  pub tells : IsExplained s c d (TellsOwn told set text (rising colours) last answer a read)
+  tells objects kept finished keeps =
+      let r = explained_then s c m d (AppendsAs set text a) Told x y
+      (λ old new caller k after later g. (
+        g.0,
+        g.1,
+        append_later old new later caller k (node_of caller k set text) a.stood.key.stamp a.row (map piece_of a.stood.points)
+            after g.2,
+      )) stands answers.2 objects kept finished keeps in (
+        r.0,
+        r.1,
+        λ rest fits.
+            let z = r.2 rest fits in
+            let log = log_of (seen_of d) rest in
+            let caller = caller_of s d objects in
+            let own = own_read objects kept z.0 rest z.1 z.2.0.0.above_floor in (
+              z.0,
+              z.1,
+              (
+                answers.0,
+                z.2.0,
+                z.2.1,
+                z.2.2,
+                is_own told log a.stood.key answers.0 z.2.1 (node_of caller kept set text) answer (key_itself a.stood.key)
+                    z.2.2 own.0 own.1 z.2.3,
               ),
-        )
+            ),
+      )

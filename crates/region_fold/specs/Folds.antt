@@ -1,11 +1,12 @@
 -- What of an object is folded: how it goes on, and what a node is told among others.
-use Rattle.std.specs.Prelude.{◌≡◌, IsTrue, ℕ, ◌≤◌, false, List, [], ◌∷◌, ◌++◌, length, take, Option, Some, None}
+use Rattle.std.specs.Prelude.{◌≡◌, IsTrue, if◌then◌else◌, ℕ, ◌≤◌, false, List, [], ◌∷◌, ◌++◌, length, take, Option, Some, None}
 use Rattle.std.specs.List.{All, find}
 use Rattle.log_node.specs.declared.ids.Key.{Key}
 use Rattle.log_node.specs.Order.{same_key}
 use Rattle.log_node.specs.Seen.{PlacedNode}
 use Rattle.object_form.specs.Forms.{is_writer}
 use Rattle.object_fold.specs.Nodes.{ObjectNode, nodes_before}
+use Rattle.log_client.specs.StampedReads.{is_behind}
 use Rattle.log_client.specs.Objects.{object_nodes, last_after}
 use Rattle.region_fold.specs.declared.kept_fold.KeptFold.{KeptFold}
 
@@ -18,6 +19,10 @@ FeedsAll Holds old new items =
 -- the fold has the first of these nodes more
 abbrev pub FeedsFirst : {F : Type 0} → (F → List ObjectNode → Type 0) → KeptFold F → KeptFold F → List PlacedNode → Type 0
 FeedsFirst Holds old new items = (count : ℕ) × (count ≤ length items) × FeedsAll Holds old new (take count items)
+
+-- the key behind which a fold of a node's answer goes on: the last one, or none where the node was folded already
+abbrev pub last_before : Option Key → Key → Option Key
+last_before last own = if is_behind last own then last else None
 
 -- each node's key is one that a version can name
 abbrev pub AreWriters : List ObjectNode → Type 0

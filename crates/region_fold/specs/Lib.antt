@@ -1,2 +1,4 @@
 pub mod Folds
 pub mod Reads
+pub mod Ruling
+pub mod Transactions

@@ -1,5 +1,5 @@
 -- What an object keeps beside its client, and what its reads answer.
-use Rattle.std.specs.Prelude.{◌≡◌, ℕ, ◌<◌, List, length, map, Option, Some}
+use Rattle.std.specs.Prelude.{◌≡◌, ℕ, ◌<◌, List, length, Option, Some}
 use Rattle.std.specs.List.{Contains}
 use Rattle.log_node.specs.declared.ids.Colours.{Colours}
 use Rattle.log_node.specs.declared.ids.Key.{Key}
@@ -9,7 +9,7 @@ use Rattle.col_core.specs.Log.{Log}
 use Rattle.col_core.specs.Keeping.{Kept}
 use Rattle.lawful_run.specs.Asks.{rising}
 use Rattle.lawful_run.specs.Callers.{Caller}
-use Rattle.lawful_run.specs.Reads.{ReadsAt, AreRead, IsTrimmed, HidesRead}
+use Rattle.lawful_run.specs.Reads.{HidesRead, RefusesRead}
 use Rattle.lawful_run.specs.Objects.{AreObjectNodes}
 use Rattle.log_client.specs.declared.store.Store.{Store}
 use Rattle.log_client.specs.declared.client.Client.{Client}
@@ -21,10 +21,10 @@ use Rattle.log_client.specs.declared.object_fault.ObjectFault.{ObjectFault}
 use Rattle.log_client.specs.declared.object_fault.ObjectFault.TheVariants as faults
 use Rattle.log_client.specs.Appends.{AppendsAs}
 use Rattle.log_client.specs.Calls.{IsExplained}
-use Rattle.log_client.specs.StampedReads.{CanBeNamed, HasRead, IsAboveSeen, ReadsOn, raise_piece, sync_piece}
+use Rattle.log_client.specs.StampedReads.{CanBeNamed, HasRead, IsAboveSeen, ReadsAs, ReadsOn}
 use Rattle.log_client.specs.Objects.{KeepsRead, StandsNot, StandsThen}
 use Rattle.region_fold.specs.declared.kept_fold.KeptFold.{KeptFold}
-use Rattle.region_fold.specs.Folds.{AreWriters, node_with, told_of}
+use Rattle.region_fold.specs.Folds.{AreWriters, last_before, node_with, told_of}
 
 -- What is folded are nodes that the client has read of these colours, with keys that a version can name.
 abbrev pub KeepsFold : {F : Type 0} → (F → List ObjectNode → Type 0) → Client → List ℕ → KeptFold F → Type 0
@@ -43,25 +43,25 @@ pub record Fetches (s : Store) (c d : Client) (colours : List ℕ) (last : Optio
 abbrev pub AreOwn : List ℕ → List ℕ → Type 0
 AreOwn colours own = (colour : ℕ) → Contains own colour → Contains (rising colours) colour
 
--- what a stamped read had, in the order of the region
-abbrev pub HasNodes : List ℕ → StampedRead → (List ObjectNode → Type 0) → Log → Caller → Kept → Kept → Type 0
-HasNodes colours read Has log caller kept after =
-    ReadsAt log caller kept colours read.stamp (map raise_piece read.raises) (map sync_piece read.syncs) after
-    × (keys : List Key) × AreRead log caller read.stamp (map sync_piece read.syncs) keys
+-- what a stamped read had, in the order of the region, of which it answers what comes behind the last key
+abbrev pub HasNodes : List ℕ → Option Key → StampedRead → (List ObjectNode → Type 0) → Log → Caller → Kept → Kept → Type 0
+HasNodes colours last read Has log caller kept after =
+    (keys : List Key) × ReadsAs colours last read keys log caller kept after
     × (nodes : List ObjectNode) × AreObjectNodes log keys nodes × Has nodes
 
--- A stamped read of an object with these colours was made, and this is so of its nodes.
-abbrev pub ReadsNodes : Store → Client → Client → List ℕ → StampedRead → (List ObjectNode → Type 0) → Type 0
-ReadsNodes s c d colours read Has = IsExplained s c d (HasNodes (rising colours) read Has)
+-- A stamped read of an object with these colours was made, it answers what comes behind the last key, and this is so of its
+-- nodes.
+abbrev pub ReadsNodes : Store → Client → Client → List ℕ → Option Key → StampedRead → (List ObjectNode → Type 0) → Type 0
+ReadsNodes s c d colours last read Has = IsExplained s c d (HasNodes (rising colours) last read Has)
 
--- A stamped read of these colours was made, and that is what the node with this key among what it had is told.
-abbrev pub Answers : {T : Type 0} → (List ObjectNode → ObjectNode → Option T) → Store → Client → Client → List ℕ → Key
-    → Option T → StampedRead → Type 0
-Answers told s c d colours own answer read =
+-- A stamped read of these colours was made, and that is what the node with this key among what it had is told. It answers what
+-- comes behind the last key, or all where the node was folded already.
+abbrev pub Answers : {T : Type 0} → (List ObjectNode → ObjectNode → Option T) → Store → Client → Client → List ℕ → Option Key
+    → Key → Option T → StampedRead → Type 0
+Answers told s c d colours last own answer read =
     (keys : List Key) × HasRead d colours read.stamp keys
     × IsExplained s c d (λ log caller kept after.
-    ReadsAt log caller kept colours read.stamp (map raise_piece read.raises) (map sync_piece read.syncs) after
-    × AreRead log caller read.stamp (map sync_piece read.syncs) keys
+    ReadsAs colours (last_before last own) read keys log caller kept after
     × (nodes : List ObjectNode) × AreObjectNodes log keys nodes × (answer ≡ told_of told nodes own))
 
 -- The own node is among these, with its text, and that is what it is told.
@@ -74,18 +74,18 @@ pub record IsOwn {T : Type 0} (told : List ObjectNode → ObjectNode → Option 
   pub answer_is : answer ≡ told_of told nodes key
 
 -- A node with this text stands in the colours of the set, and the stamped read behind it says what it is told.
-abbrev pub TellsOwn : {T : Type 0} → (List ObjectNode → ObjectNode → Option T) → Colours → List ℕ → List ℕ → Option T → Appended
-    → StampedRead → Log → Caller → Kept → Kept → Type 0
-TellsOwn told set text colours answer a read log caller kept after =
+abbrev pub TellsOwn : {T : Type 0} → (List ObjectNode → ObjectNode → Option T) → Colours → List ℕ → List ℕ → Option Key
+    → Option T → Appended → StampedRead → Log → Caller → Kept → Kept → Type 0
+TellsOwn told set text colours last answer a read log caller kept after =
     (stood : Kept) × AppendsAs set text a log caller kept stood
-    × HasNodes colours read (IsOwn told a.stood.key text answer) log caller stood after
+    × HasNodes colours (last_before last a.stood.key) read (IsOwn told a.stood.key text answer) log caller stood after
 
 -- why the own node was told nothing, which stands under the stamp in these colours; the object has those
 abbrev pub UntoldLeaves : Store → Client → Client → List ℕ → List ℕ → ℕ → List ℕ → SyncFault → Type 0
 UntoldLeaves s c d own text stamp colours (sync_faults.Trimmed colour base) =
-    Contains colours colour × (set : Colours) × (members set ≡ own)
+    (set : Colours) × (members set ≡ own)
     × IsExplained s c d (StandsThen set text stamp (λ log caller stood after.
-    IsTrimmed log caller stood colour base × HidesRead log caller stood colours after))
+    RefusesRead log caller stood colours colour base after))
 UntoldLeaves s c d own text stamp colours sync_faults.NoMemory =
     (set : Colours) × (members set ≡ own)
     × IsExplained s c d (StandsThen set text stamp (λ log caller stood after. HidesRead log caller stood colours after))

@@ -75,8 +75,8 @@ impl<F: NodeFold> KeptFold<F> {
         Ok(())
     }
 
-    // Begins anew where the key of a node that is to be answered was folded. A client's own node has a greater stamp than all
-    // that it read before, so nothing is ever folded twice.
+    // Begins anew where the key of a node that is to be answered was folded. The node of an append has a greater stamp than all
+    // that its client read before, so behind an append nothing is ever folded twice.
     pub(crate) fn stay_before(&mut self, alloc: Global, own: Key)
         ensures before { is_behind self.new.last own ≡ true }
         ensures same { is_behind self.old.last own ≡ true → self.new ≡ self.old }

@@ -1,10 +1,13 @@
-//! One-thread objects over a client, which are folded over the nodes of all their colours in the order of the region.
+//! One-thread objects over a client, which are folded over the nodes of all their colours in the order of the region; and one of
+//! them, the transactional map: a commit stands as one node, and whether it committed is decided by the nodes before it.
 #![tactic(auto)]
 
 mod fold;
 mod kept_fold;
 mod reads;
+mod ruling;
+mod transactions;
 
 pub use fold::NodeFold;
 pub use kept_fold::KeptFold;
-pub use reads::bits_of;
+pub use transactions::{Tx, TxMap};

@@ -16,19 +16,10 @@ ghost use Rattle.region_fold.specs.Reads.{AreOwn, Fetches, KeepsFold, ReadsNodes
 use crate::fold::NodeFold;
 use crate::kept_fold::KeptFold;
 use fuzzy_io::Gate;
-use log_client::{
-    Appended, Client, ObjectFault, StampedRead, Store, SyncFault, colour_set, reads_go_on,
-};
+use log_client::{Appended, Client, ObjectFault, StampedRead, Store, SyncFault, reads_go_on};
 use log_node::{Colours, Key, Text};
 use std::alloc::{AllocError, Global};
 use std::sync::Wait;
-
-/// The bits of a set, which are 16.
-pub fn bits_of(set: Colours) -> u16
-    ensures { result ≡ set.0 }
-{
-    set.0
-}
 
 // Reads the colours of an object, and answers the nodes behind the last key.
 fn fetch<R: Wait>(
@@ -48,14 +39,12 @@ fn fetch<R: Wait>(
     ensures hidden { IfOk result (λ read. ReadHidden store.now client.old client.new (rising colours.now)) }
     ensures err { IfErr result (ReadRefused store.now client.old client.new (rising colours.now)) }
 {
-    let set = colour_set(colours);
-    let _bits = bits_of(set);
-    client.read_on(rt, alloc, store, set, last)
+    client.read_on(rt, alloc, store, Colours::of(colours), last)
 }
 
 impl<F: NodeFold> KeptFold<F> {
     /// Reads all nodes of the object's colours up to the stamp of a stamped read of these, and folds them. The read answers those
-    /// that earlier ones did not have. Waits as the read does.
+    /// that were not folded before. Waits as the read does.
     pub fn read<R: Wait>(
         &mut self,
         rt: &R,
@@ -69,7 +58,7 @@ impl<F: NodeFold> KeptFold<F> {
         requires kept { KeepsFold F.Holds client.old (rising colours.now) self.old }
         ensures client { RestsOn store.now client.old client.new }
         ensures kept { KeepsFold F.Holds client.new (rising colours.now) self.new }
-        ensures ok { IfOk result (λ read. ReadsNodes store.now client.old client.new colours.now read
+        ensures ok { IfOk result (λ read. ReadsNodes store.now client.old client.new colours.now self.old.last read
             (λ nodes. F.Holds self.new.state nodes × AreWriters nodes)) }
         ensures raises { IfOk result (λ read. raised_colours read.raises ≡ rising colours.now) }
         ensures syncs { IfOk result (λ read. synced_colours read.syncs ≡ rising colours.now) }
@@ -86,8 +75,10 @@ impl<F: NodeFold> KeptFold<F> {
         }
     }
 
-    // Reads all colours behind the own node, which stands under this key, and gives what that one is told.
-    fn read_behind<R: Wait>(
+    /// Reads all nodes of the object's colours up to the stamp of a stamped read of these, and gives what the node with this key
+    /// is told behind those before it, if it is among them. The read answers those that were not folded before; where that node
+    /// was, it answers all, and they are folded anew up to it. Waits as the read does.
+    pub fn read_behind<R: Wait>(
         &mut self,
         rt: &R,
         alloc: Global,
@@ -101,7 +92,8 @@ impl<F: NodeFold> KeptFold<F> {
         requires kept { KeepsFold F.Holds client.old (rising colours.now) self.old }
         ensures client { RestsOn store.now client.old client.new }
         ensures kept { KeepsFold F.Holds client.new (rising colours.now) self.new }
-        ensures ok { IfOk result (λ r. Answers F.told store.now client.old client.new (rising colours.now) own r.0 r.1) }
+        ensures ok { IfOk result (λ r. Answers F.told store.now client.old client.new (rising colours.now) self.old.last
+            own r.0 r.1) }
         ensures raises { IfOk result (λ r. raised_colours r.1.raises ≡ rising colours.now) }
         ensures syncs { IfOk result (λ r. synced_colours r.1.syncs ≡ rising colours.now) }
         ensures err { IfErr result (ReadRefused store.now client.old client.new (rising colours.now)) }
@@ -138,7 +130,7 @@ impl<F: NodeFold> KeptFold<F> {
         ensures client { RestsOn store.now client.old client.new }
         ensures kept { KeepsFold F.Holds client.new (rising colours.now) self.new }
         ensures ok { IfOk result (λ r. IsExplained store.now client.old client.new
-            (TellsOwn F.told set text (rising colours.now) r.0 r.1 r.2)) }
+            (TellsOwn F.told set text (rising colours.now) self.old.last r.0 r.1 r.2)) }
         ensures points { IfOk result (λ r. map (λ (p : Point). p.colour) r.1.stood.points ≡ members set) }
         ensures raises { IfOk result (λ r. raised_colours r.2.raises ≡ rising colours.now) }
         ensures syncs { IfOk result (λ r. synced_colours r.2.syncs ≡ rising colours.now) }

@@ -27,7 +27,7 @@ use Rattle.region_pull.specs.Origins.{AreOfLine, IsOfOrigin}
 use Rattle.region_pull.specs.Pulls.{CarriesLine}
 use Rattle.region_pull.proofs.Lists.{prefix_then, get_cases, get_dropped, get_taken}
 use Rattle.region_pull.proofs.Seen.{of_line_longer, of_origin_longer}
-use Rattle.region_pull.proofs.Giving.{made_with}
+use Rattle.region_pull.proofs.Giving.{made_with, made_more}
 
 -- the own chain has a head for each key of the line
 pub chain_long : (t : Tag) (log : List Told)
@@ -115,6 +115,12 @@ module _ (t : Tag) (before : List Told) (from : ℕ) (given : Given) (g : ShowsG
         let all = c.covers meets in
         let long = given_long in
         omega (arith, all, long)
+
+-- one who carries, or looks and carries nothing, sees more
+pub carries_more : (t : Tag) (log : List Told) (u : Tag) (n : ℕ) (old new : List Told) (at : At) (nodes : ℕ)
+    → CarriesLine t log u n old new at nodes → IsPrefix old new
+carries_more t log u n old new at nodes (inl look) = look.0.0.more
+carries_more t log u n old new at nodes (inr c) = made_more n c.0 old new at c.2
 
 -- a look before a carry is part of it
 pub looks_carries : (t : Tag) (log : List Told) (u : Tag) (n : ℕ) (old mid new : List Told) (at : At) (nodes : ℕ)

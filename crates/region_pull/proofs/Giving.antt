@@ -1,5 +1,5 @@
 -- The gives of a pull, one after another.
-use Rattle.std.proofs.Common.{◌≡◌, ℕ, ◌<◌, ◌≤◌, List, [], ◌∷◌, ◌++◌, length, map, take, Some, refl, ap, sym, subst, ◌∙◌, inl, inr, arith, min, length-append, append_assoc, append-nil, eq-eqb}
+use Rattle.std.proofs.Common.{◌≡◌, ℕ, ◌<◌, ◌≤◌, List, [], ◌∷◌, ◌++◌, length, map, take, Some, refl, ap, sym, subst, ◌∙◌, inl, inr, arith, min, length-append, append_assoc, append-nil, eq-eqb, take_all}
 use Rattle.std.specs.Prelude.{◌==◌, slice_get}
 use mathlib.Core.List.{IsPrefix}
 use Rattle.std.proofs.lemmas.List.{map-append}
@@ -19,7 +19,7 @@ use Rattle.chain_store.specs.Passes.{SeesMore, MakesOne, IsLawfulTold}
 use Rattle.chain_store.specs.Moves.{held_in, base_in, GivesAt, ShowsGiven}
 use Rattle.region_pull.specs.Pulls.{Gave, told_gave, before_gave, MakesGives, AsksOn, IsTooLow, Asks}
 use Rattle.region_pull.specs.Origins.{IsHeldFor}
-use Rattle.region_pull.proofs.Lists.{prefix_same, prefix_then, prefix_long, prefix_get, prefix_take, take_front, get_last, get_cases, get_split, got_mapped}
+use Rattle.region_pull.proofs.Lists.{prefix_same, prefix_then, prefix_long, prefix_get, prefix_take, taken_prefix, take_front, get_last, get_cases, get_split, got_mapped}
 use Rattle.region_pull.proofs.Seen.{held_longer, held_for_longer}
 
 -- entries of a number, with one of it more at the end
@@ -100,13 +100,20 @@ module _ (t u : Tag) (log log' old new new' : List Told) (x : Gave) (within : x.
   pub same_before : before_gave log' x ≡ before_gave log x
   same_before = prefix_take log log' more x.place within
 
-  pub asks_later : held_in u new t.region ≤ held_in u new' t.region → AsksOn t u log old new x
-      → AsksOn t u log' old new' x
-  asks_later le a = record {
-    no_less = subst (λ (l : List Told). min (length (line (entries_in l))) (held_in u old t.region) ≤ x.from)
-        (sym same_before) a.no_less;
-    no_more = let b = a.no_more in omega (arith, b, le);
-  }
+  pub asks_later : IsPrefix new new' → AsksOn t u log old new x → AsksOn t u log' old new' x
+  asks_later longer a =
+      let there = a.there in
+      let le = prefix_long new new' longer in
+      record {
+        looked = a.looked;
+        unseen = a.unseen;
+        there = omega (arith, there, le);
+        number = a.number
+            ∙ (ap (λ (l : List Told). min (length (line (entries_in l))) (held_in u (take a.looked new) t.region))
+            (sym same_before)
+            ∙ ap (λ (l : List Told). min (length (line (entries_in (before_gave log' x)))) (held_in u l t.region))
+            (sym (prefix_take new new' longer a.looked a.there)));
+      }
 
   pub low_later : IsTooLow t log x → IsTooLow t log' x
   low_later low = subst (λ (l : List Told). x.from < at (base_in t l) t.region) (sym same_before) low
@@ -135,12 +142,10 @@ module _ (t u : Tag) (n : ℕ) (old : List Told) (to_old : List Told) where
     within i x e = let lt = gave_within n u.region old new new gives a.makes i x e in omega (arith, lt)
 
     -- the other region was looked at
-    pub asked_looked : (later : List Told) → IsPrefix to_new later → IsLawfulTold u later
-        → Asked t u n old new to_old later gives
-    asked_looked later more lawful = record {
+    pub asked_looked : (later : List Told) → IsPrefix to_new later → Asked t u n old new to_old later gives
+    asked_looked later more = record {
       makes = a.makes;
-      on = λ i x e. asks_later t u new new to_old to_new later x (within i x e) (prefix_same new)
-          (held_longer u to_new later more lawful t.region) (a.on i x e);
+      on = λ i x e. asks_later t u new new to_old to_new later x (within i x e) (prefix_same new) more (a.on i x e);
       low = a.low;
     }
 
@@ -148,13 +153,13 @@ module _ (t u : Tag) (n : ℕ) (old : List Told) (to_old : List Told) where
     pub asked_seen : (later : List Told) → SeesMore n new later → Asked t u n old later to_old to_new gives
     asked_seen later s = record {
       makes = gives_seen n u.region old new later gives a.makes s;
-      on = λ i x e. asks_later t u new later to_old to_new to_new x (within i x e) s.more (omega arith) (a.on i x e);
+      on = λ i x e. asks_later t u new later to_old to_new to_new x (within i x e) s.more (prefix_same to_new) (a.on i x e);
       low = λ i x e. low_later t u new later to_old to_new to_new x (within i x e) s.more (a.low i x e);
     }
 
     -- one more give
     module _ (later : List Told) (from : ℕ) (place : At) (given : Given) (more : IsPrefix old new)
-        (to_more : IsPrefix to_old to_new) (lawful : IsLawfulTold u to_new) (is : from ≡ held_in u to_new t.region)
+        (to_more : IsPrefix to_old to_new) (is : from ≡ held_in u to_new t.region)
         (gave : GivesAt t n u.region from new later place given) where
       abbrev pub last : Gave
       last = record {
@@ -180,19 +185,21 @@ module _ (t u : Tag) (n : ℕ) (old : List Told) (to_old : List Told) where
 
       asks_on_last : AsksOn t u later to_old to_new last
       asks_on_last =
-          let grows = held_longer u to_old to_new to_more lawful t.region in
+          let held = ap (λ (l : List Told). held_in u l t.region) (take_all (length to_new) to_new (omega arith)) in
           record {
-            no_less = subst
-                (λ (l : List Told). min (length (line (entries_in l))) (held_in u to_old t.region) ≤ last.from)
-                (sym same_past) (omega (arith, is, grows));
-            no_more = omega (arith, is);
+            looked = length to_new;
+            unseen = prefix_long to_old to_new to_more;
+            there = omega arith;
+            number = subst (λ (l : List Told). last.from
+                ≡ min (length (line (entries_in l))) (held_in u (take (length to_new) to_new) t.region)) (sym same_past)
+                (omega (arith, is, held));
           }
 
       all_on : (i : ℕ) (x : Gave) → slice_get (gives ++ last ∷ []) i ≡ Some x → AsksOn t u later to_old to_new x
       all_on i x e = elim (get_cases gives last i x e) [
         | inl before ↦
             asks_later t u new later to_old to_new to_new x (within i x before)
-            (made_more n (told_gave n u.region last) new later place makes_it) (omega arith) (a.on i x before)
+            (made_more n (told_gave n u.region last) new later place makes_it) (prefix_same to_new) (a.on i x before)
         | inr same ↦ subst (AsksOn t u later to_old to_new) same.1 asks_on_last
       ]
 
@@ -231,14 +238,12 @@ module _ (t u : Tag) (n : ℕ) (old : List Told) (to_old : List Told) where
 
 -- the asking column has gone on
 pub asks_further : (t u : Tag) (n : ℕ) (old new to_old to_new later : List Told) (gives : List Gave)
-    → Asks t u n old new to_old to_new gives → IsPrefix to_new later → IsLawfulTold u later
-    → Asks t u n old new to_old later gives
-asks_further t u n old new to_old to_new later gives a more lawful = record {
+    → Asks t u n old new to_old to_new gives → IsPrefix to_new later → Asks t u n old new to_old later gives
+asks_further t u n old new to_old to_new later gives a more = record {
   makes = a.makes;
   on = λ i x e.
       let lt = gave_within n u.region old new new gives a.makes i x e in
-      asks_later t u new new to_old to_new later x (omega (arith, lt)) (prefix_same new)
-      (held_longer u to_new later more lawful t.region) (a.on i x e);
+      asks_later t u new new to_old to_new later x (omega (arith, lt)) (prefix_same new) more (a.on i x e);
   again = a.again;
 }
 
@@ -257,5 +262,8 @@ asks_held t u n old new to_old to_new gives a more lawful h k told e =
           let same : Give u.region r.0.from ≡ Give u.region from =
           ap (λ (w : Told). w.entry.event) r.2 ∙ is in
           let number : r.0.from ≡ from = cc (same) in
-          let le = (a.on new.0 r.0 r.1).no_more in omega (arith, number, le)
+          let on = a.on new.0 r.0 r.1 in
+          let asks = on.number in
+          let le = held_longer u (take on.looked to_new) to_new (taken_prefix on.looked to_new) lawful t.region in
+          omega (arith, number, asks, le)
     ]

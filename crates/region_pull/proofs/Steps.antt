@@ -13,7 +13,7 @@ use Rattle.chain_store.specs.declared.told.Told.{Told}
 use Rattle.chain_store.specs.declared.hold.Hold.{Hold}
 use Rattle.chain_store.specs.declared.region.Region.{Region}
 use Rattle.chain_store.specs.Histories.{maker}
-use Rattle.chain_store.specs.Passes.{SeesMore, dated_in, IsLawfulTold}
+use Rattle.chain_store.specs.Passes.{SeesMore, dated_in}
 use Rattle.chain_store.specs.Moves.{held_in, GivesAt, CarriesAt}
 use Rattle.chain_store.specs.Regions.{tag_at}
 use Rattle.chain_store.specs.Holds.{IsHold, SameBut, seen_in, made_in, SeesMoreIn, LooksIn, GivesIn, CarriesIn}
@@ -27,7 +27,7 @@ use Rattle.region_pull.proofs.Lists.{prefix_same, prefix_then, taken_prefix}
 use Rattle.chain_store.proofs.CallerLemmas.{lawful_seen}
 use Rattle.region_pull.proofs.Seen.{held_longer}
 use Rattle.region_pull.proofs.Giving.{Asked, made_more, asked_none, asks_alone, asked_looked, asked_seen, last, asks_last, asked_again, shows_last, asks_further, asks_held}
-use Rattle.region_pull.proofs.Carrying.{carries_line, carries_all, looks_carries, origin_looked, origin_carried}
+use Rattle.region_pull.proofs.Carrying.{carries_line, carries_all, carries_more, looks_carries, origin_looked, origin_carried}
 
 -- a hold goes on
 
@@ -102,7 +102,7 @@ module _ (from to : Region) (k : ℕ) (g g' h h' : Hold) (store : AreOfOneStore 
     looks = sees_then k h h' i s.to_goes.others.number s.looks look.0;
     gives = s.gives;
     asked = asked_looked (tag_at from k) (tag_at to k) g.passes.number (seen_in g k) (seen_in h k) (seen_in g' k)
-        (seen_in h' k) s.gives s.asked (seen_in i k) look.0.more (lawful_seen to i k is store.to_colour);
+        (seen_in h' k) s.gives s.asked (seen_in i k) look.0.more;
   }
 
   -- after a give
@@ -127,9 +127,6 @@ module _ (from to : Region) (k : ℕ) (g g' h h' : Hold) (store : AreOfOneStore 
           (λ (n : ℕ). GivesAt (tag_at from k) n to.number number (seen_in g' k) (seen_in i k) place given)
           s.from_goes.others.number gave
 
-      seen_lawful : IsLawfulTold (tag_at to k) (seen_in h' k)
-      seen_lawful = lawful_seen to h' k s.to_goes.rests store.to_colour
-
       pub gave_goes : GoesOnIn from k g i
       gave_goes =
           goes_then from k g g' i s.from_goes is but same
@@ -142,10 +139,10 @@ module _ (from to : Region) (k : ℕ) (g g' h h' : Hold) (store : AreOfOneStore 
         looks = s.looks;
         gives = s.gives ++ last (tag_at from k) (tag_at to k) g.passes.number (seen_in g k) (seen_in h k)
             (seen_in g' k) (seen_in h' k) s.gives s.asked (seen_in i k) number place given s.from_goes.more
-            s.to_goes.more seen_lawful asks here ∷ [];
+            s.to_goes.more asks here ∷ [];
         asked = asked_again (tag_at from k) (tag_at to k) g.passes.number (seen_in g k) (seen_in h k) (seen_in g' k)
             (seen_in h' k) s.gives s.asked (seen_in i k) number place given s.from_goes.more s.to_goes.more
-            seen_lawful asks here above;
+            asks here above;
       }
 
       pub gave_last : given.start ≤ number → HasAsked from to k g i h h' place given
@@ -153,15 +150,15 @@ module _ (from to : Region) (k : ℕ) (g g' h h' : Hold) (store : AreOfOneStore 
         too_low = s.gives;
         last = last (tag_at from k) (tag_at to k) g.passes.number (seen_in g k) (seen_in h k)
             (seen_in g' k) (seen_in h' k) s.gives s.asked (seen_in i k) number place given s.from_goes.more
-            s.to_goes.more seen_lawful asks here;
+            s.to_goes.more asks here;
         asks = asks_last (tag_at from k) (tag_at to k) g.passes.number (seen_in g k) (seen_in h k) (seen_in g' k)
             (seen_in h' k) s.gives s.asked (seen_in i k) number place given s.from_goes.more s.to_goes.more
-            seen_lawful asks here;
+            asks here;
         there = here.made.place;
         asked = number;
         shows = shows_last (tag_at from k) (tag_at to k) g.passes.number (seen_in g k) (seen_in h k) (seen_in g' k)
             (seen_in h' k) s.gives s.asked (seen_in i k) number place given s.from_goes.more s.to_goes.more
-            seen_lawful asks here;
+            asks here;
         meets = omega (arith, below, asks);
       }
 
@@ -174,7 +171,7 @@ module _ (from to : Region) (k : ℕ) (g g' h h' : Hold) (store : AreOfOneStore 
       g.passes.number (seen_in g k) (seen_in g' k) (seen_in h k) (seen_in i k) gives
   asks_then more gives a =
       asks_further (tag_at from k) (tag_at to k) g.passes.number (seen_in g k) (seen_in g' k) (seen_in h k)
-      (seen_in h' k) (seen_in i k) gives a more (lawful_seen to i k is store.to_colour)
+      (seen_in h' k) (seen_in i k) gives a more
 
   pub carry_refused : SeesMoreIn k h' i → (place : At) (given : Given) → HasAsked from to k g g' h h' place given
       → GivesAlone from to k g g' h i × SeesMoreIn k h i
@@ -217,16 +214,16 @@ module _ (from to : Region) (k : ℕ) (g g' h h' : Hold) (store : AreOfOneStore 
         let meets = a.meets in
         let line = carries_line t before a.asked given a.shows log more lawful u h.passes.number (seen_in h' k)
         (seen_in i k) carry nodes carries_here in
-        let all = looks_carries t log u h.passes.number (seen_in h k) (seen_in h' k) (seen_in i k) carry nodes looks
-        line in
         record {
           too_low = a.too_low;
           last = a.last;
-          asks = asks_then carried_more (a.too_low ++ a.last ∷ []) a.asks;
+          looked = seen_in h' k;
+          looks = looks;
+          asks = a.asks;
           give = give_is ∙ a.there;
-          carries = subst (CarriesLine t log u h.passes.number (seen_in h k) (seen_in i k) p.carry) (sym count)
-              (subst (λ (w : At). CarriesLine t log u h.passes.number (seen_in h k) (seen_in i k) w nodes) (sym carry_is)
-              all);
+          carries = subst (CarriesLine t log u h.passes.number (seen_in h' k) (seen_in i k) p.carry) (sym count)
+              (subst (λ (w : At). CarriesLine t log u h.passes.number (seen_in h' k) (seen_in i k) w nodes) (sym carry_is)
+              line);
           holds = carries_all t before a.asked given a.shows log more lawful u h.passes.number (seen_in h' k)
               (seen_in i k) carry nodes carries_here (omega (arith, held, meets));
         }
@@ -250,7 +247,9 @@ module _ (from to : Region) (k : ℕ) (g g' h h' : Hold) (store : AreOfOneStore 
   origin_pulled p pulls was n told e =
       origin_carried (tag_at from k) (seen_in g k) (seen_in g' k) from_goes.more
       (lawful_seen from g' k from_goes.rests store.from_colour) (tag_at to k) h.passes.number (seen_in h k)
-      (seen_in h' k) was p.carry p.nodes pulls.carries n told
+      (seen_in h' k) was p.carry p.nodes
+      (looks_carries (tag_at from k) (seen_in g' k) (tag_at to k) h.passes.number (seen_in h k) pulls.looked
+      (seen_in h' k) p.carry p.nodes pulls.looks pulls.carries) n told
       (ap (λ (l : List Told). slice_get l n) (sym (made_now to h h' to_goes)) ∙ e)
 
   pub held_asked : (gives : List Gave) → Asks (tag_at from k) (tag_at to k) g.passes.number (seen_in g k)
@@ -259,3 +258,12 @@ module _ (from to : Region) (k : ℕ) (g g' h h' : Hold) (store : AreOfOneStore 
       asks_held (tag_at from k) (tag_at to k) g.passes.number (seen_in g k) (seen_in g' k) (seen_in h k) (seen_in h' k)
       gives a to_goes.more (lawful_seen to h' k to_goes.rests store.to_colour) was n told
       (ap (λ (l : List Told). slice_get l n) (sym (made_now from g g' from_goes)) ∙ e)
+
+  pub held_pulled : (p : Pulled) → Pulls from to k g g' h h' p → AsksForHeld from to k g h → AsksForHeld from to k g' h'
+  held_pulled p pulls =
+      let gives = pulls.too_low ++ pulls.last ∷ [] in
+      held_asked gives
+      (asks_further (tag_at from k) (tag_at to k) g.passes.number (seen_in g k) (seen_in g' k) (seen_in h k) pulls.looked
+      (seen_in h' k) gives pulls.asks
+      (carries_more (tag_at from k) (seen_in g' k) (tag_at to k) h.passes.number pulls.looked (seen_in h' k) p.carry
+      p.nodes pulls.carries))

@@ -13,7 +13,7 @@ use Rattle.chain_store.specs.declared.hold.Hold.{Hold}
 use Rattle.chain_store.specs.declared.region.Region.{Region}
 use Rattle.chain_store.specs.Histories.{entries_in, maker}
 use Rattle.chain_store.specs.Columns.{told_event, told_carry}
-use Rattle.chain_store.specs.Passes.{MakesOne}
+use Rattle.chain_store.specs.Passes.{SeesMore, MakesOne}
 use Rattle.chain_store.specs.Moves.{held_in, base_in, LooksAt}
 use Rattle.chain_store.specs.Regions.{tag_at}
 use Rattle.chain_store.specs.Holds.{seen_in, SeesMoreIn}
@@ -44,11 +44,13 @@ pub record MakesGives (n region : ℕ) (old new : List Told) (gives : List Gave)
   pub rising : (i j : ℕ) (x y : Gave) → i < j → slice_get gives i ≡ Some x → slice_get gives j ≡ Some y
       → x.place < y.place
 
--- A give asks on: its number is no less than what the asking column held of the line by its old history, or than the
--- line's length, and no greater than what it holds by the new one.
+-- A give asks on: its number is what the asking column held of the line at a look, after no fewer events than its old
+-- history has and no more than its new one; or the line's length, if that is less.
 pub record AsksOn (t u : Tag) (log old new : List Told) (x : Gave) : Type 0 where
-  pub no_less : min (length (line (entries_in (before_gave log x)))) (held_in u old t.region) ≤ x.from
-  pub no_more : x.from ≤ held_in u new t.region
+  pub looked : ℕ
+  pub unseen : length old ≤ looked
+  pub there : looked ≤ length new
+  pub number : x.from ≡ min (length (line (entries_in (before_gave log x)))) (held_in u (take looked new) t.region)
 
 -- its number is below the base by then
 abbrev pub IsTooLow : Tag → List Told → Gave → Type 0
@@ -71,15 +73,19 @@ CarriesLine t log u n old new at nodes =
     × AreOfLine t log (held_in u m.before t.region) items)
 
 -- A pull of a client, by its holds g of the region that is pulled from and h of the other one, which are g' and h' then:
--- it gave from too low a number some times, gave, and carried; all is held then that stood in the line at its last give.
+-- it gave from too low a number some times, gave, and then carried; all is held then that stood in the line at its last
+-- give.
 pub record Pulls (from to : Region) (colour : ℕ) (g g' h h' : Hold) (p : Pulled) : Type 0 where
   pub too_low : List Gave
   pub last : Gave
+  -- what it had seen of the asking column before it carried
+  pub looked : List Told
+  pub looks : SeesMore h.passes.number (seen_in h colour) looked
   pub asks : Asks (tag_at from colour) (tag_at to colour) g.passes.number (seen_in g colour) (seen_in g' colour)
-      (seen_in h colour) (seen_in h' colour) (too_low ++ last ∷ [])
+      (seen_in h colour) looked (too_low ++ last ∷ [])
   pub give : p.give ≡ Event last.place
-  pub carries : CarriesLine (tag_at from colour) (seen_in g' colour) (tag_at to colour) h.passes.number
-      (seen_in h colour) (seen_in h' colour) p.carry p.nodes
+  pub carries : CarriesLine (tag_at from colour) (seen_in g' colour) (tag_at to colour) h.passes.number looked
+      (seen_in h' colour) p.carry p.nodes
   pub holds : length (line (entries_in (before_gave (seen_in g' colour) last)))
       ≤ held_in (tag_at to colour) (seen_in h' colour) from.number
 

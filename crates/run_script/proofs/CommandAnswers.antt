@@ -1,6 +1,6 @@
 -- What the records of a client's calls say of the replies to its commands.
 use Rattle.std.proofs.Common.{◌≡◌, ◌≢◌, ℕ, ◌≤◌, List, [], ◌∷◌, length, refl, ap, sym, subst, inl, inr}
-use Rattle.std.specs.List.{All, AllZip, Contains}
+use Rattle.std.specs.List.{All, AllZip}
 use Rattle.log_node.specs.declared.ids.Colours.{Colours}
 use Rattle.log_node.specs.declared.ids.Counts.{Counts}
 use Rattle.log_node.specs.declared.ids.Key.{Key}
@@ -21,8 +21,8 @@ use Rattle.lawful_run.specs.Appends.{Appends, HasNoStamp, IsFull, IsGoneForMemor
 use Rattle.lawful_run.specs.Asks.{home_asked}
 use Rattle.lawful_run.specs.Callers.{Caller, node_of}
 use Rattle.lawful_run.specs.Explains.{Explains}
-use Rattle.lawful_run.specs.Moves.{GivesAt, GivesTooLow, Pulls, Trims, kept_after_pull, with_places}
-use Rattle.lawful_run.specs.Reads.{AreRead, HidesRead, IsTrimmed, ReadsAt, ShowsKey, ShowsPlayed, Syncs, greatest_stamp}
+use Rattle.lawful_run.specs.Moves.{OnlyGives, Pulls, Trims, kept_after_pull, kept_after_giving, GivesAt, GivesTooLow, with_places}
+use Rattle.lawful_run.specs.Reads.{AreRead, HidesRead, IsTrimmed, ReadsAt, ShowsKey, ShowsPlayed, Syncs, greatest_stamp, RefusesRead}
 use Rattle.lawful_run.specs.Refusals.{FindsNoMemory, IsAway, gave, gone, hidden, kept_before, kept_behind, nothing}
 use Rattle.lawful_run.specs.Stops.{Stops}
 
@@ -116,7 +116,7 @@ module _ (log : Log) (caller : Caller) (kept after : Kept) where
 
     pub sync_trimmed : (base : Counts) → IsTrimmed log caller kept colour base → after ≡ kept
         → Explains log caller kept (whats.Sync colour) (answers.Trimmed colour base) [] after
-    sync_trimmed base is same = (refl, inl refl, contains_in (colour ∷ []) colour (inl refl), is, same)
+    sync_trimmed base is same = (refl, inl refl, (contains_in (colour ∷ []) colour (inl refl), is, same))
 
   -- STAMPED READS
 
@@ -127,10 +127,9 @@ module _ (log : Log) (caller : Caller) (kept after : Kept) where
         → Explains log caller kept (whats.Scan colours) (answers.Scanned stamp (length nodes) raises syncs) nodes after
     scanned stamp raises syncs keys nodes reads are shows = (colours, refl, refl, reads, keys, are, shows)
 
-    pub scan_trimmed : (colour : ℕ) (base : Counts) → Contains (members colours) colour → IsTrimmed log caller kept colour base
-        → HidesRead log caller kept (members colours) after
+    pub scan_trimmed : (colour : ℕ) (base : Counts) → RefusesRead log caller kept (members colours) colour base after
         → Explains log caller kept (whats.Scan colours) (answers.Trimmed colour base) [] after
-    scan_trimmed colour base among is hides = (refl, inr (inr refl), among, is, hides)
+    scan_trimmed colour base refused = (refl, inr (inr refl), refused)
 
     pub scan_no_memory : HidesRead log caller kept (members colours) after
         → Explains log caller kept (whats.Scan colours) answers.NoMemory [] after
@@ -149,14 +148,14 @@ module _ (log : Log) (caller : Caller) (kept after : Kept) where
         → Explains log caller kept (whats.Pull region colour) answers.SameRegion [] after
     same_region own same = (refl, same, colour, ap (λ (r : ℕ). whats.Pull r colour) own)
 
-    pub pull_no_memory : (too_low gives : List ℕ) → All (GivesTooLow log caller region colour) too_low → length gives ≤ 1
-        → All (λ place. (from : ℕ) × GivesAt log caller region colour place from) gives
-        → after ≡ with_places (with_places kept region colour too_low) region colour gives
+    pub pull_no_memory : (looked : ℕ) (too_low gives : List ℕ)
+        → OnlyGives log caller kept region colour looked too_low gives
+        → after ≡ kept_after_giving kept caller.own region colour looked too_low gives
         → Explains log caller kept (whats.Pull region colour) answers.NoMemory [] after
-    pull_no_memory too_low gives low few are same = (
+    pull_no_memory looked too_low gives is same = (
       refl,
       subst (FindsNoMemory log caller kept (whats.Pull region colour)) (sym same)
-          (gave region colour too_low gives refl low few are),
+          (gave region colour looked too_low gives refl is),
     )
 
   pub trimmed : (colour place : ℕ) (at : At) (base : Counts) → at ≡ Event place → Trims log caller kept colour place base

@@ -1,16 +1,12 @@
 -- A run over a store with fewer rows than the script allows, where no more are needed.
-use Rattle.std.proofs.Common.{◌≡◌, ◌⊎◌, inl, inr, ℕ, ◌+◌, ◌<◌, ◌≤◌, Bool, true, false, cond, List, [], ◌∷◌, Ok, Err, Result, ap, sym, ◌∙◌, arith}
-use Rattle.std.specs.Prelude.{IfOk, ◌==◌}
-use Rattle.std.specs.List.{filter}
-use Rattle.std.proofs.lemmas.List.Sums.{sum_by-cons}
-use Rattle.script_text.specs.declared.script.Command.{Command}
+use Rattle.std.proofs.Common.{◌≡◌, ◌⊎◌, ℕ, ◌<◌, ◌≤◌, Ok, Err, Result, ap, sym, subst, arith}
+use Rattle.std.specs.Prelude.{IfOk}
 use Rattle.script_text.specs.declared.script.Script.{Script}
 use Rattle.script_beside.specs.declared.dealt.DealtScript.{DealtScript}
-use Rattle.script_beside.specs.Begins.{may_begin, begins_in}
 use Rattle.report_text.specs.declared.report.Report.{Report}
 use Rattle.lawful_run.specs.Lawful.{LawfulRun}
 use Rattle.few_rows.specs.Needs.{with_rows, AreEnough}
-use Rattle.few_rows.proofs.CallerLemmas.{fewer_rows}
+use Rattle.few_rows.proofs.CallerLemmas.{enough_rows, fewer_rows}
 use Rattle.run_script.specs.Running.{CanRun}
 
 -- what was dealt, with so many rows
@@ -57,34 +53,13 @@ can_run_with script dealt rows can some few =
       stops = can.stops;
     }
 
--- of some of the commands no more may begin a row
-some_begin : (chosen : Command → Bool) (commands : List Command) → begins_in (filter chosen commands) ≤ begins_in commands
-some_begin chosen [] = omega arith
-some_begin chosen (c ∷ commands) =
-    let all = sum_by-cons one c commands in
-    by_choice (chosen c) (some_begin chosen commands) all where
-      one : Command → ℕ
-      one d = cond (may_begin d.what) 1 0
-
-      by_choice : (b : Bool) → begins_in (filter chosen commands) ≤ begins_in commands → begins_in (c ∷ commands) ≡ one c + begins_in commands
-          → begins_in (cond b (c ∷ filter chosen commands) (filter chosen commands)) ≤ begins_in (c ∷ commands)
-      by_choice true less all = let here = sum_by-cons one c (filter chosen commands) in omega (arith, less, all, here)
-      by_choice false less all = omega (arith, less, all)
-
--- all that the header allows, or one for each command that may begin one, are enough
+-- all that the header allows, or as many as the client may begin that may begin most, are enough
 pub are_enough : (script : Script) (dealt : DealtScript) (rows : ℕ) → CanRun script dealt → rows ≤ dealt.header.shape.rows
     → (rows ≡ dealt.header.shape.rows) ⊎ (dealt.begins ≤ rows) → AreEnough script rows
 are_enough script dealt rows can few enough =
-    let all = rows_are script dealt can in record {
-      few = omega (arith, few, all);
-      enough = elim enough [
-        | inl same ↦ inl (same ∙ sym all)
-        | inr each ↦ inr (λ client.
-            let own = some_begin (λ (c : Command). c.client == client) script.commands in
-            let told = can.is.begins in
-            omega (arith, each, own, told))
-      ];
-    }
+    let all = sym (rows_are script dealt can) in
+    enough_rows script dealt.begins rows can.fits can.is.begins (subst (λ (n : ℕ). rows ≤ n) all few)
+    (subst (λ (n : ℕ). (rows ≡ n) ⊎ (dealt.begins ≤ rows)) all enough)
 
 -- what is lawful with so many rows is lawful
 pub lawful_with : {E : Type 0} (dealt : DealtScript) (rows : ℕ) (result : Result Report E) → 0 < rows → rows ≤ dealt.header.shape.rows

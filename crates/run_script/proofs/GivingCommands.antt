@@ -1,15 +1,15 @@
 -- What a client gives to appends, stops, pulls and trims, by what its calls left.
-use Rattle.std.proofs.Common.{◌≡◌, ◌≢◌, ◌⊎◌, ℕ, zero, suc, ◌+◌, ◌*◌, ◌^◌, ◌<◌, ◌≤◌, List, [], map, true, Some, None, Err, refl, ap, sym, subst, ◌∙◌, inl, inr, arith, append-nil, eqb-true}
-use Rattle.std.specs.Prelude.{IsTrue, Result, ◌-◌}
-use Rattle.std.specs.Int.{bit_at}
+use Rattle.std.proofs.Common.{◌≡◌, ◌≢◌, ◌⊎◌, ℕ, zero, suc, ◌+◌, ◌^◌, ◌<◌, ◌≤◌, List, [], map, true, Some, None, Err, refl, ap, sym, subst, ◌∙◌, inl, inr, arith, append-nil}
+use Rattle.std.specs.Prelude.{IsTrue, Result}
 use Rattle.std.specs.List.{range_with_len}
 use Rattle.std.proofs.lemmas.Bool.{cases_eq, cases_lt}
 use Rattle.std.proofs.lemmas.List.Elements.{All-contains}
-use Rattle.std.proofs.lemmas.Nat.Bits.{bit_at_cat_high, bit_at-zero}
 use Rattle.log_node.specs.declared.ids.Colours.{Colours}
 use Rattle.log_node.specs.declared.ids.Counts.{Counts}
 use Rattle.log_node.specs.declared.node.At.{At}
+use Rattle.log_node.specs.declared.limits.TheConstants.{MAX_COLOURS}
 use Rattle.log_node.specs.Sets.{has, members}
+use Rattle.log_node.proofs.CallerLemmas.{has-low}
 use Rattle.col_core.specs.Keeping.{Kept}
 use Rattle.col_core.specs.Log.{Log}
 use Rattle.col_core.proofs.CallerLemmas.{In, in_filter-back, contains_in}
@@ -30,6 +30,7 @@ use Rattle.append_core.specs.declared.several.MultiFault.{MultiFault}
 use Rattle.append_core.specs.declared.several.MultiFault.TheVariants as faults
 use Rattle.region_pull.specs.declared.pulled.Pulled.{Pulled}
 use Rattle.region_pull.specs.declared.pulled.PullFault.TheVariants as pull_faults
+use Rattle.lawful_run.specs.Moves.{TrimsBy}
 use Rattle.log_client.specs.declared.store.Store.{Store}
 use Rattle.log_client.specs.declared.client.Client.{Client}
 use Rattle.log_client.specs.declared.answers.Appended.{Appended}
@@ -57,25 +58,13 @@ in_range a (suc n) c lo hi = elim (cases_eq c a) [
     | inr more ↦ absurd (ne (omega (arith, lo, more)))
   ]
 
--- a set of few bits has small members
-low_bit : (set : Colours) (c : ℕ) → set.0 < 2 ^ 64 → has set c ≡ true → c < 64
-low_bit set c few is = elim (cases_lt c 64) [
-  | inl low ↦ low
-  | inr high ↦ absurd (
-      let z : set.0 ≡ 0 * 2 ^ 64 + set.0 = omega arith in
-      let none : bit_at set.0 c ≡ 0 =
-      ap (λ (n : ℕ). bit_at n c) z ∙ (bit_at_cat_high 0 64 set.0 c few high ∙ bit_at-zero (c - 64)) in
-      let one : bit_at set.0 c ≡ 1 = eqb-true (bit_at set.0 c) 1 is in
-      let f : ⊥ = omega (arith, none, one) in f)
-]
-
 -- what a set has is below what its members are below
-pub has_below : (set : Colours) (n : ℕ) → AreBelow n set → set.0 < 2 ^ 64 → (c : ℕ) → has set c ≡ true → c < n
+pub has_below : (set : Colours) (n : ℕ) → AreBelow n set → set.0 < 2 ^ MAX_COLOURS → (c : ℕ) → has set c ≡ true → c < n
 has_below set n all few c is =
-    let low = low_bit set c few is in
+    let low = has-low set c few is in
     All-contains (λ k. k < n) (members set) c all
-    (contains_in (members set) c (in_filter-back (has set) c (range_with_len 0 64)
-    (in_range 0 64 c (omega arith) (omega (arith, low))) is))
+    (contains_in (members set) c (in_filter-back (has set) c (range_with_len 0 MAX_COLOURS)
+    (in_range 0 MAX_COLOURS c (omega arith) (omega (arith, low))) is))
 
 -- a set of so many colours, all of the store
 pub colours_of : (s : Store) (colours : Colours) (least : ℕ) → 1 ≤ least → HasColours least colours
@@ -260,7 +249,7 @@ module _ (s : Store) (c d : Client) (rests : IsClient s d) (same : IsSame c d)
         gives s c d rests same goes grows finished idle (whats.Pull region colour) answers.NoMemory []
         (GaveAlone region colour) is.1
         (λ log caller kept after r.
-        commands.pull_no_memory log caller kept after region colour r.0 r.1 r.2 r.3 r.4 r.5)
+        commands.pull_no_memory log caller kept after region colour r.0 r.1 r.2 r.3 r.4)
 
     pub gives_trimmed : (colour : ℕ) (counts : Counts) (at : At) (base : Counts) → counts ≡ starts_of c colour
         → IsExplained s c d (TrimsAs colour counts at base)
@@ -276,7 +265,9 @@ module _ (s : Store) (c d : Client) (rests : IsClient s d) (same : IsSame c d)
             e.1,
             λ rest fits.
                 let r = e.2 rest fits in
-                commands.trimmed (log_of (seen_of d) rest) (caller_of s d objects) kept e.0 colour r.0 at base r.1 (r.2 (own ∙ sym (keeps.starts colour))) r.3,
+                commands.trimmed (log_of (seen_of d) rest) (caller_of s d objects) kept e.0 colour r.0 at base r.1
+                (subst (λ (v : Counts). TrimsBy (log_of (seen_of d) rest) (caller_of s d objects) kept colour r.0 v base)
+                (own ∙ sym (keeps.starts colour)) r.2) r.3,
           );
       finished = λ done. inl (finished done);
       helps = λ helps. inl (idle helps);

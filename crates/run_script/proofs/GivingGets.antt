@@ -2,6 +2,7 @@
 use Rattle.std.proofs.Common.{◌≡◌, ◌≢◌, ℕ, ◌<◌, List, [], ◌∷◌, length, Option, Some, None, Ok, Err, refl, ap, sym, subst, ◌∙◌, inl, inr, arith}
 use Rattle.std.specs.Prelude.{IfErr, IfOk, Result}
 use Rattle.std.specs.List.{Contains}
+use Rattle.log_node.specs.declared.limits.TheConstants.{MAX_COLOURS}
 use Rattle.log_node.specs.declared.ids.Colours.{Colours}
 use Rattle.log_node.specs.Sets.{members}
 use Rattle.object_fold.specs.Maps.{Value}
@@ -126,7 +127,7 @@ module _ (s : Store) (c d : Client) (on : RestsOn s c d) (answer : Answer) where
             (ap object_home at) (told_home c home (Err fault) tells))
 
   pub gives_causal_get : (colour : ℕ) (key : List ℕ) (call : Result (List (List ℕ) × Synced) ObjectFault)
-      → answer ≡ many_answer call → colour < 64 → (Helps d → Helps c)
+      → answer ≡ many_answer call → colour < MAX_COLOURS → (Helps d → Helps c)
       → IfOk call (λ r. GetsMany s c d colour key r.0 r.1) → IfErr call (GetRefused None s c d colour)
       → GivesFor s c d (kinds.Causal colour) (λ object. whats.Get object key) answer
   gives_causal_get colour key call shown low idle ok err objects object at =
@@ -217,7 +218,7 @@ module _ (s : Store) (c d : Client) (on : RestsOn s c d) (answer : Answer) where
     by (Ok r) took shown tells ok err =
         subst (λ (a : Answer). GivesOf s objects c d (whats.Deq object) a []) (sym (took ok.point ok.point_is))
         (gives_by s c d on objects (whats.Deq object) (answers.Took r.0 (piece_of ok.point) (sync_piece r.2))
-        (TakesAs ok.set r.1.stood.key.stamp ok.point r.2 r.0) (λ kept. (refl, refl)) (inl refl)
+        (TakesAs ok.set r.1 ok.point r.2 r.0) (λ kept. (refl, refl)) (inl refl)
         (λ far. absurd (let e = tells (λ own. (subst (IsAway (caller_of s d objects)) (ap object_home at) far) (on.same.1 ∙ own)) in
         let f : ⊥ = cc (e) in f))
         ok.explained

@@ -4,6 +4,7 @@ use Rattle.std.specs.Prelude.{◌%◌, IfErr, IfOk, Result, slice_index, sum}
 use Rattle.std.proofs.lemmas.List.{length-map}
 use Rattle.log_node.specs.declared.forms.Form.TheVariants as forms
 use Rattle.log_node.specs.declared.forms.Pair.{Pair}
+use Rattle.log_node.specs.declared.limits.TheConstants.{MAX_COLOURS}
 use Rattle.object_fold.specs.Nodes.{shard_of}
 use Rattle.object_form.specs.Forms.{form_text}
 use Rattle.script_text.specs.declared.script.Kind.{Kind}
@@ -41,9 +42,9 @@ shard_alone c colours key are =
     let low = shard_low colours key are.some are.few in one_shard colours key (omega (arith, low))
 
 -- an object of one colour has one shard
-pub only_shard : (colour : ℕ) (key : List ℕ) → colour < 64 → shards (colour ∷ []) (key ∷ []) ≡ colour ∷ []
+pub only_shard : (colour : ℕ) (key : List ℕ) → colour < MAX_COLOURS → shards (colour ∷ []) (key ∷ []) ≡ colour ∷ []
 only_shard colour key low =
-    one_shard (colour ∷ []) key (subst (λ (k : ℕ). k < 64) (sym one) low) ∙ ap (λ (k : ℕ). k ∷ []) one where
+    one_shard (colour ∷ []) key (subst (λ (k : ℕ). k < MAX_COLOURS) (sym one) low) ∙ ap (λ (k : ℕ). k ∷ []) one where
       one : shard_of (colour ∷ []) key ≡ colour
       one = let e : sum key % 1 ≡ 0 = omega arith in ap (λ (i : ℕ). slice_index (colour ∷ []) i) e
 
@@ -92,7 +93,7 @@ module _ (s : Store) (c d : Client) (on : RestsOn s c d) (call : Result Appended
       (λ kept set is. (is ∙ ap (λ (k : Option Kind). shards (object_colours k) (keys_of pairs)) (sym at), refl))
       call (told_home c home call tells) ok err)
 
-  pub gives_causal_put : (colour : ℕ) (key value : List ℕ) → colour < 64
+  pub gives_causal_put : (colour : ℕ) (key value : List ℕ) → colour < MAX_COLOURS
       → IfOk call (StandsIn s c d (colour ∷ []) (form_text (forms.Causal key value)))
       → IfErr call (PutRefused None s c d (colour ∷ []) (form_text (forms.Causal key value)))
       → GivesFor s c d (kinds.Causal colour) (λ object. whats.Put object key value) answer

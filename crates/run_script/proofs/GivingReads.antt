@@ -1,9 +1,9 @@
 -- What a client gives to reads of several keys, and to reads and commits of transactional maps.
 use Rattle.std.proofs.Common.{◌≡◌, ◌≢◌, ℕ, ◌++◌, Bool, true, false, cond, List, [], map, Option, Some, None, Ok, Err, refl, ap, sym, subst, ◌∙◌, inl, inr}
 use Rattle.std.specs.Prelude.{◌==◌, IfErr, IfOk, Result}
-use Rattle.std.specs.List.{Contains}
 use Rattle.std.specs.Option.{option_map}
 use Rattle.log_node.specs.declared.ids.Colours.{Colours}
+use Rattle.log_node.specs.declared.ids.Counts.{Counts}
 use Rattle.log_node.specs.declared.ids.Key.{Key}
 use Rattle.log_node.specs.declared.forms.Pair.{Pair}
 use Rattle.log_node.specs.declared.forms.Version.{Version}
@@ -30,8 +30,8 @@ use Rattle.lawful_run.specs.Asks.{AsksToAppend, Manner, Reading, Stopping, colou
 use Rattle.lawful_run.specs.Callers.{Caller, node_of}
 use Rattle.lawful_run.specs.Explains.{Explains}
 use Rattle.lawful_run.specs.Objects.{AreAnswers, shown_verdict}
-use Rattle.lawful_run.specs.Reads.{HidesRead, IsTrimmed, ReadsAt}
-use Rattle.lawful_run.specs.Refusals.{Hides, IsAway, IsHomeRefusal, gone, hidden, nothing}
+use Rattle.lawful_run.specs.Reads.{HidesRead, ReadsAt, RefusesRead}
+use Rattle.lawful_run.specs.Refusals.{Hides, Refuses, IsAway, IsHomeRefusal, gone, hidden, nothing}
 use Rattle.lawful_run.specs.Refusals.{FindsNoMemory as HasNoMemory}
 use Rattle.lawful_run.proofs.CallerLemmas.{explained_keeps, explains_no_read, explains_read, explains_unruled, explains_unruled_without, explains_verdict, reads_keep}
 use Rattle.client_law.specs.Knowing.{Rest, log_of}
@@ -55,10 +55,10 @@ use Rattle.log_client.specs.Reading.{RestsOn}
 use Rattle.log_client.specs.StampedReads.{ReadHidden, ReadRefused, raise_piece, sync_piece}
 use Rattle.log_client.proofs.CallerLemmas.{fits_less, rests_same}
 use Rattle.atomic_map.specs.Several.{GetAllRefused, GetsAll, GetsAllAs}
-use Rattle.tx_map.specs.declared.transactions.Tx.{Tx}
-use Rattle.tx_map.specs.declared.transactions.TxMap.{TxMap}
+use Rattle.region_fold.specs.declared.transactions.Tx.{Tx}
+use Rattle.region_fold.specs.declared.transactions.TxMap.{TxMap}
 use Rattle.region_fold.specs.Reads.{UntoldLeaves}
-use Rattle.tx_map.specs.Transactions.{CommitRefused, Commits, CommitsAs, KeysRefused, ReadsKeys, transaction_text}
+use Rattle.region_fold.specs.Transactions.{CommitRefused, Commits, CommitsAs, KeysRefused, ReadsKeys, transaction_text}
 use Rattle.run_script.specs.declared.serving.opened.Opened.{Opened}
 use Rattle.run_script.specs.declared.serving.opened.Opened.TheVariants as opened
 use Rattle.run_script.specs.Opened.{versions_in}
@@ -178,6 +178,13 @@ module _ (s : Store) (c d : Client) (on : RestsOn s c d) (objects : List Object)
         subst (λ (m : Manner). Hides log it kept (colours_synced it what) m after) (sym reading)
         (subst (λ (l : List ℕ). HidesRead log it kept l after) (sym synced) h)
 
+    refuses : (log : Log) (kept : Kept) (colour : ℕ) (base : Counts) (after : Kept)
+        → RefusesRead log it kept colours colour base after
+        → Refuses log it kept (colours_synced it what) (manner_of what) colour base after
+    refuses log kept colour base after r =
+        subst (λ (m : Manner). Refuses log it kept (colours_synced it what) m colour base after) (sym reading)
+        (subst (λ (l : List ℕ). RefusesRead log it kept l colour base after) (sym synced) r)
+
     told_hidden : ReadHidden s c d colours → IsTold what answers.NoMemory
     told_hidden is =
         told what answers.NoMemory (λ log caller kept after. HidesRead log caller kept colours after) is
@@ -186,14 +193,8 @@ module _ (s : Store) (c d : Client) (on : RestsOn s c d) (objects : List Object)
     told_unread : (fault : SyncFault) → ReadRefused s c d colours fault → IsTold what (fault_answer (faults.Sync fault))
     told_unread (sync_faults.Trimmed colour base) is =
         told what (answers.Trimmed colour base)
-        (λ log caller kept after. IsTrimmed log caller kept colour base × HidesRead log caller kept colours after) is.1
-        (λ log kept after r. (
-          refl,
-          inr (inr reading),
-          subst (λ (l : List ℕ). Contains l colour) (sym synced) is.0,
-          r.0,
-          hides log kept after r.1,
-        ))
+        (λ log caller kept after. RefusesRead log caller kept colours colour base after) is
+        (λ log kept after r. (refl, inr (inr reading), refuses log kept colour base after r))
     told_unread sync_faults.NoMemory is = told_hidden is
 
     told_refused : (home : ℕ) → home_asked it what ≡ Some home → (fault : ObjectFault)
@@ -359,11 +360,11 @@ module _ (s : Store) (c d : Client) (on : RestsOn s c d) (objects : List Object)
           → IsRuled object pairs (Some rests) (fault_answer (faults.Unread stamp why))
       not_ruled stamp (sync_faults.Trimmed colour base) is =
           ruled (Some rests) (answers.UnreadTrimmed stamp colour base)
-          (StandsThen is.1 text stamp (λ log caller stood after.
-          IsTrimmed log caller stood colour base × HidesRead log caller stood (rising colours) after)) is.3
-          (λ log kept after reads r. explains_unruled log it kept commit is.1 text stamp colour base r.0 after refl
-          (subst (λ (l : List ℕ). Contains l colour) (sym synced) is.0) (asks kept is.1 reads is.2) r.1 r.2.0
-          (hides_all log r.0 after r.2.1))
+          (StandsThen is.0 text stamp (λ log caller stood after.
+          RefusesRead log caller stood (rising colours) colour base after)) is.2
+          (λ log kept after reads r. explains_unruled log it kept commit is.0 text stamp colour base r.0 after refl
+          (asks kept is.0 reads is.1) r.1
+          (subst (λ (l : List ℕ). RefusesRead log it r.0 l colour base after) (sym synced) r.2))
       not_ruled stamp sync_faults.NoMemory is =
           ruled (Some rests) (answers.UnreadNoMemory stamp)
           (StandsThen is.0 text stamp (λ log caller stood after. HidesRead log caller stood (rising colours) after)) is.2
@@ -378,25 +379,25 @@ module _ (s : Store) (c d : Client) (on : RestsOn s c d) (objects : List Object)
       verdict_shown (Committed stamp) a read = (None, stamp, refl, refl)
       verdict_shown (Conflict key stamp) a read = (Some key, stamp, refl, refl)
 
-      committed : (verdict : Verdict) (a : Appended) (read : StampedRead)
-          → Commits s c d colours rests pairs verdict a read
+      committed : (last : Option Key) (verdict : Verdict) (a : Appended) (read : StampedRead)
+          → Commits s c d colours last rests pairs verdict a read
           → IsRuled object pairs (Some rests) (ruled_answer verdict a read)
-      committed verdict a read is =
+      committed last verdict a read is =
           let v = verdict_shown verdict a read in
           let raises = map raise_piece read.raises in
           let syncs = map sync_piece read.syncs in
           let points = map piece_of a.stood.points in
           subst (IsRuled object pairs (Some rests)) (sym v.3)
           (ruled (Some rests) (answers.Ruled v.0 v.1 a.row points read.stamp raises syncs)
-          (CommitsAs is.set text (rising colours) verdict a read) is.explained
+          (CommitsAs is.set text (rising colours) last verdict a read) is.explained
           (λ log kept after reads r.
           let id = r.1.1 ∙ r.1.0 in
           let key : entry_key a.stood.key.stamp (node_of it kept is.set text).id ≡ a.stood.key =
           ap (entry_key a.stood.key.stamp) (sym id) in
           explains_verdict log it kept commit is.set text a.stood.key.stamp r.0 v.0 v.1 a.row points read.stamp raises syncs
-          after r.2.1 r.2.3 refl (asks kept is.set reads is.members_are) r.1.2
-          (subst (λ (l : List ℕ). ReadsAt log it r.0 l read.stamp raises syncs after) (sym synced) r.2.0) r.2.2 r.2.4
-          (ap (λ (k : Key). verdict_of r.2.3 k) key ∙ (r.2.5 ∙ ap Some (sym v.2)))))
+          after r.2.0 r.2.2 refl (asks kept is.set reads is.members_are) r.1.2
+          (subst (λ (l : List ℕ). ReadsAt log it r.0 l read.stamp raises syncs after) (sym synced) r.2.1.0) r.2.1.1 r.2.3
+          (ap (λ (k : Key). verdict_of r.2.2 k) key ∙ (r.2.4 ∙ ap Some (sym v.2)))))
 
     -- a commit that was refused, which rests on these versions or on none
     unruled : (versions : Option (List Version)) (fault : ObjectFault)
@@ -421,18 +422,18 @@ module _ (s : Store) (c d : Client) (on : RestsOn s c d) (objects : List Object)
         λ kept done keeps. let x = e kept done keeps in (x.0, x.1, λ rest fits reads. x.2 rest fits)
 
 module _ (s : Store) (c d : Client) (on : RestsOn s c d) (answer : Answer) where
-  pub gives_map_get_all : (home : ℕ) (colours : List ℕ) (keys : List (List ℕ))
+  pub gives_map_get_all : (home : ℕ) (colours : List ℕ) (last : Option Key) (keys : List (List ℕ))
       (call : Result (List Value × StampedRead) ObjectFault) → ShowsKeys keys call answer
       → (c.region ≢ home → call ≡ Err (faults.NotHome home))
-      → IfOk call (λ r. GetsAll s c d colours keys r.0 r.1) → IfErr call (GetAllRefused home s c d (shards colours keys))
+      → IfOk call (λ r. GetsAll s c d colours last keys r.0 r.1) → IfErr call (GetAllRefused home s c d (shards colours keys))
       → GivesFor s c d (kinds.Map home colours) (λ object. whats.GetAll object keys) answer
-  gives_map_get_all home colours keys call shows tells ok err objects object at = by call shows tells ok err where
+  gives_map_get_all home colours last keys call shows tells ok err objects object at = by call shows tells ok err where
     synced_are : colours_synced (caller_of s d objects) (whats.GetAll object keys) ≡ shards colours keys
     synced_are = ap (λ (k : Option Kind). shards (object_colours k) keys) at
 
     by : (call : Result (List Value × StampedRead) ObjectFault) → ShowsKeys keys call answer
         → (c.region ≢ home → call ≡ Err (faults.NotHome home))
-        → IfOk call (λ r. GetsAll s c d colours keys r.0 r.1) → IfErr call (GetAllRefused home s c d (shards colours keys))
+        → IfOk call (λ r. GetsAll s c d colours last keys r.0 r.1) → IfErr call (GetAllRefused home s c d (shards colours keys))
         → GivesOf s objects c d (whats.GetAll object keys) answer []
     by (Ok r) shows tells ok err =
         let raises = map raise_piece r.1.raises in
@@ -440,22 +441,22 @@ module _ (s : Store) (c d : Client) (on : RestsOn s c d) (answer : Answer) where
         subst (λ (a : Answer). GivesOf s objects c d (whats.GetAll object keys) a []) (sym shows.2)
         (given_all s c d on objects object keys (answers.GotKeys r.1.stamp shows.0 raises syncs)
         (told s c d on objects (whats.GetAll object keys) (answers.GotKeys r.1.stamp shows.0 raises syncs)
-        (GetsAllAs colours keys r.0 r.1) ok
+        (GetsAllAs colours last keys r.0 r.1) ok
         (λ log kept after x. (
           refl,
           after,
           subst (λ (l : List ℕ). ReadsAt log (caller_of s d objects) kept l r.1.stamp raises syncs after)
-              (sym synced_are) x.0,
-          x.1,
+              (sym synced_are) x.1.0,
+          x.0,
+          x.1.1,
           x.2,
           x.3,
-          x.4,
           inl (
             object,
             keys,
             refl,
             subst (λ (v : List Value). AreAnswers keys v shows.0)
-                (x.5 ∙ ap (λ (k : Option Kind). values_among (object_colours k) x.3 keys) (sym at)) shows.1,
+                (x.4 ∙ ap (λ (k : Option Kind). values_among (object_colours k) x.2 keys) (sym at)) shows.1,
             refl,
           ),
         )))
@@ -471,7 +472,7 @@ module _ (s : Store) (c d : Client) (on : RestsOn s c d) (answer : Answer) where
   pub gives_read : (m n : TxMap) (found now : Option Tx) (keys : List (List ℕ))
       (call : Result (List Value × Tx × StampedRead) ObjectFault) → now ≡ tx_found call
       → ShowsKeys keys (keys_found call) answer → (c.region ≢ m.home → call ≡ Err (faults.NotHome m.home))
-      → IfOk call (λ r. ReadsKeys s c d m.colours keys r.0 r.1 r.2)
+      → IfOk call (λ r. ReadsKeys s c d m.colours m.kept.last keys r.0 r.1 r.2)
       → IfErr call (KeysRefused m.home s c d (rising m.colours))
       → GivesTo s c d (opened.Tx m found) (opened.Tx n now) (λ object. whats.Read object keys) answer
   gives_read m n found now keys call is shows tells ok err objects object at = by call is shows tells ok err where
@@ -480,7 +481,7 @@ module _ (s : Store) (c d : Client) (on : RestsOn s c d) (answer : Answer) where
 
     by : (call : Result (List Value × Tx × StampedRead) ObjectFault) → now ≡ tx_found call
         → ShowsKeys keys (keys_found call) answer → (c.region ≢ m.home → call ≡ Err (faults.NotHome m.home))
-        → IfOk call (λ r. ReadsKeys s c d m.colours keys r.0 r.1 r.2)
+        → IfOk call (λ r. ReadsKeys s c d m.colours m.kept.last keys r.0 r.1 r.2)
         → IfErr call (KeysRefused m.home s c d (rising m.colours))
         → GivesAt s objects c d object (opened.Tx m found) (opened.Tx n now) (whats.Read object keys) answer
     by (Ok r) is shows tells ok err =
@@ -503,13 +504,13 @@ module _ (s : Store) (c d : Client) (on : RestsOn s c d) (answer : Answer) where
                     let x = e.2 rest fits in (
                       subst (λ (v : List Version). Explains log caller before (whats.Read object keys)
                           (answers.GotKeys r.2.stamp shows.0 raises syncs) [] (with_read e.0 object (Some v)))
-                          (sym x.5.1)
-                          (explains_read log caller before object keys r.2.stamp shows.0 raises syncs e.0 x.1 x.3
+                          (sym x.4.1)
+                          (explains_read log caller before object keys r.2.stamp shows.0 raises syncs e.0 x.0 x.2
                           (subst (λ (l : List ℕ). ReadsAt log caller before l r.2.stamp raises syncs e.0) (sym synced_are)
-                          x.0) x.2 x.4
-                          (subst (λ (v : List Value). AreAnswers keys v shows.0) x.5.0 shows.1)),
+                          x.1.0) x.1.1 x.3
+                          (subst (λ (v : List Value). AreAnswers keys v shows.0) x.4.0 shows.1)),
                       λ k. ap (λ (reads : ℕ → Option (List Version)). updated reads object (Some r.1.versions) k)
-                          (reads_keep log caller before (rising m.colours) r.2.stamp raises syncs e.0 x.0)
+                          (reads_keep log caller before (rising m.colours) r.2.stamp raises syncs e.0 x.1.0)
                           ∙ (updated_twice kept.reads object None (Some r.1.versions) k
                           ∙ ap (λ (o : Option Tx). updated kept.reads object (versions_in (opened.Tx n o)) k) (sym is)),
                     ),
@@ -533,7 +534,7 @@ module _ (s : Store) (c d : Client) (on : RestsOn s c d) (answer : Answer) where
   pub gives_commit : (m n : TxMap) (found : Option Tx) (pairs : List Pair)
       (call : Result (Verdict × Appended × StampedRead) ObjectFault) → answer ≡ commit_answer call
       → (c.region ≢ m.home → call ≡ Err (faults.NotHome m.home))
-      → IfOk call (λ r. (rests : Tx) × (found ≡ Some rests) × Commits s c d m.colours rests.versions pairs r.0 r.1 r.2)
+      → IfOk call (λ r. (rests : Tx) × (found ≡ Some rests) × Commits s c d m.colours m.kept.last rests.versions pairs r.0 r.1 r.2)
       → IfErr call (CommitRefused m.home s c d m.colours (option_map (λ (t : Tx). t.versions) found) pairs)
       → GivesTo s c d (opened.Tx m found) (opened.Tx n None) (λ object. whats.Commit object pairs) answer
   gives_commit m n found pairs call shown tells ok err objects object at =
@@ -542,14 +543,14 @@ module _ (s : Store) (c d : Client) (on : RestsOn s c d) (answer : Answer) where
       (by call tells ok err) where
         by : (call : Result (Verdict × Appended × StampedRead) ObjectFault)
             → (c.region ≢ m.home → call ≡ Err (faults.NotHome m.home))
-            → IfOk call (λ r. (rests : Tx) × (found ≡ Some rests) × Commits s c d m.colours rests.versions pairs r.0 r.1 r.2)
+            → IfOk call (λ r. (rests : Tx) × (found ≡ Some rests) × Commits s c d m.colours m.kept.last rests.versions pairs r.0 r.1 r.2)
             → IfErr call (CommitRefused m.home s c d m.colours (option_map (λ (t : Tx). t.versions) found) pairs)
             → GivesAt s objects c d object (opened.Tx m found) (opened.Tx n None) (whats.Commit object pairs) (commit_answer call)
         by (Ok r) tells ok err =
             given_commit s c d on objects object pairs (opened.Tx m found) (opened.Tx n None) (commit_answer (Ok r))
             (subst (λ (o : Option Tx). IsRuled s c d on objects object pairs (versions_in (opened.Tx m o))
             (commit_answer (Ok r)))
-            (sym ok.1) (committed s c d on objects object pairs m.home m.colours at ok.0.versions r.0 r.1 r.2 ok.2)) refl
+            (sym ok.1) (committed s c d on objects object pairs m.home m.colours at ok.0.versions m.kept.last r.0 r.1 r.2 ok.2)) refl
             (λ far. absurd (
             let e = away_told s c d on objects (whats.Commit object pairs) m.home _ (ap object_home at) tells far in
             let f : ⊥ = cc (e) in f))

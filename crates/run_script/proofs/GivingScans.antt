@@ -12,7 +12,7 @@ use Rattle.report_text.specs.declared.report.Answer.{Answer}
 use Rattle.report_text.specs.declared.report.Answer.TheVariants as answers
 use Rattle.lawful_run.specs.Callers.{Caller}
 use Rattle.lawful_run.specs.Explains.{Explains}
-use Rattle.lawful_run.specs.Reads.{AreRead, HidesRead, IsTrimmed, ReadsAt}
+use Rattle.lawful_run.specs.Reads.{AreRead, HidesRead, ReadsAt, RefusesRead}
 use Rattle.log_client.specs.declared.store.Store.{Store}
 use Rattle.log_client.specs.declared.client.Client.{Client}
 use Rattle.log_client.specs.declared.answers.StampedRead.{StampedRead}
@@ -70,9 +70,8 @@ module _ (s : Store) (c d : Client) (rests : IsClient s d) (same : IsSame c d)
       → Gives s c d (whats.Scan colours) (answers.Trimmed colour base) []
   gives_scan_trimmed colour base is =
       given (answers.Trimmed colour base) []
-      (λ log caller kept after. IsTrimmed log caller kept colour base × HidesRead log caller kept (members colours) after)
-      is.1
-      (λ log caller kept after r. scan_trimmed log caller kept after colours colour base is.0 r.0 r.1)
+      (λ log caller kept after. RefusesRead log caller kept (members colours) colour base after) is
+      (λ log caller kept after r. scan_trimmed log caller kept after colours colour base r)
 
   pub gives_scan_without : ReadRefused s c d (members colours) sync_faults.NoMemory
       → Gives s c d (whats.Scan colours) answers.NoMemory []

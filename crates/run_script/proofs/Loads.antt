@@ -55,22 +55,6 @@ load_can_run fit count le script same dealt is = record {
   plain : All (λ (c : Command). IsPlainWhat c.what) (let s : Script = load_script count in s.commands)
   plain = (fit count le).1.plain
 
--- the commands of a load are of clients who are there
-pub load_callers : LoadsFit → (count : ℕ) → count ≤ MAX_LOAD → (script : Script) → script ≡ load_script count
-    → All (λ (c : Command). c.client < length script.clients) script.commands
-load_callers fit count le script same n d lt =
-    let fits : IsFitting script = subst IsFitting (sym same) (fit count le).0 in
-    let less = fits.callers n d lt in
-    let many = fits.clients in
-    omega (arith, less, many)
-
--- what was counted from the commands of the script is the load's summary
-pub summed : (count : ℕ) (script : Script) → script ≡ load_script count → (commands : List Command) → commands ≡ script.commands
-    → (summary : Summary) → summary ≡ summary_of count commands → (text : List ℕ) → text ≡ summary_text summary
-    → text ≡ summary_text (load_summary count)
-summed count script same commands all summary is text shown =
-    shown ∙ ap summary_text (is ∙ ap (summary_of count) (all ∙ ap (λ (s : Script). s.commands) same))
-
 -- a run that found memory is one of the load
 pub loaded : LoadsFit → LoadsComeToTheirSummary → (count : ℕ) → count ≤ MAX_LOAD → (script : Script) → script ≡ load_script count
     → (dealt : DealtScript) → IsDealt script dealt → (report : Report)
@@ -79,10 +63,3 @@ loaded fit come count le script same dealt is report lawful found =
     let of : LawfulRun (load_script count) report =
     subst (λ (s : Script). LawfulRun s report) same (lawful script (load_can_run fit count le script same dealt is)) in
     record { report = report; lawful = of; unwanting = found; shown = come count report le of found }
-
--- with no fault of the sink a load is done, or memory was refused
-pub load_completes : (status : Status) (write_fault : Type 0) → (status ≡ Done) ⊎ (status ≡ WriteFault) ⊎ (status ≡ NoMemory)
-    → (status ≡ WriteFault → write_fault) → (write_fault → ⊥) → (status ≡ Done) ⊎ (status ≡ NoMemory)
-load_completes status write_fault (inl done) writing no_w = inl done
-load_completes status write_fault (inr (inl failed)) writing no_w = absurd (no_w (writing failed))
-load_completes status write_fault (inr (inr none)) writing no_w = inr none

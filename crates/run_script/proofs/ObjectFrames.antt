@@ -28,7 +28,7 @@ use Rattle.log_map.proofs.CallerLemmas.{map_later}
 use Rattle.log_queue.proofs.CallerLemmas.{queue_later}
 use Rattle.causal_map.proofs.CallerLemmas.{causal_later}
 use Rattle.atomic_map.proofs.CallerLemmas.{map_later as atomic_later}
-use Rattle.tx_map.proofs.CallerLemmas.{map_later as tx_later}
+use Rattle.region_fold.proofs.CallerLemmas.{map_later as tx_later}
 use Rattle.run_script.specs.declared.serving.opened.Opened.{Opened}
 use Rattle.run_script.specs.declared.serving.opened.Opened.TheVariants as opened
 use Rattle.run_script.specs.Opened.{AreKept, AreOf, HasCommand, IsKept, IsOfOne, IsUnfolded, StaysOpen, kind_opened, object_asked}

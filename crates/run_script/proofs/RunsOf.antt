@@ -26,19 +26,6 @@ module _ (result words : Option Task) (same : result ≡ words) where
   same_asked found wanted read asks =
       let both : Some (tasks.Script found) ≡ Some (tasks.Script wanted) = sym read ∙ (same ∙ asks) in cc (both)
 
-  pub same_rounds : (found wanted : ℕ) → result ≡ Some (tasks.Load found) → words ≡ Some (tasks.Load wanted)
-      → found ≡ wanted
-  same_rounds found wanted read asks =
-      let both : Some (tasks.Load found) ≡ Some (tasks.Load wanted) = sym read ∙ (same ∙ asks) in cc (both)
-
-  pub no_load : (asked : Asked) (count : ℕ) → result ≡ Some (tasks.Script asked) → words ≡ Some (tasks.Load count) → ⊥
-  no_load asked count read asks =
-      let both : Some (tasks.Script asked) ≡ Some (tasks.Load count) = sym read ∙ (same ∙ asks) in cc (both)
-
-  pub no_script : (asked : Asked) (count : ℕ) → result ≡ Some (tasks.Load count) → words ≡ Some (tasks.Script asked) → ⊥
-  no_script asked count read asks =
-      let both : Some (tasks.Load count) ≡ Some (tasks.Script asked) = sym read ∙ (same ∙ asks) in cc (both)
-
 pub run_in_file : (script : Script) (report : Report) → IsStepReport script report → LawfulRun script report
     → (FindsMemory report → report ≡ step_report script) → IsRunOf Step script report
 run_in_file script report in_order lawful exact = record {

@@ -84,35 +84,6 @@ module _ {E : Type 0} (word : List ℕ) (r : Result ℕ E) (begins : is_between 
     some [] l = absurd (omega (arith, l))
     some (b ∷ bs) l = omega arith
 
--- a number of rounds is within the most of them
-few_asked : (word : List ℕ) (count : ℕ) → rounds_asked word ≡ Some count → count ≤ MAX_LOAD
-few_asked [] count e = absurd (let f : ⊥ = cc (e) in f)
-few_asked (b ∷ bs) count e = by (is_between 49 57 b && list_all is_digit bs && leb n MAX_LOAD) refl e where
-  n : ℕ
-  n = number_value (b ∷ bs)
-
-  by : (t : Bool) → (is_between 49 57 b && list_all is_digit bs && leb n MAX_LOAD) ≡ t → cond t (Some n) None ≡ Some count
-      → count ≤ MAX_LOAD
-  by true is f =
-      subst (λ m. m ≤ MAX_LOAD) (let g : n ≡ count = cc (f) in g)
-      (leb-true n MAX_LOAD (and_parts (is_between 49 57 b && list_all is_digit bs) (leb n MAX_LOAD) is).1)
-  by false is f = absurd (let g : ⊥ = cc (f) in g)
-
--- what the words of a load ask for is within it
-pub few_rounds : (words : List (List ℕ)) (count : ℕ) → task_of words ≡ Some (tasks.Load count) → count ≤ MAX_LOAD
-few_rounds [] count e = absurd (let f : ⊥ = cc (e) in f)
-few_rounds (word ∷ []) count e = absurd (no_script (asked_by word) e) where
-  no_script : (o : Option Asked) → option_map tasks.Script o ≡ Some (tasks.Load count) → ⊥
-  no_script None f = cc (f)
-  no_script (Some asked) f = cc (f)
-few_rounds (word ∷ number ∷ []) count e = by (bytes_eq word (codes "load")) (rounds_asked number) (few_asked number count) e where
-  by : (t : Bool) (o : Option ℕ) → (o ≡ Some count → count ≤ MAX_LOAD)
-      → cond t (option_map tasks.Load o) None ≡ Some (tasks.Load count) → count ≤ MAX_LOAD
-  by true None few f = absurd (let g : ⊥ = cc (f) in g)
-  by true (Some n) few f = few (let g : n ≡ count = cc (f) in ap Some g)
-  by false o few f = absurd (let g : ⊥ = cc (f) in g)
-few_rounds (word ∷ number ∷ other ∷ words) count e = absurd (let f : ⊥ = cc (e) in f)
-
 -- ---- the words that ask for something are plain
 
 -- a word that is not plain is none of these

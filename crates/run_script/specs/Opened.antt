@@ -19,8 +19,8 @@ use Rattle.log_map.specs.Maps.{IsMapOf}
 use Rattle.log_queue.specs.Queues.{IsQueueOf}
 use Rattle.causal_map.specs.CausalMaps.{IsCausalMapOf}
 use Rattle.atomic_map.specs.Several.{IsAtomicMapOf}
-use Rattle.tx_map.specs.Transactions.{IsTxMapOf}
-use Rattle.tx_map.specs.declared.transactions.Tx.{Tx}
+use Rattle.region_fold.specs.Transactions.{IsTxMapOf}
+use Rattle.region_fold.specs.declared.transactions.Tx.{Tx}
 use Rattle.run_script.specs.declared.serving.opened.Opened.{Opened}
 use Rattle.run_script.specs.declared.serving.opened.Opened.TheVariants as opened
 

@@ -1,6 +1,5 @@
 -- What calls of objects are answered.
 use Rattle.std.specs.Prelude.{◌≡◌, ℕ, ◌≤◌, List, [], length, map, Option, Some, None, Result, Ok, Err, vec_capacity}
-use Rattle.log_node.specs.declared.limits.TheConstants.{MAX_COLOURS}
 use Rattle.object_fold.specs.declared.verdict.Verdict.{Verdict}
 use Rattle.object_fold.specs.declared.verdict.Verdict.TheVariants.{Committed, Conflict}
 use Rattle.object_fold.specs.Maps.{Value}
@@ -17,7 +16,7 @@ use Rattle.log_client.specs.declared.object_fault.ObjectFault.{ObjectFault}
 use Rattle.log_client.specs.declared.object_fault.ObjectFault.TheVariants as faults
 use Rattle.log_client.specs.Appends.{piece_of}
 use Rattle.log_client.specs.StampedReads.{raise_piece, sync_piece}
-use Rattle.tx_map.specs.declared.transactions.Tx.{Tx}
+use Rattle.region_fold.specs.declared.transactions.Tx.{Tx}
 use Rattle.run_script.specs.declared.serving.reads.ReadRoom.{ReadRoom}
 
 -- the answer to a call that was refused
@@ -50,16 +49,18 @@ many_answer (Err fault) = fault_answer fault
 
 -- STAMPED READS
 
--- Nothing is shown yet, and there is room for a raise and a sync of each colour that there may be.
-pub record HasRoom (room : ReadRoom) : Type 0 where
-  pub no_raises : room.raises.items ≡ []
-  pub no_syncs : room.syncs.items ≡ []
-  pub raises : MAX_COLOURS ≤ vec_capacity room.raises
-  pub syncs : MAX_COLOURS ≤ vec_capacity room.syncs
+-- nothing is shown yet
+abbrev pub ShowsNone : ReadRoom → Type 0
+ShowsNone room = (room.raises.items ≡ []) × (room.syncs.items ≡ [])
 
--- it has no more raises and syncs than there may be colours
-abbrev pub ShowsFew : StampedRead → Type 0
-ShowsFew read = (length read.raises ≤ MAX_COLOURS) × (length read.syncs ≤ MAX_COLOURS)
+-- there is room for a raise and a sync of so many colours
+abbrev pub HasPlaces : ℕ → ReadRoom → Type 0
+HasPlaces count room = (count ≤ vec_capacity room.raises) × (count ≤ vec_capacity room.syncs)
+
+-- there is room for the raises and syncs of the read
+abbrev pub HasRoomFor : ReadRoom → StampedRead → Type 0
+HasRoomFor room read =
+    (length read.raises ≤ vec_capacity room.raises) × (length read.syncs ≤ vec_capacity room.syncs)
 
 -- this is the answer to a read of these keys
 abbrev pub ShowsKeys : List (List ℕ) → Result (List Value × StampedRead) ObjectFault → Answer → Type 0

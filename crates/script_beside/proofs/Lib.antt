@@ -3,4 +3,5 @@ mod JoiningItems
 mod JoiningCommands
 mod Joining
 mod ListLemmas
+mod BeginLemmas
 mod PartLemmas

@@ -6,10 +6,10 @@ use Rattle.std.proofs.lemmas.List.Elements.{filter-append}
 use Rattle.std.proofs.lemmas.Option.{get_or_from_slice_get, slice_get_within}
 use Rattle.script_text.specs.declared.script.Command.{Command}
 use Rattle.script_text.specs.declared.script.Script.{Script}
-use Rattle.script_beside.specs.Begins.{begins_in}
+use Rattle.script_beside.specs.Begins.{own, IsMost}
 use Rattle.script_beside.specs.Dealt.{commands_in, IsDealt}
 use Rattle.script_beside.specs.Joining.{later}
-use Rattle.script_beside.specs.Lists.{own, AreEmpty, HaveOwn, AreOwn, AreBehind, AreShares}
+use Rattle.script_beside.specs.Lists.{AreEmpty, HaveOwn, AreOwn, AreBehind, AreShares}
 
 -- no lines further down
 pub later_nothing : (commands : List Command) → map (later 0) commands ≡ commands
@@ -68,11 +68,11 @@ more_shares count commands more lists before after shares owns behind =
 -- shares in which are all commands of a script
 pub all_dealt : (script header : Script) (shares : Vec (Vec (Vec Command Global) Global) Global) (begins : ℕ) → script ≡ record header { commands = script.commands }
     → header.commands ≡ [] → AreShares (length script.clients) script.commands shares.items
-    → begins ≡ begins_in script.commands → IsDealt script (record { header = header; shares = shares; begins = begins })
-all_dealt script header shares begins same none are counted = record {
+    → IsMost (length script.clients) script.commands begins → IsDealt script (record { header = header; shares = shares; begins = begins })
+all_dealt script header shares begins same none are most = record {
   header = same;
   without = none;
-  begins = counted;
+  begins = most;
   many = are.many;
   each = λ n share at.
       ap (λ (s : Vec (Vec Command Global) Global). commands_in s.items) (sym (get_or_from_slice_get shares.items n share share at))

@@ -1,12 +1,12 @@
 -- Parts of a script, and what is read of them.
-use Rattle.std.proofs.Common.{◌≡◌, IfOk, Ok, inl, inr, ⊎_elim, cond, ℕ, ◌+◌, ◌<◌, ◌≤◌, Bool, true, false, List, [], ◌∷◌, ◌++◌, length, map, take, drop, get_or, Some, Err, Option, Result, slice_get, Vec, Global, refl, sym, ap, subst, ◌∙◌, arith, append_assoc, append-nil, length-append, take-append-drop, ◌^◌}
-use Rattle.std.specs.Prelude.{if◌then◌else◌, not, ◌==◌, codes}
+use Rattle.std.proofs.Common.{◌≡◌, IfOk, Ok, inl, inr, ⊎_elim, cond, ℕ, ◌+◌, ◌<◌, ◌≤◌, Bool, true, false, List, [], ◌∷◌, ◌++◌, length, map, take, drop, get_or, replicate, Some, Err, Option, Result, slice_get, Vec, Global, refl, sym, ap, subst, ◌∙◌, arith, append_assoc, append-nil, length-append, take-append-drop, ◌^◌}
+use Rattle.std.specs.Prelude.{if◌then◌else◌, not, ◌==◌, codes, slice_index}
 use Rattle.std.specs.List.{All, enumerate_from, list_any, onto_first, cons_option}
 use Rattle.std.proofs.Math.Seq.{take-add}
 use Rattle.std.proofs.lemmas.Bool.{or_parts, cases_lt}
-use Rattle.std.proofs.lemmas.List.{flat_map_more, take_more, take_all, take_at, take-append-le, get_or_append_left, get_or_push, length_push}
+use Rattle.std.proofs.lemmas.List.{flat_map_more, take_more, take_all, take_at, take-append-le, get_or_append_left, get_or_push, length_push, length-map}
 use Rattle.std.proofs.lemmas.List.Elements.{All-nil, All-cons, All-head, All-tail, All-append, All-map, All-filter, All-weaker}
-use Rattle.std.proofs.lemmas.List.Sums.{sum_by-append, sum_by-cons, count_by-le-length}
+use Rattle.std.proofs.lemmas.List.Sums.{sum_by-append, count_by-le-length}
 use Rattle.std.proofs.lemmas.Grind.{flat_map-append}
 use Rattle.std.proofs.lemmas.Option.{get_or_from_slice_get, slice_get_within, slice_get_read, slice_get-get_or}
 use Rattle.memchr.specs.Find.{OccursAt}
@@ -27,12 +27,13 @@ use Rattle.script_beside.specs.declared.dealt.DealtScript.{DealtScript}
 use Rattle.script_beside.specs.declared.cuts.Cut.{Cut}
 use Rattle.script_beside.specs.declared.cuts.Parted.{Parted}
 use Rattle.script_beside.specs.declared.part.ReadPart.{ReadPart}
-use Rattle.script_beside.specs.Begins.{may_begin, begins_in}
+use Rattle.script_beside.specs.Begins.{begins_in, AreBegun, AreAdded, IsGreatest, IsMost}
 use Rattle.script_beside.specs.Dealt.{IsDealt, GivesDealt}
 use Rattle.script_beside.specs.Joining.{later, EndsALine, IsHeader, NoneStops}
 use Rattle.script_beside.specs.Lists.{AreEmpty, AreOwn, AreBehind, AreShares}
 use Rattle.script_beside.specs.Parts.{line_feeds, bytes_of, IsBehind, AreCuts, all_bytes, IsParted, IsRead, AreRead}
 use Rattle.script_beside.proofs.Joining.{same_header, joined, lines_counted, lines_at_most}
+use Rattle.script_beside.proofs.BeginLemmas.{own_counts, none_begun, both_begun, own_few, is_most}
 use Rattle.script_beside.proofs.ListLemmas.{some_item, no_shares, more_shares, all_dealt}
 
 -- ---- the header
@@ -113,35 +114,18 @@ later_stop : (k : ℕ) (asked : List Command) → NoneStops asked → NoneStops 
 later_stop k asked none = All-map (λ (c : Command). is_stop c.what ≡ false) (later k) asked none
 
 -- what was read of a part
-pub is_read : (header : List ℕ) (cut : Cut) (s : Script) (stops : Bool) (begins count : ℕ) (part : ReadPart) → IsScript (header ++ cut.bytes.now) s
+pub is_read : (header : List ℕ) (cut : Cut) (s : Script) (stops : Bool) (count : ℕ) (part : ReadPart) → IsScript (header ++ cut.bytes.now) s
     → count ≡ length s.clients → AreOwn count (map (later cut.before) s.commands) part.lists.items
-    → part.stops ≡ list_any (λ (c : Command). is_stop c.what) s.commands → part.begins ≡ begins_in s.commands → IsRead header cut part
-is_read header cut s stops begins count part is many own stop counted = record {
-  script = s;
-  is = is;
-  lists = subst (λ (n : ℕ). AreOwn n (map (later cut.before) s.commands) part.lists.items) many own;
-  stops = λ none. none_stops s.commands (sym stop ∙ none);
-  begins = counted;
-}
-
--- ---- commands that may begin a row
-
--- they are the same further down
-begins_later : (k : ℕ) (asked : List Command) → begins_in (map (later k) asked) ≡ begins_in asked
-begins_later k [] = refl
-begins_later k (c ∷ asked) =
-    let one : Command → ℕ = λ d. cond (may_begin d.what) 1 0 in
-    sum_by-cons one (later k c) (map (later k) asked) ∙ (ap (λ (n : ℕ). one c + n) (begins_later k asked) ∙ sym (sum_by-cons one c asked))
-
-begins_both : (front back : List Command) → begins_in (front ++ back) ≡ begins_in front + begins_in back
-begins_both front back = sum_by-append (λ (c : Command). cond (may_begin c.what) 1 0) front back
-
--- a script has few of them
-begin_few : (bytes : List ℕ) (s : Script) → IsScript bytes s → begins_in s.commands < 2 ^ 15
-begin_few bytes s is =
-    let few = (script_fits bytes s is).few in
-    let less = count_by-le-length (λ (c : Command). may_begin c.what) s.commands in
-    omega (arith, few, less)
+    → part.stops ≡ list_any (λ (c : Command). is_stop c.what) s.commands
+    → part.begins.items ≡ map (λ (l : Vec Command Global). begins_in l.items) part.lists.items → IsRead header cut part
+is_read header cut s stops count part is many own stop counted =
+    let lists = subst (λ (n : ℕ). AreOwn n (map (later cut.before) s.commands) part.lists.items) many own in record {
+      script = s;
+      is = is;
+      lists = lists;
+      stops = λ none. none_stops s.commands (sym stop ∙ none);
+      begins = own_counts (length s.clients) (map (later cut.before) s.commands) part.lists.items part.begins.items lists counted;
+    }
 
 -- ---- cuts
 
@@ -269,65 +253,77 @@ last_cut lines cuts all rest before cut so is left same =
 -- ---- putting together
 
 -- some of the bytes behind the header are a script with it, and its commands are in the shares
-pub record Gathers (h : List ℕ) (s0 : Script) (behind : List ℕ) (stops : Bool) (begins : ℕ) (shares : List (Vec (Vec Command Global) Global)) : Type 0 where
+pub record Gathers (h : List ℕ) (s0 : Script) (behind : List ℕ) (stops : Bool) (counts : List ℕ) (shares : List (Vec (Vec Command Global) Global)) : Type 0 where
   pub script : Script
   pub is : IsScript (h ++ behind) script
   pub shared : AreShares (length s0.clients) script.commands shares
   pub quiet : stops ≡ false → NoneStops script.commands
-  pub counted : begins ≡ begins_in script.commands
+  pub counted : AreBegun (length s0.clients) script.commands counts
 
-pub none_yet : (p : Parted) (count : ℕ) (shares : List (Vec (Vec Command Global) Global)) → IsParted p → count ≡ length p.script.clients
-    → AreEmpty count shares → Gathers p.header.now p.script [] false 0 shares
-none_yet p count shares parted many none =
+pub none_yet : (p : Parted) (count : ℕ) (counts : List ℕ) (shares : List (Vec (Vec Command Global) Global)) → IsParted p
+    → count ≡ length p.script.clients → counts ≡ replicate count 0 → AreEmpty count shares → Gathers p.header.now p.script [] false counts shares
+none_yet p count counts shares parted many zeros none =
     let idle = parted.header.idle in record {
       script = p.script;
       is = subst (λ (l : List ℕ). IsScript l p.script) (sym (append-nil p.header.now)) parted.first;
       shared = subst (λ (n : ℕ). AreShares n p.script.commands shares) many
           (subst (λ (l : List Command). AreShares count l shares) (sym idle) (no_shares count shares none));
       quiet = λ still. subst (λ (l : List Command). NoneStops l) (sym idle) (All-nil (λ (c : Command). is_stop c.what ≡ false));
-      counted = ap begins_in (sym idle);
+      counted = subst (λ (n : ℕ). AreBegun n p.script.commands counts) many
+          (subst (λ (l : List Command). AreBegun count l counts) (sym idle) (none_begun count counts zeros));
     }
 
 same_clients : (h a : List ℕ) (s0 s : Script) → IsHeader h s0 → IsScript (h ++ a) s → length s.clients ≡ length s0.clients
 same_clients h a s0 s header is = ap (λ (t : Script). length t.clients) (same_header h a s0 s header is)
 
-gathers_more : (h a : List ℕ) (s0 : Script) (cut : Cut) (part : ReadPart) (stops : Bool) (begins : ℕ) (before after : List (Vec (Vec Command Global) Global))
-    → IsHeader h s0 → IsBehind a cut → Gathers h s0 a stops begins before → stops ≡ false → IsRead h cut part → AreBehind part.lists.items before after
+gathers_more : (h a : List ℕ) (s0 : Script) (cut : Cut) (part : ReadPart) (stops : Bool) (counts added : List ℕ)
+    (before after : List (Vec (Vec Command Global) Global))
+    → IsHeader h s0 → IsBehind a cut → Gathers h s0 a stops counts before → stops ≡ false → IsRead h cut part
+    → AreAdded part.begins.items counts added → AreBehind part.lists.items before after
     → length (h ++ (a ++ cut.bytes.now)) ≤ MAX_BYTES → length (lines_of (h ++ (a ++ cut.bytes.now))) ≤ MAX_LINES
-    → Gathers h s0 (a ++ cut.bytes.now) part.stops (begins + part.begins) after
-gathers_more h a s0 cut part stops begins before after header behind so still read put short few =
+    → Gathers h s0 (a ++ cut.bytes.now) part.stops added after
+gathers_more h a s0 cut part stops counts added before after header behind so still read adds put short few =
     let first = so.script.commands in
     let second = map (later (length (lines_of a))) read.script.commands in
+    let clients = same_clients h cut.bytes.now s0 read.script header read.is in
     let own : AreOwn (length s0.clients) second part.lists.items =
-    subst (λ (n : ℕ). AreOwn n second part.lists.items) (same_clients h cut.bytes.now s0 read.script header read.is)
-    (subst (λ (n : ℕ). AreOwn (length read.script.clients) (map (later n) read.script.commands) part.lists.items) behind.lines read.lists) in record {
+    subst (λ (n : ℕ). AreOwn n second part.lists.items) clients
+    (subst (λ (n : ℕ). AreOwn (length read.script.clients) (map (later n) read.script.commands) part.lists.items) behind.lines read.lists) in
+    let begun : AreBegun (length s0.clients) second part.begins.items =
+    subst (λ (n : ℕ). AreBegun n second part.begins.items) clients
+    (subst (λ (n : ℕ). AreBegun (length read.script.clients) (map (later n) read.script.commands) part.begins.items) behind.lines read.begins) in record {
       script = record s0 { commands = first ++ second };
       is = joined h a cut.bytes.now s0 so.script read.script header behind.ends so.is read.is (so.quiet still) short few;
       shared = more_shares (length s0.clients) first second part.lists.items before after so.shared own put;
       quiet = λ none. All-append (λ (c : Command). is_stop c.what ≡ false) first second (so.quiet still)
           (later_stop (length (lines_of a)) read.script.commands (read.stops none));
-      counted =
-          let both = begins_both first second in
-          let same = begins_later (length (lines_of a)) read.script.commands in
-          let old = so.counted in
-          let new = read.begins in
-          omega (arith, both, same, old, new);
+      counted = both_begun (length s0.clients) first second counts part.begins.items added so.counted begun adds;
     }
 
 -- so many commands can be counted
-pub both_few : (h a : List ℕ) (s0 : Script) (cut : Cut) (part : ReadPart) (stops : Bool) (begins : ℕ) (shares : List (Vec (Vec Command Global) Global))
-    → Gathers h s0 a stops begins shares → IsRead h cut part → begins + part.begins < 2 ^ 16
-both_few h a s0 cut part stops begins shares so read =
-    let old = begin_few (h ++ a) so.script so.is in
-    let new = begin_few (h ++ cut.bytes.now) read.script read.is in
-    let counted = so.counted in
-    let more = read.begins in
-    omega (arith, old, new, counted, more)
+pub both_few : (h a : List ℕ) (s0 : Script) (cut : Cut) (part : ReadPart) (stops : Bool) (counts : List ℕ) (shares : List (Vec (Vec Command Global) Global))
+    → IsHeader h s0 → Gathers h s0 a stops counts shares → IsRead h cut part → (length part.begins.items ≤ length counts)
+    × ((n : ℕ) → n < length part.begins.items → slice_index counts n + slice_index part.begins.items n < 2 ^ 64)
+both_few h a s0 cut part stops counts shares header so read =
+    let same = same_clients h cut.bytes.now s0 read.script header read.is in
+    let many = so.counted.many in
+    let more = read.begins.many in (
+      omega (arith, same, many, more),
+      λ n lt.
+          let old = so.counted.each n (omega (arith, same, many, more, lt)) in
+          let new = read.begins.each n lt in
+          let few = own_few n so.script.commands in
+          let few_more = own_few n (map (later cut.before) read.script.commands) in
+          let long = length-map read.script.commands (later cut.before) in
+          let all = (script_fits (h ++ a) so.script so.is).few in
+          let all_more = (script_fits (h ++ cut.bytes.now) read.script read.is).few in
+          omega (arith, old, new, few, few_more, long, all, all_more),
+    )
 
 -- the lists of a part fit the shares
-pub lists_fit : (h a : List ℕ) (s0 : Script) (cut : Cut) (part : ReadPart) (stops : Bool) (begins : ℕ) (shares : List (Vec (Vec Command Global) Global))
-    → IsHeader h s0 → Gathers h s0 a stops begins shares → IsRead h cut part → length part.lists.items ≤ length shares
-lists_fit h a s0 cut part stops begins shares header so read =
+pub lists_fit : (h a : List ℕ) (s0 : Script) (cut : Cut) (part : ReadPart) (stops : Bool) (counts : List ℕ) (shares : List (Vec (Vec Command Global) Global))
+    → IsHeader h s0 → Gathers h s0 a stops counts shares → IsRead h cut part → length part.lists.items ≤ length shares
+lists_fit h a s0 cut part stops counts shares header so read =
     let same = same_clients h cut.bytes.now s0 read.script header read.is in
     let many = read.lists.many in
     let have = so.shared.many in
@@ -354,11 +350,13 @@ cut_at p parts n part read at =
     (cut, is, read.each n cut part is at)
 
 -- one part more
-pub next_part : (p : Parted) (parts : List (Option ReadPart)) (n : ℕ) (part : ReadPart) (stops : Bool) (begins : ℕ) (before after : List (Vec (Vec Command Global) Global))
+pub next_part : (p : Parted) (parts : List (Option ReadPart)) (n : ℕ) (part : ReadPart) (stops : Bool) (counts added : List ℕ)
+    (before after : List (Vec (Vec Command Global) Global))
     → IsParted p → AreRead p.header.now p.cuts.items parts → slice_get parts n ≡ Some (Some part)
-    → Gathers p.header.now p.script (bytes_of (take n p.cuts.items)) stops begins before → stops ≡ false → AreBehind part.lists.items before after
-    → Gathers p.header.now p.script (bytes_of (take (n + 1) p.cuts.items)) part.stops (begins + part.begins) after
-next_part p parts n part stops begins before after parted read at so still put =
+    → Gathers p.header.now p.script (bytes_of (take n p.cuts.items)) stops counts before → stops ≡ false
+    → AreAdded part.begins.items counts added → AreBehind part.lists.items before after
+    → Gathers p.header.now p.script (bytes_of (take (n + 1) p.cuts.items)) part.stops added after
+next_part p parts n part stops counts added before after parted read at so still adds put =
     let h = p.header.now in
     let found = cut_at p parts n part read at in
     let cut = found.0 in
@@ -374,25 +372,28 @@ next_part p parts n part stops begins before after parted read at so still put =
     let all_lines = ap (λ (l : List ℕ). length (lines_of l)) whole in
     let short = parted.short in
     let few = parted.few in
-    subst (λ (l : List ℕ). Gathers h p.script l part.stops (begins + part.begins) after) (sym next)
-    (gathers_more h a p.script cut part stops begins before after parted.header (parted.cuts n cut found.1) so still found.2 put
+    subst (λ (l : List ℕ). Gathers h p.script l part.stops added after) (sym next)
+    (gathers_more h a p.script cut part stops counts added before after parted.header (parted.cuts n cut found.1) so still found.2 adds put
     (omega (arith, lengths, all, short)) (omega (arith, lines, all_lines, few)))
 
 -- all parts
-pub all_gathered : (p : Parted) (parts : List (Option ReadPart)) (n : ℕ) (stops : Bool) (begins : ℕ) (shares : Vec (Vec (Vec Command Global) Global) Global)
+pub all_gathered : (p : Parted) (parts : List (Option ReadPart)) (n : ℕ) (stops : Bool) (counts : List ℕ) (most : ℕ)
+    (shares : Vec (Vec (Vec Command Global) Global) Global)
     → IsParted p → AreRead p.header.now p.cuts.items parts → n ≡ length parts
-    → Gathers p.header.now p.script (bytes_of (take n p.cuts.items)) stops begins shares.items
-    → (script : Script) × IsScript (all_bytes p) script × IsDealt script (record { header = p.script; shares = shares; begins = begins })
-all_gathered p parts n stops begins shares parted read end so =
+    → Gathers p.header.now p.script (bytes_of (take n p.cuts.items)) stops counts shares.items → IsGreatest counts most
+    → (script : Script) × IsScript (all_bytes p) script × IsDealt script (record { header = p.script; shares = shares; begins = most })
+all_gathered p parts n stops counts most shares parted read end so greatest =
     let many = read.many in
     let all : take n p.cuts.items ≡ p.cuts.items = take_all n p.cuts.items (omega (arith, end, many)) in
     let h = p.header.now in
-    let same = same_header h (bytes_of (take n p.cuts.items)) p.script so.script parted.header so.is in (
+    let same = same_header h (bytes_of (take n p.cuts.items)) p.script so.script parted.header so.is in
+    let clients : length p.script.clients ≡ length so.script.clients = sym (ap (λ (t : Script). length t.clients) same) in (
       so.script,
       subst (λ (l : List Cut). IsScript (h ++ bytes_of l) so.script) all so.is,
-      all_dealt so.script p.script shares begins same parted.header.idle
-          (subst (λ (k : ℕ). AreShares k so.script.commands shares.items) (sym (ap (λ (t : Script). length t.clients) same)) so.shared)
-          so.counted,
+      all_dealt so.script p.script shares most same parted.header.idle
+          (subst (λ (k : ℕ). AreShares k so.script.commands shares.items) clients so.shared)
+          (subst (λ (k : ℕ). IsMost k so.script.commands most) clients
+          (is_most (length p.script.clients) so.script.commands counts most so.counted greatest)),
     )
 
 -- ---- the whole

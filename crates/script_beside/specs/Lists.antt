@@ -1,13 +1,9 @@
 -- Lists of commands, one for each client.
-use Rattle.std.specs.Prelude.{◌≡◌, ◌==◌, ℕ, ◌<◌, ◌≤◌, List, [], ◌∷◌, ◌++◌, length, slice_index_or, Vec}
+use Rattle.std.specs.Prelude.{◌≡◌, ℕ, ◌<◌, ◌≤◌, List, [], ◌∷◌, ◌++◌, length, slice_index_or, Vec}
 use Rattle.std.specs.Global.{Global}
-use Rattle.std.specs.List.{filter}
 use Rattle.script_text.specs.declared.script.Command.{Command}
+use Rattle.script_beside.specs.Begins.{own}
 use Rattle.script_beside.specs.Dealt.{commands_in}
-
--- the client's own of the commands, in their order
-abbrev pub own : ℕ → List Command → List Command
-own n commands = filter (λ (c : Command). c.client == n) commands
 
 -- so many lists, all empty
 pub record AreEmpty {X : Type 0} (count : ℕ) (lists : List (Vec X Global)) : Type 0 where

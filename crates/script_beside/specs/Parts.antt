@@ -8,7 +8,7 @@ use Rattle.script_text.specs.Grammar.{IsScript}
 use Rattle.script_beside.specs.declared.cuts.Cut.{Cut}
 use Rattle.script_beside.specs.declared.cuts.Parted.{Parted}
 use Rattle.script_beside.specs.declared.part.ReadPart.{ReadPart}
-use Rattle.script_beside.specs.Begins.{begins_in}
+use Rattle.script_beside.specs.Begins.{AreBegun}
 use Rattle.script_beside.specs.Joining.{later, EndsALine, IsHeader, NoneStops}
 use Rattle.script_beside.specs.Lists.{AreOwn}
 
@@ -41,13 +41,14 @@ pub record IsParted (p : Parted) : Type 0 where
   pub short : length (all_bytes p) ≤ MAX_BYTES
   pub few : length (lines_of (all_bytes p)) ≤ MAX_LINES
 
--- The part is a script behind the header, whose commands, each at its line of the whole, are in the lists of their clients.
+-- The part is a script behind the header, whose commands, each at its line of the whole, are in the lists of their clients, and
+-- counted by client where they may begin a row.
 pub record IsRead (header : List ℕ) (cut : Cut) (part : ReadPart) : Type 0 where
   pub script : Script
   pub is : IsScript (header ++ cut.bytes.now) script
   pub lists : AreOwn (length script.clients) (map (later cut.before) script.commands) part.lists.items
   pub stops : part.stops ≡ false → NoneStops script.commands
-  pub begins : part.begins ≡ begins_in script.commands
+  pub begins : AreBegun (length script.clients) (map (later cut.before) script.commands) part.begins.items
 
 -- as many as there are parts, each read or not
 pub record AreRead (header : List ℕ) (cuts : List Cut) (parts : List (Option ReadPart)) : Type 0 where

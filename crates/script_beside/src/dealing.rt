@@ -4,7 +4,7 @@ ghost use Rattle.std.specs.List.{All};
 ghost use Rattle.script_text.specs.declared.script.Command.{Command};
 ghost use Rattle.script_beside.specs.Dealt.{IsDealt};
 
-use crate::begins::begins_in;
+use crate::begins::{counts_of, greatest};
 use crate::dealt::DealtScript;
 use crate::lists::{empty_lists, own_lists, put_behind};
 use log_node::ListOf;
@@ -18,14 +18,14 @@ pub fn deal(alloc: Global, mut script: Script) -> Result<DealtScript, AllocError
     ensures { IfOk result (IsDealt script) }
 {
     let clients = script.clients.len();
-    let begins = begins_in(script.commands.as_slice());
     let commands = mem::replace(&mut script.commands, ListOf::new(alloc));
     let lists = own_lists(alloc, clients, commands, 0)?;
+    let counts = counts_of(alloc, lists.as_slice())?;
     let mut shares = empty_lists(alloc, clients, 1)?;
     put_behind(&mut shares, lists)?;
     Ok(DealtScript {
         header: script,
         shares,
-        begins,
+        begins: greatest(counts.as_slice()),
     })
 }

@@ -11,6 +11,6 @@ pub struct DealtScript {
     pub header: Script,
     /// Each client's share, by the client's number.
     pub shares: Vec<Share>,
-    /// How many of the commands may begin a row.
+    /// How many commands that may begin a row the client has that has most of them.
     pub begins: usize,
 }

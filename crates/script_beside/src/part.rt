@@ -6,7 +6,7 @@ ghost use Rattle.script_text.specs.Items.{is_stop};
 ghost use Rattle.script_beside.specs.declared.cuts.Cut.{Cut};
 ghost use Rattle.script_beside.specs.Parts.{IsRead, AreRead};
 
-use crate::begins::begins_in;
+use crate::begins::counts_of;
 use crate::cuts::Cut;
 use crate::lists::own_lists;
 use fork_join::map_indices;
@@ -24,8 +24,8 @@ pub struct ReadPart {
     pub lists: Vec<Vec<Command>>,
     /// Whether one of them stops its client.
     pub stops: bool,
-    /// How many of them may begin a row.
-    pub begins: usize,
+    /// How many of each client's may begin a row.
+    pub begins: Vec<usize>,
 }
 
 // The part's bytes behind the header's.
@@ -53,8 +53,8 @@ fn read(alloc: Global, header: &[u8], cut: &Cut<'_>) -> Result<ReadPart, ScriptF
     let all = behind(alloc, header, cut.bytes)?;
     let script = parse(alloc, all.as_slice())?;
     let stops = has_stop(script.commands.as_slice());
-    let begins = begins_in(script.commands.as_slice());
     let lists = own_lists(alloc, script.clients.len(), script.commands, cut.before)?;
+    let begins = counts_of(alloc, lists.as_slice())?;
     Ok(ReadPart {
         lists,
         stops,

@@ -6,6 +6,7 @@ ghost use Rattle.script_text.specs.Parse.{IsFaultOf};
 ghost use Rattle.script_beside.specs.Dealt.{IsDealt, GivesDealt};
 ghost use Rattle.script_beside.specs.Parts.{all_bytes, IsParted, AreRead};
 
+use crate::begins::{add_each, greatest, no_counts};
 use crate::cuts::Parted;
 use crate::cutting::{PARTS, in_parts};
 use crate::dealing::deal;
@@ -26,9 +27,10 @@ fn put_together(
     requires read { AreRead parted.header.now parted.cuts.items parts.items }
     ensures { IfOk result (λ found. IfSome found (λ dealt. (script : Script) × IsScript (all_bytes parted.entry) script × IsDealt script dealt)) }
 {
-    let mut shares = empty_lists(alloc, parted.script.clients.len(), PARTS)?;
+    let clients = parted.script.clients.len();
+    let mut shares = empty_lists(alloc, clients, PARTS)?;
+    let mut begins = no_counts(alloc, clients)?;
     let mut stops = false;
-    let mut begins = 0;
     for part in parts {
         let Some(part) = part else {
             return Ok(None);
@@ -37,13 +39,13 @@ fn put_together(
             return Ok(None);
         }
         stops = part.stops;
-        begins += part.begins;
+        add_each(&mut begins, part.begins.as_slice());
         put_behind(&mut shares, part.lists)?;
     }
     Ok(Some(DealtScript {
         header: parted.script,
         shares,
-        begins,
+        begins: greatest(begins.as_slice()),
     }))
 }
 

@@ -8,7 +8,7 @@ use Rattle.log_node.specs.declared.ids.Colours.{Colours}
 use Rattle.log_node.specs.declared.node.At.TheVariants.{Event}
 use Rattle.log_node.specs.Sets.{members}
 use Rattle.log_node.specs.declared.marks.Outcome.TheVariants.{Gone, Final}
-use Rattle.log_node.specs.declared.marks.Why.TheVariants.{StampEnd}
+use Rattle.log_node.specs.declared.marks.Why.TheVariants.{Memory, StampEnd}
 use Rattle.std.specs.List.{fold}
 use Rattle.col_core.specs.History.{entry_key, line}
 use Rattle.world_laws.specs.declared.steps.Step.TheVariants.{Begin, Single, Seen}
@@ -211,6 +211,13 @@ ends_several command colours text row id completed places w w1 w2 new answer b d
       b.world)
 
 -- How an append to several colours ends
+
+pub ends_memory : (w : World) (row : Row) (id : Id) (colours : List ℕ) (places : List PointPiece)
+    → EndsAs w row id colours (Gone Memory) places w answers.NoMemory
+ends_memory w row id colours places = record {
+  finds = [];
+  is = λ grants f before e p command mine replies. refl;
+}
 
 pub ends_stamps : (w : World) (row : Row) (id : Id) (colours : List ℕ) (places : List PointPiece) (colour : ℕ)
     → colour ≡ ended_colour w row colours

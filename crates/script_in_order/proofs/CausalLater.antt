@@ -4,6 +4,7 @@ use Rattle.std.specs.List.Sorted.{IsPermutation}
 use mathlib.Core.List.{IsPrefix}
 use Rattle.log_node.specs.declared.node.Shape.{Shape}
 use Rattle.log_node.specs.Vectors.{at, IsWithin}
+use Rattle.log_node.specs.declared.limits.TheConstants.{MAX_COLOURS}
 use Rattle.log_node.proofs.CallerLemmas.{within-at, within-trans}
 use Rattle.col_core.specs.declared.Entry.{Entry}
 use Rattle.col_core.specs.Computed.{cut, dated}
@@ -40,7 +41,7 @@ cut_longer own regions history longer p lawful =
     (subst (IsColumnHistory own regions) e lawful))
 
 module _ (w w' : World) (steps : List Step) (reached : IsReached w) (run : run_steps w steps ≡ w') (own c : ℕ)
-    (home : own < w.shape.regions) (low : c < 64) where
+    (home : own < w.shape.regions) (low : c < MAX_COLOURS) where
   reached' : IsReached w'
   reached' = subst IsReached run (run_reached w steps reached)
 

@@ -6,16 +6,14 @@ use Rattle.std.specs.List.Sorted.{IsPermutation}
 use Rattle.std.proofs.lemmas.Bool.{and_parts, and_from, cases_lt, lt-ltb, ltb-true, eqb-true}
 use Rattle.std.proofs.lemmas.List.{map-append}
 use Rattle.std.proofs.lemmas.List.Sorted.{IsPermutation-sym, IsPermutation-trans, IsPermutation-cons, IsPermutation-to_front, IsPermutation-middle, IsPermutation-append_right, IsPermutation-map}
-use Rattle.std.proofs.lemmas.List.FromFn.{length-range_with_len}
-use Rattle.std.proofs.lemmas.List.Sums.{sum_by_push, length-filter, count_by-le-length}
-use Rattle.log_node.specs.declared.ids.Colours.{Colours}
+use Rattle.std.proofs.lemmas.List.Sums.{sum_by_push}
 use Rattle.log_node.specs.declared.ids.Counts.{Counts}
 use Rattle.log_node.specs.declared.ids.Key.{Key}
 use Rattle.log_node.specs.declared.node.Head.{Head}
 use Rattle.log_node.specs.declared.node.Node.{Node}
-use Rattle.log_node.specs.Sets.{has, members}
 use Rattle.log_node.specs.Vectors.{at, vector, zeros, least, is_within, IsWithin, one_more}
 use Rattle.log_node.specs.Reach.{Chains, Reachable, nothing, next}
+use Rattle.log_node.specs.declared.limits.TheConstants.{MAX_COLOURS}
 use Rattle.log_node.proofs.CallerLemmas.{each_region, same_vectors, at-vector, at-one_more, within, within-at, within-refl, within-trans, within-one_more, within-zeros}
 use Rattle.col_core.specs.Computed.{dated}
 use Rattle.col_core.specs.History.{line}
@@ -68,17 +66,7 @@ wants_here other colour rest zero (v ∷ ws) e = if_true (other == colour) v (wa
 wants_here other colour rest (suc n) [] e = refl
 wants_here other colour rest (suc n) (v ∷ ws) e = wants_here other colour rest n ws e
 
--- a set has few members
-pub few_members : (set : Colours) → length (members set) ≤ 64
-few_members set =
-    let a = length-filter (has set) (range_with_len 0 64) in
-    let b = count_by-le-length (has set) (range_with_len 0 64) in
-    let c = length-range_with_len 0 64 in omega (arith, a, b, c)
-
 -- Places
-
-blocks : (ℕ → List Place) → List Place
-blocks b = b 0 ++ (b 1 ++ (b 2 ++ (b 3 ++ [])))
 
 -- one place more at the end of a block
 here : (p : Place) (xs ys : List Place) → IsPermutation (p ∷ (xs ++ ys)) ((xs ++ p ∷ []) ++ ys)
@@ -208,7 +196,7 @@ all_counted chains v to stuck (next {v = u} region head reached few there needs)
           ])
           (λ f. let m = a ∙ if_false (r == region) (at u r + 1) (at u r) f in omega (arith, m, b))
 
-module _ (w : World) (reached : IsReached w) (own c : ℕ) (home : own < w.shape.regions) (low : c < 64) where
+module _ (w : World) (reached : IsReached w) (own c : ℕ) (home : own < w.shape.regions) (low : c < MAX_COLOURS) where
   abbrev chains : Chains
   chains = chains_after own (w.histories own c)
 

@@ -84,10 +84,6 @@ entered_of command text colour w new answer d =
 -- What is read then
 
 module _ (client stamp : ℕ) (point : PointPiece) (w : World) where
-  -- by the client of a command, who is this one
-  took_by : ℕ → Answer
-  took_by u = answers.Took (front_after (first_nodes w u point.colour point.position)) point (sync_now w u point.colour)
-
   pub reads_refused : (base : Counts) → may_play w client point.colour ≡ false → base ≡ base_now w client point.colour
       → ReadsOwn client stamp point w w (answers.UnreadTrimmed stamp point.colour base)
   reads_refused base f e = record {
@@ -111,28 +107,6 @@ module _ (client stamp : ℕ) (point : PointPiece) (w : World) where
         (answers.UnreadNoMemory stamp) []) g
         ∙ ap (λ (x : World). answered state command x (answers.UnreadNoMemory stamp) [])
         (ap (λ (u : ℕ). after w (Play u point.colour)) same ∙ sym n));
-  }
-
-  pub reads_front : (new : World) (value : Value) (piece : SyncPiece) → may_play w client point.colour ≡ true
-      → new ≡ after w (Play client point.colour)
-      → value ≡ front_after (first_nodes w client point.colour point.position)
-      → piece ≡ sync_now w client point.colour → ReadsOwn client stamp point w new (answers.Took value point piece)
-  reads_front new value piece t n v p = record {
-    fold = true;
-    is = λ grants g state command same.
-        if_true (may_play w command.client point.colour) _ _ (ap (λ (u : ℕ). may_play w u point.colour) same ∙ t)
-        ∙ (if_true grants.fold (answered state command (after w (Play command.client point.colour))
-        (answers.Took (front_after (first_nodes w command.client point.colour point.position)) point
-        (sync_now w command.client point.colour)) []) _ g
-        ∙ (ap (λ (u : ℕ). answered state command (after w (Play u point.colour))
-        (answers.Took (front_after (first_nodes w u point.colour point.position)) point (sync_now w u point.colour))
-        []) same
-        ∙ (ap (λ (x : World). answered state command x (answers.Took
-        (front_after (first_nodes w client point.colour point.position)) point (sync_now w client point.colour)) [])
-        (sym n)
-        ∙ (ap (λ (x : Value). answered state command new (answers.Took x point (sync_now w client point.colour)) [])
-        (sym v)
-        ∙ ap (λ (x : SyncPiece). answered state command new (answers.Took value point x) []) (sym p)))));
   }
 
 pub none_some : {A : Type 0} (x : A) → None ≡ Some x → ⊥

@@ -245,36 +245,6 @@ push_cases {A} (z ∷ xs) (suc n) x y e = turn (push_cases xs n x y e) where
   turn (inl p) = inl (ap suc p.0, p.1)
   turn (inr p) = inr (λ is. p.0 (omega (arith, is)), p.1)
 
--- one shard more
-pub shards_push : (w : World) (home : ℕ) (colours : List ℕ) (shards : List ShardFold) (fold : ShardFold)
-    → ((c : ℕ) (f : ShardFold) → slice_get shards c ≡ Some f → IsShardFold w home colours c f)
-    → IsShardFold w home colours (length shards) fold → (c : ℕ) (f : ShardFold)
-    → slice_get (shards ++ fold ∷ []) c ≡ Some f → IsShardFold w home colours c f
-shards_push w home colours shards fold each right c f there = turn (push_cases shards c fold f there) where
-  turn : ((c ≡ length shards) × (fold ≡ f)) ⊎ ((c ≢ length shards) × (slice_get shards c ≡ Some f))
-      → IsShardFold w home colours c f
-  turn (inl p) =
-      subst (λ (k : ℕ). IsShardFold w home colours k f) (sym p.0)
-      (subst (IsShardFold w home colours (length shards)) p.1 right)
-  turn (inr p) = each c f p.1
-
--- the fold of one object more
-pub folds_push : (w : World) (objects : List Object) (all : List Fold) (o : Object) (fold : Fold)
-    → AreFolded w objects all → IsFoldOf w o.kind fold → AreFolded w (objects ++ o ∷ []) (all ++ fold ∷ [])
-folds_push w objects all o fold f right = record {
-  many = length-append all (fold ∷ []) ∙ (ap (λ (n : ℕ). n + 1) f.many ∙ sym (length-append objects (o ∷ [])));
-  each = λ n p other at there. turn n p other (push_cases objects n o p at) (push_cases all n fold other there);
-} where
-  turn : (n : ℕ) (p : Object) (other : Fold)
-      → ((n ≡ length objects) × (o ≡ p)) ⊎ ((n ≢ length objects) × (slice_get objects n ≡ Some p))
-      → ((n ≡ length all) × (fold ≡ other)) ⊎ ((n ≢ length all) × (slice_get all n ≡ Some other))
-      → IsFoldOf w p.kind other
-  turn n p other (inl a) (inl b) =
-      subst (λ (x : Object). IsFoldOf w x.kind other) a.1 (subst (IsFoldOf w o.kind) b.1 right)
-  turn n p other (inl a) (inr b) = absurd (b.0 (a.0 ∙ sym f.many))
-  turn n p other (inr a) (inl b) = absurd (a.0 (b.0 ∙ f.many))
-  turn n p other (inr a) (inr b) = f.each n p other a.1 b.1
-
 -- what stands at a place
 pub there_at : {A : Type 0} (xs : List A) (n : ℕ) (x : A) → n < length xs → x ≡ get_or xs n x → slice_get xs n ≡ Some x
 there_at {A} xs n x lt is = slice_get-get_or xs n x lt ∙ ap (λ (y : A). Some y) (sym is)
@@ -416,11 +386,3 @@ shard_answer w first colours key fold value here f answers =
     f.colours_are
     ∙ (ap (λ (c : ℕ). shard_value colours c (map (object_at w) (take fold.count (line_of w first))) key) f.shard_is
     ∙ ap (λ (n : ℕ). shard_value colours first.colour (map (object_at w) (take n (line_of w first))) key) here))
-
-pub queue_answer : (w : World) (first : FirstNodes) (fold : QueueFold) (value : Value) → fold.count ≡ first.count
-    → IsQueueFold w first.region first.colour fold
-    → ((nodes : List ObjectNode) → IsQueue fold.queue nodes → value ≡ front_after nodes)
-    → value ≡ front_after (nodes_at w first)
-queue_answer w first fold value here f answers =
-    answers (map (object_at w) (take fold.count (line_of w first))) f.folded
-    ∙ ap (λ (n : ℕ). front_after (map (object_at w) (take n (line_of w first)))) here

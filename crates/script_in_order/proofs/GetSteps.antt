@@ -12,6 +12,7 @@ use Rattle.log_node.specs.declared.ids.Colours.{Colours}
 use Rattle.log_node.specs.Sets.{members}
 use Rattle.log_node.specs.Vectors.{at}
 use Rattle.log_node.specs.Seen.{PlacedNode}
+use Rattle.log_node.specs.declared.limits.TheConstants.{MAX_COLOURS}
 use Rattle.object_fold.specs.Nodes.{shard_of}
 use Rattle.object_fold.specs.Maps.{Value, shard_value}
 use Rattle.col_core.specs.History.{line}
@@ -231,7 +232,7 @@ module _ (objects : List Object) (object home : ℕ) (colours : List ℕ)
         subst (λ (c : ℕ). c < count) (sym s) (shard_below count colours own_colours.some own_colours.below key)
 
     -- it is among the shards of the keys
-    pub shard_in : count ≤ 16 → (keys : List (List ℕ)) (i : ℕ) (key : List ℕ) (shard : ℕ) → i < length keys
+    pub shard_in : count ≤ MAX_COLOURS → (keys : List (List ℕ)) (i : ℕ) (key : List ℕ) (shard : ℕ) → i < length keys
         → key ≡ get_or keys i key → shard ≡ shard_of colours key
         → In shard (shards (object_colours (kind_in objects object)) keys)
     shard_in few keys i key shard lt there s =

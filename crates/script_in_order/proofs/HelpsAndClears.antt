@@ -117,29 +117,32 @@ clears_colour n by colour key a b is p =
     helps_as (λ grants h. helped_times n grants by colour key h) (λ grants h. cleared grants by key h colour) a b
     (λ grants count. ap (λ (k : ℕ). helped_times k grants by colour key (helping a count)) (sym is)) p
 
-pub fold_last : {A B : Type 0} (f : B → A → B) (b : B) (xs : List A) (x : A) → fold f b (xs ++ x ∷ []) ≡ f (fold f b xs) x
-fold_last f b [] x = refl
-fold_last f b (y ∷ ys) x = fold_last f (f b y) ys x
+-- some colours are cleared: whoever clears those that are left clears them all
+abbrev pub ClearsFirst : ℕ → Key → List ℕ → List ℕ → World → World → Type 0
+ClearsFirst by key left colours old now =
+    (new : World) → Helps (λ grants h. fold (cleared grants by key) h left) now new
+    → Helps (λ grants h. fold (cleared grants by key) h colours) old new
 
--- one colour more is cleared
-pub clears_more : (by : ℕ) (key : Key) (colours more : List ℕ) (colour : ℕ) (a b c : World)
-    → more ≡ colours ++ colour ∷ []
-    → Helps (λ grants h. fold (cleared grants by key) h colours) a b → Helps (λ grants h. cleared grants by key h colour) b
-    c
-    → Helps (λ grants h. fold (cleared grants by key) h more) a c
-clears_more by key colours more colour a b c is p q =
-    helps_as (λ grants h. cleared grants by key (fold (cleared grants by key) h colours) colour)
-    (λ grants h. fold (cleared grants by key) h more) a c
-    (λ grants count. ap (fold (cleared grants by key) (helping a count)) is
-    ∙ fold_last (cleared grants by key) (helping a count) colours colour)
-    (helps_then (λ grants h. fold (cleared grants by key) h colours) (λ grants h. cleared grants by key h colour) a b c p q)
+pub clears_none : (by : ℕ) (key : Key) (left colours : List ℕ) (old : World) → left ≡ colours
+    → ClearsFirst by key left colours old old
+clears_none by key left colours old all new p =
+    subst (λ (l : List ℕ). Helps (λ grants h. fold (cleared grants by key) h l) old new) all p
 
-pub clears_same : (by : ℕ) (key : Key) (colours more : List ℕ) (a b : World) → more ≡ colours
-    → Helps (λ grants h. fold (cleared grants by key) h colours) a b
-    → Helps (λ grants h. fold (cleared grants by key) h more) a b
-clears_same by key colours more a b is p =
-    helps_as (λ grants h. fold (cleared grants by key) h colours) (λ grants h. fold (cleared grants by key) h more) a b
-    (λ grants count. ap (fold (cleared grants by key) (helping a count)) is) p
+-- one colour more
+pub clears_next : (by : ℕ) (key : Key) (colour : ℕ) (left rest colours : List ℕ) (a b c : World) → left ≡ colour ∷ rest
+    → ClearsFirst by key left colours a b → Helps (λ grants h. cleared grants by key h colour) b c
+    → ClearsFirst by key rest colours a c
+clears_next by key colour left rest colours a b c e so_far one new p =
+    so_far new (subst (λ (l : List ℕ). Helps (λ grants h. fold (cleared grants by key) h l) b new) (sym e)
+    (helps_then (λ grants h. cleared grants by key h colour) (λ grants h. fold (cleared grants by key) h rest) b c new one
+    p))
+
+-- all of them
+pub clears_all : (by : ℕ) (key : Key) (left colours : List ℕ) (old now : World) → left ≡ []
+    → ClearsFirst by key left colours old now → Helps (λ grants h. fold (cleared grants by key) h colours) old now
+clears_all by key left colours old now none so_far =
+    so_far now (subst (λ (l : List ℕ). Helps (λ grants h. fold (cleared grants by key) h l) now now) (sym none)
+    (helps_none now))
 
 -- where memory was granted for a command's helps, and in its own marks
 abbrev pub found_with : (ℕ → Bool) → List (ℕ → Bool) → Grants

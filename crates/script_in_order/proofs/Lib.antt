@@ -24,7 +24,6 @@ mod DequeueSteps
 mod FoldsKept
 mod ObjectHomes
 mod GetSteps
-mod TransactionSets
 mod Committing
 mod TransactionSteps
 mod KeysSplit

@@ -1,14 +1,14 @@
 -- A stamped read that goes on from an earlier one: what it reads is what was read, and then what is new.
-use Rattle.std.proofs.Common.{◌≡◌, ℕ, zero, suc, ◌+◌, ◌<◌, ◌≤◌, Bool, true, false, List, [], ◌∷◌, ◌++◌, map, length, take, drop, length-append, refl, ap, sym, subst, ◌∙◌, inl, inr, arith}
-use Rattle.std.specs.Prelude.{nat_le, if◌then◌else◌}
-use Rattle.std.specs.List.{fold, filter}
+use Rattle.std.proofs.Common.{◌≡◌, ℕ, ◌<◌, ◌≤◌, false, List, [], ◌∷◌, ◌++◌, map, length, take, drop, length-append, refl, ap, sym, subst, ◌∙◌, inl, inr, arith}
+use Rattle.std.specs.Prelude.{nat_le}
+use Rattle.std.specs.List.{fold}
 use Rattle.std.proofs.lemmas.Bool.{le-leb, leb-false, leb-true}
 use Rattle.std.proofs.lemmas.List.{take-append-drop}
 use Rattle.log_node.specs.declared.ids.Key.{Key}
 use Rattle.log_node.proofs.CallerLemmas.{stamp-key}
 use Rattle.col_core.proofs.CallerLemmas.{In, in_filter, by_test, if_true, if_false}
 use Rattle.playback.specs.Merging.{merged, up_to, region_order}
-use Rattle.script_in_order.proofs.KeysSplit.{AreBelow, merged_on, parts_merged}
+use Rattle.script_in_order.proofs.KeysSplit.{merged_on, parts_merged}
 
 both_up_to : (stamp : ℕ) (xs ys : List Key) → up_to stamp (xs ++ ys) ≡ up_to stamp xs ++ up_to stamp ys
 both_up_to stamp [] ys = refl

@@ -1,18 +1,17 @@
 -- What commands of objects append, by the calls that do it.
-use Rattle.std.proofs.Common.{◌≡◌, inl, inr, ℕ, zero, suc, ◌<◌, ◌≤◌, ◌^◌, Bool, true, List, [], ◌∷◌, length, map, take, ◌++◌, ◌+◌, ◌*◌, Option, Some, Result, get_or, refl, ap, sym, subst, ◌∙◌, arith, bit_or}
-use Rattle.std.specs.Int.Bits.{or_zero_l}
-use Rattle.std.specs.Prelude.{IfOk, ◌%◌}
+use Rattle.std.proofs.Common.{◌≡◌, inl, inr, ℕ, zero, suc, ◌<◌, ◌≤◌, Bool, true, List, [], ◌∷◌, length, map, take, ◌++◌, ◌+◌, Option, Some, Result, get_or, refl, ap, sym, subst, ◌∙◌, arith, append_assoc, append-nil}
+use Rattle.std.specs.Prelude.{IfOk}
 use Rattle.std.specs.List.{All}
 use Rattle.std.specs.Option.{option_map}
 use Rattle.std.specs.declared.alloc.AllocError.{AllocError}
-use Rattle.std.proofs.Math.Nat.{mod-eq_of_lt}
-use Rattle.std.proofs.Math.Pow.{pow-lt}
 use Rattle.std.proofs.lemmas.List.{map-append, take_more, take_all}
-use Rattle.std.proofs.lemmas.List.Sums.{fold-append}
 use Rattle.log_node.specs.declared.ids.Colours.{Colours}
 use Rattle.log_node.specs.declared.forms.Pair.{Pair}
+use Rattle.log_node.specs.declared.forms.Version.{Version}
 use Rattle.log_node.specs.declared.forms.Form.{Form}
-use Rattle.log_node.specs.Sets.{members}
+use Rattle.log_node.specs.declared.limits.TheConstants.{MAX_COLOURS}
+use Rattle.log_node.specs.Sets.{members, set_of, with_colour}
+use Rattle.log_node.proofs.CallerLemmas.{set_of-more}
 use Rattle.object_form.specs.Forms.{IsForm, form_text}
 use Rattle.object_fold.specs.Nodes.{shard_of}
 use Rattle.col_core.proofs.CallerLemmas.{In}
@@ -22,14 +21,14 @@ use Rattle.script_text.specs.declared.script.Kind.TheVariants as kinds
 use Rattle.script_text.specs.declared.script.Object.{Object}
 use Rattle.script_text.specs.declared.script.Command.{Command}
 use Rattle.script_text.specs.Pieces.{is_key}
-use Rattle.script_text.specs.Items.{set_of}
 use Rattle.script_text.specs.Fitting.{AreBelow, HasColours, AreObjectColours, IsKindWithin, is_any_map, is_queue, HasObject}
 use Rattle.report_text.specs.declared.report.Answer.{Answer}
 use Rattle.lawful_run.specs.Asks.{object_colours, keys_of, put_form}
 use Rattle.script_meaning.specs.States.{kind_in}
 use Rattle.script_meaning.specs.Appends.{appended}
 use Rattle.script_meaning.specs.Objects.{appended_form, shard_set}
-use Rattle.script_meaning.proofs.CallerLemmas.{at_or, keys_set, shard_below, key_is_word, object_has, queue_one, set_has, shard_members, shards_below, shards_has}
+use Rattle.script_meaning.specs.Transactions.{version_keys}
+use Rattle.script_meaning.proofs.CallerLemmas.{at_or, keys_set, key_is_word, object_has, queue_one, set_has, shard_members, shards_below, shards_has}
 use Rattle.script_in_order.specs.Doing.{DoneBy}
 
 -- the object that stands at a place is the one that a command uses
@@ -70,14 +69,14 @@ pub each_below : (count : ℕ) (set : Colours) → ((c : ℕ) → In c (members 
 each_below count set low k d lt = low (get_or (members set) k d) (in_at (members set) k d lt)
 
 -- the set of the shards of keys, of an object of a script
-module _ (regions count : ℕ) (few : count ≤ 16) (objects : List Object)
+module _ (regions count : ℕ) (few : count ≤ MAX_COLOURS) (objects : List Object)
     (all : All (λ (o : Object). IsKindWithin regions count o.kind) objects) (object : ℕ) (test : Kind → Bool)
     (has : HasObject objects object test) (kind : Kind) (is : Some kind ≡ kind_in objects object) where
   own : AreObjectColours count (object_colours (Some kind))
   own = subst (λ (k : Option Kind). AreObjectColours count (object_colours k)) (sym is)
       (object_has objects regions count all object test has)
 
-  pub small : AreObjectColours 16 (object_colours (Some kind))
+  pub small : AreObjectColours MAX_COLOURS (object_colours (Some kind))
   small = record { some = own.some; below = λ k d lt. let x = own.below k d lt in omega (arith, x, few) }
 
   pub has_some : (keys : List (List ℕ)) (key : List ℕ) → In key keys
@@ -104,97 +103,80 @@ form_done command w new r set wanted form asked is same d =
 
 -- Sets made key by key
 
-abbrev pub pair_shard : List ℕ → Pair → ℕ
-pair_shard colours pair = shard_of colours pair.key
+-- a set with the shard of one key more
+pub key_more : (colours : List ℕ) (before : List (List ℕ)) (key : List ℕ) (old new : Colours) (c : ℕ)
+    → c ≡ shard_of colours key → new ≡ with_colour old c → old ≡ set_of (map (shard_of colours) before)
+    → new ≡ set_of (map (shard_of colours) (before ++ key ∷ []))
+key_more colours before key old new c is made was =
+    made
+    ∙ (ap (λ (s : Colours). with_colour s c) was
+    ∙ (set_of-more (map (shard_of colours) before) c
+    ∙ ap set_of (ap (λ (x : ℕ). map (shard_of colours) before ++ x ∷ []) is
+    ∙ sym (map-append (shard_of colours) before (key ∷ [])))))
 
-one_bit : (c : ℕ) → c < 16 → 1 * 2 ^ c % 65536 ≡ 2 ^ c
-one_bit c lt =
-    let low : 2 ^ c < 2 ^ 16 = pow-lt lt in
-    let one : 1 * 2 ^ c ≡ 2 ^ c = omega arith in
-    ap (λ (n : ℕ). n % 65536) one ∙ mod-eq_of_lt low
+-- of listed keys
+pub more_keys : (colours : List ℕ) (keys : List (List ℕ)) (i : ℕ) (key : List ℕ) (old new : Colours) (c : ℕ)
+    → i < length keys → c ≡ shard_of colours (get_or keys i key) → new ≡ with_colour old c
+    → old ≡ set_of (map (shard_of colours) (take i keys)) → new ≡ set_of (map (shard_of colours) (take (i + 1) keys))
+more_keys colours keys i key old new c lt is made was =
+    key_more colours (take i keys) (get_or keys i key) old new c is made was
+    ∙ ap (λ (ks : List (List ℕ)). set_of (map (shard_of colours) ks)) (sym (take_more keys i key lt))
 
-pub none_yet : (colours : List ℕ) (pairs : List Pair)
-    → record { 0 = 0 } ≡ set_of (map (pair_shard colours) (take 0 pairs))
-none_yet colours pairs = refl
-
--- a set with one colour more
-pub one_more : (before : List ℕ) (set : Colours) (c : ℕ) → c < 16 → set ≡ set_of before
-    → (let s : Colours = record { 0 = bit_or set.0 (1 * 2 ^ c % 65536) } in s) ≡ set_of (before ++ c ∷ [])
-one_more before set c low e =
-    ap (λ (n : ℕ). let s : Colours = record { 0 = n } in s)
-    (ap (bit_or set.0) (one_bit c low)
-    ∙ (ap (λ (s : Colours). bit_or s.0 (2 ^ c)) e
-    ∙ sym (fold-append (λ (n : ℕ) (x : ℕ). bit_or n (2 ^ x)) 0 before (c ∷ []))))
-
--- one pair more
-pub more_shards : (colours : List ℕ) → AreObjectColours 16 colours → (pairs : List Pair) (i : ℕ) (pair : Pair)
-    (set : Colours) (c : ℕ) → i < length pairs → c ≡ shard_of colours (get_or pairs i pair).key
-    → set ≡ set_of (map (pair_shard colours) (take i pairs))
-    → (let s : Colours = record { 0 = bit_or set.0 (1 * 2 ^ c % 65536) } in s)
-    ≡ set_of (map (pair_shard colours) (take (i + 1) pairs))
-more_shards colours are pairs i pair set c lt is e =
-    let low : c < 16 = subst (λ (x : ℕ). x < 16) (sym is)
-    (shard_below 16 colours are.some are.below (get_or pairs i pair).key) in
-    one_more (map (pair_shard colours) (take i pairs)) set c low e
-    ∙ ap set_of (ap (λ (x : ℕ). map (pair_shard colours) (take i pairs) ++ x ∷ []) is
-    ∙ (sym (map-append (pair_shard colours) (take i pairs) (get_or pairs i pair ∷ []))
-    ∙ ap (map (pair_shard colours)) (sym (take_more pairs i pair lt))))
-
--- one key more
-pub more_keys : (colours : List ℕ) → AreObjectColours 16 colours → (keys : List (List ℕ)) (i : ℕ) (key : List ℕ)
-    (set : Colours) (c : ℕ) → i < length keys → c ≡ shard_of colours (get_or keys i key)
-    → set ≡ set_of (map (shard_of colours) (take i keys))
-    → (let s : Colours = record { 0 = bit_or set.0 (1 * 2 ^ c % 65536) } in s)
-    ≡ set_of (map (shard_of colours) (take (i + 1) keys))
-more_keys colours are keys i key set c lt is e =
-    let low : c < 16 = subst (λ (x : ℕ). x < 16) (sym is)
-    (shard_below 16 colours are.some are.below (get_or keys i key)) in
-    one_more (map (shard_of colours) (take i keys)) set c low e
-    ∙ ap set_of (ap (λ (x : ℕ). map (shard_of colours) (take i keys) ++ x ∷ []) is
-    ∙ (sym (map-append (shard_of colours) (take i keys) (get_or keys i key ∷ []))
-    ∙ ap (map (shard_of colours)) (sym (take_more keys i key lt))))
-
-pub all_keys : (colours : List ℕ) → AreObjectColours 16 colours → (keys : List (List ℕ)) (set : Colours) (i : ℕ)
+pub all_keys : (colours : List ℕ) → AreObjectColours MAX_COLOURS colours → (keys : List (List ℕ)) (set : Colours) (i : ℕ)
     → length keys ≤ i → set ≡ set_of (map (shard_of colours) (take i keys)) → set ≡ shard_set colours keys
 all_keys colours are keys set i whole e =
     e ∙ (ap (λ (l : List (List ℕ)). set_of (map (shard_of colours) l)) (take_all i keys whole)
     ∙ keys_set colours are keys)
 
-mapped : (colours : List ℕ) (pairs : List Pair)
-    → map (pair_shard colours) pairs ≡ map (shard_of colours) (map (λ (p : Pair). p.key) pairs)
-mapped colours [] = refl
-mapped colours (pair ∷ pairs) = ap (λ (l : List ℕ). pair_shard colours pair ∷ l) (mapped colours pairs)
+-- of the keys of listed versions
+pub more_versions : (colours : List ℕ) (versions : List Version) (i : ℕ) (version : Version) (old new : Colours) (c : ℕ)
+    → i < length versions → c ≡ shard_of colours (get_or versions i version).key → new ≡ with_colour old c
+    → old ≡ set_of (map (shard_of colours) (version_keys (take i versions)))
+    → new ≡ set_of (map (shard_of colours) (version_keys (take (i + 1) versions)))
+more_versions colours versions i version old new c lt is made was =
+    key_more colours (version_keys (take i versions)) (get_or versions i version).key old new c is made was
+    ∙ ap (λ (ks : List (List ℕ)). set_of (map (shard_of colours) ks))
+    (sym (map-append (λ (v : Version). v.key) (take i versions) (get_or versions i version ∷ []))
+    ∙ ap version_keys (sym (take_more versions i version lt)))
 
-pub all_shards : (colours : List ℕ) → AreObjectColours 16 colours → (pairs : List Pair) (set : Colours) (i : ℕ)
-    → i ≡ length pairs → set ≡ set_of (map (pair_shard colours) (take i pairs))
-    → set ≡ shard_set colours (keys_of pairs)
-all_shards colours are pairs set i whole e =
-    e ∙ (ap (λ (l : List Pair). set_of (map (pair_shard colours) l)) (take_all i pairs (omega (arith, whole)))
-    ∙ (ap set_of (mapped colours pairs) ∙ keys_set colours are (keys_of pairs)))
+pub all_versions : (colours : List ℕ) (versions : List Version) (i : ℕ) (set : Colours) → length versions ≤ i
+    → set ≡ set_of (map (shard_of colours) (version_keys (take i versions)))
+    → set ≡ set_of (map (shard_of colours) (version_keys versions ++ []))
+all_versions colours versions i set whole e =
+    e ∙ ap (λ (ks : List (List ℕ)). set_of (map (shard_of colours) ks))
+    (ap version_keys (take_all i versions whole) ∙ sym (append-nil (version_keys versions)))
 
--- the set of one key's shard
-pub one_shard : (colours : List ℕ) → AreObjectColours 16 colours → (key : List ℕ) (c : ℕ) → c ≡ shard_of colours key
-    → (let s : Colours = record { 0 = 1 * 2 ^ c % 65536 } in s) ≡ shard_set colours (key ∷ [])
-one_shard colours are key c is =
-    let low : c < 16 = subst (λ (x : ℕ). x < 16) (sym is) (shard_below 16 colours are.some are.below key) in
-    ap (λ (n : ℕ). let s : Colours = record { 0 = n } in s)
-    (one_bit c low ∙ (ap (λ (x : ℕ). 2 ^ x) is ∙ sym (or_zero_l (2 ^ shard_of colours key))))
-    ∙ keys_set colours are (key ∷ [])
+-- of the keys of listed pairs, behind others
+pub more_pairs : (colours : List ℕ) (before : List (List ℕ)) (pairs : List Pair) (i : ℕ) (pair : Pair) (old new : Colours)
+    (c : ℕ) → i < length pairs → c ≡ shard_of colours (get_or pairs i pair).key → new ≡ with_colour old c
+    → old ≡ set_of (map (shard_of colours) (before ++ keys_of (take i pairs)))
+    → new ≡ set_of (map (shard_of colours) (before ++ keys_of (take (i + 1) pairs)))
+more_pairs colours before pairs i pair old new c lt is made was =
+    key_more colours (before ++ keys_of (take i pairs)) (get_or pairs i pair).key old new c is made was
+    ∙ ap (λ (ks : List (List ℕ)). set_of (map (shard_of colours) ks))
+    (append_assoc before (keys_of (take i pairs)) ((get_or pairs i pair).key ∷ [])
+    ∙ ap (λ (ks : List (List ℕ)). before ++ ks)
+    (sym (map-append (λ (p : Pair). p.key) (take i pairs) (get_or pairs i pair ∷ []))
+    ∙ ap keys_of (sym (take_more pairs i pair lt))))
+
+pub all_pairs : (colours : List ℕ) → AreObjectColours MAX_COLOURS colours → (before : List (List ℕ)) (pairs : List Pair)
+    (set : Colours) (i : ℕ) → length pairs ≤ i
+    → set ≡ set_of (map (shard_of colours) (before ++ keys_of (take i pairs)))
+    → set ≡ shard_set colours (before ++ keys_of pairs)
+all_pairs colours are before pairs set i whole e =
+    e ∙ (ap (λ (ps : List Pair). set_of (map (shard_of colours) (before ++ keys_of ps))) (take_all i pairs whole)
+    ∙ keys_set colours are (before ++ keys_of pairs))
 
 -- the set of the colour of a queue
-pub queue_shard : (kind : Kind) → is_queue kind ≡ true → AreObjectColours 16 (object_colours (Some kind)) → (c : ℕ)
-    → c ≡ shard_of (object_colours (Some kind)) []
-    → (let s : Colours = record { 0 = 1 * 2 ^ c % 65536 } in s) ≡ set_of (object_colours (Some kind))
-queue_shard (kinds.Map home colours) q are c is = absurd (let f : ⊥ = cc in f)
-queue_shard (kinds.Tx home colours) q are c is = absurd (let f : ⊥ = cc in f)
-queue_shard (kinds.Causal colour) q are c is = absurd (let f : ⊥ = cc in f)
-queue_shard (kinds.Queue home colour) q are c is =
-    ap (λ (n : ℕ). let s : Colours = record { 0 = n } in s)
-    (one_bit c (subst (λ (x : ℕ). x < 16) (sym is) (shard_below 16 (colour ∷ []) are.some are.below []))
-    ∙ (ap (λ (x : ℕ). 2 ^ x) is ∙ sym (or_zero_l (2 ^ colour))))
+pub queue_shard : (kind : Kind) → is_queue kind ≡ true → (c : ℕ) → c ≡ shard_of (object_colours (Some kind)) []
+    → set_of (c ∷ []) ≡ set_of (object_colours (Some kind))
+queue_shard (kinds.Map home colours) q c is = absurd (let f : ⊥ = cc in f)
+queue_shard (kinds.Tx home colours) q c is = absurd (let f : ⊥ = cc in f)
+queue_shard (kinds.Causal colour) q c is = absurd (let f : ⊥ = cc in f)
+queue_shard (kinds.Queue home colour) q c is = ap (λ (x : ℕ). set_of (x ∷ [])) is
 
 -- a queue's set of colours
-module _ (regions count : ℕ) (few : count ≤ 16) (objects : List Object)
+module _ (regions count : ℕ) (few : count ≤ MAX_COLOURS) (objects : List Object)
     (all : All (λ (o : Object). IsKindWithin regions count o.kind) objects) (object : ℕ)
     (has : HasObject objects object is_queue) where
   of_queue : members (set_of (object_colours (kind_in objects object))) ≡ object_colours (kind_in objects object)

@@ -1,7 +1,7 @@
 -- Nodes that are folded for a transaction.
 use Rattle.std.proofs.Common.{◌≡◌, ℕ, zero, suc, ◌+◌, ◌<◌, Bool, true, false, List, [], ◌∷◌, ◌++◌, length, map, take, get_or, Option, Some, None, refl, ap, sym, subst, ◌∙◌, arith}
 use Rattle.std.specs.Prelude.{unwrap_or, not}
-use Rattle.std.specs.List.{All, Contains, find, prefix_len}
+use Rattle.std.specs.List.{Contains, find, prefix_len}
 use Rattle.std.proofs.lemmas.List.{map-append, take_more}
 use Rattle.log_node.specs.declared.ids.Key.{Key}
 use Rattle.log_node.specs.Order.{same_key}

@@ -1,79 +1,13 @@
--- Sets of colours.
-use Rattle.std.proofs.Common.{◌≡◌, inl, inr, ℕ, zero, suc, ◌+◌, ◌<◌, ◌^◌, Bool, true, false, cond, List, [], ◌∷◌, ◌++◌}
-use Rattle.std.proofs.Common.{◌-◌, length, map, Some, None, slice_get, get_or, refl, ap, sym, subst, ◌∙◌, arith}
-use Rattle.std.proofs.Common.{zero-add, append-nil}
-use Rattle.std.specs.Prelude.{not, nat_lt, nat_le, ◌&&◌, ◌==◌}
-use Rattle.std.specs.List.{All, filter, list_any, range_with_len}
-use Rattle.std.proofs.lemmas.Bool.{or_cases, eqb-true, true≢false, and_parts}
-use Rattle.std.proofs.lemmas.Bool.Decides.{nat_tests}
+-- Sets of colours, gone through member by member.
+use Rattle.std.proofs.Common.{◌≡◌, ℕ, ◌<◌, true, List, [], ◌∷◌, ◌++◌, length, map, inl, inr}
+use Rattle.std.proofs.Common.{Some, None, slice_get, refl, ap, sym, ◌∙◌, arith, append_assoc, append-nil, eq-eqb}
+use Rattle.std.specs.Prelude.{◌==◌}
+use Rattle.std.specs.List.{All, list_any}
+use Rattle.std.proofs.lemmas.Bool.{or_cases, or_left, or_right, true≢false}
+use Rattle.std.proofs.lemmas.List.Elements.{All-nil, All-cons, All-head, All-rest, All-same}
 use Rattle.log_node.specs.declared.ids.Colours.{Colours}
-use Rattle.log_node.specs.Sets.{has, members}
-use Rattle.log_node.proofs.CallerLemmas.{members-low}
-use Rattle.col_core.proofs.CallerLemmas.{choice, by_test}
-use Rattle.world_code.proofs.CallerLemmas.{member_is}
-
--- the test of how many colours there are
-pub many_enough : (count many bits : ℕ) → bits < 2 ^ 64
-    → nat_le count many ≡ (not (nat_lt many count) && nat_lt bits (2 ^ 64))
-many_enough count many bits few = grind (arith, nat_tests)
-
--- the same of one, by the first
-pub first_is : (xs : List ℕ) (bits x : ℕ) → slice_get xs 0 ≡ Some x → bits < 2 ^ 64
-    → true ≡ (not (nat_lt (length xs) 1) && nat_lt bits (2 ^ 64))
-first_is [] bits x some few = absurd cc
-first_is (y ∷ ys) bits x some few = grind (arith, nat_tests)
-
-pub first_none : (xs : List ℕ) (bits : ℕ) → slice_get xs 0 ≡ None → false ≡ (not (nat_lt (length xs) 1) && nat_lt bits (2 ^ 64))
-first_none [] bits none = refl
-first_none (y ∷ ys) bits none = absurd cc
-
-below_any : (n c : ℕ) (xs : List ℕ) → All (λ d. d < n) xs → list_any (λ d. d == c) xs ≡ true → c < n
-below_any n c [] a m = absurd (true≢false (sym m))
-below_any n c (x ∷ xs) a m = elim (or_cases (x == c) (list_any (λ d. d == c) xs) m) [
-  | inl e ↦ subst (λ (k : ℕ). k < n) (eqb-true x c e) (a 0 c (omega arith))
-  | inr i ↦ below_any n c xs (λ k d h. a (suc k) d (omega (arith, h))) i
-]
-
--- a colour of a set whose colours are below a number
-pub has_below : (set : Colours) (n c : ℕ) → All (λ d. d < n) (members set) → c < 16 → has set c ≡ true → c < n
-has_below set n c all low is = below_any n c (members set) all (member_is set c (omega (arith, low)) ∙ is)
-
--- the colours of a set below a number
-abbrev pub first_members : Colours → ℕ → List ℕ
-first_members set n = filter (has set) (range_with_len 0 n)
-
-range_more : (a n : ℕ) → range_with_len a (n + 1) ≡ range_with_len a n ++ (a + n) ∷ []
-range_more a zero = let e : a ≡ a + 0 = omega arith in ap (λ (k : ℕ). k ∷ []) e
-range_more a (suc n) =
-    let s : suc n + 1 ≡ suc (n + 1) = omega arith in
-    let e : a + 1 + n ≡ a + suc n = omega arith in
-    ap (range_with_len a) s
-    ∙ ap (λ (l : List ℕ). a ∷ l) (range_more (a + 1) n ∙ ap (λ (k : ℕ). range_with_len (a + 1) n ++ k ∷ []) e)
-
-filter_last : (p : ℕ → Bool) (xs : List ℕ) (x : ℕ) → filter p (xs ++ x ∷ []) ≡ filter p xs ++ filter p (x ∷ [])
-filter_last p [] x = refl
-filter_last p (y ∷ ys) x =
-    choice (λ (l : List ℕ). cond (p y) (y ∷ filter p (ys ++ x ∷ [])) (filter p (ys ++ x ∷ []))
-    ≡ l ++ filter p (x ∷ [])) (p y) (y ∷ filter p ys) (filter p ys)
-    (λ t. ap (λ (b : Bool). cond b (y ∷ filter p (ys ++ x ∷ [])) (filter p (ys ++ x ∷ []))) t
-    ∙ ap (λ (l : List ℕ). y ∷ l) (filter_last p ys x))
-    (λ f. ap (λ (b : Bool). cond b (y ∷ filter p (ys ++ x ∷ [])) (filter p (ys ++ x ∷ []))) f ∙ filter_last p ys x)
-
-pub one_more : (set : Colours) (n : ℕ) → has set n ≡ true
-    → first_members set (n + 1) ≡ first_members set n ++ n ∷ []
-one_more set n is =
-    ap (filter (has set)) (range_more 0 n ∙ ap (λ (k : ℕ). range_with_len 0 n ++ k ∷ []) (zero-add n))
-    ∙ (filter_last (has set) (range_with_len 0 n) n
-    ∙ ap (λ (b : Bool). first_members set n ++ cond b (n ∷ []) []) is)
-
-pub none_more : (set : Colours) (n : ℕ) → has set n ≡ false → first_members set (n + 1) ≡ first_members set n
-none_more set n is =
-    ap (filter (has set)) (range_more 0 n ∙ ap (λ (k : ℕ). range_with_len 0 n ++ k ∷ []) (zero-add n))
-    ∙ (filter_last (has set) (range_with_len 0 n) n
-    ∙ (ap (λ (b : Bool). first_members set n ++ cond b (n ∷ []) []) is ∙ append-nil (first_members set n)))
-
-pub all_first : (set : Colours) (n : ℕ) → n ≡ 16 → set.0 < 2 ^ 16 → first_members set n ≡ members set
-all_first set n is small = ap (first_members set) is ∙ members-low set small
+use Rattle.log_node.specs.Sets.{members}
+use Rattle.script_text.specs.Fitting.{AreBelow}
 
 -- where a set has one colour
 pub some_item : {A : Type 0} (xs : List A) → length xs ≡ 1 → slice_get xs 0 ≡ None → ⊥
@@ -85,73 +19,47 @@ only_item [] x e s = absurd (let f : ⊥ = omega (arith, e) in f)
 only_item (y ∷ []) x e s = let f : y ≡ x = cc in ap (λ z. z ∷ []) f
 only_item (y ∷ z ∷ zs) x e s = absurd (let f : ⊥ = omega (arith, e) in f)
 
--- The least that passes
+-- The colours that are left of a set whose colours are all below a number
 
-filter_more : (set : Colours) (p : ℕ → Bool) (n : ℕ) (x : ℕ) → slice_get (filter p (first_members set n)) 0 ≡ Some x
-    → slice_get (filter p (first_members set (n + 1))) 0 ≡ Some x
-filter_more set p n x is =
-    by_test (slice_get (filter p (first_members set (n + 1))) 0 ≡ Some x) (has set n)
-    (λ t. ap (λ (l : List ℕ). slice_get (filter p l) 0) (one_more set n t)
-    ∙ (ap (λ (l : List ℕ). slice_get l 0) (filter_last p (first_members set n) n)
-    ∙ front (filter p (first_members set n)) (filter p (n ∷ [])) is))
-    (λ f. ap (λ (l : List ℕ). slice_get (filter p l) 0) (none_more set n f) ∙ is) where
-      front : (xs ys : List ℕ) → slice_get xs 0 ≡ Some x → slice_get (xs ++ ys) 0 ≡ Some x
-      front [] ys e = absurd (let g : ⊥ = cc in g)
-      front (z ∷ xs) ys e = e
+-- all of them
+pub low_first : (n : ℕ) (set : Colours) (left : List ℕ) → left ≡ members set → AreBelow n set → All (λ c. c < n) left
+low_first n set left all low = All-same (λ c. c < n) left (members set) all low
 
-filter_first : (set : Colours) (p : ℕ → Bool) (n k : ℕ) → has set n ≡ true → p n ≡ true
-    → filter p (first_members set n) ≡ [] → slice_get (filter p (first_members set (n + 1 + k))) 0 ≡ Some n
-filter_first set p n zero here passes none =
-    let e : n + 1 + 0 ≡ n + 1 = omega arith in
-    ap (λ (m : ℕ). slice_get (filter p (first_members set m)) 0) e
-    ∙ (ap (λ (l : List ℕ). slice_get (filter p l) 0) (one_more set n here)
-    ∙ (ap (λ (l : List ℕ). slice_get l 0) (filter_last p (first_members set n) n
-    ∙ (ap (λ (l : List ℕ). l ++ filter p (n ∷ [])) none ∙ ap (λ (b : Bool). cond b (n ∷ []) []) passes))))
-filter_first set p n (suc k) here passes none =
-    let e : n + 1 + suc k ≡ n + 1 + k + 1 = omega arith in
-    ap (λ (m : ℕ). slice_get (filter p (first_members set m)) 0) e
-    ∙ filter_more set p (n + 1 + k) n (filter_first set p n k here passes none)
+-- the next one
+pub low_next : (n c : ℕ) (left rest : List ℕ) → left ≡ c ∷ rest → All (λ d. d < n) left → c < n
+low_next n c left rest e low = All-head (λ d. d < n) c rest (All-same (λ d. d < n) (c ∷ rest) left (sym e) low)
 
-pub least_passes : (set : Colours) (p : ℕ → Bool) (n : ℕ) → n < 16 → set.0 < 2 ^ 16 → has set n && p n ≡ true
-    → filter p (first_members set n) ≡ [] → n ≡ get_or (filter p (members set)) 0 0
-least_passes set p n low small both none =
-    let parts = and_parts (has set n) (p n) both in
-    let e : n + 1 + (15 - n) ≡ 16 = omega (arith, low) in
-    head (filter p (members set))
-    (ap (λ (l : List ℕ). slice_get (filter p l) 0) (sym (all_first set (n + 1 + (15 - n)) e small))
-    ∙ filter_first set p n (15 - n) parts.0 parts.1 none) where
-      head : (xs : List ℕ) → slice_get xs 0 ≡ Some n → n ≡ get_or xs 0 0
-      head [] e = absurd (let g : ⊥ = cc in g)
-      head (x ∷ xs) e = cc
+-- those behind it
+pub low_rest : (n c : ℕ) (left rest : List ℕ) → left ≡ c ∷ rest → All (λ d. d < n) left → All (λ d. d < n) rest
+low_rest n c left rest e low = All-rest (λ d. d < n) c rest left e low
 
-pub none_passes : (set : Colours) (p : ℕ → Bool) (n : ℕ) → (has set n && p n) ≡ false
-    → filter p (first_members set n) ≡ [] → filter p (first_members set (n + 1)) ≡ []
-none_passes set p n fails none =
-    by_test (filter p (first_members set (n + 1)) ≡ []) (has set n)
-    (λ t. ap (filter p) (one_more set n t)
-    ∙ (filter_last p (first_members set n) n
-    ∙ (ap (λ (l : List ℕ). l ++ filter p (n ∷ [])) none
-    ∙ ap (λ (b : Bool). cond b (n ∷ []) []) (sym (ap (λ (b : Bool). b && p n) t) ∙ fails))))
-    (λ f. ap (filter p) (none_more set n f) ∙ none)
+-- what holds of each number that is there
+pub each_there : (P : ℕ → Type 0) (xs : List ℕ) → ((c : ℕ) → list_any (λ d. d == c) xs ≡ true → P c) → All P xs
+each_there P [] h = All-nil P
+each_there P (x ∷ xs) h =
+    All-cons P x xs (h x (or_left (x == x) _ (eq-eqb x x refl))) (each_there P xs (λ c i. h c (or_right (x == c) _ i)))
 
-pub none_at_all : (set : Colours) (p : ℕ → Bool) (n : ℕ) → n ≡ 16 → set.0 < 2 ^ 16
-    → filter p (first_members set n) ≡ [] → 0 ≡ get_or (filter p (members set)) 0 0
-none_at_all set p n is small none =
-    ap (λ (l : List ℕ). get_or l 0 0) (sym (ap (filter p) (sym (all_first set n is small)) ∙ none))
+-- what is there is there before others
+pub any_left : (xs ys : List ℕ) (c : ℕ) → list_any (λ d. d == c) xs ≡ true → list_any (λ d. d == c) (xs ++ ys) ≡ true
+any_left [] ys c i = absurd (true≢false (sym i))
+any_left (x ∷ xs) ys c i = elim (or_cases (x == c) (list_any (λ d. d == c) xs) i) [
+  | inl here ↦ or_left (x == c) _ here
+  | inr there ↦ or_right (x == c) _ (any_left xs ys c there)
+]
 
--- Lists made colour by colour
+-- Lists that are made colour by colour: what is there, and what is made of the colours that are left, is the whole
 
-pub map_last : {A : Type 0} (f : ℕ → A) (xs : List ℕ) (x : ℕ) → map f (xs ++ x ∷ []) ≡ map f xs ++ f x ∷ []
-map_last f [] x = refl
-map_last {A} f (y ∷ xs) x = ap (λ (l : List A). f y ∷ l) (map_last f xs x)
+module _ {A : Type 0} (f : ℕ → A) (all : List A) where
+  pub made_first : (made : List A) (left colours : List ℕ) → made ≡ [] → left ≡ colours → map f colours ≡ all
+      → made ++ map f left ≡ all
+  made_first made left colours none is whole = ap (λ (l : List A). l ++ map f left) none ∙ (ap (map f) is ∙ whole)
 
-pub made_more : {A : Type 0} (set : Colours) (f : ℕ → A) (n : ℕ) (old new : List A) (x : A) → has set n ≡ true
-    → old ≡ map f (first_members set n) → new ≡ old ++ x ∷ [] → x ≡ f n → new ≡ map f (first_members set (n + 1))
-made_more {A} set f n old new x here was is same =
-    is ∙ (ap (λ (l : List A). l ++ x ∷ []) was
-    ∙ (ap (λ (y : A). map f (first_members set n) ++ y ∷ []) same
-    ∙ (sym (map_last f (first_members set n) n) ∙ ap (map f) (sym (one_more set n here)))))
+  pub made_next : (old new : List A) (x : A) (c : ℕ) (left rest : List ℕ) → left ≡ c ∷ rest → new ≡ old ++ x ∷ []
+      → x ≡ f c → old ++ map f left ≡ all → new ++ map f rest ≡ all
+  made_next old new x c left rest e is same was =
+      ap (λ (l : List A). l ++ map f rest) is
+      ∙ (append_assoc old (x ∷ []) (map f rest)
+      ∙ (ap (λ (y : A). old ++ y ∷ map f rest) same ∙ (ap (λ (l : List ℕ). old ++ map f l) (sym e) ∙ was)))
 
-pub made_same : {A : Type 0} (set : Colours) (f : ℕ → A) (n : ℕ) (old new : List A) → has set n ≡ false
-    → old ≡ map f (first_members set n) → new ≡ old → new ≡ map f (first_members set (n + 1))
-made_same set f n old new here was is = is ∙ (was ∙ ap (map f) (sym (none_more set n here)))
+  pub made_all : (made : List A) (left : List ℕ) → left ≡ [] → made ++ map f left ≡ all → made ≡ all
+  made_all made left none was = sym (append-nil made) ∙ (ap (λ (l : List ℕ). made ++ map f l) (sym none) ∙ was)

@@ -4,23 +4,24 @@ use Rattle.std.specs.Prelude.{IfSome, if◌then◌else◌}
 use Rattle.std.specs.List.{All}
 use Rattle.log_node.specs.declared.ids.Counts.{Counts}
 use Rattle.log_node.specs.declared.ids.Colours.{Colours}
-use Rattle.log_node.specs.Sets.{members}
+use Rattle.log_node.specs.Sets.{members, set_of}
 use Rattle.col_core.proofs.CallerLemmas.{In}
 use Rattle.script_text.specs.declared.script.Kind.{Kind}
 use Rattle.script_text.specs.declared.script.Kind.TheVariants as kinds
 use Rattle.script_in_order.specs.Folds.{IsTxAt}
-use Rattle.script_text.specs.Items.{set_of}
 use Rattle.script_text.specs.Fitting.{AreBelow, HasColours, AreObjectColours, IsKindWithin, UsesObject, HasObject, is_tx}
 use Rattle.script_text.specs.Grammar.{are_pairs}
 use Rattle.lawful_run.specs.Asks.{object_colours, keys_of}
 use Rattle.lawful_run.proofs.CallerLemmas.{get_within}
-use Rattle.script_meaning.proofs.CallerLemmas.{RunsTo, append_to, done_to, at_or, object_has, key_some, some_of, rising_members, rising_below, rising_some}
+use Rattle.script_meaning.proofs.CallerLemmas.{RunsTo, append_to, done_to, at_or, object_has, key_some, some_of, rising_below, rising_some}
 use Rattle.log_node.specs.declared.ids.Id.{Id}
 use Rattle.log_node.specs.declared.ids.Key.{Key}
 use Rattle.log_node.specs.declared.node.Shape.{Shape}
 use Rattle.log_node.specs.declared.forms.Pair.{Pair}
 use Rattle.log_node.specs.declared.forms.Version.{Version}
 use Rattle.log_node.specs.declared.forms.Form.{Form}
+use Rattle.log_node.specs.declared.limits.TheConstants.{MAX_COLOURS}
+use Rattle.log_node.proofs.CallerLemmas.{members-set_of}
 use Rattle.log_node.specs.declared.forms.Form.TheVariants as forms
 use Rattle.object_form.specs.Forms.{AreVersions, form_text}
 use Rattle.object_fold.specs.declared.verdict.Verdict.{Verdict}
@@ -61,7 +62,7 @@ use Rattle.script_in_order.proofs.ObjectSteps.{each_below, kind_is, has_some, ar
 
 -- THE COLOURS OF A TRANSACTIONAL MAP
 
-module _ (regions count : ℕ) (few : count ≤ 16) (objects : List Object)
+module _ (regions count : ℕ) (few : count ≤ MAX_COLOURS) (objects : List Object)
     (all : All (λ (o : Object). IsKindWithin regions count o.kind) objects) (object : ℕ)
     (has : HasObject objects object is_tx) (other : Object) (set : Colours)
     (is : set ≡ set_of (object_colours (Some (get_or objects object other).kind))) where
@@ -71,7 +72,7 @@ module _ (regions count : ℕ) (few : count ≤ 16) (objects : List Object)
   pub tx_members : members set ≡ its_colours objects object
   tx_members =
       ap members (is ∙ ap (λ (k : Option Kind). set_of (object_colours k)) (kind_is objects object other has))
-      ∙ rising_members (object_colours (kind_in objects object))
+      ∙ members-set_of (object_colours (kind_in objects object))
 
   pub tx_low : AreBelow count set
   tx_low = each_below count set (λ c i. rising_below count few (object_colours (kind_in objects object)) own c
@@ -392,7 +393,7 @@ module _ (objects : List Object) (command : Command) (object : ℕ) (pairs : Lis
       ∙ ap (λ (k : Option Kind). shard_set (object_colours k) (version_keys reads ++ keys_of pairs))
       (kind_is objects object other has)))
 
-  module _ (regions count : ℕ) (few : count ≤ 16)
+  module _ (regions count : ℕ) (few : count ≤ MAX_COLOURS)
       (all : All (λ (o : Object). IsKindWithin regions count o.kind) objects) (other : Object)
       (has : HasObject objects object is_tx) (set : Colours) (is : set ≡ its_set objects object reads pairs) where
     abbrev its_kind : Kind
@@ -525,11 +526,3 @@ still_there before after object is low =
     (sym (ap (λ (r : RepliesView). length r.reads) is ∙ length-set before.reads object None)) low
 
 -- A READ OR A COMMIT, AND WHAT IS FOLDED
-
--- steps lead to where it comes
-pub transacted_to : (objects : List Object) (command : Command) (object : ℕ) (old new : World)
-    (before after : RepliesView) → Transacts objects command object old new before after → RunsTo old new
-transacted_to objects command object old new before after t =
-    let told : State = record { world = old; replies = λ _. []; reads = λ _. read_at before.reads } in
-    subst (RunsTo old) (ap (λ (s : State). s.world) (t.is told refl))
-    (done_to objects t.grants (with_replies old told) command)

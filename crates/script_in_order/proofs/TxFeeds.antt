@@ -1,6 +1,6 @@
 -- Nodes that are fed behind others.
-use Rattle.std.proofs.Common.{◌≡◌, ℕ, zero, suc, ◌+◌, ◌<◌, Bool, true, false, List, [], ◌∷◌, ◌++◌, length, map, take, get_or, Option, Some, None, refl, ap, sym, subst, ◌∙◌, arith}
-use Rattle.std.specs.Prelude.{unwrap_or, if◌then◌else◌}
+use Rattle.std.proofs.Common.{◌≡◌, ℕ, zero, suc, ◌+◌, ◌<◌, List, [], ◌∷◌, ◌++◌, length, map, take, get_or, Option, Some, None, refl, ap, sym, subst, ◌∙◌, arith}
+use Rattle.std.specs.Prelude.{unwrap_or}
 use Rattle.std.specs.List.{Contains}
 use Rattle.std.proofs.lemmas.List.{map-append}
 use Rattle.log_node.specs.declared.ids.Key.{Key}
@@ -8,14 +8,12 @@ use Rattle.log_node.specs.Order.{same_key}
 use Rattle.object_form.specs.Readings.{form_of}
 use Rattle.object_fold.specs.declared.verdict.Verdict.{Verdict}
 use Rattle.object_fold.specs.declared.verdict.Verdict.TheVariants.{Committed}
-use Rattle.object_fold.specs.declared.tx_state.TxState.{TxState}
 use Rattle.object_fold.specs.Nodes.{ObjectNode}
-use Rattle.object_fold.specs.States.{IsTxState}
 use Rattle.object_fold.specs.Transactions.{writes_after, form_verdict}
 use Rattle.col_core.proofs.CallerLemmas.{by_test, if_true, if_false}
 use Rattle.world_laws.specs.Worlds.{World}
 use Rattle.world_laws.proofs.CallerLemmas.{in_contains, contains_in}
-use Rattle.col_core.proofs.CallerLemmas.{In, in_right}
+use Rattle.col_core.proofs.CallerLemmas.{in_right}
 use Rattle.script_meaning.specs.Dequeues.{object_at}
 use Rattle.script_meaning.specs.Transactions.{verdict_in}
 use Rattle.script_in_order.specs.Transacting.{AreOfLines, AreOthers, found_with}

@@ -1,12 +1,11 @@
 -- What is folded of a transactional map: it stays right while the world goes on, and a read that goes on from it.
-use Rattle.std.proofs.Common.{◌≡◌, ℕ, ◌<◌, ◌≤◌, Bool, true, false, zero, suc, List, [], ◌∷◌, ◌++◌, ◌+◌, ◌-◌, length, map, take, drop, get_or, refl, ap, sym, subst, ◌∙◌, inl, inr, arith}
+use Rattle.std.proofs.Common.{◌≡◌, ℕ, ◌<◌, ◌≤◌, false, zero, suc, List, [], ◌∷◌, ◌++◌, ◌+◌, ◌-◌, length, map, take, drop, get_or, refl, ap, sym, subst, ◌∙◌, inl, inr, arith, append_assoc, append-nil}
 use Rattle.std.specs.List.{All, Contains, fold}
 use Rattle.std.proofs.lemmas.List.{take_all, length-drop}
 use Rattle.log_node.specs.declared.ids.Key.{Key}
 use Rattle.log_node.specs.declared.node.Shape.{Shape}
 use Rattle.log_node.specs.Order.{same_key}
 use Rattle.log_node.proofs.CallerLemmas.{same_key-is}
-use Rattle.object_fold.specs.declared.tx_state.TxState.{TxState}
 use Rattle.object_fold.specs.Nodes.{ObjectNode}
 use Rattle.object_fold.specs.States.{IsTxState}
 use Rattle.col_core.specs.History.{line}
@@ -173,12 +172,6 @@ others_folded w fold own f less =
     all_of (λ (key : Key). same_key key own ≡ false) keys
     (λ k i. other_stamp k own (let a = f.low k (contains_in keys k i) in omega (arith, a, less)))
 
-pub none_others : (w : World) (firsts : List FirstNodes) (own : Key) → firsts ≡ []
-    → AreOthers own (first_keys w firsts)
-none_others w firsts own none =
-    subst (λ (l : List FirstNodes). AreOthers own (first_keys w l)) (sym none)
-    (all_of (λ (key : Key). same_key key own ≡ false) [] (λ k i. absurd i))
-
 -- FIRST NODES
 
 -- the lines of one colour more
@@ -252,27 +245,50 @@ at_place w firsts i low all =
     all (first_at firsts i)
     (i, low, sym (any_default firsts i (record { region = 0; colour = 0; count = 0 }) (first_at firsts i) low))
 
+-- the lines of the first of these colours are read; the others are left
+pub record AreReadFirst (w : World) (client stamp : ℕ) (left colours : List ℕ) (firsts : List FirstNodes) : Type 0 where
+  pub first : List ℕ
+  pub apart : first ++ left ≡ colours
+  pub read : AreRead w client stamp first firsts
+
 -- the lines of no colour
-pub no_lines : (w : World) (client stamp : ℕ) → AreRead w client stamp [] []
-no_lines w client stamp = record {
-  lines = refl;
-  there = λ first i. absurd (in_contains [] first i);
-  cut = λ first i. absurd (in_contains [] first i);
+pub no_lines : (w : World) (client stamp : ℕ) (left colours : List ℕ) (firsts : List FirstNodes) → firsts ≡ []
+    → left ≡ colours → AreReadFirst w client stamp left colours firsts
+no_lines w client stamp left colours firsts none all = record {
+  first = [];
+  apart = all;
+  read = subst (AreRead w client stamp []) (sym none) (record {
+    lines = refl;
+    there = λ first i. absurd (in_contains [] first i);
+    cut = λ first i. absurd (in_contains [] first i);
+  });
 }
 
--- the line of a colour of a set more, by its first nodes
-pub line_made : (w : World) (client stamp : ℕ) (colours : List ℕ) (colour : ℕ) (old new : List FirstNodes)
-    (first : FirstNodes) → new ≡ old ++ first ∷ [] → AreThere w first → first.region ≡ home_of w client
-    → first.colour ≡ colour
+-- the line of one colour more, by its first nodes
+pub line_made : (w : World) (client stamp colour : ℕ) (left rest colours : List ℕ) (old new : List FirstNodes)
+    (first : FirstNodes) → left ≡ colour ∷ rest → new ≡ old ++ first ∷ [] → AreThere w first
+    → first.region ≡ home_of w client → first.colour ≡ colour
     → take first.count (line_of w first) ≡ up_to stamp (line (home_history w client colour))
-    → AreRead w client stamp colours old → AreRead w client stamp (colours ++ colour ∷ []) new
-line_made w client stamp colours colour old new first made there region is nodes read =
+    → AreReadFirst w client stamp left colours old → AreReadFirst w client stamp rest colours new
+line_made w client stamp colour left rest colours old new first e made there region is nodes so_far =
     let its : line_of w first ≡ line (home_history w client colour) =
     ap (λ (r : ℕ). line (w.histories r first.colour)) region
     ∙ ap (λ (c : ℕ). line (w.histories (home_of w client) c)) is in
-    subst (AreRead w client stamp (colours ++ colour ∷ [])) (sym made)
-    (one_line_more w client stamp colours colour old first read there its
-    (nodes ∙ ap (up_to stamp) (sym its)))
+    record {
+      first = so_far.first ++ colour ∷ [];
+      apart = append_assoc so_far.first (colour ∷ []) rest
+          ∙ (ap (λ (l : List ℕ). so_far.first ++ l) (sym e) ∙ so_far.apart);
+      read = subst (AreRead w client stamp (so_far.first ++ colour ∷ [])) (sym made)
+          (one_line_more w client stamp so_far.first colour old first so_far.read there its
+          (nodes ∙ ap (up_to stamp) (sym its)));
+    }
+
+-- all lines
+pub all_lines : (w : World) (client stamp : ℕ) (left colours : List ℕ) (firsts : List FirstNodes) → left ≡ []
+    → AreReadFirst w client stamp left colours firsts → AreRead w client stamp colours firsts
+all_lines w client stamp left colours firsts none so_far =
+    subst (λ (l : List ℕ). AreRead w client stamp l firsts)
+    (sym (append-nil so_far.first) ∙ (ap (λ (l : List ℕ). so_far.first ++ l) (sym none) ∙ so_far.apart)) so_far.read
 
 -- where it goes on, and where it begins anew
 pub from_none : (w : World) (firsts : List FirstNodes) (keys all : List Key) → firsts ≡ [] → keys ≡ all

@@ -4,6 +4,7 @@ use Rattle.std.specs.List.{count_by}
 use Rattle.std.specs.List.Sorted.{IsPermutation}
 use Rattle.log_node.specs.declared.ids.Counts.{Counts}
 use Rattle.log_node.specs.Vectors.{at, is_within, IsWithin}
+use Rattle.log_node.specs.declared.limits.TheConstants.{MAX_COLOURS}
 use Rattle.col_core.specs.PlayOrder.{Place}
 use Rattle.object_fold.specs.Causal.{ChainNode}
 use Rattle.object_fold.specs.CausalStates.{IsCausalMap}
@@ -45,7 +46,7 @@ pub record IsCausalFold (w : World) (own colour : ℕ) (fold : CausalFold) : Typ
 
 -- a causal map on a colour has one for each region that there is
 pub record AreCausalFolds (w : World) (colour : ℕ) (folds : List CausalFold) : Type 0 where
-  pub small : colour < 64
+  pub small : colour < MAX_COLOURS
   pub all : length folds ≡ w.shape.regions
   pub each : (region : ℕ) (fold : CausalFold) → slice_get folds region ≡ Some fold
       → IsCausalFold w region colour fold

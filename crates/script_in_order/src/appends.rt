@@ -1,7 +1,7 @@
 // Appends.
 ghost use Rattle.std.specs.Prelude.{◌≡◌, ◌≢◌, ◌<◌, [], IfOk, OnErr, true, ◌&&◌, length, map};
 ghost use Rattle.report_text.specs.declared.report.PointPiece.{PointPiece};
-ghost use Rattle.log_node.specs.Sets.{has, members};
+ghost use Rattle.log_node.specs.Sets.{members};
 ghost use Rattle.script_text.specs.Fitting.{AreBelow, HasColours};
 ghost use Rattle.world_code.specs.WorldView.{world_of};
 ghost use Rattle.log_node.specs.Outcomes.{is_stamp_end_fence};
@@ -12,7 +12,7 @@ ghost use Rattle.script_in_order.specs.Points.{AreFinal, EndsAs};
 
 use crate::clears::{clear, clear_all};
 use crate::points::{only_member, places, position, with_positions};
-use log_node::{At, Colours, Id, Key, MAX_COLOURS, Mark, Outcome, Row, Text, Why};
+use log_node::{At, Colours, Id, Key, Mark, Outcome, Row, Text, Why};
 use report_text::{Answer, PointPiece, Points};
 use script_text::Command;
 use std::alloc::{AllocError, Global};
@@ -190,28 +190,14 @@ fn is_stamp_end(mark: Mark) -> bool
     }
 }
 
-// Whether the colour is in the set and had no stamp left.
-fn has_ended(world: &World, row: Row, colours: Colours, colour: u8) -> bool
-    requires colour { colour < MAX_COLOURS }
-    requires within { AreBelow world.now.shape.colours colours }
-    requires begun { is_begun (world_of world.now) row ≡ true }
-    ensures { result ≡ (has colours colour && is_stamp_end_fence ((row_of (world_of world.now) row).marks colour)) }
-{
-    if !colours.has(colour) {
-        return false;
-    }
-    is_stamp_end(world.mark(row, colour))
-}
-
 // The least colour that had no stamp left.
 fn ended_colour(world: &World, row: Row, colours: Colours) -> u8
     requires within { AreBelow world.now.shape.colours colours }
     requires begun { is_begun (world_of world.now) row ≡ true }
     ensures { result ≡ ended_colour (world_of world.now) row (members colours) }
 {
-    let _bits = colours.0;
-    for colour in 0..MAX_COLOURS {
-        if has_ended(world, row, colours, colour) {
+    for colour in colours.members() {
+        if is_stamp_end(world.mark(row, colour)) {
             return colour;
         }
     }

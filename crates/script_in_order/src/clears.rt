@@ -8,7 +8,7 @@ ghost use Rattle.world_laws.specs.Worlds.{home_of, home_history};
 ghost use Rattle.script_meaning.specs.Helping.{helped_first, cleared};
 ghost use Rattle.script_in_order.specs.Helps.{Helps};
 
-use log_node::{Colours, Key, MAX_COLOURS};
+use log_node::{Colours, Key};
 use world_code::World;
 
 /// The region of a client.
@@ -66,10 +66,7 @@ pub fn clear_all(world: &mut World, by: u8, key: Key, colours: Colours)
         (world_of world.old) (world_of world.new) }
     ensures shape { world.new.shape ≡ world.old.shape }
 {
-    let _bits = colours.0;
-    for colour in 0..MAX_COLOURS {
-        if colours.has(colour) {
-            clear(world, by, key, colour);
-        }
+    for colour in colours.members() {
+        clear(world, by, key, colour);
     }
 }

@@ -22,7 +22,7 @@ ghost use Rattle.script_in_order.specs.Folds.{nodes_at, AreThere, IsShardFold, A
 
 use crate::causal::CausalFold;
 use crate::tx_folds::{LinesRead, TxFold};
-use log_node::{ColourList, Key, Keys, ListOf, Names, Shape, Text, Versions};
+use log_node::{ColourList, Key, Keys, ListOf, MAX_COLOURS, Names, Shape, Text, Versions};
 use object_fold::{ShardMap, ValueQueue, Verdict};
 use report_text::KeyAnswer;
 use script_text::{Kind, Object, Script};
@@ -211,7 +211,7 @@ fn open_shards(alloc: Global, colours: &ColourList, count: u8) -> Result<Vec<Sha
 
 // For each region the fold of no node of a causal map.
 fn open_causal(alloc: Global, count: u8) -> Result<Vec<CausalFold>, AllocError>
-    ensures { (w : Meant) (colour : ℕ) → w.shape.regions ≡ count → colour < 64
+    ensures { (w : Meant) (colour : ℕ) → w.shape.regions ≡ count → colour < MAX_COLOURS
         → IfOk result (λ folds. AreCausalFolds w colour folds.items) }
 {
     let mut folds = Vec::new(alloc);
@@ -224,7 +224,7 @@ fn open_causal(alloc: Global, count: u8) -> Result<Vec<CausalFold>, AllocError>
 // The fold of no node of an object of a kind, where there are so many regions and colours.
 fn open_fold(alloc: Global, kind: &Kind, shape: &Shape) -> Result<Fold, AllocError>
     requires within { IsKindWithin shape.now.regions shape.now.colours kind.now }
-    requires few { shape.now.colours ≤ 16 }
+    requires few { shape.now.colours ≤ MAX_COLOURS }
     ensures { (w : Meant) → w.shape ≡ shape.now → IfOk result (IsFoldOf w kind.now) }
 {
     match kind {

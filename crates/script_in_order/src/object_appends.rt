@@ -1,10 +1,9 @@
 // What commands of objects append: the text of a form, on the colours of the shards.
 ghost use Rattle.std.specs.Prelude.{◌≡◌, ◌<◌, ◌∷◌, [], IsTrue, IfOk, OnErr, Some, length, slice_get};
 ghost use Rattle.std.specs.List.{All};
-ghost use Rattle.log_node.specs.Sets.{members};
+ghost use Rattle.log_node.specs.Sets.{members, set_of};
 ghost use Rattle.object_form.specs.Forms.{IsForm, form_text};
 ghost use Rattle.object_fold.specs.Nodes.{shard_of};
-ghost use Rattle.script_text.specs.Items.{set_of};
 ghost use Rattle.script_text.specs.Fitting.{AreBelow, AreObjectColours, HasColours, IsKindWithin, UsesObject, is_queue};
 ghost use Rattle.lawful_run.specs.Asks.{object_colours, keys_of, put_form};
 ghost use Rattle.world_code.specs.WorldView.{world_of};
@@ -47,7 +46,7 @@ fn key_shard(kind: &Kind, key: &[u8]) -> Colours
     requires { AreObjectColours MAX_COLOURS (object_colours (Some kind.now)) }
     ensures { result ≡ shard_set (object_colours (Some kind.now)) (key.now ∷ []) }
 {
-    Colours(1 << shard(kind, key))
+    Colours::of(&[shard(kind, key)])
 }
 
 /// The set of the shards of keys.
@@ -55,9 +54,9 @@ pub fn key_shards(kind: &Kind, keys: &[Text]) -> Colours
     requires { AreObjectColours MAX_COLOURS (object_colours (Some kind.now)) }
     ensures { result ≡ shard_set (object_colours (Some kind.now)) keys.now }
 {
-    let mut set = Colours(0);
+    let mut set = Colours::NONE;
     for key in keys {
-        set = Colours(set.0 | 1 << shard(kind, key.as_bytes()));
+        set = set.with(shard(kind, key.as_bytes()));
     }
     set
 }
@@ -67,9 +66,9 @@ fn pair_shards(kind: &Kind, pairs: &[Pair]) -> Colours
     requires { AreObjectColours MAX_COLOURS (object_colours (Some kind.now)) }
     ensures { result ≡ shard_set (object_colours (Some kind.now)) (keys_of pairs.now) }
 {
-    let mut set = Colours(0);
+    let mut set = Colours::NONE;
     for pair in pairs {
-        set = Colours(set.0 | 1 << shard(kind, pair.key.as_bytes()));
+        set = set.with(shard(kind, pair.key.as_bytes()));
     }
     set
 }
@@ -80,7 +79,7 @@ fn queue_colours(kind: &Kind) -> Colours
     requires colours { AreObjectColours MAX_COLOURS (object_colours (Some kind.now)) }
     ensures { result ≡ set_of (object_colours (Some kind.now)) }
 {
-    Colours(1 << shard(kind, &[]))
+    Colours::of(&[shard(kind, &[])])
 }
 
 // The form of a put on an object of this kind.

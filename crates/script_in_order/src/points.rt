@@ -12,7 +12,7 @@ ghost use Rattle.report_text.specs.declared.report.PointPiece.{PointPiece};
 ghost use Rattle.script_in_order.specs.Points.{places_in, standing_in};
 
 use crate::clears::home;
-use log_node::{At, Colours, Key, ListOf, MAX_COLOURS};
+use log_node::{At, Colours, Key, ListOf};
 use report_text::{PointPiece, Points};
 use std::alloc::{AllocError, Global};
 use world_code::World;
@@ -57,17 +57,14 @@ pub fn places(
     requires within { AreBelow world.now.shape.colours colours }
     ensures { IfOk result (λ places. places.items ≡ places_in (world_of world.now) client (members colours)) }
 {
-    let _bits = colours.0;
     let mut places = Vec::new(alloc);
-    for colour in 0..MAX_COLOURS {
-        if colours.has(colour) {
-            let column = world.column(home(world, client), colour);
-            places.push(PointPiece {
-                colour,
-                at: At::Event(column.journal().len() as u64),
-                position: 0,
-            })?;
-        }
+    for colour in colours.members() {
+        let column = world.column(home(world, client), colour);
+        places.push(PointPiece {
+            colour,
+            at: At::Event(column.journal().len() as u64),
+            position: 0,
+        })?;
     }
     Ok(places)
 }

@@ -6,7 +6,7 @@ ghost use Rattle.world_laws.specs.Worlds.{is_begun, is_member};
 ghost use Rattle.world_code.specs.WorldView.{world_of};
 ghost use Rattle.script_in_order.specs.Reports.{client_rows_shown, region_rows_shown};
 
-use log_node::{ColourMark, Colours, ListOf, MAX_CLIENTS, MAX_COLOURS, Marks, Row};
+use log_node::{ColourMark, Colours, ListOf, MAX_CLIENTS, Marks, Row};
 use report_text::RowReport;
 use std::alloc::{AllocError, Global};
 use world_code::World;
@@ -19,15 +19,12 @@ fn marks_of(alloc: Global, world: &World, row: Row, colours: Colours) -> Result<
     requires within { (colour : ℕ) → is_member colours colour ≡ true → colour < world.now.shape.colours }
     ensures { IfOk result (λ marks. marks ≡ (begun_row (world_of world.now) row).marks) }
 {
-    let _bits = colours.0;
     let mut marks = ListOf::new(alloc);
-    for colour in 0..MAX_COLOURS {
-        if colours.has(colour) {
-            marks.push(ColourMark {
-                colour,
-                mark: world.mark(row, colour),
-            })?;
-        }
+    for colour in colours.members() {
+        marks.push(ColourMark {
+            colour,
+            mark: world.mark(row, colour),
+        })?;
     }
     Ok(marks)
 }

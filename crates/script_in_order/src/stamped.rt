@@ -13,7 +13,7 @@ ghost use Rattle.script_in_order.specs.Stamped.{no_look, looked_in, Raises, Read
 
 use crate::clears::{clear_all, home};
 use crate::moves::base;
-use log_node::{At, Colours, Counts, Id, Key, ListOf, MAX_COLOURS, MAX_STAMP};
+use log_node::{At, Colours, Counts, Id, Key, ListOf, MAX_STAMP};
 use playback::with_line;
 use report_text::{RaisePiece, SyncPiece};
 use std::alloc::{AllocError, Global};
@@ -54,12 +54,9 @@ fn read_stamp(world: &World, client: u8, colours: Colours) -> u64
     ensures stamp { result ≤ MAX_STAMP }
 {
     world.agrees();
-    let _bits = colours.0;
     let mut stamp = world.client(client).floor();
-    for colour in 0..MAX_COLOURS {
-        if colours.has(colour) {
-            stamp = stamp.max(clock(world, client, colour));
-        }
+    for colour in colours.members() {
+        stamp = stamp.max(clock(world, client, colour));
     }
     stamp
 }
@@ -93,12 +90,9 @@ fn raise_pieces(
     ensures { IfOk result (λ raises.
         raises ≡ map (raise_in (world_of world.now) client stamp) (members colours)) }
 {
-    let _bits = colours.0;
     let mut raises = Vec::new(alloc);
-    for colour in 0..MAX_COLOURS {
-        if colours.has(colour) {
-            raises.push(raise_piece(world, client, stamp, colour))?;
-        }
+    for colour in colours.members() {
+        raises.push(raise_piece(world, client, stamp, colour))?;
     }
     Ok(ListOf::from(raises))
 }
@@ -107,16 +101,13 @@ fn raise_pieces(
 fn no_looks(alloc: Global, colours: Colours) -> Result<Vec<SyncPiece>, AllocError>
     ensures { IfOk result (λ syncs. syncs.items ≡ map no_look (members colours)) }
 {
-    let _bits = colours.0;
     let mut syncs = Vec::new(alloc);
-    for colour in 0..MAX_COLOURS {
-        if colours.has(colour) {
-            syncs.push(SyncPiece {
-                colour,
-                events: 0,
-                counts: Counts::zeros(),
-            })?;
-        }
+    for colour in colours.members() {
+        syncs.push(SyncPiece {
+            colour,
+            events: 0,
+            counts: Counts::zeros(),
+        })?;
     }
     Ok(syncs)
 }
@@ -169,9 +160,8 @@ fn raise_all(world: &mut World, client: u8, stamp: u64, colours: Colours) -> Opt
     ensures raises { Raises (world_of world.old) client stamp (members colours) (world_of world.new) result }
     ensures shape { world.new.shape ≡ world.old.shape }
 {
-    let _bits = colours.0;
-    for colour in 0..MAX_COLOURS {
-        if colours.has(colour) && !raise(world, client, stamp, colour) {
+    for colour in colours.members() {
+        if !raise(world, client, stamp, colour) {
             return Some(colour);
         }
     }
@@ -186,9 +176,8 @@ fn play_all(world: &mut World, client: u8, colours: Colours) -> Option<u8>
     ensures within { IfSome result (λ colour. colour < world.old.shape.colours) }
     ensures shape { world.new.shape ≡ world.old.shape }
 {
-    let _bits = colours.0;
-    for colour in 0..MAX_COLOURS {
-        if colours.has(colour) && world.play(client, colour).is_none() {
+    for colour in colours.members() {
+        if world.play(client, colour).is_none() {
             return Some(colour);
         }
     }
@@ -278,13 +267,10 @@ pub fn keys_read(
         keys.items ≡ keys_read (world_of world.now) client stamp (members colours)) }
 {
     world.agrees();
-    let _bits = colours.0;
     let mut keys = Vec::new(alloc);
-    for colour in 0..MAX_COLOURS {
-        if colours.has(colour) {
-            let line = world.column(home(world, client), colour).line();
-            keys = with_line(alloc, keys.as_slice(), line, stamp)?;
-        }
+    for colour in colours.members() {
+        let line = world.column(home(world, client), colour).line();
+        keys = with_line(alloc, keys.as_slice(), line, stamp)?;
     }
     Ok(keys)
 }

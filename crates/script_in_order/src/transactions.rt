@@ -2,12 +2,11 @@
 ghost use Rattle.std.specs.Prelude.{◌≡◌, ◌≢◌, ◌<◌, ◌++◌, ℕ, List, [], Option, IsTrue, IfOk, IfSome, OnErr, Some, None, length, map};
 ghost use Rattle.std.specs.List.{All};
 ghost use Rattle.col_core.specs.History.{line, entry_key};
-ghost use Rattle.log_node.specs.Sets.{members};
+ghost use Rattle.log_node.specs.Sets.{members, set_of};
 ghost use Rattle.object_form.specs.Forms.{AreVersions};
 ghost use Rattle.object_fold.specs.Nodes.{ObjectNode};
 ghost use Rattle.object_fold.specs.States.{IsTxState};
 ghost use Rattle.object_fold.specs.Transactions.{value_of, writes_after, versions_after};
-ghost use Rattle.script_text.specs.Items.{set_of};
 ghost use Rattle.script_text.specs.Fitting.{AreBelow, AreObjectColours, IsKindWithin, UsesObject, is_tx};
 ghost use Rattle.world_laws.specs.Worlds.{World as Meant, next_id};
 ghost use Rattle.lawful_run.specs.Asks.{object_colours, keys_of};
@@ -61,18 +60,6 @@ pub fn transaction_of(what: &What) -> Option<u8>
     }
 }
 
-// The set of listed colours.
-fn set_of(colours: &[u8]) -> Colours
-    requires { All (λ colour. colour < MAX_COLOURS) colours.now }
-    ensures { result ≡ set_of colours.now }
-{
-    let mut set = Colours(0);
-    for colour in colours {
-        set = Colours(set.0 | 1 << *colour);
-    }
-    set
-}
-
 // The set of all colours of a transactional map.
 fn all_colours(kind: &Kind) -> Colours
     requires tx { IsTrue (is_tx kind.now) }
@@ -83,7 +70,7 @@ fn all_colours(kind: &Kind) -> Colours
         Kind::Tx {
             home: _home,
             colours,
-        } => set_of(colours.as_slice()),
+        } => Colours::of(colours.as_slice()),
         _ => unreachable!(),
     }
 }
@@ -93,12 +80,12 @@ fn shards_of(kind: &Kind, versions: &[Version], pairs: &[Pair]) -> Colours
     requires { AreObjectColours MAX_COLOURS (object_colours (Some kind.now)) }
     ensures { result ≡ shard_set (object_colours (Some kind.now)) (version_keys versions.now ++ keys_of pairs.now) }
 {
-    let mut set = Colours(0);
+    let mut set = Colours::NONE;
     for version in versions {
-        set = Colours(set.0 | 1 << shard(kind, version.key.as_bytes()));
+        set = set.with(shard(kind, version.key.as_bytes()));
     }
     for pair in pairs {
-        set = Colours(set.0 | 1 << shard(kind, pair.key.as_bytes()));
+        set = set.with(shard(kind, pair.key.as_bytes()));
     }
     set
 }

@@ -20,7 +20,7 @@ ghost use Rattle.script_in_order.specs.Transacting.{AreOfLines, AreOthers, found
 use crate::folds::{FirstNodes, text_of};
 use crate::gets::nodes_up_to;
 use crate::stamped::keys_read;
-use log_node::{Colours, Key, Keys, ListOf, MAX_COLOURS, Text, Versions};
+use log_node::{Colours, Key, Keys, ListOf, Text, Versions};
 use object_fold::{TxState, Verdict};
 use playback::with_line;
 use report_text::KeyAnswer;
@@ -51,12 +51,9 @@ fn firsts_of(alloc: Global, world: &World, read: LinesRead) -> Result<Vec<FirstN
         AreRead (world_of world.now) read.client read.stamp (members read.colours) firsts.items) }
 {
     world.agrees();
-    let _bits = read.colours.0;
     let mut firsts = Vec::new(alloc);
-    for colour in 0..MAX_COLOURS {
-        if read.colours.has(colour) {
-            firsts.push(nodes_up_to(world, read.client, colour, read.stamp))?;
-        }
+    for colour in read.colours.members() {
+        firsts.push(nodes_up_to(world, read.client, colour, read.stamp))?;
     }
     Ok(firsts)
 }

@@ -1,6 +1,6 @@
 -- After a sync, a pull and a trim there holds what held before.
-use Rattle.std.proofs.Common.{refl, ◌≡◌, ◌≢◌, ℕ, ◌<◌, List, [], ◌∷◌, ◌++◌, length, true, false, ap, sym, subst, arith, eq-eqb}
-use Rattle.std.specs.Prelude.{◌==◌, not, slice_index}
+use Rattle.std.proofs.Common.{refl, ◌≡◌, ◌≢◌, ℕ, ◌<◌, List, [], ◌∷◌, ◌++◌, true, false, ap, sym, subst, eq-eqb}
+use Rattle.std.specs.Prelude.{◌==◌, not}
 use Rattle.std.proofs.lemmas.Bool.{and_from, lt-ltb, eqb-true}
 use Rattle.log_node.specs.declared.node.Shape.{Shape}
 use Rattle.col_core.proofs.CallerLemmas.{choice, apart}

@@ -1,8 +1,8 @@
 -- What a command has done that makes a stamped read, by how that ended.
 use Rattle.std.proofs.Common.{◌≡◌, ℕ, List, [], true, refl, subst, ap, sym, inr}
+use Rattle.log_node.specs.declared.ids.Counts.{Counts}
 use Rattle.log_node.specs.declared.ids.Key.{Key}
 use Rattle.log_node.specs.Seen.{PlacedNode}
-use Rattle.std.specs.List.{Contains}
 use Rattle.col_core.specs.Keeping.{Kept}
 use Rattle.col_core.proofs.CallerLemmas.{choice, In}
 use Rattle.world_laws.specs.Worlds.{World}
@@ -15,14 +15,14 @@ use Rattle.report_text.specs.declared.report.Answer.TheVariants as answers
 use Rattle.report_text.specs.declared.report.RaisePiece.{RaisePiece}
 use Rattle.report_text.specs.declared.report.SyncPiece.{SyncPiece}
 use Rattle.lawful_run.specs.Asks.{Manner, Reading, manner_of, may_help, colours_synced}
-use Rattle.lawful_run.specs.Reads.{HidesRead}
-use Rattle.lawful_run.specs.Refusals.{Hides, hidden}
+use Rattle.lawful_run.specs.Reads.{HidesRead, RefusesRead}
+use Rattle.lawful_run.specs.Refusals.{Hides, Refuses, hidden}
 use Rattle.script_meaning.specs.States.{State, Grants, answered}
 use Rattle.script_meaning.specs.Stamped.{read_stamp, ReadEnd, Whole, Refused, Unraised, StampedRead, stamped_read, ended_so, ended_by}
 use Rattle.script_meaning.proofs.Clearing.{Finished}
 use Rattle.script_meaning.proofs.Kept.{caller_in, IsKeptBy, Does, KeptAfter}
 use Rattle.script_meaning.proofs.ReadsLeft.{FindsNone}
-use Rattle.script_meaning.proofs.StampedEnds.{DidRead, Ends, EndsWhole, KeepsHidden, did_read}
+use Rattle.script_meaning.proofs.StampedEnds.{DidRead, Ends, EndsWhole, KeepsHidden, KeepsRefused, did_read}
 use Rattle.script_meaning.proofs.StampedPlays.{MayLook}
 use Rattle.script_meaning.proofs.StampedRaises.{AreDistinct}
 
@@ -85,6 +85,18 @@ module _ (objects : List Object) (S : ℕ → Type 0) (state : State) (command :
       subst (λ (m : Manner). Hides log caller kept (colours_synced caller command.what) m h.after) (sym reading)
       (subst (λ (cs : List ℕ). HidesRead log caller kept cs h.after) (sym (synced read.world)) h.hides)
 
+  refuses : (kept : Kept) (colour : ℕ) (base : Counts)
+      (h : KeepsRefused objects S command.what may w reached fin u free colours distinct look first is_first read.world
+      colour base kept)
+      → Refuses (log_of read.world) (caller_in read.world objects u) kept
+      (colours_synced (caller_in read.world objects u) command.what) (manner_of command.what) colour base h.after
+  refuses kept colour base h =
+      let log = log_of read.world in
+      let caller = caller_in read.world objects u in
+      subst (λ (m : Manner). Refuses log caller kept (colours_synced caller command.what) m colour base h.after)
+      (sym reading) (subst (λ (cs : List ℕ). RefusesRead log caller kept cs colour base h.after)
+      (sym (synced read.world)) h.refuses)
+
   -- Whatever follows where it was refused and where it is whole, follows from how the read ended.
   module _ (whole : ℕ → List RaisePiece → List SyncPiece → List Key → State) (Goal : State → Type 0)
       (refused : (answer : Answer) (nodes : List PlacedNode) → FindsNone command.what answer
@@ -108,17 +120,11 @@ module _ (objects : List Object) (S : ℕ → Type 0) (state : State) (command :
     so_by_end (Refused colour base) ended =
         refused (answers.Trimmed colour base) [] (inr (λ _ _ _ _ e. absurd (let f : ⊥ = cc in f)))
         (does (answers.Trimmed colour base) [] (λ kept k.
-        let h = ended.hidden kept k in
+        let h = ended kept k in
         record {
           after = h.after;
           keeps = h.keeps;
-          explains = (
-            refl,
-            inr (inr reading),
-            subst (λ (cs : List ℕ). Contains cs colour) (sym (synced read.world)) ended.among,
-            ended.trimmed kept k,
-            hides kept h,
-          );
+          explains = (refl, inr (inr reading), refuses kept colour base h);
         })) did.to.finished
     so_by_end Unraised ended = no_memory ended
 

@@ -7,6 +7,7 @@ use Rattle.log_node.specs.declared.ids.Colours.{Colours}
 use Rattle.log_node.specs.declared.ids.Key.{Key}
 use Rattle.log_node.specs.declared.node.Node.{Node}
 use Rattle.log_node.specs.Sets.{has, members}
+use Rattle.log_node.specs.declared.limits.TheConstants.{MAX_COLOURS}
 use Rattle.col_core.specs.Keeping.{Kept}
 use Rattle.col_core.specs.Log.{HasText}
 use Rattle.col_core.proofs.CallerLemmas.{choice, In, in_filter}
@@ -23,14 +24,13 @@ use Rattle.lawful_run.specs.Reads.{ShowsKey}
 use Rattle.lawful_run.specs.Asks.{manner_of, colours_synced}
 use Rattle.script_meaning.specs.States.{State, Grants}
 use Rattle.script_meaning.specs.Helping.{node_with}
-use Rattle.script_meaning.specs.Stamped.{read_stamp, stamped_read, shown_key, scan_answer, scanned}
+use Rattle.script_meaning.specs.Stamped.{stamped_read, shown_key, scan_answer, scanned}
 use Rattle.script_meaning.proofs.FitCommands as fits
 use Rattle.script_meaning.proofs.Invariant.{IsStopped, Runs, IsFit, free, runs_done}
 use Rattle.script_meaning.proofs.Kept.{caller_in, IsKeptBy, KeptAfter}
 use Rattle.script_meaning.proofs.Lists.{in_range}
 use Rattle.script_meaning.proofs.Reached.{listed_of}
 use Rattle.script_meaning.proofs.AfterRead.{EndsTold, read_reached, after_read}
-use Rattle.script_meaning.proofs.StampedPlays.{MayLook}
 use Rattle.script_meaning.proofs.StampedRaises.{AreDistinct}
 
 -- LISTS
@@ -50,7 +50,7 @@ filtered_distinct test (suc n) a =
 
 -- a set has no colour twice
 pub members_distinct : (set : Colours) → AreDistinct (members set)
-members_distinct set = filtered_distinct (has set) 64 0
+members_distinct set = filtered_distinct (has set) MAX_COLOURS 0
 
 -- the node lines of a scan show the keys
 pub shows_keys : (w : World) → IsReached w → (keys : List Key)

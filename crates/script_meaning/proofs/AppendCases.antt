@@ -1,5 +1,5 @@
 -- How an append ends: it stands, or it is refused. What follows from either, follows from the append.
-use Rattle.std.proofs.Common.{◌≡◌, inl, ℕ, suc, ◌+◌, ◌<◌, List, [], ◌∷◌, length, map, Option, Some, None, Bool, true, false, refl, ap, sym, subst, ◌∙◌, arith}
+use Rattle.std.proofs.Common.{◌≡◌, inl, ℕ, suc, ◌<◌, List, [], ◌∷◌, length, map, Option, Some, None, Bool, true, false, refl, ap, sym, subst, arith}
 use Rattle.std.specs.Prelude.{not, nat_lt}
 use Rattle.std.proofs.lemmas.Bool.{and_from, lt-ltb}
 use Rattle.log_node.specs.declared.ids.Row.{Row}
@@ -32,7 +32,7 @@ use Rattle.script_meaning.proofs.Invariant.{IsStopped, Runs, IsFitWhere, free}
 use Rattle.script_meaning.proofs.Kept.{Does}
 use Rattle.script_meaning.proofs.Lists.{each_true}
 use Rattle.script_meaning.proofs.Refusing.{did_end_one, did_full}
-use Rattle.script_meaning.proofs.Sets.{one_is_power}
+use Rattle.script_meaning.proofs.ShardSets.{one_is_set}
 
 -- the answers to an append that does not stand
 pub data IsRefusal : Answer → Type 0 where
@@ -89,7 +89,7 @@ module _ (script : Script) (commands : List Command) (state : State) (command : 
       (answered state command w (answers.StampEnd c) [])
       (λ ok. stood v (single_stamp w u c) None points
       (one.does script.objects S grants w runs.reached runs.finished u c text going ok colours only
-      (one_is_power colours c only has.bits))
+      (one_is_set colours c only has.bits))
       (subst (Finished S) (sym (one.after_is script.objects S grants w runs.reached runs.finished u c text going ok))
       (one.finished2 script.objects S grants w runs.reached runs.finished u c text going ok)))
       (λ none. refused w (answers.StampEnd c) (no_stamp c)

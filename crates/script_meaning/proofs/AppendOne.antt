@@ -1,5 +1,5 @@
 -- An append to one colour.
-use Rattle.std.proofs.Common.{◌≡◌, ℕ, ◌+◌, ◌^◌, ◌≤◌, max, List, [], ◌∷◌, ◌++◌, length, map, Option, Some, None, Bool, true, false, cond, refl, subst, ap, sym, ◌∙◌, inl, inr, ◌⊎◌, arith, eq-eqb, append-nil}
+use Rattle.std.proofs.Common.{◌≡◌, ℕ, ◌+◌, ◌≤◌, max, List, [], ◌∷◌, ◌++◌, length, map, Option, Some, None, Bool, true, false, cond, refl, subst, ap, sym, ◌∙◌, inl, inr, ◌⊎◌, arith, eq-eqb, append-nil}
 use Rattle.std.specs.Prelude.{◌==◌, ◌&&◌, ◌≢◌, slice_get, slice_index}
 use Rattle.std.proofs.lemmas.Bool.{ltb-true, lt-ltb, ne_eqb}
 use Rattle.log_node.specs.declared.ids.Id.{Id}
@@ -10,7 +10,7 @@ use Rattle.log_node.specs.declared.ids.Counts.{Counts}
 use Rattle.log_node.specs.declared.node.At.TheVariants.{Event}
 use Rattle.log_node.specs.declared.node.Node.{Node}
 use Rattle.log_node.specs.declared.node.Shape.{Shape}
-use Rattle.log_node.specs.Sets.{members}
+use Rattle.log_node.specs.Sets.{members, set_of}
 use Rattle.col_core.specs.declared.Event.TheVariants as events
 use Rattle.col_core.specs.declared.Entry.{Entry}
 use Rattle.col_core.specs.History.{entries, entry_key, line}
@@ -175,7 +175,7 @@ module _ (objects : List Object) (S : ℕ → Type 0) (grants : Grants) (w : Wor
   mine2 : w2.clients u ≡ single_client w u c
   mine2 = clears.helped.clients u ∙ updated-here w.clients u (single_client w u c)
 
-  module _ (colours : Colours) (one : members colours ≡ c ∷ []) (set : colours ≡ record { 0 = 2 ^ c }) (kept : Kept)
+  module _ (colours : Colours) (one : members colours ≡ c ∷ []) (set : colours ≡ set_of (c ∷ [])) (kept : Kept)
       (k : IsKeptBy w u kept) where
     abbrev caller : Caller
     caller = caller_in w objects u
@@ -189,7 +189,7 @@ module _ (objects : List Object) (S : ℕ → Type 0) (grants : Grants) (w : Wor
     node_is : single_node w u c text ≡ node
     node_is =
         let a : (w.clients u).count ≡ kept.ids = sym k.ids in
-        let b : record { 0 = 2 ^ c } ≡ colours = sym set in
+        let b : set_of (c ∷ []) ≡ colours = sym set in
         let f : (w.clients u).floor ≡ kept.floor = sym k.floor in
         let s : (w.clients u).played c ∷ [] ≡ map kept.starts (members colours) =
         ap (λ (g : ℕ → Counts). g c ∷ []) (sym k.starts) ∙ ap (map kept.starts) (sym one) in
@@ -304,7 +304,7 @@ module _ (objects : List Object) (S : ℕ → Type 0) (grants : Grants) (w : Wor
     }
 
   -- the append, as a command
-  pub does : (colours : Colours) → members colours ≡ c ∷ [] → colours ≡ record { 0 = 2 ^ c }
+  pub does : (colours : Colours) → members colours ≡ c ∷ [] → colours ≡ set_of (c ∷ [])
       → Does objects u (whats.Append colours text) w (with_single grants w u text c)
       (answers.Stood stamp None (point_in w (with_single grants w u text c) u id c ∷ [])) []
   does colours one set =

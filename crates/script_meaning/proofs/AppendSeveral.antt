@@ -15,6 +15,7 @@ use Rattle.log_node.specs.declared.marks.Mark.TheVariants as marks
 use Rattle.log_node.specs.declared.marks.Outcome.{Outcome}
 use Rattle.log_node.specs.declared.marks.Outcome.TheVariants.{Open, Gone, Final}
 use Rattle.log_node.specs.Outcomes.{outcome_of, is_missing, is_stamp_end_fence, is_memory_fence, number_of, greatest}
+use Rattle.log_node.specs.declared.limits.TheConstants.{MAX_COLOURS}
 use Rattle.col_core.specs.Log.{HasMark, HasOutcome}
 use Rattle.col_core.specs.Keeping.{Kept, with_made, with_row}
 use Rattle.col_core.proofs.CallerLemmas.{choice, by_test, apart, if_true, In, in_filter}
@@ -114,7 +115,7 @@ filter_rises test (x ∷ xs) r =
     (λ _. (λ y i. r.0 y (in_filter test y xs i).0, filter_rises test xs r.1)) (λ _. filter_rises test xs r.1)
 
 pub colours_rise : (set : Colours) → Rising (members set)
-colours_rise set = filter_rises (has set) (range_with_len 0 64) (range_rises 0 64)
+colours_rise set = filter_rises (has set) (range_with_len 0 MAX_COLOURS) (range_rises 0 MAX_COLOURS)
 
 -- the first that passes a test, of those that rise, and none before it passes
 first_passes : (test : ℕ → Bool) (xs : List ℕ) → Rising xs → (c : ℕ) → In c xs → test c ≡ true

@@ -25,7 +25,7 @@ pub use Rattle.script_meaning.proofs.CausalNodes.{AtPlace, at_place, causal_node
 pub use Rattle.script_meaning.proofs.ChainNodes.{line_node}
 pub use Rattle.script_meaning.proofs.StampedEnds.{rising_line, keys_listed, keys_stand}
 pub use Rattle.script_meaning.proofs.StampedReads.{stamp_low}
-pub use Rattle.script_meaning.proofs.ShardSets.{keys_set, set_one, shard_members, set_has, shard_below, shards_below, shards_has, key_in, rising_members, rising_some, rising_below, own_below}
+pub use Rattle.script_meaning.proofs.ShardSets.{keys_set, shard_members, set_has, shard_below, shards_below, shards_has, key_in, rising_some, rising_below, own_below}
 pub use Rattle.script_meaning.proofs.GrantedSteps.{RunsTo, stays_there}
 pub use Rattle.script_meaning.proofs.VersionsFit.{can_read}
 pub use Rattle.script_meaning.proofs.GrantedReads.{read_runs}

@@ -1,31 +1,15 @@
 -- What a give and a carry change of what a column holds of another region's line.
-use Rattle.std.proofs.Common.{◌≡◌, ◌≢◌, ℕ, ◌+◌, ◌≤◌, List, [], ◌∷◌, ◌++◌, length, take, drop, refl, subst, ap, sym, ◌∙◌, arith, eq-eqb, length-append}
+use Rattle.std.proofs.Common.{◌≡◌, ◌≢◌, ℕ, ◌+◌, ◌≤◌, List, [], ◌∷◌, ◌++◌, length, take, drop, refl, ap, ◌∙◌, arith, eq-eqb, length-append}
 use Rattle.std.specs.Prelude.{◌==◌}
-use Rattle.std.proofs.lemmas.Grind.{fold-append}
-use Rattle.std.proofs.lemmas.List.{length-drop, length-take-le, take-append-drop}
+use Rattle.std.proofs.lemmas.List.{length-drop, length-take-le}
 use Rattle.log_node.specs.declared.node.Head.{Head}
 use Rattle.col_core.specs.declared.Entry.{Entry}
 use Rattle.col_core.specs.declared.Event.TheVariants as events
 use Rattle.col_core.specs.History.{line}
-use Rattle.col_core.specs.Cuts.{Dated, chain}
 use Rattle.col_core.specs.Computed.{dated}
-use Rattle.col_core.specs.Legal.{IsColumnHistory}
-use Rattle.col_core.proofs.CallerLemmas.{if_true, chains_grow, with_date, later, fold-later}
+use Rattle.col_core.proofs.CallerLemmas.{if_true}
 use Rattle.world_laws.specs.Worlds.{chains_after}
 use Rattle.world_laws.proofs.CallerLemmas.{chain_longer, own_chain_length, entries_dated}
-use Rattle.lawful_run.proofs.CallerLemmas.{prefix_length}
-
--- of the first events no more is held than of all
-pub first_chain : (own regions region n : ℕ) (h : List Entry) → IsColumnHistory own regions (dated own h)
-    → length (chain own (dated own (take n h)) region) ≤ length (chain own (dated own h) region)
-first_chain own regions region n h lawful =
-    let before = dated own (take n h) in
-    let more = later own before (drop n h) in
-    let whole : dated own h ≡ before ++ more = ap (dated own) (sym (take-append-drop n h))
-    ∙ (fold-append (with_date own) [] (take n h) (drop n h) ∙ fold-later own before (drop n h)) in
-    subst (λ (ds : List Dated). length (chain own before region) ≤ length (chain own ds region)) (sym whole)
-    (prefix_length (chain own before region) (chain own (before ++ more) region)
-    (chains_grow own regions before more (subst (IsColumnHistory own regions) whole lawful) region))
 
 -- a stretch of an own chain, where the line is as long
 pub stretch_length : (own : ℕ) (h : List Entry) (from count : ℕ) → from + count ≤ length (line h)

@@ -1,7 +1,7 @@
 -- The node at each place of a column's chains: it stands in its region's own line, and needs all that it wants.
-use Rattle.std.proofs.Common.{◌≡◌, ◌≢◌, ◌⊎◌, inl, inr, ℕ, zero, suc, ◌+◌, ◌^◌, ◌<◌, ◌≤◌, min, List, [], ◌∷◌, ◌++◌, length, map, Some, Bool, true, false, refl, ap, sym, subst, ◌∙◌, arith, eq-eqb, length-append}
-use Rattle.std.specs.Prelude.{◌==◌, slice_get, slice_index_or, Option, unwrap_or}
-use Rattle.std.specs.List.{flat_map, range_with_len}
+use Rattle.std.proofs.Common.{◌≡◌, ◌≢◌, ◌⊎◌, inl, inr, ℕ, zero, suc, ◌<◌, min, List, [], ◌∷◌, length, map, Some, true, false, refl, ap, sym, subst, ◌∙◌, arith, eq-eqb}
+use Rattle.std.specs.Prelude.{◌==◌, slice_get, Option, unwrap_or}
+use Rattle.std.specs.List.{range_with_len}
 use Rattle.std.proofs.lemmas.Bool.{true≢false, eqb-true}
 use Rattle.log_node.specs.declared.ids.Id.{Id}
 use Rattle.log_node.specs.declared.ids.Key.{Key}
@@ -11,23 +11,23 @@ use Rattle.log_node.specs.declared.node.Head.{Head}
 use Rattle.log_node.specs.declared.node.Node.{Node}
 use Rattle.log_node.specs.Sets.{members}
 use Rattle.log_node.specs.Vectors.{at, vector, least, IsWithin, all_regions}
-use Rattle.log_node.proofs.CallerLemmas.{same_vectors}
+use Rattle.log_node.specs.declared.limits.TheConstants.{MAX_COLOURS}
+use Rattle.log_node.proofs.CallerLemmas.{same_vectors, members-one}
 use Rattle.col_core.specs.declared.Event.{Event}
 use Rattle.col_core.specs.declared.Event.TheVariants as events
 use Rattle.col_core.specs.declared.Entry.{Entry}
 use Rattle.col_core.specs.History.{line, enters}
-use Rattle.col_core.specs.Cuts.{Dated, entries_of, needs_in, needs_of, chain}
+use Rattle.col_core.specs.Cuts.{Dated, entries_of, needs_in, needs_of}
 use Rattle.col_core.specs.Computed.{dated}
 use Rattle.col_core.specs.PlayOrder.{Place}
 use Rattle.col_core.specs.Rows.{node_wants, wants_of}
-use Rattle.col_core.proofs.CallerLemmas.{by_test, apart, if_true, if_false, same_id-true, entries_dated, In, in_slice, slice_in, head_with, within-at}
+use Rattle.col_core.proofs.CallerLemmas.{by_test, apart, if_true, if_false, same_id-true, entries_dated, In, slice_in, head_with, within-at}
 use Rattle.world_laws.specs.Worlds.{World, chains_after, no_row}
 use Rattle.world_laws.specs.Laws.{IsReached, wants_in}
 use Rattle.world_laws.proofs.CallerLemmas.{FitsEvent, FitsSingle, copy_within, own_chain_length, in_flat_map}
 use Rattle.object_fold.specs.Causal.{ChainNode}
 use Rattle.lawful_run.specs.Objects.{places_within}
 use Rattle.lawful_run.proofs.CallerLemmas.{get-append}
-use Rattle.script_text.specs.Items.{set_of}
 use Rattle.script_meaning.specs.CausalGets.{causal_node}
 use Rattle.script_meaning.specs.Helping.{node_with}
 use Rattle.script_meaning.specs.Moves.{no_head}
@@ -35,8 +35,6 @@ use Rattle.script_meaning.proofs.ChainNodes.{line_event, own_chain, carried_of_r
 use Rattle.script_meaning.proofs.Lists.{in_range}
 use Rattle.script_meaning.proofs.Playing.{at_or, got_at}
 use Rattle.script_meaning.proofs.Reached.{held_of, told_of, listed_of, cuts_of}
-use Rattle.script_meaning.proofs.Sets.{one_is_power}
-use Rattle.script_meaning.proofs.ShardSets.{set_one, set_few}
 
 -- Lists
 
@@ -114,15 +112,7 @@ needs_all (events.Give _ _) cut id t within = absurd (true≢false (sym t))
 needs_all (events.Carry _ _ _) cut id t within = absurd (true≢false (sym t))
 needs_all (events.Trim _) cut id t within = absurd (true≢false (sym t))
 
-module _ (w : World) (reached : IsReached w) (c : ℕ) (low : c < 64) where
-  power : members (record { 0 = 2 ^ c }) ≡ c ∷ []
-  power =
-      subst (λ (s : Colours). members s ≡ c ∷ [])
-      (one_is_power (set_of (c ∷ [])) c (set_one c low) (set_few (c ∷ []) (λ d i. below d i))) (set_one c low) where
-        below : (d : ℕ) → In d (c ∷ []) → d < 64
-        below d (inl e) = subst (λ (x : ℕ). x < 64) e low
-        below d (inr i) = absurd i
-
+module _ (w : World) (reached : IsReached w) (c : ℕ) (low : c < MAX_COLOURS) where
   -- an event that enters a node wants what the node does
   wants_as : (r : ℕ) (e : Entry) → In e (w.histories r c) → (ev : Event) → e.event ≡ ev → (id : Id)
       → enters id ev ≡ true → (node : Node) × (node_with w id ≡ Some node) × (wants_in ev ≡ node_wants node c)
@@ -131,7 +121,7 @@ module _ (w : World) (reached : IsReached w) (c : ℕ) (low : c < 64) where
         f.node,
         ap (node_with w) (same_id-true id other t) ∙ f.listed,
         sym (ap (λ (s : Colours). wants_of (members s) f.node.wants c) f.of_colour
-            ∙ (ap (λ (ms : List ℕ). wants_of ms f.node.wants c) power
+            ∙ (ap (λ (ms : List ℕ). wants_of ms f.node.wants c) (members-one c low)
             ∙ (ap (λ (vs : List Counts). wants_of (c ∷ []) vs c) f.wants_is
             ∙ if_true (c == c) wants _ (eq-eqb c c refl)))),
       )

@@ -4,6 +4,7 @@ use Rattle.std.specs.Prelude.{slice_index, sum, ◌%◌}
 use Rattle.std.specs.List.{AllZip}
 use Rattle.std.proofs.lemmas.Bool.{ltb-true}
 use Rattle.log_node.specs.Vectors.{at, vector}
+use Rattle.log_node.specs.declared.limits.TheConstants.{MAX_COLOURS}
 use Rattle.col_core.specs.Computed.{dated}
 use Rattle.col_core.specs.Cuts.{Dated, chain}
 use Rattle.col_core.specs.PlayOrder.{Place}
@@ -31,7 +32,7 @@ use Rattle.script_meaning.specs.CausalGets.{causal_node, nodes_up_to_cut, causal
 use Rattle.script_meaning.specs.Dequeues.{sync_now}
 use Rattle.script_meaning.proofs.FitCommands as fits
 use Rattle.script_meaning.proofs.CausalAnswers.{causal_answer}
-use Rattle.script_meaning.proofs.CausalNodes.{AtPlace, at_place, causal_node_is, place_within}
+use Rattle.script_meaning.proofs.CausalNodes.{at_place, causal_node_is, place_within}
 use Rattle.script_meaning.proofs.GetRuns.{runs_get_by}
 use Rattle.script_meaning.proofs.Invariant.{Runs, IsFit}
 use Rattle.script_meaning.proofs.Kept.{caller_in}
@@ -61,7 +62,7 @@ module _ (script : Script) (commands : List Command) (state : State) (command : 
   abbrev answer : Answer
   answer = answers.GotMany (causal_values (nodes_up_to_cut w u c) key) (sync_now w u c)
 
-  low : c < 64
+  low : c < MAX_COLOURS
   low = let a = fit.few_colours in omega (arith, a, lt)
 
   one_colour : shard_of (c ∷ []) key ≡ c
@@ -71,7 +72,7 @@ module _ (script : Script) (commands : List Command) (state : State) (command : 
   synced =
       ap (colours_synced caller) asked
       ∙ (ap (λ (k : Option Kind). shards (object_colours k) (key ∷ [])) kind
-      ∙ (one_shard (c ∷ []) key (subst (λ (d : ℕ). d < 64) (sym one_colour) low)
+      ∙ (one_shard (c ∷ []) key (subst (λ (d : ℕ). d < MAX_COLOURS) (sym one_colour) low)
       ∙ ap (λ (d : ℕ). d ∷ []) one_colour))
 
   client_ok : is_client w u ≡ true

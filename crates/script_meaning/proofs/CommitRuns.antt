@@ -1,34 +1,32 @@
 -- After a commit there holds what held before.
-use Rattle.std.proofs.Common.{◌≡◌, ◌≢◌, inl, inr, ℕ, ◌<◌, ◌≤◌, List, [], ◌∷◌, ◌++◌, length, map, Option, Some, None, Bool, true, false, refl, ap, sym, subst, ◌∙◌, arith}
-use Rattle.std.specs.Prelude.{◌==◌, ◌&&◌, nat_lt, slice_get, slice_index}
+use Rattle.std.proofs.Common.{◌≡◌, inl, ℕ, ◌<◌, List, [], ◌∷◌, ◌++◌, length, Option, Some, None, true, refl, ap, sym, subst, ◌∙◌, arith}
+use Rattle.std.specs.Prelude.{◌==◌, ◌&&◌, nat_lt, slice_index}
 use Rattle.std.specs.List.{list_any}
 use Rattle.std.specs.Option.{option_map}
-use Rattle.std.proofs.lemmas.Bool.{eqb-true, leb-true, eq-eqb}
+use Rattle.std.proofs.lemmas.Bool.{eqb-true, eq-eqb}
 use Rattle.log_node.specs.declared.ids.Colours.{Colours}
 use Rattle.log_node.specs.declared.forms.Pair.{Pair}
 use Rattle.log_node.specs.declared.forms.Version.{Version}
 use Rattle.log_node.specs.declared.forms.Form.TheVariants as forms
 use Rattle.log_node.specs.declared.node.Shape.{Shape}
 use Rattle.log_node.specs.Sets.{members}
+use Rattle.log_node.specs.declared.limits.TheConstants.{MAX_COLOURS}
 use Rattle.object_form.specs.Forms.{IsForm, form_text}
 use Rattle.object_form.specs.Laws.{ReadsBack}
-use Rattle.object_fold.specs.Nodes.{shard_of}
 use Rattle.col_core.specs.declared.Entry.{Entry}
 use Rattle.col_core.specs.Keeping.{Kept}
 use Rattle.col_core.proofs.CallerLemmas.{by_test, apart, In}
-use Rattle.world_laws.specs.Worlds.{World, home_of, is_client, is_column}
+use Rattle.world_laws.specs.Worlds.{World, home_of}
 use Rattle.world_laws.specs.Laws.{IsReached, log_of}
 use Rattle.world_laws.proofs.CallerLemmas.{in_right, run_reached}
-use Rattle.script_text.specs.declared.script.Kind.{Kind}
 use Rattle.script_text.specs.declared.script.Object.{Object}
 use Rattle.script_text.specs.declared.script.Command.{Command}
 use Rattle.script_text.specs.declared.script.Script.{Script}
 use Rattle.script_text.specs.declared.script.What.{What}
 use Rattle.script_text.specs.declared.script.What.TheVariants as whats
-use Rattle.script_text.specs.Fitting.{AreObjectColours, HasColours, is_tx, HasObject, UsesObject}
+use Rattle.script_text.specs.Fitting.{AreObjectColours, HasColours, is_tx, UsesObject}
 use Rattle.report_text.specs.declared.report.Answer.{Answer}
 use Rattle.report_text.specs.declared.report.Answer.TheVariants as answers
-use Rattle.report_text.specs.declared.report.PointPiece.{PointPiece}
 use Rattle.lawful_run.specs.Asks.{home_asked, colours_of, colours_synced, keys_of, shards, object_home}
 use Rattle.lawful_run.specs.Asks as asks
 use Rattle.lawful_run.specs.Callers.{Caller, caller_of}
@@ -46,7 +44,7 @@ use Rattle.script_meaning.proofs.Clearing.{Finished}
 use Rattle.script_meaning.proofs.Committing.{AsksOver, after_commit}
 use Rattle.script_meaning.proofs.FitCommands as fits
 use Rattle.script_meaning.proofs.Invariant.{IsStopped, Runs, IsFit, free, caller_is, runs_left}
-use Rattle.script_meaning.proofs.Kept.{IsKeptBy, MadeBy, Does}
+use Rattle.script_meaning.proofs.Kept.{MadeBy, Does}
 use Rattle.script_meaning.proofs.ObjectAppends.{by_asks, finds_no_memory}
 use Rattle.script_meaning.proofs.ObjectForms.{pairs_are, key_some}
 use Rattle.script_meaning.proofs.ObjectKinds.{object_has, some_of, tx_home}
@@ -209,7 +207,7 @@ module _ (back : ReadsBack) (script : Script) (commands : List Command) (state :
         rising_in its_colours c there (omega (arith, low, few))
 
     distinct : AreDistinct cs
-    distinct = filtered_distinct (λ c. list_any (λ d. d == c) its_colours) 64 0
+    distinct = filtered_distinct (λ c. list_any (λ d. d == c) its_colours) MAX_COLOURS 0
 
     synced : (x : World) → colours_synced (caller_in x script.objects u) (whats.Commit object pairs) ≡ cs
     synced x = refl

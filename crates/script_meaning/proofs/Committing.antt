@@ -1,7 +1,6 @@
 -- A commit: its append, the stamped read behind it, and the verdict.
-use Rattle.std.proofs.Common.{◌≡◌, ◌≢◌, ◌⊎◌, inl, inr, ℕ, ◌+◌, ◌<◌, ◌≤◌, max, List, [], ◌∷◌, ◌++◌, length, map, Option, Some, None, Bool, true, refl, ap, sym, subst, ◌∙◌, arith}
-use Rattle.std.specs.Prelude.{IsTrue, nat_lt, ◌&&◌, slice_get, slice_index, unwrap_or}
-use Rattle.std.specs.List.{Contains}
+use Rattle.std.proofs.Common.{◌≡◌, ℕ, List, [], ◌++◌, map, Option, Some, None, refl, ap, sym, subst, ◌∙◌, arith}
+use Rattle.std.specs.Prelude.{slice_get, slice_index, unwrap_or}
 use Rattle.log_node.specs.declared.ids.Colours.{Colours}
 use Rattle.log_node.specs.declared.ids.Id.{Id}
 use Rattle.log_node.specs.declared.ids.Key.{Key}
@@ -20,10 +19,9 @@ use Rattle.object_fold.specs.Transactions.{verdict_of}
 use Rattle.col_core.specs.declared.Entry.{Entry}
 use Rattle.col_core.specs.History.{line, entry_key}
 use Rattle.col_core.specs.Keeping.{Kept}
-use Rattle.col_core.specs.Log.{Log, IsLater}
+use Rattle.col_core.specs.Log.{IsLater}
 use Rattle.col_core.proofs.CallerLemmas.{choice, In}
-use Rattle.world_laws.specs.declared.steps.Step.{Step}
-use Rattle.world_laws.specs.Worlds.{World, home_of, home_history, run_steps, is_client, is_column, next_id}
+use Rattle.world_laws.specs.Worlds.{World, home_of, run_steps, next_id}
 use Rattle.world_laws.specs.Laws.{IsReached, log_of}
 use Rattle.world_laws.proofs.CallerLemmas.{run_reached, run_steps-append}
 use Rattle.script_text.specs.declared.script.Object.{Object}
@@ -35,12 +33,12 @@ use Rattle.report_text.specs.declared.report.Answer.TheVariants as answers
 use Rattle.report_text.specs.declared.report.PointPiece.{PointPiece}
 use Rattle.report_text.specs.declared.report.RaisePiece.{RaisePiece}
 use Rattle.report_text.specs.declared.report.SyncPiece.{SyncPiece}
-use Rattle.lawful_run.specs.Asks.{AsksToAppend, Manner, Committing, manner_of, may_help, colours_synced}
+use Rattle.lawful_run.specs.Asks.{AsksToAppend, colours_synced}
 use Rattle.lawful_run.specs.Appends.{Appends, AppendsUnshown}
 use Rattle.lawful_run.specs.Callers.{Caller, node_of}
 use Rattle.lawful_run.specs.Explains.{Explains}
-use Rattle.lawful_run.specs.Objects.{AreObjectNodes, shown_verdict}
-use Rattle.lawful_run.specs.Reads.{ReadsAt, AreRead, HidesRead}
+use Rattle.lawful_run.specs.Objects.{shown_verdict}
+use Rattle.lawful_run.specs.Reads.{ReadsAt, HidesRead, RefusesRead}
 use Rattle.lawful_run.proofs.CallerLemmas.{append_later, unshown_later, explains_verdict, explains_unruled, explains_unruled_without}
 use Rattle.script_meaning.specs.States.{State, Grants, Reads, answered}
 use Rattle.script_meaning.specs.Dequeues.{object_at}
@@ -284,13 +282,13 @@ module _ (back : ReadsBack) (objects : List Object) (S : ℕ → Type 0) (state 
     by_end g (Refused colour base) ended =
         done (answers.UnreadTrimmed stamp colour base) (leaves (answers.UnreadTrimmed stamp colour base)
         (λ kept k same.
-        let h = ended.hidden (hidden_at kept k) (keeps_at kept k) in (
+        let h = ended (hidden_at kept k) (keeps_at kept k) in (
           h.after,
           h.keeps,
           explains_unruled (log_of x) there kept what set text stamp colour base (hidden_at kept k) h.after refl
-              (subst (λ (l : List ℕ). Contains l colour) (sym (synced x)) ended.among) (asks x kept same)
-              (stands_unshown kept k) (ended.trimmed (hidden_at kept k) (keeps_at kept k))
-              (hides_so (hidden_at kept k) h.after h.hides),
+              (asks x kept same) (stands_unshown kept k)
+              (subst (λ (l : List ℕ). RefusesRead (log_of x) there (hidden_at kept k) l colour base h.after)
+              (sym (synced x)) h.refuses),
         ))) did.to.finished
     by_end g Unraised ended = without (λ kept k. let h = ended kept k in (h.after, h.keeps, h.hides))
 

@@ -1,11 +1,11 @@
 -- After a dequeue there holds what held before.
-use Rattle.std.proofs.Common.{◌≡◌, inl, inr, ℕ, ◌^◌, ◌<◌, List, [], ◌∷◌, ◌++◌, length, None, cond, true, refl, ap, sym, subst, ◌∙◌, arith}
+use Rattle.std.proofs.Common.{◌≡◌, ℕ, ◌<◌, List, [], ◌∷◌, ◌++◌, length, None, cond, true, refl, ap, sym, subst, ◌∙◌, arith}
 use Rattle.std.specs.Prelude.{nat_lt, ◌&&◌, slice_index}
 use Rattle.log_node.specs.declared.ids.Colours.{Colours}
 use Rattle.log_node.specs.declared.forms.Form.TheVariants as forms
-use Rattle.log_node.specs.Sets.{members}
+use Rattle.log_node.specs.Sets.{members, set_of}
 use Rattle.object_form.specs.Forms.{form_text}
-use Rattle.col_core.proofs.CallerLemmas.{choice, In}
+use Rattle.col_core.proofs.CallerLemmas.{choice}
 use Rattle.world_laws.specs.declared.steps.Step.TheVariants.{Play}
 use Rattle.world_laws.specs.Laws.{IsReached, log_of}
 use Rattle.world_laws.specs.Worlds.{World, home_of, after, is_client, is_column, may_single, may_play, after_play, single_stamp, next_id}
@@ -14,7 +14,6 @@ use Rattle.script_text.specs.declared.script.What.{What}
 use Rattle.script_text.specs.declared.script.What.TheVariants as whats
 use Rattle.script_text.specs.declared.script.Command.{Command}
 use Rattle.script_text.specs.declared.script.Script.{Script}
-use Rattle.script_text.specs.Items.{set_of}
 use Rattle.script_text.specs.Fitting.{is_queue, HasObject}
 use Rattle.report_text.specs.declared.report.Answer.{Answer}
 use Rattle.report_text.specs.declared.report.Answer.TheVariants as answers
@@ -24,13 +23,13 @@ use Rattle.lawful_run.specs.Objects.{Takes}
 use Rattle.report_text.specs.declared.report.PointPiece.{PointPiece}
 use Rattle.object_fold.specs.Queues.{front_after}
 use Rattle.log_node.specs.declared.node.Shape.{Shape}
+use Rattle.log_node.specs.declared.limits.TheConstants.{MAX_COLOURS}
+use Rattle.log_node.proofs.CallerLemmas.{members-one}
 use Rattle.script_meaning.specs.States.{State, Grants, answered}
 use Rattle.script_meaning.specs.Appends.{with_single, point_in}
 use Rattle.script_meaning.specs.Objects.{caller_in}
 use Rattle.script_meaning.proofs.Clearing.{Finished}
 use Rattle.script_meaning.proofs.Kept.{Does}
-use Rattle.script_meaning.proofs.Sets.{one_is_power}
-use Rattle.script_meaning.proofs.ShardSets.{set_one, set_few}
 use Rattle.script_meaning.proofs.ObjectAppends.{AsksIn}
 use Rattle.script_meaning.specs.Dequeues.{first_nodes, sync_now, base_now, dequeued_at, dequeued_on, dequeued_by, dequeued}
 use Rattle.script_meaning.proofs.Dequeuing.{are_objects, did_take, did_find_none, did_refuse_read, did_end_dequeue}
@@ -68,7 +67,7 @@ module _ (script : Script) (commands : List Command) (state : State) (command : 
   column_ok = fits.column_ok script commands state command runs fit
 
   -- a dequeue on a colour
-  module _ (colours : Colours) (c : ℕ) (only : members colours ≡ c ∷ []) (set : colours ≡ record { 0 = 2 ^ c })
+  module _ (colours : Colours) (c : ℕ) (only : members colours ≡ c ∷ []) (set : colours ≡ set_of (c ∷ []))
       (lt : c < script.shape.colours) (dequeuing : manner_of command.what ≡ Dequeuing)
       (asks : AsksIn script.objects u command.what colours (form_text forms.Dequeue))
       (synced : (x : World) → colours_synced (caller_in x script.objects u) command.what ≡ c ∷ []) where
@@ -159,22 +158,16 @@ module _ (script : Script) (commands : List Command) (state : State) (command : 
       → Runs script commands' (dequeued script.objects grants state command object)
   runs_dequeue object asked has =
       subst (λ (cs : List ℕ). Runs script commands' (dequeued_by grants state command cs)) (sym of_queue.1)
-      (runs_deq (set_of (of_queue.0 ∷ [])) of_queue.0 only (one_is_power _ of_queue.0 only few_bits) of_queue.2
+      (runs_deq (set_of (of_queue.0 ∷ [])) of_queue.0 only refl of_queue.2
       (ap manner_of asked) asks synced) where
         of_queue : (c : ℕ) × (colours_of caller object ≡ c ∷ []) × (c < script.shape.colours)
         of_queue = queue_colour script.objects script.shape.regions script.shape.colours fit.kinds object has
 
-        low : of_queue.0 < 64
+        low : of_queue.0 < MAX_COLOURS
         low = let a = of_queue.2 in let b = fit.few_colours in omega (arith, a, b)
 
         only : members (set_of (of_queue.0 ∷ [])) ≡ of_queue.0 ∷ []
-        only = set_one of_queue.0 low
-
-        few_bits : (set_of (of_queue.0 ∷ [])).0 < 2 ^ 64
-        few_bits = set_few (of_queue.0 ∷ []) (λ d i. one_below d i) where
-          one_below : (d : ℕ) → In d (of_queue.0 ∷ []) → d < 64
-          one_below d (inl e) = subst (λ (x : ℕ). x < 64) e low
-          one_below d (inr i) = absurd i
+        only = members-one of_queue.0 low
 
         asks : AsksIn script.objects u command.what (set_of (of_queue.0 ∷ [])) (form_text forms.Dequeue)
         asks x kept = subst (λ (what : What). AsksToAppend (caller_in x script.objects u) kept what

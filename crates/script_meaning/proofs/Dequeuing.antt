@@ -36,7 +36,7 @@ use Rattle.lawful_run.specs.Appends.{Appends, AppendsOne, AppendsUnshown, one_un
 use Rattle.lawful_run.specs.Objects.{IsObjectNode, AreObjectNodes, Takes}
 use Rattle.lawful_run.specs.Reads.{Syncs, IsTrimmed, kept_after_piece, played_stamp, HidesSyncs, not_played, played}
 use Rattle.lawful_run.specs.Refusals.{Hides}
-use Rattle.lawful_run.proofs.CallerLemmas.{get_within, prefix_length}
+use Rattle.lawful_run.proofs.CallerLemmas.{explains_unread, get_within, prefix_length}
 use Rattle.lawful_run.specs.Explains.{Explains}
 use Rattle.script_meaning.specs.Helping.{node_with}
 use Rattle.script_meaning.specs.Dequeues.{object_at, sync_now, base_now}
@@ -398,22 +398,13 @@ module _ (objects : List Object) (u : ℕ) (what : What) (colours : Colours) (te
         → Explains (log_of w2) caller2 kept what
         (answers.UnreadTrimmed stamp point.colour (base_now w2 u point.colour)) []
         (unplayed objects w2 reached2 u point.colour few client_ok column_ok unshown keeps_unshown)
-    trimmed_explains refused = (
-      refl,
-      inr dequeuing,
-      has_colour,
-      (
-        colours,
-        text,
-        asks w2 kept,
-        (
-          unshown,
-          unshown_is,
-          is_trimmed objects w2 reached2 u point.colour few client_ok column_ok unshown keeps_unshown refused,
-          hides _ (unshown.starts point.colour, 0, not_played, refl),
-        ),
-      ),
-    )
+    trimmed_explains refused =
+        let after = unplayed objects w2 reached2 u point.colour few client_ok column_ok unshown keeps_unshown in
+        explains_unread (log_of w2) caller2 kept what colours text stamp point.colour (base_now w2 u point.colour) unshown after
+        dequeuing has_colour (asks w2 kept) unshown_is
+        (is_trimmed objects w2 reached2 u point.colour few client_ok column_ok unshown keeps_unshown refused)
+        (subst (λ (l : List ℕ). HidesSyncs (log_of w2) caller2 unshown l after) (sym synced)
+        (unshown.starts point.colour, 0, not_played, refl))
 
     memory_explains : (ok : may_play w2 u point.colour ≡ true)
         → Explains (log_of w2) caller2 kept what (answers.UnreadNoMemory stamp) []

@@ -5,6 +5,7 @@ use Rattle.std.specs.List.{list_any}
 use Rattle.std.proofs.lemmas.List.{take_all}
 use Rattle.log_node.specs.Vectors.{at}
 use Rattle.log_node.specs.declared.ids.Key.{Key}
+use Rattle.log_node.specs.declared.limits.TheConstants.{MAX_COLOURS}
 use Rattle.object_fold.specs.Nodes.{ObjectNode, shard_of}
 use Rattle.object_fold.specs.Maps.{Value, value_among}
 use Rattle.col_core.specs.declared.Entry.{Entry}
@@ -124,7 +125,7 @@ module _ (script : Script) (commands : List Command) (state : State) (command : 
     low : c < script.shape.colours
     low = shard_below script.shape.colours colours own_colours.some own_colours.below key
 
-    small : c < 64
+    small : c < MAX_COLOURS
     small = let a = low in let b = fit.few_colours in omega (arith, a, b)
 
     synced : colours_synced caller command.what ≡ c ∷ []
@@ -176,7 +177,7 @@ module _ (script : Script) (commands : List Command) (state : State) (command : 
         let b = fit.few_colours in omega (arith, a, b))
 
     distinct : AreDistinct cs
-    distinct = filtered_distinct (λ c. list_any (λ k. shard_of its_colours k == c) keys) 64 0
+    distinct = filtered_distinct (λ c. list_any (λ k. shard_of its_colours k == c) keys) MAX_COLOURS 0
 
     look : MayLook script.objects S u (read_stamp w u cs) w cs
     look = fits.may_look script commands state command runs fit cs below

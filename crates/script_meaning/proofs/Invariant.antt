@@ -7,6 +7,7 @@ use Rattle.log_node.specs.declared.ids.Row.{Row}
 use Rattle.log_node.specs.declared.node.Shape.{Shape}
 use Rattle.log_node.specs.declared.forms.Version.{Version}
 use Rattle.log_node.specs.Seen.{PlacedNode}
+use Rattle.log_node.specs.declared.limits.TheConstants.{MAX_COLOURS, MAX_CLIENTS}
 use Rattle.object_form.specs.Forms.{AreVersions}
 use Rattle.col_core.specs.declared.Entry.{Entry}
 use Rattle.col_core.specs.Log.{Log}
@@ -17,7 +18,6 @@ use Rattle.world_laws.specs.Laws.{IsReached, log_of}
 use Rattle.world_laws.proofs.CallerLemmas.{at_updated, updated-here, in_append, in_left, in_right, opened_reached}
 use Rattle.world_laws.proofs.CallerLemmas.{run_reached}
 use Rattle.script_text.specs.declared.script.Object.{Object}
-use Rattle.script_text.specs.declared.script.What.{What}
 use Rattle.script_text.specs.declared.script.What.TheVariants as whats
 use Rattle.script_text.specs.declared.script.Command.{Command}
 use Rattle.script_text.specs.declared.script.Script.{Script}
@@ -121,8 +121,8 @@ pub record IsFitWhere (script : Script) (commands : List Command) (command : Com
   pub going : (c : Command) → In c commands → c.client ≡ command.client → IsTrue (is_stop c.what) → ⊥
   pub uses : UsesObject script.objects command.what
   pub kinds : All (λ (o : Object). IsKindWithin script.shape.regions script.shape.colours o.kind) script.objects
-  pub few_colours : script.shape.colours ≤ 16
-  pub few_clients : length script.shape.homes ≤ 16
+  pub few_colours : script.shape.colours ≤ MAX_COLOURS
+  pub few_clients : length script.shape.homes ≤ MAX_CLIENTS
   pub callers : (c : Command) → In c commands → c.client < length script.shape.homes
   pub short : length commands + 1 < 2 ^ 15
   pub away : IsAway (caller_of script command.client) (home_asked (caller_of script command.client) command.what) → Away

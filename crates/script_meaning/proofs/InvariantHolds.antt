@@ -1,21 +1,17 @@
 -- Each state to which a fitting script's commands lead keeps what `Runs` says.
-use Rattle.std.proofs.Common.{◌≡◌, ◌⊎◌, inl, inr, ℕ, zero, suc, ◌+◌, ◌^◌, ◌<◌, ◌≤◌, List, [], ◌∷◌, ◌++◌, length, take, Option, Some, None, Bool, true, false, refl, ap, sym, subst, ◌∙◌, arith, append-nil, append_assoc, length-append, map}
-use Rattle.std.specs.Prelude.{IsTrue, not, nat_lt, slice_get, slice_index, slice_index_or}
-use Rattle.std.specs.List.{All, list_all}
+use Rattle.std.proofs.Common.{◌≡◌, ◌⊎◌, inl, inr, ℕ, zero, suc, ◌+◌, ◌<◌, ◌≤◌, List, [], ◌∷◌, ◌++◌, length, take, Option, Some, None, Bool, true, refl, ap, sym, subst, ◌∙◌, arith, append-nil, append_assoc, length-append, map, lit≤}
+use Rattle.std.specs.Prelude.{IsTrue, slice_get, slice_index, slice_index_or}
+use Rattle.std.specs.List.{All}
 use Rattle.std.specs.Option.{option_map}
-use Rattle.std.proofs.lemmas.Bool.{and_from, leb-true, ltb-true, lt-ltb, cases_lt}
-use Rattle.log_node.specs.declared.ids.Row.{Row}
+use Rattle.std.proofs.lemmas.Bool.{leb-true}
 use Rattle.log_node.specs.declared.ids.Colours.{Colours}
 use Rattle.log_node.specs.declared.forms.Form.TheVariants as forms
-use Rattle.log_node.specs.Sets.{members}
+use Rattle.log_node.specs.declared.limits.TheConstants.{MAX_COLOURS, MAX_CLIENTS}
+use Rattle.log_node.specs.Sets.{members, set_of}
 use Rattle.object_form.specs.Forms.{form_text}
 use Rattle.object_form.specs.Laws.{ReadsBack}
-use Rattle.log_node.specs.declared.marks.Why.TheVariants.{Memory, StampEnd}
-use Rattle.log_node.specs.declared.marks.Outcome.{Outcome}
-use Rattle.log_node.specs.declared.marks.Outcome.TheVariants.{Open, Gone, Final}
-use Rattle.col_core.proofs.CallerLemmas.{choice, both, apart, not_true, if_true, In}
-use Rattle.world_laws.specs.declared.steps.Step.TheVariants.{Seen}
-use Rattle.world_laws.specs.Worlds.{World, home_of, after, run_steps, row_of, next_row, is_client, is_column, may_begin, may_single, after_begin, single_stamp, next_id}
+use Rattle.col_core.proofs.CallerLemmas.{choice, both, if_true, In}
+use Rattle.world_laws.specs.Worlds.{World, home_of, run_steps, next_row, is_client, is_column, may_begin, after_begin}
 use Rattle.world_laws.specs.Completing.{complete_steps}
 use Rattle.world_laws.proofs.CallerLemmas.{contains_in, in_slice, in_left, in_right}
 use Rattle.script_text.specs.declared.script.Kind.{Kind}
@@ -25,25 +21,22 @@ use Rattle.script_text.specs.declared.script.What.{What}
 use Rattle.script_text.specs.declared.script.What.TheVariants as whats
 use Rattle.script_text.specs.declared.script.Command.{Command}
 use Rattle.script_text.specs.declared.script.Script.{Script}
-use Rattle.script_text.specs.Items.{is_stop, set_of}
+use Rattle.script_text.specs.declared.limits.TheConstants.{VERSION_1}
+use Rattle.script_text.specs.Items.{is_stop}
 use Rattle.script_text.specs.Fitting.{IsFitting, HasColours, IsWithin, is_queue, HasObject, UsesObject, is_any_map}
 use Rattle.report_text.specs.declared.report.Answer.{Answer}
 use Rattle.report_text.specs.declared.report.Answer.TheVariants as answers
-use Rattle.col_core.specs.History.{entry_key}
 use Rattle.lawful_run.specs.Callers.{Caller, caller_of}
 use Rattle.lawful_run.specs.Asks.{kind_of, colours_of, home_asked, shards, keys_of, put_form, AsksToAppend, Appending, manner_of}
 use Rattle.lawful_run.specs.Refusals.{IsAway}
 use Rattle.lawful_run.proofs.CallerLemmas.{get_within, get-append}
 use Rattle.script_meaning.specs.States.{State, Grants, kind_in, StopsAreLast, answered}
 use Rattle.script_meaning.specs.Gets.{got}
-use Rattle.script_meaning.specs.Helping.{all_cleared}
-use Rattle.script_meaning.specs.Appends.{answered_stood, appended, stopped, is_full, append_steps, with_single, point_in, ended_colour}
+use Rattle.script_meaning.specs.Appends.{answered_stood, appended, stopped, is_full, append_steps}
 use Rattle.script_meaning.specs.Stamped.{scanned}
 use Rattle.script_meaning.specs.Objects.{caller_in, refusing_home, shard_set}
 use Rattle.script_meaning.specs.Meaning.{done_one, done_from, done, LeadTo, nothing, next}
-use Rattle.script_meaning.proofs.Clearing.{Finished}
 use Rattle.script_meaning.proofs.Kept.{Does, did_nothing}
-use Rattle.script_meaning.proofs.Sets.{one_is_power}
 use Rattle.script_meaning.proofs.ShardSets.{shard_members, set_has, shards_below, shards_has}
 use Rattle.script_meaning.proofs.Playing.{at_or}
 use Rattle.script_meaning.proofs.ObjectAppends.{AsksIn, does_as}
@@ -53,15 +46,12 @@ use Rattle.script_meaning.proofs.GetRuns as gets
 use Rattle.script_meaning.proofs.TransactionReads as reading
 use Rattle.script_meaning.proofs.CommitRuns as commits
 use Rattle.script_meaning.proofs.ObjectKinds.{some_of, causal_colour, object_has, queue_one, not_away, is_away, did_stay_away}
-use Rattle.script_meaning.proofs.AppendOne as one
 use Rattle.script_meaning.proofs.AfterMoves as moving
 use Rattle.script_meaning.proofs.AppendCases as cases
 use Rattle.script_meaning.proofs.FitCommands as fits
 use Rattle.script_meaning.proofs.AfterScan as scanning
 use Rattle.script_meaning.proofs.BeginRow as begun
-use Rattle.script_meaning.proofs.AppendSeveral as several
-use Rattle.script_meaning.proofs.AppendFinal as final
-use Rattle.script_meaning.proofs.Refusing.{did_end_one, did_full, did_stop_at_once}
+use Rattle.script_meaning.proofs.Refusing.{did_full, did_stop_at_once}
 use Rattle.script_meaning.proofs.Stopping as stopping
 use Rattle.script_meaning.proofs.Invariant.{IsStopped, Runs, IsFitWhere, IsFit, runs_opening, runs_answered, runs_done, runs_stopped, free, caller_is}
 
@@ -383,8 +373,12 @@ module _ (back : ReadsBack) (script : Script) (fits : IsFitting script) (last : 
             (sym same);
         uses = all_at (λ (c : Command). UsesObject script.objects c.what) script.commands fits.uses command there;
         kinds = fits.objects;
-        few_colours = fits.shape.few_colours;
-        few_clients = fits.shape.few_clients;
+        few_colours =
+            let limit : VERSION_1.colours ≤ MAX_COLOURS = lit≤ tt in
+            let few = fits.shape.few_colours in omega (arith, few, limit);
+        few_clients =
+            let limit : VERSION_1.clients ≤ MAX_CLIENTS = lit≤ tt in
+            let few = fits.shape.few_clients in omega (arith, few, limit);
         callers = λ c i. all_at (λ (c : Command). c.client < length script.shape.homes) script.commands fits.callers c
             (subst (λ (l : List Command). In c l) (sym is) (in_left c commands (command ∷ rest) i));
         short =

@@ -68,4 +68,3 @@ mod LaterNodes
 mod ExactReports
 mod LastStops
 pub mod CallerLemmas
-mod Sets

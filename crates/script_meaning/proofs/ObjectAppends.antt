@@ -45,7 +45,7 @@ module _ (log : Log) (caller : Caller) (kept : Kept) (what : What) (colours : Co
       gone colours text places asks
       (subst (λ (x : Colours). IsGoneForMemory log caller kept (node_of caller kept x text) places) is.0
       (subst (λ (x : List ℕ). IsGoneForMemory log caller kept (node_of caller kept c x) places) is.1 g))
-  finds_no_memory after (gave region colour too_low gives is a b c) = absurd (let f : ⊥ = cc in f)
+  finds_no_memory after (gave region colour looked too_low gives is g) = absurd (let f : ⊥ = cc in f)
   finds_no_memory after (hidden other h) =
       subst (λ (k : Kept). FindsNoMemory log caller kept what k) (sym h) nothing
 

@@ -4,14 +4,15 @@ use Rattle.std.specs.Prelude.{◌==◌, slice_get}
 use Rattle.std.specs.List.{All}
 use Rattle.std.specs.Option.{option_map}
 use Rattle.std.proofs.lemmas.Bool.{eqb-true}
-use Rattle.log_node.specs.Sets.{members}
+use Rattle.log_node.specs.Sets.{members, set_of}
+use Rattle.log_node.specs.declared.limits.TheConstants.{MAX_COLOURS}
+use Rattle.log_node.proofs.CallerLemmas.{members-one}
 use Rattle.col_core.proofs.CallerLemmas.{by_test, if_true, if_false, In}
 use Rattle.world_laws.specs.Worlds.{World, home_of}
 use Rattle.script_text.specs.declared.script.Kind.{Kind}
 use Rattle.script_text.specs.declared.script.Kind.TheVariants as kinds
 use Rattle.script_text.specs.declared.script.Object.{Object}
 use Rattle.script_text.specs.declared.script.What.{What}
-use Rattle.script_text.specs.Items.{set_of}
 use Rattle.script_text.specs.Fitting.{AreObjectColours, IsKindWithin, is_tx, is_queue, is_any_map, HasObject}
 use Rattle.report_text.specs.declared.report.Answer.TheVariants as answers
 use Rattle.lawful_run.specs.Callers.{Caller}
@@ -22,7 +23,6 @@ use Rattle.script_meaning.specs.Objects.{other_home}
 use Rattle.script_meaning.proofs.Kept.{caller_in, Does}
 use Rattle.script_meaning.proofs.Playing.{at_or}
 use Rattle.script_meaning.proofs.Refusing.{same_world}
-use Rattle.script_meaning.proofs.ShardSets.{set_one}
 
 pub some_of : {A : Type 0} (xs : List A) → 1 ≤ length xs → (x : A) × In x xs
 some_of [] lt = absurd (let f : ⊥ = omega (arith, lt) in f)
@@ -43,12 +43,12 @@ kind_colours regions count (kinds.Tx home colours) w = w.1
 kind_colours regions count (kinds.Causal colour) w = one_colour count colour w
 kind_colours regions count (kinds.Queue home colour) w = one_colour count colour w.1
 
-queue_set : (regions count : ℕ) → count ≤ 16 → (kind : Kind) → IsKindWithin regions count kind → is_queue kind ≡ true
+queue_set : (regions count : ℕ) → count ≤ MAX_COLOURS → (kind : Kind) → IsKindWithin regions count kind → is_queue kind ≡ true
     → members (set_of (object_colours (Some kind))) ≡ object_colours (Some kind)
 queue_set regions count few (kinds.Map home colours) w q = absurd (let f : ⊥ = cc in f)
 queue_set regions count few (kinds.Tx home colours) w q = absurd (let f : ⊥ = cc in f)
 queue_set regions count few (kinds.Causal colour) w q = absurd (let f : ⊥ = cc in f)
-queue_set regions count few (kinds.Queue home colour) w q = set_one colour (let lt = w.1 in omega (arith, lt, few))
+queue_set regions count few (kinds.Queue home colour) w q = members-one colour (let lt = w.1 in omega (arith, lt, few))
 
 module _ (objects : List Object) (regions count : ℕ)
     (all : All (λ (o : Object). IsKindWithin regions count o.kind) objects) (object : ℕ) (test : Kind → Bool)
@@ -66,7 +66,7 @@ module _ (objects : List Object) (regions count : ℕ)
   pub object_has : AreObjectColours count colours
   object_has = subst (AreObjectColours count) colours_are (kind_colours regions count has.found.kind within)
 
-  pub queue_one : count ≤ 16 → ((kind : Kind) → test kind ≡ true → is_queue kind ≡ true)
+  pub queue_one : count ≤ MAX_COLOURS → ((kind : Kind) → test kind ≡ true → is_queue kind ≡ true)
       → members (set_of colours) ≡ colours
   queue_one few is =
       subst (λ (l : List ℕ). members (set_of l) ≡ l) colours_are

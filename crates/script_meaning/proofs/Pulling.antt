@@ -1,7 +1,6 @@
 -- A pull.
 use Rattle.std.proofs.Common.{◌≡◌, ◌≢◌, ℕ, zero, suc, ◌+◌, ◌<◌, ◌≤◌, min, List, [], ◌∷◌, ◌++◌, length, take, drop, Some, Bool, true, false, refl, subst, ap, sym, ◌∙◌, arith, append-nil, length-append}
 use Rattle.std.specs.Prelude.{◌==◌, ◌&&◌, max, nat_lt, nat_le, slice_get}
-use Rattle.std.specs.List.{All}
 use Rattle.std.proofs.lemmas.Bool.{and_from, and_right, le-leb, lt-ltb, le-ltb, ltb-true, eqb-true}
 use Rattle.std.proofs.lemmas.List.{take_all, take_at}
 use Rattle.std.proofs.lemmas.List.Elements.{All-cons, All-nil}
@@ -23,11 +22,11 @@ use Rattle.world_laws.proofs.CallerLemmas.{at_updated_at, slice_last, after_reac
 use Rattle.script_text.specs.declared.script.Object.{Object}
 use Rattle.script_text.specs.declared.script.What.TheVariants as whats
 use Rattle.report_text.specs.declared.report.Answer.TheVariants as answers
-use Rattle.lawful_run.specs.Moves.{GivesAt, GivesTooLow, Pulls, with_places, kept_after_pull}
+use Rattle.lawful_run.specs.Moves.{GivesHeld, GivesTooLow, Pulls, OnlyGives, with_places, kept_after_pull, kept_after_giving}
 use Rattle.lawful_run.specs.Refusals.{gave}
 use Rattle.lawful_run.proofs.CallerLemmas.{prefix_take, prefix_length}
 use Rattle.script_meaning.specs.Moves.{lacking, with_give, with_carry, next_at}
-use Rattle.script_meaning.proofs.Carried.{first_chain, stretch_length, carried_chain}
+use Rattle.script_meaning.proofs.Carried.{stretch_length, carried_chain}
 use Rattle.script_meaning.proofs.Clearing.{Finished}
 use Rattle.script_meaning.proofs.Kept.{caller_in, IsKeptBy, MadeBy, Does, later_log}
 use Rattle.script_meaning.proofs.Additions.{Adds, adds_last, adds_trans}
@@ -93,10 +92,6 @@ module _ (objects : List Object) (w : World) (reached : IsReached w) (u region c
       (copy_within region own (dated region theirs) (dated own ours)
       ((reached_worlds.held_of w reached).copies c region own region_there own_there ne))
 
-  -- a column of the client's own has seen no more of the other chain than it holds
-  seen_held : (n : ℕ) → length (chain own (dated own (take n ours)) region) ≤ have
-  seen_held n = first_chain own w.shape.regions region n ours ((reached_worlds.held_of w reached).lawful own c)
-
   gave_there : (x : World) → x.histories region c ≡ theirs ++ give ∷ []
       → slice_get (x.histories region c) (length theirs) ≡ Some give
   gave_there x is = ap (λ (l : List Entry). slice_get l (length theirs)) is ∙ slice_last theirs give
@@ -105,6 +100,34 @@ module _ (objects : List Object) (w : World) (reached : IsReached w) (u region c
       → length (line (take (length theirs) (x.histories region c))) ≡ length (line theirs)
   line_there x is = ap (λ (l : List Entry). length (line (take (length theirs) l))) is
       ∙ ap (λ (l : List Entry). length (line l)) (take_at theirs (give ∷ []) (length theirs) refl)
+
+  -- what is asked for is what its own column held, which was looked at whole
+  asked : (x : World) → IsLater (log_of w) (log_of x) → x.histories region c ≡ theirs ++ give ∷ []
+      → have ≡ min (length (line (take (length theirs) (x.histories region c))))
+      (length (chain own (first (log_of x) own c (length ours)) region))
+  asked x later is =
+      let a = ap (λ (l : List Entry). length (chain own (dated own l) region))
+      (prefix_take ours (x.histories own c) (length ours) (later.histories own c) (omega arith)
+      ∙ take_all (length ours) ours (omega arith)) in
+      let b = line_there x is in
+      let d = have_within in
+      omega (arith, a, b, d)
+
+  -- the client looked at the whole of its own column
+  looked_home : (kept : Kept) → IsKeptBy w1 u kept → IsKeptBy w1 u (kept_after_look kept own c (length ours))
+  looked_home kept j = record {
+    floor = j.floor;
+    starts = j.starts;
+    seen = λ r d. at_updated_at (λ (n : ℕ). n ≤ length (w1.histories r d)) kept.seen own c (length ours) r d
+        (λ er ed. subst (λ (n : ℕ). length ours ≤ length (w1.histories n d)) (sym er)
+        (subst (λ (n : ℕ). length ours ≤ length (w1.histories own n)) (sym ed)
+        (let a = ap length ours1 in omega (arith, a))))
+        (λ _. j.seen r d);
+    known = j.known;
+    made = j.made;
+    ids = j.ids;
+    rows = j.rows;
+  }
 
   adds1 : (end : World) (r d : ℕ) → Adds (MadeBy u (whats.Pull region c) end own r) (w.histories r d) (w1.histories r d)
   adds1 end = adds_last (λ r d. MadeBy u (whats.Pull region c) end own r) w region c give
@@ -147,14 +170,20 @@ module _ (objects : List Object) (w : World) (reached : IsReached w) (u region c
           past : length theirs + 1 ≡ max (kept0.seen region c) (length theirs + 1)
           past = let a = k0.seen region c in omega (arith, a)
 
-    no_memory : (places : List ℕ) → places ≡ length theirs ∷ []
-        → All (λ place. (from : ℕ) × GivesAt (log_of w1) (caller_in w1 objects u) region c place from) places
-    no_memory places is =
-        subst (λ (l : List ℕ). All (λ place. (from : ℕ)
-        × GivesAt (log_of w1) (caller_in w1 objects u) region c place from) l)
-        (sym is) (All-cons (λ place. (from : ℕ) × GivesAt (log_of w1) (caller_in w1 objects u) region c place from)
-        (length theirs) [] (have, gave_there w1 theirs1)
-        (All-nil (λ place. (from : ℕ) × GivesAt (log_of w1) (caller_in w1 objects u) region c place from)))
+    only_gives : OnlyGives (log_of w1) (caller_in w1 objects u) kept region c (length ours) [] (length theirs ∷ [])
+    only_gives = record {
+      another = ne;
+      unseen = k.seen own c;
+      there = (let a = ap length ours1 in omega (arith, a));
+      made_again = All-nil
+          (GivesTooLow (log_of w1) (caller_in w1 objects u) region c (kept.seen own c) (length ours));
+      once = omega arith;
+      given = All-cons held (length theirs) []
+          (have, gave_there w1 theirs1, (length ours, k.seen own c, omega arith, asked w1 later1 theirs1))
+          (All-nil held);
+    } where
+      held : ℕ → Type 0
+      held = GivesHeld (log_of w1) (caller_in w1 objects u) region c (kept.seen own c) (length ours)
 
   -- it gave, and is granted no memory to carry
   pub did_give : Does objects u (whats.Pull region c) w (with_give w u region c) answers.NoMemory []
@@ -166,29 +195,15 @@ module _ (objects : List Object) (w : World) (reached : IsReached w) (u region c
         others = λ n _. refl;
         adds = adds1 w1;
         keeps = λ kept k. record {
-          after = with_places (kept0 kept k) region c (length theirs ∷ []);
-          keeps = k_gave kept k;
-          explains = (
-            refl,
-            gave region c [] (length theirs ∷ []) refl
-                (All-nil (GivesTooLow (log_of w1) (caller_in w1 objects u) region c)) (omega arith)
-                (no_memory kept k (length theirs ∷ []) refl),
-          );
+          after = kept_after_giving kept own region c (length ours) [] (length theirs ∷ []);
+          keeps = looked_home (with_places (kept0 kept k) region c (length theirs ∷ [])) (k_gave kept k);
+          explains = (refl, gave region c (length ours) [] (length theirs ∷ []) refl (only_gives kept k));
         };
       })
 
   abbrev wanted : At → ℕ → World → Type 0
   wanted carry nodes x =
       Does objects u (whats.Pull region c) w x (answers.Pulled nodes (Event (length theirs)) carry) []
-
-  -- what is asked for is not below what the client had seen to be held
-  asks : (x : World) → IsLater (log_of w) (log_of x) → x.histories region c ≡ theirs ++ give ∷ [] → (n : ℕ)
-      → n ≤ length ours → min (length (line (take (length theirs) (x.histories region c))))
-      (length (chain own (first (log_of x) own c n) region)) ≤ have
-  asks x later is n le =
-      let a = subst (λ (l : List Entry). length (chain own (dated own l) region) ≤ have)
-      (sym (prefix_take ours (x.histories own c) n (later.histories own c) le)) (seen_held n) in
-      omega (arith, a)
 
   pub give_finished : (S : ℕ → Type 0) → Finished S w → Finished S (with_give w u region c)
   give_finished S fin =
@@ -222,32 +237,18 @@ module _ (objects : List Object) (w : World) (reached : IsReached w) (u region c
 
     module _ (kept : Kept) (k : IsKeptBy w u kept) where
       looked : IsKeptBy w1 u (kept_after_look (kept1 kept k) own c (length ours))
-      looked =
-          let j = k1 kept k in
-          record {
-            floor = j.floor;
-            starts = j.starts;
-            seen = λ r d. at_updated_at (λ (n : ℕ). n ≤ length (w1.histories r d)) (kept1 kept k).seen own c
-                (length ours) r d
-                (λ er ed. subst (λ (n : ℕ). length ours ≤ length (w1.histories n d)) (sym er)
-                (subst (λ (n : ℕ). length ours ≤ length (w1.histories own n)) (sym ed)
-                (let a = ap length ours1 in omega (arith, a))))
-                (λ _. j.seen r d);
-            known = j.known;
-            made = j.made;
-            ids = j.ids;
-            rows = j.rows;
-          }
+      looked = looked_home (kept1 kept k) (k1 kept k)
 
       pulls_none : Pulls (log_of w1) (caller_in w1 objects u) kept region c count (length theirs)
           (Look (length ours)) []
       pulls_none = record {
         another = ne;
-        made_again = All-nil (GivesTooLow (log_of w1) (caller_in w1 objects u) region c);
+        made_again = All-nil
+            (GivesTooLow (log_of w1) (caller_in w1 objects u) region c (kept.seen own c) (length ours));
         unseen = k.seen region c;
         from = have;
         gives = gave_there w1 theirs1;
-        asks_on = asks w1 later1 theirs1 (kept.seen own c) (k.seen own c);
+        asks = (length ours, k.seen own c, omega arith, asked w1 later1 theirs1);
         carries = (k.seen own c, let a = ap length ours1 in omega (arith, a), all_held);
         holds =
             let a = line_there w1 theirs1 in
@@ -339,11 +340,12 @@ module _ (objects : List Object) (w : World) (reached : IsReached w) (u region c
       pulls : Pulls (log_of w2) (caller_in w2 objects u) kept region c count (length theirs) (Event (length ours)) []
       pulls = record {
         another = ne;
-        made_again = All-nil (GivesTooLow (log_of w2) (caller_in w2 objects u) region c);
+        made_again = All-nil
+            (GivesTooLow (log_of w2) (caller_in w2 objects u) region c (kept.seen own c) (length ours));
         unseen = k.seen region c;
         from = have;
         gives = gave_there w2 theirs2;
-        asks_on = asks w2 later12 theirs2 (kept.seen own c) (k.seen own c);
+        asks = (length ours, k.seen own c, omega arith, asked w2 later12 theirs2);
         carries = (
           k.seen own c,
           held_of w1 region own c,

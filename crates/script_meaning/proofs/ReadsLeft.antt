@@ -1,5 +1,5 @@
 -- What a command does to a client that keeps reads of objects, and which of them it is left with.
-use Rattle.std.proofs.Common.{◌≡◌, ◌⊎◌, ℕ, List, Option, Some, None, Bool, true, false, inl, inr, refl, ap, sym, subst, ◌∙◌, eq-eqb}
+use Rattle.std.proofs.Common.{◌≡◌, ◌⊎◌, ℕ, List, Option, Some, None, ap, sym, ◌∙◌, eq-eqb}
 use Rattle.std.specs.Prelude.{◌≢◌, ◌==◌}
 use mathlib.Core.Path.{fun_ext}
 use Rattle.log_node.specs.declared.forms.Version.{Version}

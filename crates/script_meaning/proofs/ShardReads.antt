@@ -1,11 +1,9 @@
 -- The nodes of a stamped read that have one of its colours are those of that colour's line, up to the stamp.
-use Rattle.std.proofs.Common.{◌≡◌, ◌≢◌, ℕ, zero, suc, ◌+◌, ◌<◌, ◌≤◌, ◌^◌, List, [], ◌∷◌, length, map, Bool, true, false, cond, Option, Some, None, refl, ap, sym, subst, ◌∙◌, inl, inr, ◌⊎◌, arith, eq-eqb}
+use Rattle.std.proofs.Common.{◌≡◌, ◌≢◌, ℕ, zero, suc, ◌<◌, ◌≤◌, List, [], ◌∷◌, map, Bool, true, false, cond, Option, Some, None, refl, ap, sym, subst, ◌∙◌, inl, inr, ◌⊎◌, arith, eq-eqb}
 use Rattle.std.specs.Prelude.{◌==◌, IsTrue, not, ◌&&◌, nat_le, unwrap_or, slice_get}
 use Rattle.std.specs.List.{filter, list_any, range_with_len}
-use Rattle.std.specs.Int.{bit_at}
-use Rattle.std.proofs.lemmas.Bool.{true≢false, eqb-true, leb-true, le-leb, lt-ltb}
+use Rattle.std.proofs.lemmas.Bool.{true≢false, eqb-true, leb-true, le-leb, lt-ltb, or_left, or_cases}
 use Rattle.std.proofs.lemmas.List.Kept.{AllPairs-filter}
-use Rattle.std.proofs.lemmas.Nat.Bits.{bit_at-pow_same, bit_at-pow_other}
 use Rattle.log_node.specs.declared.ids.Id.{Id}
 use Rattle.log_node.specs.declared.ids.Key.{Key}
 use Rattle.log_node.specs.declared.ids.Colours.{Colours}
@@ -17,16 +15,18 @@ use Rattle.log_node.specs.declared.marks.Outcome.TheVariants.{Open, Gone, Final}
 use Rattle.log_node.specs.declared.node.Node.{Node}
 use Rattle.log_node.specs.Order.{key_below}
 use Rattle.log_node.specs.Outcomes.{outcome_of, is_missing, is_stamp_end_fence, is_memory_fence}
-use Rattle.log_node.specs.Sets.{has, members}
+use Rattle.log_node.specs.Sets.{has, members, set_of}
 use Rattle.log_node.specs.Standings.{Standing}
+use Rattle.log_node.specs.declared.limits.TheConstants.{MAX_COLOURS}
+use Rattle.log_node.proofs.CallerLemmas.{has-set_of}
 use Rattle.object_fold.specs.Nodes.{ObjectNode, nodes_of, shard_of}
-use Rattle.object_fold.specs.Maps.{Value, value_after, shard_value, value_among}
+use Rattle.object_fold.specs.Maps.{value_after, value_among}
 use Rattle.col_core.specs.declared.Entry.{Entry}
 use Rattle.col_core.specs.declared.Event.{Event}
 use Rattle.col_core.specs.declared.Event.TheVariants as events
 use Rattle.col_core.specs.History.{entries, entry_key, line, enters}
 use Rattle.col_core.specs.RegionOrder.{IsClearUpTo, IsRegionOrder}
-use Rattle.col_core.proofs.CallerLemmas.{by_test, apart, if_true, same_id-true, both, not_true, In, in_filter, in_filter-back, in_line, contains_in, in_contains, key-irrefl, key-trans, key-stamps, Status, Absent, Waits, Settled, standing_of}
+use Rattle.col_core.proofs.CallerLemmas.{apart, if_true, same_id-true, both, not_true, In, in_filter, in_filter-back, in_line, contains_in, in_contains, key-irrefl, key-trans, key-stamps, Status, Waits, Settled, standing_of}
 use Rattle.world_laws.specs.Worlds.{World, RowState, home_of, home_history, no_row, marks_of, is_member}
 use Rattle.world_laws.specs.Laws.{IsReached}
 use Rattle.world_laws.proofs.CallerLemmas.{Held, Agrees, Fits, Kind, OfRow, FitsEvent, FitsSingle, status_in, column_mark, entry_shown, final_is, any_mark, number_within, colour_in, in_colours, colour_of_mark, in_map}
@@ -96,14 +96,14 @@ nodes_filtered w colour (k ∷ keys) = by (has (object_at w k).colours colour) (
   by false rest = rest
 
 -- a set of one colour has it, and no other
-has_power : (c : ℕ) → has (record { 0 = 2 ^ c }) c ≡ true
-has_power c = ap (λ (n : ℕ). n == 1) (bit_at-pow_same c)
+has_alone : (c : ℕ) → has (set_of (c ∷ [])) c ≡ true
+has_alone c = has-set_of (c ∷ []) c ∙ or_left (c == c) false (eq-eqb c c refl)
 
-only_colour : (c s : ℕ) → has (record { 0 = 2 ^ c }) s ≡ true → c ≡ s
-only_colour c s t =
-    by_test _ (s == c) (λ e. sym (eqb-true s c e))
-    (λ f. let zero_bit = bit_at-pow_other c s (λ e. apart (s == c) (eq-eqb s c e) f) in
-    let one = eqb-true (bit_at (2 ^ c) s) 1 t in absurd (let x : ⊥ = omega (arith, one, zero_bit) in x))
+only_colour : (c s : ℕ) → has (set_of (c ∷ [])) s ≡ true → c ≡ s
+only_colour c s t = turn (or_cases (c == s) false (sym (has-set_of (c ∷ []) s) ∙ t)) where
+  turn : ((c == s) ≡ true) ⊎ (false ≡ true) → c ≡ s
+  turn (inl e) = eqb-true c s e
+  turn (inr n) = absurd (true≢false (sym n))
 
 number_set : (m : Mark) (s : ℕ) → m ≡ marks.Number s → m ≢ marks.None
 number_set m s e n = cc
@@ -134,7 +134,7 @@ module _ (w : World) (reached : IsReached w) where
 
   -- how an id entered a column: alone, or as that of a row
   data EnteredAs (r c : ℕ) (id : Id) : Type 0 where
-    alone : (node : Node) → node_with w id ≡ Some node → node.colours ≡ record { 0 = 2 ^ c } → EnteredAs r c id
+    alone : (node : Node) → node_with w id ≡ Some node → node.colours ≡ set_of (c ∷ []) → EnteredAs r c id
     of_row : (number stamp : ℕ) → number < (w.clients id.client).used → (w.rows id.client number).node.id ≡ id
         → r ≡ home_of w id.client → (w.rows id.client number).marks c ≡ marks.Number stamp → EnteredAs r c id
 
@@ -170,18 +170,18 @@ module _ (w : World) (reached : IsReached w) where
   has_own r c k i = turn (line_entered r c k i) where
     turn : EnteredAs r c k.id → has (object_at w k).colours c ≡ true
     turn (alone node there only) =
-        subst (λ (s : Colours). has s c ≡ true) (sym (colours_are k node there ∙ only)) (has_power c)
+        subst (λ (s : Colours). has s c ≡ true) (sym (colours_are k node there ∙ only)) (has_alone c)
     turn (of_row number stamp begun is home mark) =
         let node = (w.rows k.id.client number).node in
         subst (λ (s : Colours). has s c ≡ true) (sym (colours_are k node (row_node k.id number begun is)))
-        (in_filter (has node.colours) c (range_with_len 0 64)
+        (in_filter (has node.colours) c (range_with_len 0 MAX_COLOURS)
         (colour_in (members node.colours) c
         (colour_of_mark w held (record { client = k.id.client; number = number }) c
         (lt-ltb number (w.clients k.id.client).used begun)
         (number_set ((w.rows k.id.client number).marks c) stamp mark)))).1
 
   -- where a column has no open entry up to a stamp
-  module _ (r s stamp : ℕ) (small : s < 64) (clear : IsClearUpTo stamp (w.histories r s)) where
+  module _ (r s stamp : ℕ) (small : s < MAX_COLOURS) (clear : IsClearUpTo stamp (w.histories r s)) where
     above : (x : Standing) → In x (entries (w.histories r s)) → x.settled ≡ false → stamp < x.key.stamp
     above x i unset =
         let c = contains_in (entries (w.histories r s)) x i in
@@ -233,8 +233,8 @@ module _ (w : World) (reached : IsReached w) where
       member : is_member row.node.colours s ≡ true
       member =
           in_colours (members row.node.colours) s
-          (in_filter-back (has row.node.colours) s (range_with_len 0 64)
-          (range_in 0 64 s (omega arith) (omega (arith, small)))
+          (in_filter-back (has row.node.colours) s (range_with_len 0 MAX_COLOURS)
+          (range_in 0 MAX_COLOURS s (omega arith) (omega (arith, small)))
           (subst (λ (x : Colours). has x s ≡ true) (colours_are k row.node (row_node k.id number begun is)) t))
 
       placed : (n : ℕ) → n ≤ k.stamp → (status s ≡ Waits n) ⊎ ((row.last ≢ Open) × (status s ≡ Settled row.last))
@@ -284,7 +284,7 @@ module _ (w : World) (reached : IsReached w) where
 
   -- THE KEYS OF A READ
 
-  module _ (u stamp : ℕ) (cs : List ℕ) (s : ℕ) (small : s < 64) (i : In s cs)
+  module _ (u stamp : ℕ) (cs : List ℕ) (s : ℕ) (small : s < MAX_COLOURS) (i : In s cs)
       (clear : IsClearUpTo stamp (home_history w u s)) where
     abbrev lines : List (List Key)
     lines = map (λ c. line (home_history w u c)) cs
@@ -329,7 +329,7 @@ module _ (w : World) (reached : IsReached w) where
         (rising_line w reached (home_of w u) s))) there back
 
   -- a key's value over all nodes that are read is that over its shard's own line up to the stamp
-  pub value_read : (u stamp : ℕ) (cs colours key : List ℕ) → shard_of colours key < 64
+  pub value_read : (u stamp : ℕ) (cs colours key : List ℕ) → shard_of colours key < MAX_COLOURS
       → In (shard_of colours key) cs → IsClearUpTo stamp (home_history w u (shard_of colours key))
       → value_up_to w u colours stamp key
       ≡ value_among colours (map (object_at w) (keys_read w u stamp cs)) key

@@ -1,20 +1,22 @@
 -- The sets of the colours of shards.
-use Rattle.std.proofs.Common.{◌≡◌, ◌≢◌, ◌⊎◌, inl, inr, ℕ, zero, suc, ◌+◌, ◌<◌, ◌≤◌, ◌^◌, Bool, true, false, cond, List, [], ◌∷◌, length, map, refl, ap, sym, subst, ◌∙◌, arith, eq-eqb}
+use Rattle.std.proofs.Common.{◌≡◌, ◌⊎◌, inl, inr, ℕ, zero, suc, ◌<◌, ◌≤◌, ◌^◌, Bool, true, false, cond, List, [], ◌∷◌, length, map, refl, ap, sym, subst, ◌∙◌, arith, eq-eqb}
 use Rattle.std.specs.Prelude.{◌==◌, ◌||◌, ◌%◌, nat_lt, sum, slice_index_or}
 use Rattle.std.specs.List.{All, filter, list_any, range_with_len}
 use Rattle.std.proofs.Math.Nat.{mod-lt}
-use Rattle.std.proofs.lemmas.Bool.{or_cases, eqb-true, lt-ltb, cases_lt}
+use Rattle.std.proofs.lemmas.Bool.{or_cases, eqb-true, lt-ltb}
 use Rattle.std.proofs.lemmas.Nat.Bits.{same_from_bits_below, bit_at-lt}
 use Rattle.std.specs.Int.{bit_at}
-use Rattle.log_node.specs.Sets.{has, members}
+use Rattle.log_node.specs.declared.ids.Colours.{Colours}
+use Rattle.log_node.specs.declared.limits.TheConstants.{MAX_COLOURS}
+use Rattle.log_node.specs.Sets.{has, members, set_of}
+use Rattle.log_node.proofs.CallerLemmas.{has-set_of}
 use Rattle.object_fold.specs.Nodes.{shard_of}
-use Rattle.col_core.proofs.CallerLemmas.{by_test, apart, if_true, if_false, contains_in, In, in_filter, in_filter-back}
-use Rattle.script_text.specs.Items.{set_of}
+use Rattle.col_core.proofs.CallerLemmas.{by_test, apart, contains_in, In, in_filter, in_filter-back}
 use Rattle.script_text.specs.Fitting.{AreObjectColours, HasColours}
-use Rattle.script_text.proofs.CallerLemmas.{has_set, bits_few}
+use Rattle.script_text.proofs.CallerLemmas.{bits_few}
 use Rattle.lawful_run.specs.Asks.{colours_where, shards, rising}
 use Rattle.script_meaning.specs.Objects.{shard_set}
-use Rattle.script_meaning.proofs.Lists.{each_true, range_in}
+use Rattle.script_meaning.proofs.Lists.{each_true, in_range, range_in}
 
 -- Lists
 
@@ -51,11 +53,11 @@ any_back test (y ∷ xs) x (inr i) t = ap (λ (b : Bool). test y || b) (any_back
 -- Sets of listed colours
 
 -- a colour is in the set of those for which a test holds where it passes
-pub has_where : (test : ℕ → Bool) (x : ℕ) → In x (range_with_len 0 64) → has (set_of (colours_where test)) x ≡ test x
+pub has_where : (test : ℕ → Bool) (x : ℕ) → In x (range_with_len 0 MAX_COLOURS) → has (set_of (colours_where test)) x ≡ test x
 has_where test x i =
-    has_set (colours_where test) x
+    has-set_of (colours_where test) x
     ∙ by_test _ (test x)
-    (λ t. any_in x (colours_where test) (in_filter-back test x (range_with_len 0 64) i t) ∙ sym t)
+    (λ t. any_in x (colours_where test) (in_filter-back test x (range_with_len 0 MAX_COLOURS) i t) ∙ sym t)
     (λ f. none f (list_any (λ d. d == x) (colours_where test)) refl) where
       none : test x ≡ false → (b : Bool) → list_any (λ d. d == x) (colours_where test) ≡ b
           → list_any (λ d. d == x) (colours_where test) ≡ test x
@@ -64,52 +66,20 @@ has_where test x i =
           let r = in_any (λ d. d == x) (colours_where test) e in
           let same = eqb-true r.0 x r.2 in
           absurd (apart (test x)
-          (subst (λ (y : ℕ). test y ≡ true) same (in_filter test r.0 (range_with_len 0 64) r.1).1) f)
+          (subst (λ (y : ℕ). test y ≡ true) same (in_filter test r.0 (range_with_len 0 MAX_COLOURS) r.1).1) f)
 
 -- the colours for which a test holds are the members of their set
 pub set_where : (test : ℕ → Bool) → members (set_of (colours_where test)) ≡ colours_where test
-set_where test = same_filter (has (set_of (colours_where test))) test (range_with_len 0 64) (has_where test)
-
--- one colour of a range
-one_above : (c a n : ℕ) → c < a → filter (λ x. c == x) (range_with_len a n) ≡ []
-one_above c a zero lt = refl
-one_above c a (suc n) lt =
-    by_test _ (c == a)
-    (λ t. let e = eqb-true c a t in absurd (let f : ⊥ = omega (arith, lt, e) in f))
-    (λ f. if_false (c == a) (a ∷ filter (λ x. c == x) (range_with_len (a + 1) n))
-    (filter (λ x. c == x) (range_with_len (a + 1) n)) f ∙ one_above c (a + 1) n (omega (arith, lt)))
-
-one_here : (c a n : ℕ) → a ≤ c → c < a + n → filter (λ x. c == x) (range_with_len a n) ≡ c ∷ []
-one_here c a zero le lt = absurd (let f : ⊥ = omega (arith, le, lt) in f)
-one_here c a (suc n) le lt =
-    by_test _ (c == a)
-    (λ t. let e = eqb-true c a t in
-    if_true (c == a) (a ∷ filter (λ x. c == x) (range_with_len (a + 1) n))
-    (filter (λ x. c == x) (range_with_len (a + 1) n)) t
-    ∙ (ap (λ (l : List ℕ). a ∷ l) (one_above c (a + 1) n (omega (arith, e)))
-    ∙ ap (λ (x : ℕ). x ∷ []) (sym e)))
-    (λ f. let ne : c ≢ a = λ e. apart (c == a) (eq-eqb c a e) f in
-    if_false (c == a) (a ∷ filter (λ x. c == x) (range_with_len (a + 1) n))
-    (filter (λ x. c == x) (range_with_len (a + 1) n)) f
-    ∙ one_here c (a + 1) n (above (cases_lt a c) ne) (omega (arith, lt))) where
-      above : (a < c) ⊎ (c ≤ a) → c ≢ a → a + 1 ≤ c
-      above (inl less) ne = omega (arith, less)
-      above (inr more) ne = absurd (ne (omega (arith, le, more)))
-
-pub set_one : (c : ℕ) → c < 64 → members (set_of (c ∷ [])) ≡ c ∷ []
-set_one c low =
-    same_filter (has (set_of (c ∷ []))) (λ x. c == x) (range_with_len 0 64) (λ x i. has_set (c ∷ []) x ∙ or_no (c == x))
-    ∙ one_here c 0 64 (omega arith) (omega (arith, low)) where
-      or_no : (b : Bool) → (b || false) ≡ b
-      or_no true = refl
-      or_no false = refl
+set_where test = same_filter (has (set_of (colours_where test))) test (range_with_len 0 MAX_COLOURS) (has_where test)
 
 -- the bits of small colours are few
-pub set_few : (order : List ℕ) → ((c : ℕ) → In c order → c < 64) → (set_of order).0 < 2 ^ 64
-set_few order low = bits_few order 64 (omega arith) (each_true (λ c. nat_lt c 64) order (λ c i. lt-ltb c 64 (low c i)))
+pub set_few : (order : List ℕ) → ((c : ℕ) → In c order → c < MAX_COLOURS) → (set_of order).0 < 2 ^ MAX_COLOURS
+set_few order low =
+    bits_few order MAX_COLOURS (omega arith)
+    (each_true (λ c. nat_lt c MAX_COLOURS) order (λ c i. lt-ltb c MAX_COLOURS (low c i)))
 
 -- such a set has a colour
-pub set_has : (order : List ℕ) → ((c : ℕ) → In c order → c < 64) → 1 ≤ length (members (set_of order))
+pub set_has : (order : List ℕ) → ((c : ℕ) → In c order → c < MAX_COLOURS) → 1 ≤ length (members (set_of order))
     → HasColours 1 (set_of order)
 set_has order low some = record { many = some; bits = set_few order low }
 
@@ -134,16 +104,16 @@ shard_in colours some key =
 pub of_key : (colours : List ℕ) (keys : List (List ℕ)) (c : ℕ) → In c (shards colours keys)
     → (key : List ℕ) × In key keys × (shard_of colours key ≡ c)
 of_key colours keys c i =
-    let t = (in_filter (λ d. list_any (λ key. shard_of colours key == d) keys) c (range_with_len 0 64) i).1 in
+    let t = (in_filter (λ d. list_any (λ key. shard_of colours key == d) keys) c (range_with_len 0 MAX_COLOURS) i).1 in
     let r = in_any (λ key. shard_of colours key == c) keys t in
     (r.0, r.1, eqb-true (shard_of colours r.0) c r.2)
 
 -- and each key's is one
-pub key_in : (colours : List ℕ) (keys : List (List ℕ)) (key : List ℕ) → In key keys → shard_of colours key < 64
+pub key_in : (colours : List ℕ) (keys : List (List ℕ)) (key : List ℕ) → In key keys → shard_of colours key < MAX_COLOURS
     → In (shard_of colours key) (shards colours keys)
 key_in colours keys key i low =
-    in_filter-back (λ d. list_any (λ k. shard_of colours k == d) keys) (shard_of colours key) (range_with_len 0 64)
-    (range_in 0 64 (shard_of colours key) (omega arith) (omega (arith, low)))
+    in_filter-back (λ d. list_any (λ k. shard_of colours k == d) keys) (shard_of colours key) (range_with_len 0 MAX_COLOURS)
+    (range_in 0 MAX_COLOURS (shard_of colours key) (omega arith) (omega (arith, low)))
     (any_back (λ k. shard_of colours k == shard_of colours key) keys key i
     (eq-eqb (shard_of colours key) (shard_of colours key) refl))
 
@@ -157,7 +127,7 @@ shard_members colours keys = set_where (λ c. list_any (λ key. shard_of colours
 
 -- The set of the shards of keys, of an object with some colours, all of them below a number: it has a colour, and its
 -- colours are below that number.
-module _ (count : ℕ) (few : count ≤ 16) (colours : List ℕ) (some : 1 ≤ length colours)
+module _ (count : ℕ) (few : count ≤ MAX_COLOURS) (colours : List ℕ) (some : 1 ≤ length colours)
     (below : All (λ c. c < count) colours) (keys : List (List ℕ)) where
   pub shards_below : (c : ℕ) → In c (shards colours keys) → c < count
   shards_below c i =
@@ -175,23 +145,18 @@ module _ (count : ℕ) (few : count ≤ 16) (colours : List ℕ) (some : 1 ≤ l
 
 -- All colours of an object
 
-pub rising_in : (colours : List ℕ) (c : ℕ) → In c colours → c < 64 → In c (rising colours)
+pub rising_in : (colours : List ℕ) (c : ℕ) → In c colours → c < MAX_COLOURS → In c (rising colours)
 rising_in colours c i low =
-    in_filter-back (λ x. list_any (λ d. d == x) colours) c (range_with_len 0 64)
-    (range_in 0 64 c (omega arith) (omega (arith, low))) (any_in c colours i)
+    in_filter-back (λ x. list_any (λ d. d == x) colours) c (range_with_len 0 MAX_COLOURS)
+    (range_in 0 MAX_COLOURS c (omega arith) (omega (arith, low))) (any_in c colours i)
 
 pub in_rising : (colours : List ℕ) (c : ℕ) → In c (rising colours) → In c colours
 in_rising colours c i =
-    let t = (in_filter (λ x. list_any (λ d. d == x) colours) c (range_with_len 0 64) i).1 in
+    let t = (in_filter (λ x. list_any (λ d. d == x) colours) c (range_with_len 0 MAX_COLOURS) i).1 in
     let r = in_any (λ d. d == c) colours t in
     subst (λ (x : ℕ). In x colours) (eqb-true r.0 c r.2) r.1
 
-pub rising_members : (colours : List ℕ) → members (set_of colours) ≡ rising colours
-rising_members colours =
-    same_filter (has (set_of colours)) (λ x. list_any (λ d. d == x) colours) (range_with_len 0 64)
-    (λ x i. has_set colours x)
-
-module _ (count : ℕ) (few : count ≤ 16) (colours : List ℕ) (own : AreObjectColours count colours) where
+module _ (count : ℕ) (few : count ≤ MAX_COLOURS) (colours : List ℕ) (own : AreObjectColours count colours) where
   pub own_below : (c : ℕ) → In c colours → c < count
   own_below c i = let k = contains_in colours c i in subst (λ (x : ℕ). x < count) k.2 (own.below k.0 c k.1)
 
@@ -226,30 +191,38 @@ in_mapped f [] c i = absurd i
 in_mapped f (k ∷ keys) c (inl e) = (k, e)
 in_mapped f (k ∷ keys) c (inr i) = in_mapped f keys c i
 
+-- sets that have the same colours are one
+same_sets : (a b : Colours) → a.0 < 2 ^ MAX_COLOURS → b.0 < 2 ^ MAX_COLOURS
+    → ((c : ℕ) → c < MAX_COLOURS → has a c ≡ has b c) → a ≡ b
+same_sets a b few fewer same =
+    ap (λ (n : ℕ). let set : Colours = record { 0 = n } in set)
+    (same_from_bits_below MAX_COLOURS a.0 b.0 few fewer
+    (λ c less. same_bit (bit_at a.0 c) (bit_at b.0 c) (bit_at-lt a.0 c) (bit_at-lt b.0 c) (same c less)))
+
+-- a set with one member is that of the member
+pub one_is_set : (set : Colours) (c : ℕ) → members set ≡ c ∷ [] → set.0 < 2 ^ MAX_COLOURS → set ≡ set_of (c ∷ [])
+one_is_set set c one few =
+    same_sets set (set_of (c ∷ [])) few
+    (subst (λ (l : List ℕ). (set_of l).0 < 2 ^ MAX_COLOURS) one
+    (set_few (members set) (λ d i. let lt = (in_range 0 MAX_COLOURS d (in_filter (has set) d (range_with_len 0 MAX_COLOURS) i).0).1 in
+    omega (arith, lt))))
+    (λ d less. sym (has_where (has set) d (range_in 0 MAX_COLOURS d (omega arith) (omega (arith, less))))
+    ∙ ap (λ (l : List ℕ). has (set_of l) d) one)
+
 -- the set of the keys' shards, as often as they come, is that of the shards
-pub keys_set : (colours : List ℕ) → AreObjectColours 16 colours → (keys : List (List ℕ))
+pub keys_set : (colours : List ℕ) → AreObjectColours MAX_COLOURS colours → (keys : List (List ℕ))
     → set_of (map (shard_of colours) keys) ≡ shard_set colours keys
 unfolding shard_set
 keys_set colours are keys =
-    ap (λ (n : ℕ). record { 0 = n }) (same_from_bits_below 64 (set_of (map (shard_of colours) keys)).0
-    (set_of (shards colours keys)).0 (set_few (map (shard_of colours) keys) low)
-    (set_few (shards colours keys) below) bits) where
-      low : (c : ℕ) → In c (map (shard_of colours) keys) → c < 64
-      low c i =
-          let r = in_mapped (shard_of colours) keys c i in
-          let lt = shard_below 16 colours are.some are.below r.0 in
-          subst (λ (x : ℕ). x < 64) r.1 (omega (arith, lt))
-
-      below : (c : ℕ) → In c (shards colours keys) → c < 64
-      below c i =
-          let lt = shards_below 16 (omega arith) colours are.some are.below keys c i in omega (arith, lt)
-
-      bits : (i : ℕ) → i < 64
-          → bit_at (set_of (map (shard_of colours) keys)).0 i ≡ bit_at (set_of (shards colours keys)).0 i
-      bits i less =
-          same_bit _ _ (bit_at-lt (set_of (map (shard_of colours) keys)).0 i)
-          (bit_at-lt (set_of (shards colours keys)).0 i)
-          (has_set (map (shard_of colours) keys) i
-          ∙ (any_map (shard_of colours) i keys
-          ∙ sym (has_where (λ c. list_any (λ key. shard_of colours key == c) keys) i
-          (range_in 0 64 i (omega arith) (omega (arith, less))))))
+    same_sets (set_of (map (shard_of colours) keys)) (set_of (shards colours keys))
+    (set_few (map (shard_of colours) keys) low)
+    (set_few (shards colours keys) (shards_below MAX_COLOURS (omega arith) colours are.some are.below keys))
+    (λ c less. has-set_of (map (shard_of colours) keys) c
+    ∙ (any_map (shard_of colours) c keys
+    ∙ sym (has_where (λ d. list_any (λ key. shard_of colours key == d) keys) c
+    (range_in 0 MAX_COLOURS c (omega arith) (omega (arith, less))))))
+  where
+    low : (c : ℕ) → In c (map (shard_of colours) keys) → c < MAX_COLOURS
+    low c i =
+        let r = in_mapped (shard_of colours) keys c i in
+        subst (λ (x : ℕ). x < MAX_COLOURS) r.1 (shard_below MAX_COLOURS colours are.some are.below r.0)

@@ -17,10 +17,10 @@ use Rattle.col_core.specs.History.{clock, line, last_stamp}
 use Rattle.col_core.specs.Keeping.{Kept, with_made, with_floor}
 use Rattle.col_core.specs.Log.{Log, IsLater}
 use Rattle.col_core.specs.RegionOrder.{IsRegionOrder, IsClearUpTo}
-use Rattle.col_core.proofs.CallerLemmas.{both, contains_in, in_contains, entries_dated, line_rises, In}
+use Rattle.col_core.proofs.CallerLemmas.{both, contains_in, in_contains, in_right, entries_dated, line_rises, In}
 use Rattle.world_laws.specs.declared.steps.Step.{Step}
 use Rattle.world_laws.specs.declared.steps.Step.TheVariants.{Seen}
-use Rattle.world_laws.specs.Worlds.{World, ClientState, home_of, home_history, run_steps, after, base_after, is_client, is_column, may_play}
+use Rattle.world_laws.specs.Worlds.{World, home_of, home_history, run_steps, after, base_after, is_client, is_column, may_play}
 use Rattle.world_laws.specs.Laws.{IsReached, log_of}
 use Rattle.world_laws.proofs.CallerLemmas.{in_left, in_map, run_reached, run_steps-append}
 use Rattle.playback.specs.Merging.{AreRising, region_order}
@@ -31,7 +31,7 @@ use Rattle.report_text.specs.declared.report.RaisePiece.{RaisePiece}
 use Rattle.report_text.specs.declared.report.SyncPiece.{SyncPiece}
 use Rattle.lawful_run.specs.Asks.{manner_of, may_help}
 use Rattle.lawful_run.specs.Callers.{Caller}
-use Rattle.lawful_run.specs.Reads.{IsTrimmed, IsReadStamp, events_until, ReadsAt, lines_read, AreRead, HidesRead, HidesSyncs, ClearSyncs, Raises}
+use Rattle.lawful_run.specs.Reads.{IsTrimmed, IsReadStamp, events_until, ReadsAt, lines_read, AreRead, HidesRead, HidesSyncs, ClearSyncs, Raises, RefusesRead}
 use Rattle.lawful_run.proofs.CallerLemmas.{hides_none, hides_without, prefix_length, prefix_take, raises_later}
 use Rattle.script_meaning.specs.States.{Grants}
 use Rattle.script_meaning.specs.Helping.{node_with, all_cleared}
@@ -174,15 +174,15 @@ module _ (objects : List Object) (S : ℕ → Type 0) (what : What) (may : may_h
     pub kept : (kept : Kept) → IsKeptBy w u kept → KeepsRead w' raises syncs kept
     pub hidden : (kept : Kept) → IsKeptBy w u kept → KeepsHidden w' kept
 
-  -- a read of which a play was refused
-  pub record EndsRefused (w' : World) (colour : ℕ) (shown : Counts) : Type 0 where
-    pub among : Contains colours colour
-    pub trimmed : (kept : Kept) → IsKeptBy w u kept → IsTrimmed (log_of w') (caller_in w' objects u) kept colour shown
-    pub hidden : (kept : Kept) → IsKeptBy w u kept → KeepsHidden w' kept
+  -- what it keeps of one of which a play was refused
+  pub record KeepsRefused (w' : World) (colour : ℕ) (shown : Counts) (kept : Kept) : Type 0 where
+    pub after : Kept
+    pub keeps : IsKeptBy w' u after
+    pub refuses : RefusesRead (log_of w') (caller_in w' objects u) kept colours colour shown after
 
   abbrev pub Ends : World → ReadEnd → Type 0
   Ends w' (Whole at raises syncs keys) = EndsWhole w' at raises syncs keys
-  Ends w' (Refused colour shown) = EndsRefused w' colour shown
+  Ends w' (Refused colour shown) = (kept : Kept) → IsKeptBy w u kept → KeepsRefused w' colour shown kept
   Ends w' Unraised = (kept : Kept) → IsKeptBy w u kept → KeepsHidden w' kept
 
   pub record DidRead (read : StampedRead) : Type 0 where
@@ -306,202 +306,51 @@ module _ (objects : List Object) (S : ℕ → Type 0) (what : What) (may : may_h
         (caller_same w w2 objects u shape2) h.hides) in
         record { synced = s.0; hides = s.1; keeps = subst (IsKeptBy w3 u) s.2 h.keeps }
 
-    -- REFUSED
+    -- RAISED AND CLEARED
 
-    refused : (c : ℕ) → (stamped.played u w2 colours).stopped ≡ Some c
-        → DidRead (read_after_plays u colours w w2 w3 (Some c))
-    refused c stop =
-        let r = playing.refused_one objects S u stamp w2 colours distinct look2 c stop in
-        let to = read_to w3 plays.steps plays.run plays.shape plays.histories plays.others plays.finished in
-        record {
-          to = to;
-          ends = record {
-            among = contains_in colours c r.0;
-            trimmed = λ kept k.
-                let h = home_history w3 u c in
-                let later = later_log w w3 to.steps reached to.run in
-                let seen = k.seen (home_of w3 u) c in
-                let more = prefix_length (w.histories (home_of w3 u) c) h (later.histories (home_of w3 u) c) in
-                record {
-                  events = length h;
-                  unseen = omega (arith, seen, more);
-                  there = omega arith;
-                  is_base = ap (λ (l : List Entry). base (home_of w3 u) w3.shape.regions (dated (home_of w3 u) l))
-                      (sym (take_all (length h) h (omega arith)));
-                  below = subst (λ (v : Counts).
-                      is_within (base_after w3.shape.regions (home_of w3 u) h) v ≡ false)
-                      (r.2 ∙ (ap (λ (s : ClientState). s.played c) (helped.clients u ∙ raised.clients u)
-                      ∙ ap (λ (f : ℕ → Counts). f c) (sym k.starts)))
-                      (not_within c r.0 r.1);
-                };
-            hidden = λ kept k.
-                let p = hidden_plays kept k in
-                hidden_in w3 plays.log plays.shape kept k p.synced
-                (with_made p.synced own (raise_places objects S u stamp low w w1 reached colours raised)) p.hides
-                (inl refl) p.keeps;
-          };
-        } where
-          and_last : (a b : Bool) → a ≡ true → (a && b) ≡ false → b ≡ false
-          and_last true b t f = f
-          and_last false b t f = absurd (let x : ⊥ = cc in x)
-
-          not_within : (c : ℕ) → In c colours → may_play w3 u c ≡ false
-              → is_within (base_after w3.shape.regions (home_of w3 u) (home_history w3 u c)) ((w3.clients u).played c)
-              ≡ false
-          not_within c i refuses =
-              let caller_ok : is_client w3 u ≡ true =
-              ap (λ (s : Shape). nat_lt u (length s.homes)) plays.shape ∙ look2.caller in
-              let column_ok : is_column w3 (home_of w3 u) c ≡ true =
-              ap (λ (s : Shape). nat_lt (slice_index s.homes u) s.regions && nat_lt c s.colours) plays.shape
-              ∙ look2.columns c i in
-              and_last (is_column w3 (home_of w3 u) c) _ column_ok (and_last (is_client w3 u) _ caller_ok refuses)
-
-    -- WHOLE
-
-    module _ (clear : (c : ℕ) → In c colours → IsClearUpTo stamp
-        (w2.histories own c))
-        (clocks : (c : ℕ) → In c colours → stamp ≤ clock (w1.histories own c))
+    module _ (clear : (c : ℕ) → In c colours → IsClearUpTo stamp (w2.histories own c))
         (kept1 : (kept : Kept) → IsKeptBy w u kept
-        → RaisesKept objects S u own stamp low w w1 (map (raise_in w u stamp) colours) kept)
-        (all : (stamped.played u w2 colours).stopped ≡ None) where
-      abbrev w4 : World
-      w4 = after w3 (Seen u stamp)
-
-      later12 : IsLater (log_of w1) (log_of w2)
-      later12 = later_log w1 w2 helped.steps reached1 helped.run
-
-      home3 : home_of w3 u ≡ own
-      home3 = ap (λ (s : Shape). slice_index s.homes u) (plays.shape ∙ shape2)
-
-      column_there : (c : ℕ) → In c colours → c < w3.shape.colours
-      column_there c i =
-          subst (λ (s : Shape). c < s.colours) (sym (plays.shape ∙ shape2))
-          (ltb-true c w.shape.colours (both (nat_lt own w.shape.regions) _ (look.columns c i)).1)
-
-      clock_there : (c : ℕ) → In c colours → stamp ≤ clock (home_history w3 u c)
-      clock_there c i =
-          subst (λ (r : ℕ). stamp ≤ clock (w3.histories r c)) (sym home3)
-          (subst (λ (f : ℕ → ℕ → List Entry). stamp ≤ clock (f own c)) (sym plays.histories)
-          (clock_stays c i)) where
-            clock_stays : (c : ℕ) → In c colours → stamp ≤ clock (w2.histories own c)
-            clock_stays c i =
-                let p = later12.histories own c in
-                let a = reading.front_clock (w2.histories own c) (length (w1.histories own c)) in
-                let b : clock (take (length (w1.histories own c)) (w2.histories own c))
-                ≡ clock (w1.histories own c) =
-                ap clock (prefix_take (w1.histories own c) (w2.histories own c) (length (w1.histories own c)) p
-                (omega arith)
-                ∙ take_all (length (w1.histories own c)) (w1.histories own c) (omega arith)) in
-                let d = clocks c i in
-                omega (arith, a, b, d)
-
-      sees : SeesStamp objects u S stamp w3 w4
-      sees = reading.see_stamp objects u S stamp w3
-          (ap (λ (s : Shape). nat_lt u (length s.homes)) plays.shape ∙ look2.caller) first
-          (column_there first is_first) (clock_there first is_first)
-
-      log4 : log_of w4 ≡ log_of w2
-      log4 = sees.log ∙ plays.log
-
-      shape42 : w4.shape ≡ w2.shape
-      shape42 = sees.shape ∙ plays.shape
-
-      histories4 : w4.histories ≡ w2.histories
-      histories4 = sees.histories ∙ plays.histories
-
-      called : caller_in w4 objects u ≡ caller_in w objects u
-      called = caller_same w w4 objects u (shape42 ∙ shape2)
-
-      to : ReadTo w4
-      to = read_to w4 (plays.steps ++ Seen u stamp ∷ [])
-          (run_steps-append w2 plays.steps (Seen u stamp ∷ [])
-          ∙ (ap (λ (y : World). run_steps y (Seen u stamp ∷ [])) plays.run ∙ sees.run))
-          shape42 histories4 (λ n ne. sees.others n ne ∙ plays.others n ne) (λ f. sees.finished (plays.finished f))
-
+        → RaisesKept objects S u own stamp low w w1 (map (raise_in w u stamp) colours) kept) where
       abbrev raises : List RaisePiece
       raises = map (raise_in w u stamp) colours
 
-      abbrev syncs : List SyncPiece
-      syncs = map (sync_in w2 u) colours
-
-      -- the keys
-      ordered : IsRegionOrder (map (λ c. line (home_history w2 u c)) colours) stamp (keys_read w2 u stamp colours)
-      ordered = keys_ordered w2 reached2 u stamp colours
-
-      same_keys : keys_read w4 u stamp colours ≡ keys_read w2 u stamp colours
-      same_keys = keys_same w2 w4 u stamp shape42 histories4 colours
-
-      are_read : AreRead (log_of w4) (caller_in w4 objects u) stamp syncs (keys_read w4 u stamp colours)
-      are_read =
-          subst (λ (ls : List (List Key)). IsRegionOrder ls stamp (keys_read w4 u stamp colours))
-          (sym (lines_are (log_of w4) (caller_in w4 objects u) w2 u
-          (ap (λ (s : Shape). slice_index s.homes u) shape42) histories4 colours))
-          (subst (IsRegionOrder (map (λ c. line (home_history w2 u c)) colours) stamp) (sym same_keys) ordered)
-
-      nodes : (key : Key) → In key (keys_read w4 u stamp colours) → (node : Node) × (node_with w4 key.id ≡ Some node)
-      nodes key i =
-          let n = keys_listed w2 reached2 u stamp colours key (subst (λ (l : List Key). In key l) same_keys i) in
-          (n.0, ap (λ (l : Log). slice_get (l.nodes key.id.client) key.id.count) log4 ∙ n.1)
-
-      stand : (key : Key) → In key (keys_read w4 u stamp colours) → (c : ℕ) × In key (line (home_history w4 u c))
-      stand key i =
-          let s = keys_stand w2 reached2 u stamp colours key (subst (λ (l : List Key). In key l) same_keys i) in (
-            s.0,
-            subst (λ (r : ℕ). In key (line (w4.histories r s.0)))
-                (sym (ap (λ (s : Shape). slice_index s.homes u) shape42))
-                (subst (λ (f : ℕ → ℕ → List Entry). In key (line (f (home_of w2 u) s.0))) (sym histories4) s.2),
-          )
+      later12 : IsLater (log_of w1) (log_of w2)
+      later12 = later_log w1 w2 helped.steps reached1 helped.run
 
       later : IsLater (log_of w) (log_of w2)
       later = later_log w w2 (raised.steps ++ helped.steps) reached
           (run_steps-append w raised.steps helped.steps
           ∙ (ap (λ (y : World). run_steps y helped.steps) raised.run ∙ helped.run))
 
-      -- what stood before is read
-      has : (c : ℕ) → In c colours → (key : Key) → In key (line (home_history w u c)) → key.stamp ≤ stamp
-          → In key (keys_read w4 u stamp colours)
-      has c i key stood low =
-          let lines = map (λ c. line (home_history w2 u c)) colours in
-          let p = later.lines own c in
-          let now : In key (line (home_history w2 u c)) =
-          subst (λ (r : ℕ). In key (line (w2.histories r c))) (sym (ap (λ (s : Shape). slice_index s.homes u) shape2))
-          (subst (λ (l : List Key). In key l) p.1 (in_left key (line (w.histories own c)) p.0 stood)) in
-          subst (λ (l : List Key). In key l) (sym same_keys)
-          (in_contains (keys_read w2 u stamp colours) key (ordered.all (line (home_history w2 u c)) key
-          (contains_in lines (line (home_history w2 u c)) (in_map_back (λ c. line (home_history w2 u c)) colours c i))
-          (contains_in (line (home_history w2 u c)) key now) low))
+      clear2 : (c : ℕ) → In c colours → IsClearUpTo stamp (home_history w2 u c)
+      clear2 c i = subst (λ (r : ℕ). IsClearUpTo stamp (w2.histories r c))
+          (sym (ap (λ (s : Shape). slice_index s.homes u) shape2)) (clear c i)
 
-      -- no open entry up to the stamp is left
-      clear_still : (c : ℕ) → In c colours → IsClearUpTo stamp (home_history w4 u c)
-      clear_still c i =
-          subst (λ (s : Shape). IsClearUpTo stamp (w4.histories (slice_index s.homes u) c)) (sym (shape42 ∙ shape2))
-          (subst (λ (f : ℕ → ℕ → List Entry). IsClearUpTo stamp (f own c)) (sym histories4) (clear c i))
-
-      -- the client keeps what the read tells
+      -- what the client keeps of the raises
       module _ (kept : Kept) (k : IsKeptBy w u kept) where
-        raised_kept : RaisesKept objects S u own stamp low w w1 raises kept
-        raised_kept = kept1 kept k
-
         keeps2 : IsKeptBy w2 u (kept1 kept k).after
         keeps2 = reading.helped_kept objects u w1 w2 reached1
             (subst (λ (r : ℕ). Helped u r w1 w2) (sym (ap (λ (s : Shape). slice_index s.homes u) raised.shape)) helped)
             (kept1 kept k).after (kept1 kept k).keeps
 
-        shown : playing.PlaysKept objects S u stamp w2 w3 syncs (kept1 kept k).after
-        shown = playing.show_all objects S u stamp w2 w2 colours refl refl look2
-            (λ c i. subst (λ (r : ℕ). IsClearUpTo stamp (w2.histories r c))
-            (sym (ap (λ (s : Shape). slice_index s.homes u) shape2)) (clear c i)) all (kept1 kept k).after keeps2
+        raising2 : Raises (log_of w2) (caller_in w objects u) stamp kept raises (kept1 kept k).after
+        raising2 = raises_later (log_of w1) (log_of w2) later12 (caller_in w objects u) stamp kept raises
+            (kept1 kept k).after (subst (λ (c : Caller). Raises (log_of w1) c stamp kept raises (kept1 kept k).after)
+            (caller_same w w1 objects u raised.shape) (kept1 kept k).raising)
+
+        above_floor : kept.floor ≤ stamp
+        above_floor = let a = k.floor in omega (arith, a)
 
         whole : (c : ℕ) → take (length (w.histories own c)) (w2.histories own c) ≡ w.histories own c
         whole c = prefix_take (w.histories own c) (w2.histories own c) (length (w.histories own c))
             (later.histories own c) (omega arith)
             ∙ take_all (length (w.histories own c)) (w.histories own c) (omega arith)
 
-        chosen : (read_stamp w u colours ≡ (w.clients u).floor)
+        chosen_so : (read_stamp w u colours ≡ (w.clients u).floor)
             ⊎ ((c : ℕ) × In c colours × (clock (home_history w u c) ≡ read_stamp w u colours))
             → IsReadStamp (log_of w2) (caller_in w objects u) kept raises stamp
-        chosen (inl same) = inl (same ∙ sym k.floor)
-        chosen (inr (c, i, same)) =
+        chosen_so (inl same) = inl (same ∙ sym k.floor)
+        chosen_so (inr (c, i, same)) =
             let h = w.histories own c in
             inr (
               raise_in w u stamp c,
@@ -515,6 +364,9 @@ module _ (objects : List Object) (S : ℕ → Type 0) (what : What) (may : may_h
                   → n ≤ events_until (next_at (w.histories own c) b)
               until true n e = omega (arith, e)
               until false n e = omega (arith, e)
+
+        chosen : IsReadStamp (log_of w2) (caller_in w objects u) kept raises stamp
+        chosen = chosen_so (reading.stamp_is w u colours)
 
         -- the stamp is not below what was seen of the clock
         abbrev Above : ℕ → Type 0
@@ -532,61 +384,250 @@ module _ (objects : List Object) (S : ℕ → Type 0) (what : What) (may : may_h
                   (reading.seen_clock w u colours c (kept.seen own c) i),
             )
 
-        above : (cs : List ℕ) → ((c : ℕ) → In c cs → In c colours) → All Above cs
-        above [] sub = All-nil Above
-        above (c ∷ cs) sub =
-            All-cons Above c cs (one_above c (sub c (inl refl))) (above cs (λ d i. sub d (inr i)))
+        each_above : (cs : List ℕ) → ((c : ℕ) → In c cs → In c colours) → All Above cs
+        each_above [] sub = All-nil Above
+        each_above (c ∷ cs) sub =
+            All-cons Above c cs (one_above c (sub c (inl refl))) (each_above cs (λ d i. sub d (inr i)))
 
-        reads : ReadsAt (log_of w2) (caller_in w objects u) kept colours stamp raises syncs
-            (with_floor shown.after stamp)
-        reads = record {
-          raised_colours = same_colours (λ (r : RaisePiece). r.colour) (raise_in w u stamp) (λ c. refl) colours;
-          synced_colours = same_colours (λ (s : SyncPiece). s.colour) (sync_in w2 u) (λ c. refl) colours;
-          above_floor = let a = k.floor in omega (arith, a);
-          above_clocks = above colours (λ c i. i);
-          chosen = chosen (reading.stamp_is w u colours);
-          raised = (kept1 kept k).after;
-          raising = raises_later (log_of w1) (log_of w2) later12 (caller_in w objects u) stamp kept raises
-              (kept1 kept k).after (subst (λ (c : Caller). Raises (log_of w1) c stamp kept raises (kept1 kept k).after)
-              (caller_same w w1 objects u raised.shape) (kept1 kept k).raising);
-          synced = shown.after;
-          syncing = subst (λ (c : Caller). ClearSyncs (log_of w2) c stamp (kept1 kept k).after syncs shown.after)
-              (caller_same w w2 objects u shape2) shown.syncing;
-          after_is = refl;
+        above : All Above colours
+        above = each_above colours (λ c i. i)
+
+      -- REFUSED
+
+      and_last : (a b : Bool) → a ≡ true → (a && b) ≡ false → b ≡ false
+      and_last true b t f = f
+      and_last false b t f = absurd (let x : ⊥ = cc in x)
+
+      not_within : (c : ℕ) → In c colours → may_play w3 u c ≡ false
+          → is_within (base_after w3.shape.regions (home_of w3 u) (home_history w3 u c)) ((w3.clients u).played c)
+          ≡ false
+      not_within c i refuses =
+          let caller_ok : is_client w3 u ≡ true =
+          ap (λ (s : Shape). nat_lt u (length s.homes)) plays.shape ∙ look2.caller in
+          let column_ok : is_column w3 (home_of w3 u) c ≡ true =
+          ap (λ (s : Shape). nat_lt (slice_index s.homes u) s.regions && nat_lt c s.colours) plays.shape
+          ∙ look2.columns c i in
+          and_last (is_column w3 (home_of w3 u) c) _ column_ok (and_last (is_client w3 u) _ caller_ok refuses)
+
+      module _ (c : ℕ) (stop : (stamped.played u w2 colours).stopped ≡ Some c) where
+        abbrev told : Counts
+        told = base_after w3.shape.regions (home_of w3 u) (home_history w3 u c)
+
+        called3 : caller_in w3 objects u ≡ caller_in w objects u
+        called3 = caller_same w w3 objects u (plays.shape ∙ shape2)
+
+        module _ (kept : Kept) (k : IsKeptBy w u kept) where
+          played : playing.PlaysBefore objects S u stamp w2 w2 w3 colours c (kept1 kept k).after
+          played = playing.show_before objects S u stamp w2 w2 colours refl refl look2 clear2 c stop (kept1 kept k).after
+              (keeps2 kept k)
+
+          trimmed : IsTrimmed (log_of w3) (caller_in w3 objects u) played.shown.after c told
+          trimmed =
+              let h = home_history w3 u c in
+              let i = subst (In c) played.apart (in_right c played.before (c ∷ played.behind) (inl refl)) in record {
+                events = length h;
+                unseen = played.shown.keeps.seen (home_of w3 u) c;
+                there = omega arith;
+                is_base = ap (λ (l : List Entry). base (home_of w3 u) w3.shape.regions (dated (home_of w3 u) l))
+                    (sym (take_all (length h) h (omega arith)));
+                below = subst (λ (v : Counts). is_within told v ≡ false)
+                    (ap (λ (f : ℕ → Counts). f c) (sym played.shown.keeps.starts)) (not_within c i played.refused);
+              }
+
+          refuses : RefusesRead (log_of w2) (caller_in w objects u) kept colours c told played.shown.after
+          refuses = record {
+            stamp = stamp;
+            raises = raises;
+            syncs = map (sync_in w2 u) played.before;
+            behind = played.behind;
+            raised_colours = same_colours (λ (r : RaisePiece). r.colour) (raise_in w u stamp) (λ d. refl) colours;
+            synced_before = ap (λ (l : List ℕ). l ++ c ∷ played.behind)
+                (same_colours (λ (s : SyncPiece). s.colour) (sync_in w2 u) (λ d. refl) played.before) ∙ played.apart;
+            above_floor = above_floor kept k;
+            above_clocks = above kept k;
+            chosen = chosen kept k;
+            raised = (kept1 kept k).after;
+            raising = raising2 kept k;
+            syncing = subst (λ (d : Caller). ClearSyncs (log_of w2) d stamp (kept1 kept k).after
+                (map (sync_in w2 u) played.before) played.shown.after)
+                (caller_same w w2 objects u shape2) played.shown.syncing;
+            trimmed = subst (λ (l : Log). IsTrimmed l (caller_in w objects u) played.shown.after c told) plays.log
+                (subst (λ (d : Caller). IsTrimmed (log_of w3) d played.shown.after c told) called3 trimmed);
+          }
+
+        refused : DidRead (read_after_plays u colours w w2 w3 (Some c))
+        refused = record {
+          to = read_to w3 plays.steps plays.run plays.shape plays.histories plays.others plays.finished;
+          ends = λ kept k. record {
+            after = (played kept k).shown.after;
+            keeps = (played kept k).shown.keeps;
+            refuses = subst (λ (l : Log). RefusesRead l (caller_in w3 objects u) kept colours c told
+                (played kept k).shown.after) (sym plays.log)
+                (subst (λ (d : Caller). RefusesRead (log_of w2) d kept colours c told (played kept k).shown.after)
+                (sym called3) (refuses kept k));
+          };
         }
 
-        keeps_read : KeepsRead w4 raises syncs kept
-        keeps_read = record {
-          after = with_floor shown.after stamp;
-          keeps = reading.seen_kept objects u S stamp w3 w4 sees shown.after shown.keeps;
-          reads = subst (λ (l : Log). ReadsAt l (caller_in w4 objects u) kept colours stamp raises syncs
-              (with_floor shown.after stamp)) (sym log4)
-              (subst (λ (c : Caller). ReadsAt (log_of w2) c kept colours stamp raises syncs
-              (with_floor shown.after stamp)) (sym called) reads);
+      -- WHOLE
+
+      module _ (clocks : (c : ℕ) → In c colours → stamp ≤ clock (w1.histories own c))
+          (all : (stamped.played u w2 colours).stopped ≡ None) where
+        abbrev w4 : World
+        w4 = after w3 (Seen u stamp)
+
+        home3 : home_of w3 u ≡ own
+        home3 = ap (λ (s : Shape). slice_index s.homes u) (plays.shape ∙ shape2)
+
+        column_there : (c : ℕ) → In c colours → c < w3.shape.colours
+        column_there c i =
+            subst (λ (s : Shape). c < s.colours) (sym (plays.shape ∙ shape2))
+            (ltb-true c w.shape.colours (both (nat_lt own w.shape.regions) _ (look.columns c i)).1)
+
+        clock_there : (c : ℕ) → In c colours → stamp ≤ clock (home_history w3 u c)
+        clock_there c i =
+            subst (λ (r : ℕ). stamp ≤ clock (w3.histories r c)) (sym home3)
+            (subst (λ (f : ℕ → ℕ → List Entry). stamp ≤ clock (f own c)) (sym plays.histories)
+            (clock_stays c i)) where
+              clock_stays : (c : ℕ) → In c colours → stamp ≤ clock (w2.histories own c)
+              clock_stays c i =
+                  let p = later12.histories own c in
+                  let a = reading.front_clock (w2.histories own c) (length (w1.histories own c)) in
+                  let b : clock (take (length (w1.histories own c)) (w2.histories own c))
+                  ≡ clock (w1.histories own c) =
+                  ap clock (prefix_take (w1.histories own c) (w2.histories own c) (length (w1.histories own c)) p
+                  (omega arith)
+                  ∙ take_all (length (w1.histories own c)) (w1.histories own c) (omega arith)) in
+                  let d = clocks c i in
+                  omega (arith, a, b, d)
+
+        sees : SeesStamp objects u S stamp w3 w4
+        sees = reading.see_stamp objects u S stamp w3
+            (ap (λ (s : Shape). nat_lt u (length s.homes)) plays.shape ∙ look2.caller) first
+            (column_there first is_first) (clock_there first is_first)
+
+        log4 : log_of w4 ≡ log_of w2
+        log4 = sees.log ∙ plays.log
+
+        shape42 : w4.shape ≡ w2.shape
+        shape42 = sees.shape ∙ plays.shape
+
+        histories4 : w4.histories ≡ w2.histories
+        histories4 = sees.histories ∙ plays.histories
+
+        called : caller_in w4 objects u ≡ caller_in w objects u
+        called = caller_same w w4 objects u (shape42 ∙ shape2)
+
+        to : ReadTo w4
+        to = read_to w4 (plays.steps ++ Seen u stamp ∷ [])
+            (run_steps-append w2 plays.steps (Seen u stamp ∷ [])
+            ∙ (ap (λ (y : World). run_steps y (Seen u stamp ∷ [])) plays.run ∙ sees.run))
+            shape42 histories4 (λ n ne. sees.others n ne ∙ plays.others n ne) (λ f. sees.finished (plays.finished f))
+
+        abbrev syncs : List SyncPiece
+        syncs = map (sync_in w2 u) colours
+
+        -- the keys
+        ordered : IsRegionOrder (map (λ c. line (home_history w2 u c)) colours) stamp (keys_read w2 u stamp colours)
+        ordered = keys_ordered w2 reached2 u stamp colours
+
+        same_keys : keys_read w4 u stamp colours ≡ keys_read w2 u stamp colours
+        same_keys = keys_same w2 w4 u stamp shape42 histories4 colours
+
+        are_read : AreRead (log_of w4) (caller_in w4 objects u) stamp syncs (keys_read w4 u stamp colours)
+        are_read =
+            subst (λ (ls : List (List Key)). IsRegionOrder ls stamp (keys_read w4 u stamp colours))
+            (sym (lines_are (log_of w4) (caller_in w4 objects u) w2 u
+            (ap (λ (s : Shape). slice_index s.homes u) shape42) histories4 colours))
+            (subst (IsRegionOrder (map (λ c. line (home_history w2 u c)) colours) stamp) (sym same_keys) ordered)
+
+        nodes : (key : Key) → In key (keys_read w4 u stamp colours) → (node : Node) × (node_with w4 key.id ≡ Some node)
+        nodes key i =
+            let n = keys_listed w2 reached2 u stamp colours key (subst (λ (l : List Key). In key l) same_keys i) in
+            (n.0, ap (λ (l : Log). slice_get (l.nodes key.id.client) key.id.count) log4 ∙ n.1)
+
+        stand : (key : Key) → In key (keys_read w4 u stamp colours) → (c : ℕ) × In key (line (home_history w4 u c))
+        stand key i =
+            let s = keys_stand w2 reached2 u stamp colours key (subst (λ (l : List Key). In key l) same_keys i) in (
+              s.0,
+              subst (λ (r : ℕ). In key (line (w4.histories r s.0)))
+                  (sym (ap (λ (s : Shape). slice_index s.homes u) shape42))
+                  (subst (λ (f : ℕ → ℕ → List Entry). In key (line (f (home_of w2 u) s.0))) (sym histories4) s.2),
+            )
+
+        -- what stood before is read
+        has : (c : ℕ) → In c colours → (key : Key) → In key (line (home_history w u c)) → key.stamp ≤ stamp
+            → In key (keys_read w4 u stamp colours)
+        has c i key stood low =
+            let lines = map (λ c. line (home_history w2 u c)) colours in
+            let p = later.lines own c in
+            let now : In key (line (home_history w2 u c)) =
+            subst (λ (r : ℕ). In key (line (w2.histories r c))) (sym (ap (λ (s : Shape). slice_index s.homes u) shape2))
+            (subst (λ (l : List Key). In key l) p.1 (in_left key (line (w.histories own c)) p.0 stood)) in
+            subst (λ (l : List Key). In key l) (sym same_keys)
+            (in_contains (keys_read w2 u stamp colours) key (ordered.all (line (home_history w2 u c)) key
+            (contains_in lines (line (home_history w2 u c)) (in_map_back (λ c. line (home_history w2 u c)) colours c i))
+            (contains_in (line (home_history w2 u c)) key now) low))
+
+        -- no open entry up to the stamp is left
+        clear_still : (c : ℕ) → In c colours → IsClearUpTo stamp (home_history w4 u c)
+        clear_still c i =
+            subst (λ (s : Shape). IsClearUpTo stamp (w4.histories (slice_index s.homes u) c)) (sym (shape42 ∙ shape2))
+            (subst (λ (f : ℕ → ℕ → List Entry). IsClearUpTo stamp (f own c)) (sym histories4) (clear c i))
+
+        -- the client keeps what the read tells
+        module _ (kept : Kept) (k : IsKeptBy w u kept) where
+          shown : playing.PlaysKept objects S u stamp w2 w3 syncs (kept1 kept k).after
+          shown = playing.show_all objects S u stamp w2 w2 colours refl refl look2
+              clear2 all (kept1 kept k).after (keeps2 kept k)
+
+          reads : ReadsAt (log_of w2) (caller_in w objects u) kept colours stamp raises syncs
+              (with_floor shown.after stamp)
+          reads = record {
+            raised_colours = same_colours (λ (r : RaisePiece). r.colour) (raise_in w u stamp) (λ c. refl) colours;
+            synced_colours = same_colours (λ (s : SyncPiece). s.colour) (sync_in w2 u) (λ c. refl) colours;
+            above_floor = above_floor kept k;
+            above_clocks = above kept k;
+            chosen = chosen kept k;
+            raised = (kept1 kept k).after;
+            raising = raising2 kept k;
+            synced = shown.after;
+            syncing = subst (λ (c : Caller). ClearSyncs (log_of w2) c stamp (kept1 kept k).after syncs shown.after)
+                (caller_same w w2 objects u shape2) shown.syncing;
+            after_is = refl;
+          }
+
+          keeps_read : KeepsRead w4 raises syncs kept
+          keeps_read = record {
+            after = with_floor shown.after stamp;
+            keeps = reading.seen_kept objects u S stamp w3 w4 sees shown.after shown.keeps;
+            reads = subst (λ (l : Log). ReadsAt l (caller_in w4 objects u) kept colours stamp raises syncs
+                (with_floor shown.after stamp)) (sym log4)
+                (subst (λ (c : Caller). ReadsAt (log_of w2) c kept colours stamp raises syncs
+                (with_floor shown.after stamp)) (sym called) reads);
+          }
+
+          keeps_hidden : KeepsHidden w4 kept
+          keeps_hidden =
+              let places = raise_places objects S u stamp low w w1 reached colours raised in
+              let p = hidden_plays kept k in
+              hidden_in w4 log4 shape42 kept k p.synced (with_made (with_floor p.synced stamp) own places) p.hides
+              (inr refl) (reading.seen_kept objects u S stamp w3 w4 sees (with_made p.synced own places) p.keeps)
+
+        whole_read : DidRead (read_after_plays u colours w w2 w3 None)
+        whole_read = record {
+          to = to;
+          ends = record {
+            is = refl;
+            read = are_read;
+            nodes = nodes;
+            stand = stand;
+            has = has;
+            clear = clear_still;
+            keys_are = refl;
+            kept = keeps_read;
+            hidden = keeps_hidden;
+          };
         }
-
-        keeps_hidden : KeepsHidden w4 kept
-        keeps_hidden =
-            let places = raise_places objects S u stamp low w w1 reached colours raised in
-            let p = hidden_plays kept k in
-            hidden_in w4 log4 shape42 kept k p.synced (with_made (with_floor p.synced stamp) own places) p.hides
-            (inr refl) (reading.seen_kept objects u S stamp w3 w4 sees (with_made p.synced own places) p.keeps)
-
-      whole_read : DidRead (read_after_plays u colours w w2 w3 None)
-      whole_read = record {
-        to = to;
-        ends = record {
-          is = refl;
-          read = are_read;
-          nodes = nodes;
-          stand = stand;
-          has = has;
-          clear = clear_still;
-          keys_are = refl;
-          kept = keeps_read;
-          hidden = keeps_hidden;
-        };
-      }
 
   -- ALL OF IT
 
@@ -607,14 +648,20 @@ module _ (objects : List Object) (S : ℕ → Type 0) (what : What) (may : may_h
     clears = clear_all S grants u own (key_above stamp) colours p1.world reached_raised (raised1.finished fin) free
         (ap (λ (s : Shape). slice_index s.homes u) raised1.shape)
 
+    clear_now : (c : ℕ) → In c colours → IsClearUpTo stamp (w2_of.histories own c)
+    clear_now c i = reading.clear_up_to stamp w2_of own c (clears.clear c i)
+
+    raised_now : p1.stopped ≡ None → (kept : Kept) → IsKeptBy w u kept
+        → RaisesKept objects S u own stamp low w p1.world (map (raise_in w u stamp) colours) kept
+    raised_now all kept k =
+        raising.raise_kept objects S u own stamp low grants w w reached refl refl colours distinct look.columns
+        (λ c i. refl) all kept k
+
     after_plays : p1.stopped ≡ None → (o : Option ℕ) → (stamped.played u w2_of colours).stopped ≡ o
         → DidRead (read_after_plays u colours w w2_of (stamped.played u w2_of colours).world o)
-    after_plays all None stop = whole_read p1.world raised1 w2_of clears.helped
-        (λ c i. reading.clear_up_to stamp w2_of own c (clears.clear c i))
-        (raising.clocks_there objects S u own stamp low grants w reached refl colours distinct look.columns all)
-        (λ kept k. raising.raise_kept objects S u own stamp low grants w w reached refl refl colours distinct
-        look.columns (λ c i. refl) all kept k) stop
-    after_plays all (Some c) stop = refused p1.world raised1 w2_of clears.helped c stop
+    after_plays all None stop = whole_read p1.world raised1 w2_of clears.helped clear_now (raised_now all)
+        (raising.clocks_there objects S u own stamp low grants w reached refl colours distinct look.columns all) stop
+    after_plays all (Some c) stop = refused p1.world raised1 w2_of clears.helped clear_now (raised_now all) c stop
 
     after_raises : (o : Option ℕ) → p1.stopped ≡ o → DidRead (read_after_raises grants u colours w p1.world o)
     after_raises None all = after_plays all (stamped.played u w2_of colours).stopped refl

@@ -13,9 +13,9 @@ use Rattle.col_core.specs.RegionOrder.{IsClearUpTo}
 use Rattle.col_core.proofs.CallerLemmas.{choice, if_true, In}
 use Rattle.world_laws.specs.declared.steps.Step.{Step}
 use Rattle.world_laws.specs.declared.steps.Step.TheVariants.{Play}
-use Rattle.world_laws.specs.Worlds.{World, ClientState, home_of, home_history, run_steps, after, after_play, cut_after, is_client, is_column, may_play, played_cut}
+use Rattle.world_laws.specs.Worlds.{World, home_of, home_history, run_steps, after, after_play, cut_after, is_client, is_column, may_play, played_cut}
 use Rattle.world_laws.specs.Laws.{IsReached, log_of}
-use Rattle.world_laws.proofs.CallerLemmas.{at_updated, updated-here, played_client, run_reached, run_steps-append}
+use Rattle.world_laws.proofs.CallerLemmas.{played_client, run_reached, run_steps-append}
 use Rattle.playback.proofs.CallerLemmas.{order_is_played}
 use Rattle.script_text.specs.declared.script.Object.{Object}
 use Rattle.report_text.specs.declared.report.SyncPiece.{SyncPiece}
@@ -30,7 +30,6 @@ use Rattle.script_meaning.proofs.Clearing.{Finished}
 use Rattle.script_meaning.proofs.Kept.{caller_in, IsKeptBy}
 use Rattle.script_meaning.proofs.OwnEvents.{finished_client}
 use Rattle.script_meaning.proofs.Reached.{held_of, cuts_of}
-use Rattle.script_meaning.proofs.StampedRaises.{AreDistinct}
 use Rattle.script_meaning.proofs.Sync as sync
 
 module _ (objects : List Object) (S : ℕ → Type 0) (u stamp : ℕ) where
@@ -42,7 +41,6 @@ module _ (objects : List Object) (S : ℕ → Type 0) (u stamp : ℕ) where
     pub histories : w'.histories ≡ w.histories
     pub log : log_of w' ≡ log_of w
     pub others : (n : ℕ) → n ≢ u → w'.clients n ≡ w.clients n
-    pub unplayed : (d : ℕ) → (In d colours → ⊥) → (w'.clients u).played d ≡ (w.clients u).played d
     pub finished : Finished S w → Finished S w'
 
   -- what the client keeps where no answer tells of the plays
@@ -72,7 +70,6 @@ module _ (objects : List Object) (S : ℕ → Type 0) (u stamp : ℕ) where
     histories = refl;
     log = refl;
     others = λ n ne. refl;
-    unplayed = λ d none. refl;
     finished = λ f. f;
   }
 
@@ -112,9 +109,6 @@ module _ (objects : List Object) (S : ℕ → Type 0) (u stamp : ℕ) where
       histories = refl;
       log = sync.log_same w u (played_client w u c) refl;
       others = λ n ne. updated-not w.clients u (played_client w u c) n ne;
-      unplayed = λ d none. ap (λ (x : ClientState). x.played d) (updated-here w.clients u (played_client w u c))
-          ∙ at_updated (λ (v : Counts). v ≡ (w.clients u).played d) (w.clients u).played c snapshot d
-          (λ e. absurd (none (inl (sym e)))) (λ _. refl);
       finished = λ f. finished_client S w u (played_client w u c) refl f;
     }
 
@@ -202,12 +196,8 @@ module _ (objects : List Object) (S : ℕ → Type 0) (u stamp : ℕ) where
     histories = b.histories ∙ a.histories;
     log = b.log ∙ a.log;
     others = λ n ne. b.others n ne ∙ a.others n ne;
-    unplayed = λ d none. b.unplayed d (λ i. none (inr i)) ∙ a.unplayed d (λ i. none (first d i));
     finished = λ f. b.finished (a.finished f);
-  } where
-    first : (d : ℕ) → (c ≡ d) ⊎ ⊥ → (c ≡ d) ⊎ In d colours
-    first d (inl e) = inl e
-    first d (inr none) = absurd none
+  }
 
   hidden_then : (w v x : World) (c : ℕ) (colours : List ℕ) (kept : Kept) → Played w v (c ∷ [])
       → PlaysHidden w v (c ∷ []) kept
@@ -224,22 +214,20 @@ module _ (objects : List Object) (S : ℕ → Type 0) (u stamp : ℕ) where
       }
 
   shown_then : (w v x : World) (c : ℕ) (syncs : List SyncPiece) (kept : Kept) → Played w v (c ∷ [])
-      → PlaysKept w v (sync_in w u c ∷ []) kept
-      → ((k : Kept) → IsKeptBy v u k → PlaysKept v x syncs k) → PlaysKept w x (sync_in w u c ∷ syncs) kept
-  shown_then w v x c syncs kept a one on =
-      let rest = on one.after one.keeps in
-      record {
-        after = rest.after;
-        keeps = rest.keeps;
-        syncing = (
-          one.syncing.0,
-          one.syncing.1,
-          subst (λ (k : Kept). ClearSyncs (log_of w) (caller_in w objects u) stamp k syncs rest.after) one.syncing.2
-              (subst (λ (l : Log). ClearSyncs l (caller_in w objects u) stamp one.after syncs rest.after) a.log
-              (subst (λ (k : Caller). ClearSyncs (log_of v) k stamp one.after syncs rest.after)
-              (caller_same w v objects u a.shape) rest.syncing)),
-        );
-      }
+      → (one : PlaysKept w v (sync_in w u c ∷ []) kept)
+      → PlaysKept v x syncs one.after → PlaysKept w x (sync_in w u c ∷ syncs) kept
+  shown_then w v x c syncs kept a one rest = record {
+    after = rest.after;
+    keeps = rest.keeps;
+    syncing = (
+      one.syncing.0,
+      one.syncing.1,
+      subst (λ (k : Kept). ClearSyncs (log_of w) (caller_in w objects u) stamp k syncs rest.after) one.syncing.2
+          (subst (λ (l : Log). ClearSyncs l (caller_in w objects u) stamp one.after syncs rest.after) a.log
+          (subst (λ (k : Caller). ClearSyncs (log_of v) k stamp one.after syncs rest.after)
+          (caller_same w v objects u a.shape) rest.syncing)),
+    );
+  }
 
   -- the first play, where it may be
   play_first : (w : World) (c : ℕ) (colours : List ℕ) → MayLook w (c ∷ colours) → may_play w u c ≡ true
@@ -291,6 +279,26 @@ module _ (objects : List Object) (S : ℕ → Type 0) (u stamp : ℕ) where
       (λ x j. hide_all (after w (Play u c)) colours (next_look w (after w (Play u c)) c colours first look) x j))
       (λ _. none_hidden w (c ∷ colours) kept k)
 
+  same_home : (w v : World) (d : ℕ) → v.shape ≡ w.shape → v.histories ≡ w.histories
+      → home_history v u d ≡ home_history w u d
+  same_home w v d e f =
+      ap (λ (s : Shape). v.histories (slice_index s.homes u) d) e
+      ∙ ap (λ (x : ℕ → ℕ → List Entry). x (home_of w u) d) f
+
+  same_sync : (first w : World) (c : ℕ) → w.shape ≡ first.shape → w.histories ≡ first.histories
+      → sync_in w u c ≡ sync_in first u c
+  same_sync first w c e f =
+      ap (λ (s : Shape). record {
+        colour = c;
+        events = length (w.histories (slice_index s.homes u) c);
+        counts = cut_after (slice_index s.homes u) (w.histories (slice_index s.homes u) c);
+      }) e
+      ∙ ap (λ (x : ℕ → ℕ → List Entry). record {
+        colour = c;
+        events = length (x (home_of first u) c);
+        counts = cut_after (home_of first u) (x (home_of first u) c);
+      }) f
+
   -- where none was refused, the syncs are those that are shown
   pub show_all : (first w : World) (colours : List ℕ) → w.shape ≡ first.shape → w.histories ≡ first.histories
       → MayLook w colours → ((c : ℕ) → In c colours → IsClearUpTo stamp (home_history w u c))
@@ -302,52 +310,53 @@ module _ (objects : List Object) (S : ℕ → Type 0) (u stamp : ℕ) where
       → PlaysKept w p.world (map (sync_in first u) (c ∷ colours)) kept) (may_play w u c)
       (stamped.played u (after w (Play u c)) colours) (record { world = w; stopped = Some c })
       (λ ok more. let one = play_first w c colours look ok in
+      let here = show_first w c colours look ok kept k (clear c (inl refl)) in
       subst (λ (s : SyncPiece). PlaysKept w (stamped.played u (after w (Play u c)) colours).world
       (s ∷ map (sync_in first u) colours) kept) (same_sync first w c shape same)
       (shown_then w (after w (Play u c)) (stamped.played u (after w (Play u c)) colours).world c
-      (map (sync_in first u) colours) kept one
-      (show_first w c colours look ok kept k (clear c (inl refl)))
-      (λ x j. show_all first (after w (Play u c)) colours (one.shape ∙ shape) (one.histories ∙ same)
+      (map (sync_in first u) colours) kept one here
+      (show_all first (after w (Play u c)) colours (one.shape ∙ shape) (one.histories ∙ same)
       (next_look w (after w (Play u c)) c colours one look)
       (λ d i. subst (IsClearUpTo stamp) (sym (same_home w (after w (Play u c)) d one.shape one.histories))
-      (clear d (inr i))) more x j)))
-      (λ _ none. absurd (let f : ⊥ = cc in f)) all where
-        same_home : (w v : World) (d : ℕ) → v.shape ≡ w.shape → v.histories ≡ w.histories
-            → home_history v u d ≡ home_history w u d
-        same_home w v d e f =
-            ap (λ (s : Shape). v.histories (slice_index s.homes u) d) e
-            ∙ ap (λ (x : ℕ → ℕ → List Entry). x (home_of w u) d) f
+      (clear d (inr i))) more here.after here.keeps)))
+      (λ _ none. absurd (let f : ⊥ = cc in f)) all
 
-        same_sync : (first w : World) (c : ℕ) → w.shape ≡ first.shape → w.histories ≡ first.histories
-            → sync_in w u c ≡ sync_in first u c
-        same_sync first w c e f =
-            ap (λ (s : Shape). record {
-              colour = c;
-              events = length (w.histories (slice_index s.homes u) c);
-              counts = cut_after (slice_index s.homes u) (w.histories (slice_index s.homes u) c);
-            }) e
-            ∙ ap (λ (x : ℕ → ℕ → List Entry). record {
-              colour = c;
-              events = length (x (home_of first u) c);
-              counts = cut_after (home_of first u) (x (home_of first u) c);
-            }) f
+  -- A play was refused, of this colour: the syncs of those before it are as they are shown, none behind it is played, and
+  -- this one may not be played.
+  pub record PlaysBefore (first w w' : World) (colours : List ℕ) (c : ℕ) (kept : Kept) : Type 0 where
+    pub before : List ℕ
+    pub behind : List ℕ
+    pub apart : before ++ c ∷ behind ≡ colours
+    pub shown : PlaysKept w w' (map (sync_in first u) before) kept
+    pub refused : may_play w' u c ≡ false
 
-  -- where one was refused, it is one of them, and neither its column nor what is played of it had changed
-  pub refused_one : (w : World) (colours : List ℕ) → AreDistinct colours → MayLook w colours → (c : ℕ)
-      → (stamped.played u w colours).stopped ≡ Some c
-      → In c colours × (may_play (stamped.played u w colours).world u c ≡ false)
-      × (((stamped.played u w colours).world.clients u).played c ≡ (w.clients u).played c)
-  refused_one w [] distinct look c e = absurd (let f : ⊥ = cc in f)
-  refused_one w (d ∷ colours) distinct look c e =
-      choice (λ (p : Progress). p.stopped ≡ Some c → In c (d ∷ colours) × (may_play p.world u c ≡ false)
-      × ((p.world.clients u).played c ≡ (w.clients u).played c)) (may_play w u d)
+  pub show_before : (first w : World) (colours : List ℕ) → w.shape ≡ first.shape → w.histories ≡ first.histories
+      → MayLook w colours → ((c : ℕ) → In c colours → IsClearUpTo stamp (home_history w u c))
+      → (c : ℕ) → (stamped.played u w colours).stopped ≡ Some c → (kept : Kept) → IsKeptBy w u kept
+      → PlaysBefore first w (stamped.played u w colours).world colours c kept
+  show_before first w [] shape same look clear c stop kept k = absurd (let f : ⊥ = cc in f)
+  show_before first w (d ∷ colours) shape same look clear c stop kept k =
+      choice (λ (p : Progress). p.stopped ≡ Some c → PlaysBefore first w p.world (d ∷ colours) c kept) (may_play w u d)
       (stamped.played u (after w (Play u d)) colours) (record { world = w; stopped = Some d })
       (λ ok more. let one = play_first w d colours look ok in
-      let r = refused_one (after w (Play u d)) colours distinct.1
-      (next_look w (after w (Play u d)) d colours one look) c more in
-      (inr r.0, r.1, r.2 ∙ one.unplayed c (λ i. twice i r.0)))
-      (λ no is. let same : d ≡ c = cc in
-      (inl same, subst (λ (n : ℕ). may_play w u n ≡ false) same no, refl)) e where
-        twice : (d ≡ c) ⊎ ⊥ → In c colours → ⊥
-        twice (inl t) i = distinct.0 (subst (λ (n : ℕ). In n colours) (sym t) i)
-        twice (inr none) i = none
+      let here = show_first w d colours look ok kept k (clear d (inl refl)) in
+      let rest = show_before first (after w (Play u d)) colours (one.shape ∙ shape) (one.histories ∙ same)
+      (next_look w (after w (Play u d)) d colours one look)
+      (λ e i. subst (IsClearUpTo stamp) (sym (same_home w (after w (Play u d)) e one.shape one.histories))
+      (clear e (inr i))) c more here.after here.keeps in record {
+        before = d ∷ rest.before;
+        behind = rest.behind;
+        apart = ap (λ (l : List ℕ). d ∷ l) rest.apart;
+        shown = subst (λ (s : SyncPiece). PlaysKept w (stamped.played u (after w (Play u d)) colours).world
+            (s ∷ map (sync_in first u) rest.before) kept) (same_sync first w d shape same)
+            (shown_then w (after w (Play u d)) (stamped.played u (after w (Play u d)) colours).world d
+            (map (sync_in first u) rest.before) kept one here rest.shown);
+        refused = rest.refused;
+      })
+      (λ no is. let is_it : d ≡ c = cc in record {
+        before = [];
+        behind = colours;
+        apart = ap (λ (n : ℕ). n ∷ colours) (sym is_it);
+        shown = record { after = kept; keeps = k; syncing = refl };
+        refused = subst (λ (n : ℕ). may_play w u n ≡ false) is_it no;
+      }) stop

@@ -105,7 +105,7 @@ module _ (objects : List Object) (w : World) (reached : IsReached w) (u c : ℕ)
     keeps = λ kept k. record {
       after = kept;
       keeps = k;
-      explains = (refl, inl refl, (0, omega arith, refl), is_trimmed kept k, refl);
+      explains = (refl, inl refl, ((0, omega arith, refl), is_trimmed kept k, refl));
     };
   } where
     is_trimmed : (kept : Kept) → IsKeptBy w u kept → IsTrimmed log (caller_in w objects u) kept c trimmed

@@ -1,9 +1,10 @@
 -- A read of a transactional map: what it answers, and what it keeps for a commit.
-use Rattle.std.proofs.Common.{◌≡◌, ℕ, ◌<◌, List, [], ◌∷◌, ◌++◌, length, map, Option, Some, None, true, inl, inr, refl, ap, sym, subst, ◌∙◌, arith, length-append}
+use Rattle.std.proofs.Common.{◌≡◌, ℕ, ◌<◌, List, [], ◌∷◌, ◌++◌, length, map, Option, Some, None, true, inl, inr, ap, sym, subst, ◌∙◌, arith, length-append}
 use Rattle.std.specs.Prelude.{◌==◌}
 use Rattle.std.specs.List.{list_any}
 use Rattle.log_node.specs.declared.ids.Key.{Key}
 use Rattle.log_node.specs.declared.forms.Version.{Version}
+use Rattle.log_node.specs.declared.limits.TheConstants.{MAX_COLOURS}
 use Rattle.object_form.specs.Forms.{is_writer, AreVersions}
 use Rattle.object_fold.specs.Nodes.{ObjectNode}
 use Rattle.object_fold.specs.Transactions.{writes_after, value_of, versions_after}
@@ -73,7 +74,7 @@ module _ (script : Script) (commands : List Command) (state : State) (command : 
   going = free script commands state command runs fit
 
   distinct : AreDistinct cs
-  distinct = filtered_distinct (λ c. list_any (λ d. d == c) (colours_of (caller_in w script.objects u) object)) 64 0
+  distinct = filtered_distinct (λ c. list_any (λ d. d == c) (colours_of (caller_in w script.objects u) object)) MAX_COLOURS 0
 
   look : MayLook script.objects S u (read_stamp w u cs) w cs
   look = fits.may_look script commands state command runs fit cs

@@ -1,23 +1,21 @@
 -- The verdict on a node among the nodes that were read.
-use Rattle.std.proofs.Common.{◌≡◌, ℕ, List, [], ◌∷◌, map, Option, Some, None, Bool, true, false, inl, inr, refl, ap, sym, subst, ◌∙◌, eq-eqb}
+use Rattle.std.proofs.Common.{◌≡◌, List, [], ◌∷◌, map, Option, Some, true, inl, inr, refl, ap, sym, subst, ◌∙◌, eq-eqb}
 use Rattle.std.specs.Prelude.{◌==◌, unwrap_or}
 use Rattle.std.specs.List.{find}
 use Rattle.std.proofs.lemmas.Bool.{and_from}
 use Rattle.log_node.specs.declared.ids.Key.{Key}
 use Rattle.log_node.specs.declared.forms.Pair.{Pair}
 use Rattle.log_node.specs.declared.forms.Version.{Version}
-use Rattle.log_node.specs.declared.forms.Form.{Form}
 use Rattle.log_node.specs.declared.forms.Form.TheVariants as forms
 use Rattle.log_node.specs.declared.node.Node.{Node}
-use Rattle.log_node.specs.Order.{same_id, same_key}
+use Rattle.log_node.specs.Order.{same_key}
 use Rattle.log_node.proofs.CallerLemmas.{same_key-is}
 use Rattle.object_form.specs.Forms.{IsForm, form_text}
 use Rattle.object_form.specs.Laws.{ReadsBack}
 use Rattle.object_form.specs.Readings.{form_of}
-use Rattle.object_fold.specs.declared.verdict.Verdict.{Verdict}
 use Rattle.object_fold.specs.Nodes.{ObjectNode, nodes_before}
 use Rattle.object_fold.specs.Transactions.{writes_after, verdict_on, form_verdict, verdict_among, verdict_of}
-use Rattle.col_core.proofs.CallerLemmas.{by_test, choice, same_id-refl, apart, if_true, if_false, In}
+use Rattle.col_core.proofs.CallerLemmas.{choice, same_id-refl, apart, In}
 use Rattle.world_laws.specs.Worlds.{World, no_row}
 use Rattle.script_meaning.specs.Helping.{node_with}
 use Rattle.script_meaning.specs.Dequeues.{object_at}

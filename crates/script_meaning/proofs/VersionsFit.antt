@@ -1,5 +1,5 @@
 -- What a read finds is such as the text of a transaction may name.
-use Rattle.std.proofs.Common.{◌≡◌, ℕ, ◌+◌, ◌-◌, ◌^◌, ◌<◌, ◌≤◌, List, [], ◌∷◌, length, get_or, Some, true, false, ap, subst, ◌∙◌, arith, reverse}
+use Rattle.std.proofs.Common.{◌≡◌, ℕ, ◌-◌, ◌^◌, ◌<◌, ◌≤◌, List, [], ◌∷◌, length, get_or, Some, true, false, ap, subst, arith, reverse}
 use Rattle.std.specs.Prelude.{◌==◌, ◌&&◌, nat_le}
 use Rattle.std.proofs.lemmas.Bool.{and_from, eqb-true, le-leb, leb-true}
 use Rattle.std.proofs.lemmas.List.Elements.{Contains-get_or}
@@ -8,6 +8,7 @@ use Rattle.log_node.specs.declared.ids.Key.{Key}
 use Rattle.log_node.specs.declared.marks.Outcome.TheVariants.{Open, Gone, Final}
 use Rattle.log_node.specs.Order.{same_id}
 use Rattle.log_node.specs.Standings.{Standing}
+use Rattle.log_node.specs.declared.limits.TheConstants.{MAX_CLIENTS}
 use Rattle.object_form.specs.Forms.{is_writer, AreVersions}
 use Rattle.object_fold.specs.Nodes.{ObjectNode}
 use Rattle.object_fold.specs.Transactions.{CanRead, versions_after}
@@ -74,7 +75,7 @@ above_none [] l id e h = absurd (let x : ⊥ = cc in x)
 above_none (d ∷ past) l id e h = above_next past d.event d.stamp l.0 (above_none past l.1) id e h
 
 -- keys of lines are such as a version may name
-module _ (w : World) (reached : IsReached w) (commands : List Command) (clients : ℕ) (small : clients ≤ 16)
+module _ (w : World) (reached : IsReached w) (commands : List Command) (clients : ℕ) (small : clients ≤ MAX_CLIENTS)
     (callers : (c : Command) → In c commands → c.client < clients) (short : length commands < 2 ^ 15)
     (few : AreFew commands w) where
   asked_one : (n : ℕ) (cs : List Command) → 0 < length (asked_by n cs) → (c : Command) × In c cs × (c.client ≡ n)

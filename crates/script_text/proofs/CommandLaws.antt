@@ -4,6 +4,7 @@ use Rattle.std.specs.List.{list_any}
 use Rattle.std.specs.Str.{bytes_eq}
 use Rattle.std.proofs.lemmas.Bool.{and_parts, not-true, not-false, lt-ltb, ltb-true, ltb-false, le-ltb, le-leb, leb-true}
 use Rattle.std.proofs.lemmas.Slice.Eq.{bytes_eq-Decides}
+use Rattle.log_node.specs.declared.limits.TheConstants.{MAX_COLOURS}
 use Rattle.script_text.specs.declared.script.Reason.TheVariants as reasons
 use Rattle.script_text.specs.declared.script.Word.{Word}
 use Rattle.script_text.specs.declared.script.Word.TheVariants as words
@@ -121,7 +122,7 @@ ended_again before client lasts.ReadHeld given h =
     rw held refl
 
 -- the number of steps that fits is small
-pub stop_small : (known : Known) (client : ℕ) (last : Last) (given ended : Given) → given.count ≤ 16 → ended_well known client last given ≡ Ok ended → last ≡ lasts.StopFits → ended.number ≤ 255
+pub stop_small : (known : Known) (client : ℕ) (last : Last) (given ended : Given) → given.count ≤ MAX_COLOURS → ended_well known client last given ≡ Ok ended → last ≡ lasts.StopFits → ended.number ≤ 255
 unfolding ended_well
 stop_small known client lasts.Nothing given ended few e h = absurd cc
 stop_small known client lasts.StopFits given ended few e h =

@@ -5,6 +5,7 @@ use Rattle.std.specs.List.{list_any}
 use Rattle.std.specs.Str.{bytes_eq}
 use Rattle.std.proofs.lemmas.Bool.{cases_Bool, not-false}
 use Rattle.std.proofs.lemmas.List.{length-map}
+use Rattle.log_node.specs.Sets.{set_of}
 use Rattle.script_text.specs.declared.script.Reason.{Reason}
 use Rattle.script_text.specs.declared.script.Reason.TheVariants as reasons
 use Rattle.script_text.specs.declared.script.Word.{Word}
@@ -19,9 +20,10 @@ use Rattle.script_text.specs.declared.item.Item.{Item}
 use Rattle.script_text.specs.declared.item.Item.TheVariants as items
 use Rattle.script_text.specs.declared.item.Stage.{Stage}
 use Rattle.script_text.specs.declared.item.Stage.TheVariants as stages
+use Rattle.script_text.specs.declared.limits.TheConstants.{VERSION_1}
 use Rattle.script_text.specs.declared.reads.HeldRead.{HeldRead}
 use Rattle.script_text.specs.Pieces.{is_between, is_among, is_number, number_value, number_of, name_of, names_in, first_in}
-use Rattle.script_text.specs.Items.{may_come, region_names, colour_names, client_names, objects, object_names, header_words, stage_of, has_stopped, has_read, commands, set_of}
+use Rattle.script_text.specs.Items.{may_come, region_names, colour_names, client_names, objects, object_names, header_words, stage_of, has_stopped, has_read, commands}
 use Rattle.script_text.specs.Reads.{holds}
 use Rattle.script_text.specs.Table.{word_at, row_fields, last_of, own_fields, later_fields, fits, nothing, what_of, sort_fields, sort_at, kind_of}
 use Rattle.script_text.specs.Faults.{when, each_field, new_name, region_field, field_at, kind_tests, field_tests, last_tests, word_tests, command_tests, is_full, header_tests, object_tests}
@@ -40,30 +42,30 @@ use Rattle.script_text.proofs.KindLaws.{order_at, order_ok, put_number, put_colo
 
 -- ---- header lines
 
-regions_tests : (args : List (List ℕ)) → Tests (when (not (is_between 1 4 (length args))) reasons.BadForm ∷ each_field new_name [] args) (regions_at args)
+regions_tests : (args : List (List ℕ)) → Tests (when (not (is_between 1 VERSION_1.regions (length args))) reasons.BadForm ∷ each_field new_name [] args) (regions_at args)
 unfolding regions_at
 regions_tests args =
-    tests_refuse (not (is_between 1 4 (length args))) reasons.BadForm (each_field new_name [] args) (each_at new_name_at [] args >>= λ names. Ok (items.Regions names)) (λ _.
+    tests_refuse (not (is_between 1 VERSION_1.regions (length args))) reasons.BadForm (each_field new_name [] args) (each_at new_name_at [] args >>= λ names. Ok (items.Regions names)) (λ _.
     tests_last (each_field new_name [] args) (each_at new_name_at [] args) (λ names. items.Regions names) (each_tests new_name new_name_at new_name_tests [] args))
 
-colour_line_tests : (args : List (List ℕ)) → Tests (when (not (is_between 1 16 (length args))) reasons.BadForm ∷ each_field new_name [] args) (colour_line_at args)
+colour_line_tests : (args : List (List ℕ)) → Tests (when (not (is_between 1 VERSION_1.colours (length args))) reasons.BadForm ∷ each_field new_name [] args) (colour_line_at args)
 unfolding colour_line_at
 colour_line_tests args =
-    tests_refuse (not (is_between 1 16 (length args))) reasons.BadForm (each_field new_name [] args) (each_at new_name_at [] args >>= λ names. Ok (items.Colours names)) (λ _.
+    tests_refuse (not (is_between 1 VERSION_1.colours (length args))) reasons.BadForm (each_field new_name [] args) (each_at new_name_at [] args >>= λ names. Ok (items.Colours names)) (λ _.
     tests_last (each_field new_name [] args) (each_at new_name_at [] args) (λ names. items.Colours names) (each_tests new_name new_name_at new_name_tests [] args))
 
-rows_tests : (args : List (List ℕ)) → Tests (when (not (eqb (length args) 1)) reasons.BadForm ∷ when (not (is_number 10 (field_at args 0) && is_between 1 4096 (number_value (field_at args 0)))) reasons.BadNumber ∷ []) (with_one rows_at args)
+rows_tests : (args : List (List ℕ)) → Tests (when (not (eqb (length args) 1)) reasons.BadForm ∷ when (not (is_number 10 (field_at args 0) && is_between 1 VERSION_1.rows (number_value (field_at args 0)))) reasons.BadNumber ∷ []) (with_one rows_at args)
 unfolding rows_at
 rows_tests args =
-    one_tests (λ args. when (not (is_number 10 (field_at args 0) && is_between 1 4096 (number_value (field_at args 0)))) reasons.BadNumber ∷ []) rows_at (λ a.
-    tests_refuse (not (is_number 10 a && is_between 1 4096 (number_value a))) reasons.BadNumber [] (Ok (items.Rows (number_value a))) (λ _. tests_ok (items.Rows (number_value a)))) args
+    one_tests (λ args. when (not (is_number 10 (field_at args 0) && is_between 1 VERSION_1.rows (number_value (field_at args 0)))) reasons.BadNumber ∷ []) rows_at (λ a.
+    tests_refuse (not (is_number 10 a && is_between 1 VERSION_1.rows (number_value a))) reasons.BadNumber [] (Ok (items.Rows (number_value a))) (λ _. tests_ok (items.Rows (number_value a)))) args
 
 client_tests : (before : List Item) (args : List (List ℕ))
-    → Tests (when (not (eqb (length args) 2)) reasons.BadForm ∷ when (leb 16 (length (client_names before))) reasons.BadForm ∷ new_name (client_names before) (field_at args 0) ++ region_field before (field_at args 1)) (with_two (client_at (known_of before)) args)
+    → Tests (when (not (eqb (length args) 2)) reasons.BadForm ∷ when (leb VERSION_1.clients (length (client_names before))) reasons.BadForm ∷ new_name (client_names before) (field_at args 0) ++ region_field before (field_at args 1)) (with_two (client_at (known_of before)) args)
 unfolding client_at client_named_at
 client_tests before args =
-    two_tests (λ args. when (leb 16 (length (client_names before))) reasons.BadForm ∷ new_name (client_names before) (field_at args 0) ++ region_field before (field_at args 1)) (client_at (known_of before)) (λ a b.
-    tests_refuse (leb 16 (length (client_names before))) reasons.BadForm (new_name (client_names before) a ++ region_field before b) (client_named_at (known_of before) a b) (λ _.
+    two_tests (λ args. when (leb VERSION_1.clients (length (client_names before))) reasons.BadForm ∷ new_name (client_names before) (field_at args 0) ++ region_field before (field_at args 1)) (client_at (known_of before)) (λ a b.
+    tests_refuse (leb VERSION_1.clients (length (client_names before))) reasons.BadForm (new_name (client_names before) a ++ region_field before b) (client_named_at (known_of before) a b) (λ _.
     tests_then (new_name (client_names before) a) (region_field before b) (new_name_at (client_names before) a) (λ name. number_at reasons.UnknownRegion (region_names before) b >>= λ home. Ok (items.Client name home)) (new_name_tests (client_names before) a) (λ name e.
     tests_last (region_field before b) (number_at reasons.UnknownRegion (region_names before) b) (λ home. items.Client name home) (number_tests reasons.UnknownRegion (region_names before) b)))) args
 

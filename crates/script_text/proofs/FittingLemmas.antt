@@ -1,14 +1,13 @@
 -- The numbers in a script name what there is.
-use Rattle.std.proofs.Common.{◌≡◌, inl, inr, ℕ, zero, suc, ◌+◌, ◌*◌, ◌^◌, ◌<◌, ◌≤◌, cond, Bool, true, false, List, [], ◌∷◌, ◌++◌, length, map, Option, Some, None, refl, ap, sym, subst, ◌∙◌, arith, length-append, eqb-true, leb-true, ltb-true}
-use Rattle.std.specs.Prelude.{IsTrue, ◌&&◌, nat_le, nat_lt, codes, bit_or}
-use Rattle.std.specs.Int.{bit_at}
-use Rattle.std.specs.List.{All, cons_option, filter, filter_map, fold, last_or, list_all, range_with_len}
+use Rattle.std.proofs.Common.{◌≡◌, ℕ, zero, suc, ◌+◌, ◌*◌, ◌^◌, ◌<◌, ◌≤◌, cond, Bool, true, false, List, [], ◌∷◌, ◌++◌, length, map, Option, Some, None, refl, ap, sym, subst, ◌∙◌, arith, length-append, leb-true, ltb-true}
+use Rattle.std.specs.Prelude.{IsTrue, ◌&&◌, nat_le, nat_lt, codes}
+use Rattle.std.specs.List.{All, cons_option, filter, filter_map, last_or, list_all, range_with_len}
 use Rattle.std.proofs.lemmas.List.{map-append, length-map}
 use Rattle.std.proofs.lemmas.List.Elements.{All-nil, All-append}
-use Rattle.std.proofs.lemmas.Nat.Bits.{bit_at_or, bit_at-zero, bit_at-pow_other}
-use Rattle.std.proofs.lemmas.Bool.Decides.{eqb_tells}
 use Rattle.log_node.specs.declared.ids.Colours.{Colours}
-use Rattle.log_node.specs.Sets.{has, members}
+use Rattle.log_node.specs.declared.limits.TheConstants.{MAX_COLOURS}
+use Rattle.log_node.specs.Sets.{has, members, set_of}
+use Rattle.log_node.proofs.CallerLemmas.{has-set_of}
 use Rattle.script_text.specs.declared.script.Kind.{Kind}
 use Rattle.script_text.specs.declared.script.Kind.TheVariants as kinds
 use Rattle.script_text.specs.declared.script.What.{What}
@@ -17,6 +16,7 @@ use Rattle.script_text.specs.declared.script.Word.TheVariants as words
 use Rattle.script_text.specs.declared.table.Field.{Field}
 use Rattle.script_text.specs.declared.table.Field.TheVariants as fields
 use Rattle.script_text.specs.declared.given.Given.{Given}
+use Rattle.script_text.specs.declared.limits.TheConstants.{VERSION_1}
 use Rattle.script_text.specs.Table.{row_fields, last_of, own_fields, later_fields, nothing, what_of, sort_text, sort_of}
 use Rattle.script_text.specs.Words.{word_of}
 use Rattle.script_text.specs.declared.script.Command.{Command}
@@ -25,9 +25,11 @@ use Rattle.script_text.specs.declared.item.Item.TheVariants as items
 use Rattle.script_text.specs.declared.item.Stage.{Stage}
 use Rattle.script_text.specs.declared.item.Stage.TheVariants as stages
 use Rattle.script_text.specs.Pieces.{is_among, is_between}
-use Rattle.script_text.specs.Items.{stage_after, stage_of, header_words, may_come, is_begun, has_begun, regions_in, colours_in, clients_in, commands_in, last_said, region_names, colour_names, client_names, client_homes, commands, set_of}
+use Rattle.script_text.specs.Items.{stage_after, stage_of, header_words, may_come, is_begun, has_begun, regions_in, colours_in, clients_in, commands_in, last_said, region_names, colour_names, client_names, client_homes, commands}
 use Rattle.script_text.specs.Grammar.{may_follow, is_colour, is_region, are_colours, are_new_numbers, ends_well, Spells, SpellAll, SpellsWhat, Says}
 use Rattle.script_text.specs.Fitting.{AreBelow, HasColours, IsWithin}
+use Rattle.script_text.proofs.LimitLemmas.{limits_within}
+use Rattle.script_text.proofs.NameLemmas.{any_turned, below_all}
 use Rattle.script_text.proofs.SetLaws.{many_members, bits_few}
 
 pub and-left : (a b : Bool) → (a && b) ≡ true → a ≡ true
@@ -38,20 +40,7 @@ pub and-right : (a b : Bool) → (a && b) ≡ true → b ≡ true
 and-right true b e = e
 and-right false b e = absurd (let f : ⊥ = cc in f)
 
--- SETS: a member of the set of some colours is one of them
-set_below : (count : ℕ) (bits : ℕ) (order : List ℕ) → ((c : ℕ) → bit_at bits c ≡ 1 → c < count) → IsTrue (list_all (λ c. nat_lt c count) order) → (c : ℕ) → bit_at (fold (λ set k. bit_or set (2 ^ k)) bits order) c ≡ 1 → c < count
-set_below count bits [] below all c is = below c is
-set_below count bits (k ∷ ks) below all c is =
-    set_below count (bit_or bits (2 ^ k)) ks more (and-right (nat_lt k count) (list_all (λ c. nat_lt c count) ks) all) c is where
-      small : k < count
-      small = ltb-true _ _ (and-left (nat_lt k count) (list_all (λ c. nat_lt c count) ks) all)
-
-      more : (d : ℕ) → bit_at (bit_or bits (2 ^ k)) d ≡ 1 → d < count
-      more d one = elim (eqb_tells d k) [
-        | inl t ↦ (let e = t.1 in omega (arith, small))
-        | inr t ↦ (let e = sym (bit_at_or bits (2 ^ k) d) ∙ one in let z = bit_at-pow_other k d t.1 in below d (omega arith))
-      ]
-
+-- SETS
 pub All-cons : {A : Type 0} (P : A → Type 0) (x : A) (xs : List A) → P x → All P xs → All P (x ∷ xs)
 All-cons P x xs one rest zero d lt = one
 All-cons P x xs one rest (suc k) d lt = rest k d (omega arith)
@@ -63,9 +52,10 @@ filter-all P p (x ∷ xs) h = choose (p x) refl (filter-all P p xs h) where
   choose true e rest = All-cons P x (filter p xs) (h x e) rest
   choose false e rest = rest
 
+-- a member of the set of some colours is one of them
 set-below : (count : ℕ) (order : List ℕ) → IsTrue (list_all (λ c. nat_lt c count) order) → AreBelow count (set_of order)
-set-below count order all = filter-all (λ c. c < count) (has (set_of order)) (range_with_len 0 64)
-    (λ c is. set_below count 0 order (λ d one. let z = bit_at-zero d in absurd (omega arith)) all c (eqb-true _ _ is))
+set-below count order all = filter-all (λ c. c < count) (has (set_of order)) (range_with_len 0 MAX_COLOURS)
+    (λ c is. below_all order count c all (sym (any_turned c order) ∙ sym (has-set_of order c) ∙ is))
 
 -- WHAT ONE MORE ITEM SAYS
 pub last-more : {A : Type 0} (o : Option A) (xs : List A) (x : A) → last_or o (xs ++ x ∷ []) ≡ Some x
@@ -105,9 +95,9 @@ Early stages.Objects regions colours homes asked = (0 < regions) × (0 < colours
 Early stages.Commands regions colours homes asked = (0 < regions) × (0 < colours) × (0 < length homes)
 
 pub record Fits (regions colours : ℕ) (homes : List ℕ) (asked : List Command) (stage : Stage) : Type 0 where
-  pub few_regions : regions ≤ 4
-  pub few_colours : colours ≤ 16
-  pub few_clients : length homes ≤ 16
+  pub few_regions : regions ≤ VERSION_1.regions
+  pub few_colours : colours ≤ VERSION_1.colours
+  pub few_clients : length homes ≤ VERSION_1.clients
   pub are_homes : All (λ home. home < regions) homes
   pub callers : All (λ (c : Command). c.client < length homes) asked
   pub within : All (λ (c : Command). IsWithin regions colours c.what) asked
@@ -248,7 +238,7 @@ at_commands stages.Commands r c h k e f = f
 record AreGiven (below count : ℕ) (set : Colours) : Type 0 where
   low : AreBelow below set
   many : count ≤ length (members set)
-  bits : set.0 < 2 ^ 64
+  bits : set.0 < 2 ^ MAX_COLOURS
 
 -- what is given names what there is
 record IsGivenWithin (regions colours : ℕ) (given : Given) : Type 0 where
@@ -257,17 +247,16 @@ record IsGivenWithin (regions colours : ℕ) (given : Given) : Type 0 where
   region : given.region < regions
 
 -- the colours that a line names, each once
-are_given : (before : List Item) (order : List ℕ) → length (colour_names before) ≤ 16 → IsTrue (are_colours before order)
+are_given : (before : List Item) (order : List ℕ) → length (colour_names before) ≤ MAX_COLOURS → IsTrue (are_colours before order)
     → AreGiven (length (colour_names before)) (length order) (set_of order)
 are_given before order few lawful =
     let all = and-right (nat_le 1 (length order) && are_new_numbers [] order) (list_all (is_colour before) order) lawful in
     let first = and-left (nat_le 1 (length order) && are_new_numbers [] order) (list_all (is_colour before) order) lawful in
-    let most : length (colour_names before) ≤ 64 = omega (arith, few) in
     record {
       low = set-below (length (colour_names before)) order all;
-      many = many_members order (length (colour_names before)) most
+      many = many_members order (length (colour_names before)) few
           (and-right (nat_le 1 (length order)) (are_new_numbers [] order) first) all;
-      bits = bits_few order (length (colour_names before)) most all;
+      bits = bits_few order (length (colour_names before)) few all;
     }
 
 -- a line that names colours names one at least
@@ -278,7 +267,7 @@ some_given before own given next s =
     subst (λ (g : Given). 1 ≤ g.count) (sym o.next_is)
     (leb-true 1 (length o.order) (and-left (nat_le 1 (length o.order)) (are_new_numbers [] o.order) first))
 
-kind_within : (before : List Item) → length (colour_names before) ≤ 16 → (field : Field) (own : List (List ℕ)) (given next : Given) → Spells before field own given next
+kind_within : (before : List Item) → length (colour_names before) ≤ MAX_COLOURS → (field : Field) (own : List (List ℕ)) (given next : Given) → Spells before field own given next
     → IsGivenWithin (length (region_names before)) (length (colour_names before)) given → IsGivenWithin (length (region_names before)) (length (colour_names before)) next
 kind_within before few fields.Steps own given next s w = rw s.3 (record { set = w.set; colour = w.colour; region = w.region })
 kind_within before few fields.Cols own given next s w =
@@ -294,7 +283,7 @@ kind_within before few (fields.Keys most) own given next s w = rw s.1 (record { 
 kind_within before few (fields.Pairs most) own given next s w = rw s.2 (record { set = w.set; colour = w.colour; region = w.region })
 kind_within before few (fields.Colours most) own given next s w = rw s.4 (record { set = w.set; colour = w.colour; region = w.region })
 
-all_within : (before : List Item) → length (colour_names before) ≤ 16 → (row : List Field) (args : List (List ℕ)) (given last : Given) → SpellAll before row args given last
+all_within : (before : List Item) → length (colour_names before) ≤ MAX_COLOURS → (row : List Field) (args : List (List ℕ)) (given last : Given) → SpellAll before row args given last
     → IsGivenWithin (length (region_names before)) (length (colour_names before)) given → IsGivenWithin (length (region_names before)) (length (colour_names before)) last
 all_within before few [] args given last s w = rw s.1 w
 all_within before few (field ∷ row) args given last s w =
@@ -333,7 +322,7 @@ what_within before client words.Commit args given s e w = tt
 what_within before client words.Enq args given s e w = tt
 what_within before client words.Deq args given s e w = tt
 
-is_within : (before : List Item) (client : ℕ) (args : List (List ℕ)) (what : What) → 0 < length (region_names before) → 0 < length (colour_names before) → length (colour_names before) ≤ 16
+is_within : (before : List Item) (client : ℕ) (args : List (List ℕ)) (what : What) → 0 < length (region_names before) → 0 < length (colour_names before) → length (colour_names before) ≤ MAX_COLOURS
     → SpellsWhat before client args what → IsWithin (length (region_names before)) (length (colour_names before)) what
 is_within before client args what r c few s =
     subst (λ (w : What). IsWithin (length (region_names before)) (length (colour_names before)) w) (sym s.same)
@@ -380,12 +369,12 @@ module _ (before : List Item) (fit : Fits (length (region_names before)) (length
   none_all : {A : Type 0} (P : A → Type 0) (xs : List A) → xs ≡ [] → All P xs
   none_all P xs e = subst (λ l. All P l) (sym e) (All-nil P)
 
-  more_regions : (names : List (List ℕ)) → may_come before (codes "regions") ≡ true → is_between 1 4 (length names) ≡ true → Fit (before ++ items.Regions names ∷ [])
+  more_regions : (names : List (List ℕ)) → may_come before (codes "regions") ≡ true → is_between 1 VERSION_1.regions (length names) ≡ true → Fit (before ++ items.Regions names ∷ [])
   unfolding Fit Early
   more_regions names ok few =
       let early = at_stage stages.Version (at_regions (stage_of before) ok) in
       let low : 1 ≤ length names = leb-true _ _ (and-left _ _ few) in
-      let high : length names ≤ 4 = leb-true _ _ (and-right _ _ few) in
+      let high : length names ≤ VERSION_1.regions = leb-true _ _ (and-right _ _ few) in
       carried (length names) _ _ _ _ _ _ _ stages.Regions _
       (ap length (sym (ap (last_said []) (filter_map-said regions_in before (items.Regions names) names refl) ∙ said-last [] (filter_map regions_in before) names)))
       (same_colours before fit (items.Regions names) refl) (same_homes before fit (items.Regions names) refl) (same_commands before fit (items.Regions names) refl) (sym (stage-more before fit (items.Regions names)))
@@ -399,12 +388,12 @@ module _ (before : List Item) (fit : Fits (length (region_names before)) (length
         early = (low, early.0, early.1);
       })
 
-  more_colours : (names : List (List ℕ)) → may_come before (codes "colours") ≡ true → is_between 1 16 (length names) ≡ true → Fit (before ++ items.Colours names ∷ [])
+  more_colours : (names : List (List ℕ)) → may_come before (codes "colours") ≡ true → is_between 1 VERSION_1.colours (length names) ≡ true → Fit (before ++ items.Colours names ∷ [])
   unfolding Fit Early
   more_colours names ok few =
       let early = at_stage stages.Regions (at_colours (stage_of before) ok) in
       let low : 1 ≤ length names = leb-true _ _ (and-left _ _ few) in
-      let high : length names ≤ 16 = leb-true _ _ (and-right _ _ few) in
+      let high : length names ≤ VERSION_1.colours = leb-true _ _ (and-right _ _ few) in
       carried _ _ (length names) _ _ _ _ _ stages.Colours _ (same_regions before fit (items.Colours names) refl)
       (ap length (sym (ap (last_said []) (filter_map-said colours_in before (items.Colours names) names refl) ∙ said-last [] (filter_map colours_in before) names)))
       (same_homes before fit (items.Colours names) refl) (same_commands before fit (items.Colours names) refl) (sym (stage-more before fit (items.Colours names)))
@@ -421,7 +410,7 @@ module _ (before : List Item) (fit : Fits (length (region_names before)) (length
   as_many : length (client_names before) ≡ length homes
   as_many = length-map (filter_map clients_in before) (λ (c : List ℕ × ℕ). c.0) ∙ sym (length-map (filter_map clients_in before) (λ (c : List ℕ × ℕ). c.1))
 
-  more_client : (name : List ℕ) (home : ℕ) → may_come before (codes "client") ≡ true → nat_lt (length (client_names before)) 16 ≡ true → is_region before home ≡ true → Fit (before ++ items.Client name home ∷ [])
+  more_client : (name : List ℕ) (home : ℕ) → may_come before (codes "client") ≡ true → nat_lt (length (client_names before)) VERSION_1.clients ≡ true → is_region before home ≡ true → Fit (before ++ items.Client name home ∷ [])
   unfolding Fit Early
   more_client name home ok few its_home =
       let early = at_client (stage_of before) regions colours homes asked ok fit.early in
@@ -448,6 +437,7 @@ module _ (before : List Item) (fit : Fits (length (region_names before)) (length
       let early = at_commands (stage_of before) regions colours homes asked begun fit.early in
       let its = ltb-true _ _ caller in
       let e = as_many in
+      let few : colours ≤ MAX_COLOURS = omega (arith, fit.few_colours, limits_within.colours) in
       carried _ _ _ _ _ _ (asked ++ command ∷ []) _ stages.Commands _ (same_regions before fit (items.Asks command) refl) (same_colours before fit (items.Asks command) refl) (same_homes before fit (items.Asks command) refl)
       (sym (filter_map-said commands_in before (items.Asks command) command refl)) (sym (stage-more before fit (items.Asks command)))
       (record {
@@ -456,7 +446,7 @@ module _ (before : List Item) (fit : Fits (length (region_names before)) (length
         few_clients = fit.few_clients;
         are_homes = fit.are_homes;
         callers = one-more (λ (c : Command). c.client < length homes) asked command fit.callers (omega arith);
-        within = one-more (λ (c : Command). IsWithin regions colours c.what) asked command fit.within (is_within before command.client args command.what early.0 early.1 fit.few_colours spelled);
+        within = one-more (λ (c : Command). IsWithin regions colours c.what) asked command fit.within (is_within before command.client args command.what early.0 early.1 few spelled);
         early = early;
       })
 

@@ -16,6 +16,7 @@ use Rattle.script_text.specs.declared.script.Reason.TheVariants as reasons
 use Rattle.script_text.specs.declared.item.Item.{Item}
 use Rattle.script_text.specs.declared.item.Item.TheVariants as items
 use Rattle.script_text.specs.declared.known.Known.{Known}
+use Rattle.script_text.specs.declared.limits.TheConstants.{VERSION_1}
 use Rattle.script_text.specs.Pieces.{is_between, is_number, number_value, name_of}
 use Rattle.script_text.specs.Items.{may_come, region_names, client_names, objects, object_names}
 use Rattle.script_text.specs.Grammar.{SpellsNumber, may_follow, are_new_names, is_region, SpellAll}
@@ -43,38 +44,38 @@ version_again : version_at (codes "1" ∷ []) ≡ Ok items.Version
 unfolding version_at
 version_again = refl
 
-regions_ok : (args : List (List ℕ)) (item : Item) → regions_at args ≡ Ok item → (item ≡ items.Regions args) × (is_between 1 4 (length args) ≡ true) × (are_new_names [] args ≡ true)
+regions_ok : (args : List (List ℕ)) (item : Item) → regions_at args ≡ Ok item → (item ≡ items.Regions args) × (is_between 1 VERSION_1.regions (length args) ≡ true) × (are_new_names [] args ≡ true)
 unfolding regions_at
 regions_ok args item e =
-    let r = refused_ok (not (is_between 1 4 (length args))) reasons.BadForm (new_names_at args >>= λ names. Ok (items.Regions names)) item e in
+    let r = refused_ok (not (is_between 1 VERSION_1.regions (length args))) reasons.BadForm (new_names_at args >>= λ names. Ok (items.Regions names)) item e in
     let b = bind_ok (new_names_at args) (λ names. Ok (items.Regions names)) item r.1 in
     let n = names_ok [] args b.0 b.1 in
-    (sym (ok_is (items.Regions b.0) item b.2) ∙ ap (λ names. items.Regions names) n.0, not-false (is_between 1 4 (length args)) r.0, n.1)
+    (sym (ok_is (items.Regions b.0) item b.2) ∙ ap (λ names. items.Regions names) n.0, not-false (is_between 1 VERSION_1.regions (length args)) r.0, n.1)
 
-regions_again : (args : List (List ℕ)) → is_between 1 4 (length args) ≡ true → are_new_names [] args ≡ true → regions_at args ≡ Ok (items.Regions args)
+regions_again : (args : List (List ℕ)) → is_between 1 VERSION_1.regions (length args) ≡ true → are_new_names [] args ≡ true → regions_at args ≡ Ok (items.Regions args)
 unfolding regions_at
 regions_again args few fresh = rw (few, names_again [] args fresh) refl
 
-colours_line_ok : (args : List (List ℕ)) (item : Item) → colour_line_at args ≡ Ok item → (item ≡ items.Colours args) × (is_between 1 16 (length args) ≡ true) × (are_new_names [] args ≡ true)
+colours_line_ok : (args : List (List ℕ)) (item : Item) → colour_line_at args ≡ Ok item → (item ≡ items.Colours args) × (is_between 1 VERSION_1.colours (length args) ≡ true) × (are_new_names [] args ≡ true)
 unfolding colour_line_at
 colours_line_ok args item e =
-    let r = refused_ok (not (is_between 1 16 (length args))) reasons.BadForm (new_names_at args >>= λ names. Ok (items.Colours names)) item e in
+    let r = refused_ok (not (is_between 1 VERSION_1.colours (length args))) reasons.BadForm (new_names_at args >>= λ names. Ok (items.Colours names)) item e in
     let b = bind_ok (new_names_at args) (λ names. Ok (items.Colours names)) item r.1 in
     let n = names_ok [] args b.0 b.1 in
-    (sym (ok_is (items.Colours b.0) item b.2) ∙ ap (λ names. items.Colours names) n.0, not-false (is_between 1 16 (length args)) r.0, n.1)
+    (sym (ok_is (items.Colours b.0) item b.2) ∙ ap (λ names. items.Colours names) n.0, not-false (is_between 1 VERSION_1.colours (length args)) r.0, n.1)
 
-colours_line_again : (args : List (List ℕ)) → is_between 1 16 (length args) ≡ true → are_new_names [] args ≡ true → colour_line_at args ≡ Ok (items.Colours args)
+colours_line_again : (args : List (List ℕ)) → is_between 1 VERSION_1.colours (length args) ≡ true → are_new_names [] args ≡ true → colour_line_at args ≡ Ok (items.Colours args)
 unfolding colour_line_at
 colours_line_again args few fresh = rw (few, names_again [] args fresh) refl
 
-rows_ok : (field : List ℕ) (item : Item) → rows_at field ≡ Ok item → (item ≡ items.Rows (number_value field)) × (is_number 10 field ≡ true) × (is_between 1 4096 (number_value field) ≡ true)
+rows_ok : (field : List ℕ) (item : Item) → rows_at field ≡ Ok item → (item ≡ items.Rows (number_value field)) × (is_number 10 field ≡ true) × (is_between 1 VERSION_1.rows (number_value field) ≡ true)
 unfolding rows_at
 rows_ok field item e =
-    let r = refused_ok (not (is_number 10 field && is_between 1 4096 (number_value field))) reasons.BadNumber (Ok (items.Rows (number_value field))) item e in
-    let p = and_parts (is_number 10 field) (is_between 1 4096 (number_value field)) (not-false (is_number 10 field && is_between 1 4096 (number_value field)) r.0) in
+    let r = refused_ok (not (is_number 10 field && is_between 1 VERSION_1.rows (number_value field))) reasons.BadNumber (Ok (items.Rows (number_value field))) item e in
+    let p = and_parts (is_number 10 field) (is_between 1 VERSION_1.rows (number_value field)) (not-false (is_number 10 field && is_between 1 VERSION_1.rows (number_value field)) r.0) in
     (sym (ok_is (items.Rows (number_value field)) item r.1), p.0, p.1)
 
-rows_again : (field : List ℕ) (n : ℕ) → SpellsNumber 10 field n → is_between 1 4096 n ≡ true → rows_at field ≡ Ok (items.Rows n)
+rows_again : (field : List ℕ) (n : ℕ) → SpellsNumber 10 field n → is_between 1 VERSION_1.rows n ≡ true → rows_at field ≡ Ok (items.Rows n)
 unfolding rows_at
 rows_again field n s few = let small = rw s.value at few in rw (s.digits, small, s.value) refl
 
@@ -92,36 +93,36 @@ client_follows : (before : List Item) (number : ℕ) (field region : List ℕ) (
     → Follows before number (codes "client" ∷ field ∷ region ∷ []) item
 unfolding client_at
 client_follows before number field region item come e =
-    let r = refused_ok (leb 16 (length (client_names before))) reasons.BadForm (client_named_at (known_of before) field region) item e in
+    let r = refused_ok (leb VERSION_1.clients (length (client_names before))) reasons.BadForm (client_named_at (known_of before) field region) item e in
     let c = client_named_ok (known_of before) field region item r.1 in
     rw c.1 (record {
       says = ap (λ f. codes "client" ∷ field ∷ f ∷ []) c.4;
-      may = rw (come, lt-ltb (length (client_names before)) 16 (leb-false 16 (length (client_names before)) r.0), c.2, lt-ltb c.0 (length (region_names before)) c.3) refl;
+      may = rw (come, lt-ltb (length (client_names before)) VERSION_1.clients (leb-false VERSION_1.clients (length (client_names before)) r.0), c.2, lt-ltb c.0 (length (region_names before)) c.3) refl;
     })
 
-client_again : (before : List Item) (name : List ℕ) (home : ℕ) → IsLawful (known_of before) → length (client_names before) < 16 → are_new_names (client_names before) (name ∷ []) ≡ true → home < length (region_names before)
+client_again : (before : List Item) (name : List ℕ) (home : ℕ) → IsLawful (known_of before) → length (client_names before) < VERSION_1.clients → are_new_names (client_names before) (name ∷ []) ≡ true → home < length (region_names before)
     → client_at (known_of before) name (name_of (region_names before) home) ≡ Ok (items.Client name home)
 unfolding client_at client_named_at
 client_again before name home l few fresh lt =
-    rw (lt-leb 16 (length (client_names before)) few, new_name_again (client_names before) name fresh, number_at_again reasons.UnknownRegion (region_names before) home l.regions lt) refl
+    rw (lt-leb VERSION_1.clients (length (client_names before)) few, new_name_again (client_names before) name fresh, number_at_again reasons.UnknownRegion (region_names before) home l.regions lt) refl
 
 -- ---- objects
 
 -- there is room for one more object, and the name is new
 pub record IsNew (before : List Item) (name : List ℕ) : Type 0 where
-  few : length (objects before) < 16
+  few : length (objects before) < VERSION_1.objects
   fresh : are_new_names (object_names before) (name ∷ []) ≡ true
 
 object_name_ok : (before : List Item) (field name : List ℕ) → object_name_at (known_of before) field ≡ Ok name → (name ≡ field) × IsNew before field
 unfolding object_name_at
 object_name_ok before field name e =
-    let r = refused_ok (leb 16 (length (objects before))) reasons.BadForm (new_name_at (object_names before) field) name e in
+    let r = refused_ok (leb VERSION_1.objects (length (objects before))) reasons.BadForm (new_name_at (object_names before) field) name e in
     let n = new_name_ok (object_names before) field name r.1 in
-    (n.1, record { few = leb-false 16 (length (objects before)) r.0; fresh = n.0 })
+    (n.1, record { few = leb-false VERSION_1.objects (length (objects before)) r.0; fresh = n.0 })
 
 object_name_again : (before : List Item) (name : List ℕ) → IsNew before name → object_name_at (known_of before) name ≡ Ok name
 unfolding object_name_at
-object_name_again before name n = rw (lt-leb 16 (length (objects before)) n.few, new_name_again (object_names before) name n.fresh) refl
+object_name_again before name n = rw (lt-leb VERSION_1.objects (length (objects before)) n.few, new_name_again (object_names before) name n.fresh) refl
 
 -- what lies in a declared object
 pub record IsDeclared (before : List Item) (object : Object) : Type 0 where
@@ -131,10 +132,10 @@ pub record IsDeclared (before : List Item) (object : Object) : Type 0 where
 pub declared_is : (before : List Item) (object : Object) → may_follow before (items.Declared object) ≡ true → IsDeclared before object
 declared_is before object h =
     let come = may_come before (sort_text (sort_of object.kind)) in
-    let few = ltb (length (objects before)) 16 in
+    let few = ltb (length (objects before)) VERSION_1.objects in
     let b = and_parts (come && few) (are_new_names (object_names before) (object.name ∷ [])) h in
     let c = and_parts come few b.0 in
-    record { come = c.0; new = record { few = ltb-true (length (objects before)) 16 c.1; fresh = b.1 } }
+    record { come = c.0; new = record { few = ltb-true (length (objects before)) VERSION_1.objects c.1; fresh = b.1 } }
 
 sort_kind : (sort : Sort) (given : Given) → sort_of (kind_of sort given) ≡ sort
 sort_kind sorts.Map given = refl
@@ -171,7 +172,7 @@ sorted_ok before number sort (field ∷ args) item come e =
         },
         ap (λ (s : Sort). sort_text s ∷ field ∷ args) (sym its),
       );
-      may = rw (its, come, lt-ltb (length (objects before)) 16 n.1.few, n.1.fresh) refl;
+      may = rw (its, come, lt-ltb (length (objects before)) VERSION_1.objects n.1.few, n.1.fresh) refl;
     })
 
 declared_ok : (before : List Item) (number : ℕ) (word : List ℕ) (args : List (List ℕ)) (item : Item) (found : Option Sort) → may_come before word ≡ true → sort_at word ≡ found
@@ -300,16 +301,16 @@ pub regions_read : (before : List Item) (number : ℕ) (word : List ℕ) (args n
     → (may_come before word ≡ true) × (header_at (known_of before) word args ≡ Ok (items.Regions names))
 regions_read before number word args names f =
     let p = parts word (codes "regions") args names f.says in
-    let a = and_parts (may_come before (codes "regions") && is_between 1 4 (length names)) (are_new_names [] names) f.may in
-    let b = and_parts (may_come before (codes "regions")) (is_between 1 4 (length names)) a.0 in
+    let a = and_parts (may_come before (codes "regions") && is_between 1 VERSION_1.regions (length names)) (are_new_names [] names) f.may in
+    let b = and_parts (may_come before (codes "regions")) (is_between 1 VERSION_1.regions (length names)) a.0 in
     rw (p.0, p.1) (b.0, header_on before (codes "regions") names b.0 ∙ on_regions (known_of before) names ∙ regions_again names b.1 a.1)
 
 pub colours_read : (before : List Item) (number : ℕ) (word : List ℕ) (args names : List (List ℕ)) → Follows before number (word ∷ args) (items.Colours names)
     → (may_come before word ≡ true) × (header_at (known_of before) word args ≡ Ok (items.Colours names))
 colours_read before number word args names f =
     let p = parts word (codes "colours") args names f.says in
-    let a = and_parts (may_come before (codes "colours") && is_between 1 16 (length names)) (are_new_names [] names) f.may in
-    let b = and_parts (may_come before (codes "colours")) (is_between 1 16 (length names)) a.0 in
+    let a = and_parts (may_come before (codes "colours") && is_between 1 VERSION_1.colours (length names)) (are_new_names [] names) f.may in
+    let b = and_parts (may_come before (codes "colours")) (is_between 1 VERSION_1.colours (length names)) a.0 in
     rw (p.0, p.1) (b.0, header_on before (codes "colours") names b.0 ∙ on_colours (known_of before) names ∙ colours_line_again names b.1 a.1)
 
 pub rows_read : (before : List Item) (number : ℕ) (word : List ℕ) (args : List (List ℕ)) (rows : ℕ) → Follows before number (word ∷ args) (items.Rows rows)
@@ -317,7 +318,7 @@ pub rows_read : (before : List Item) (number : ℕ) (word : List ℕ) (args : Li
 rows_read before number word args rows f =
     let field = f.says.0 in
     let p = parts word (codes "rows") args (field ∷ []) f.says.2 in
-    let a = and_parts (may_come before (codes "rows")) (is_between 1 4096 rows) f.may in
+    let a = and_parts (may_come before (codes "rows")) (is_between 1 VERSION_1.rows rows) f.may in
     rw (p.0, p.1) (a.0, header_on before (codes "rows") (field ∷ []) a.0 ∙ on_rows (known_of before) field ∙ rows_again field rows f.says.1 a.1)
 
 pub client_read : (before : List Item) (number : ℕ) (word : List ℕ) (args : List (List ℕ)) (name : List ℕ) (home : ℕ) → IsLawful (known_of before) → Follows before number (word ∷ args) (items.Client name home)
@@ -325,13 +326,13 @@ pub client_read : (before : List Item) (number : ℕ) (word : List ℕ) (args : 
 client_read before number word args name home l f =
     let region = name_of (region_names before) home in
     let p = parts word (codes "client") args (name ∷ region ∷ []) f.says in
-    let a = and_parts (may_come before (codes "client") && ltb (length (client_names before)) 16 && are_new_names (client_names before) (name ∷ [])) (is_region before home) f.may in
-    let b = and_parts (may_come before (codes "client") && ltb (length (client_names before)) 16) (are_new_names (client_names before) (name ∷ [])) a.0 in
-    let c = and_parts (may_come before (codes "client")) (ltb (length (client_names before)) 16) b.0 in
+    let a = and_parts (may_come before (codes "client") && ltb (length (client_names before)) VERSION_1.clients && are_new_names (client_names before) (name ∷ [])) (is_region before home) f.may in
+    let b = and_parts (may_come before (codes "client") && ltb (length (client_names before)) VERSION_1.clients) (are_new_names (client_names before) (name ∷ [])) a.0 in
+    let c = and_parts (may_come before (codes "client")) (ltb (length (client_names before)) VERSION_1.clients) b.0 in
     rw (p.0, p.1) (
       c.0,
       header_on before (codes "client") (name ∷ region ∷ []) c.0 ∙ on_client (known_of before) name region
-          ∙ client_again before name home l (ltb-true (length (client_names before)) 16 c.1) b.1 (ltb-true home (length (region_names before)) a.1),
+          ∙ client_again before name home l (ltb-true (length (client_names before)) VERSION_1.clients c.1) b.1 (ltb-true home (length (region_names before)) a.1),
     )
 
 pub begin_read : (before : List Item) (number : ℕ) (word : List ℕ) (args : List (List ℕ)) → Follows before number (word ∷ args) items.Begin

@@ -8,6 +8,7 @@ use Rattle.std.proofs.lemmas.List.{length-map}
 use Rattle.std.proofs.lemmas.List.Splits.{length-slice_split}
 use Rattle.log_node.specs.declared.ids.Colours.{Colours}
 use Rattle.log_node.specs.declared.forms.Pair.{Pair}
+use Rattle.log_node.specs.Sets.{set_of}
 use Rattle.script_text.specs.declared.script.Reason.{Reason}
 use Rattle.script_text.specs.declared.script.Reason.TheVariants as reasons
 use Rattle.script_text.specs.declared.table.Field.{Field}
@@ -16,7 +17,7 @@ use Rattle.script_text.specs.declared.table.Kinds.{Kinds}
 use Rattle.script_text.specs.declared.given.Given.{Given}
 use Rattle.script_text.specs.declared.item.Item.{Item}
 use Rattle.script_text.specs.Pieces.{is_text, is_key, is_between, is_number, number_value, name_of, names_in, first_in}
-use Rattle.script_text.specs.Items.{set_of, region_names, colour_names, object_names, objects}
+use Rattle.script_text.specs.Items.{region_names, colour_names, object_names, objects}
 use Rattle.script_text.specs.Table.{own_in, later_in, at_most, own_fields, later_fields, has, fits}
 use Rattle.script_text.specs.Grammar.{Spells, SpellAll, are_colours, are_keys, are_pairs, are_new_keys, are_new_numbers, is_colour, has_equals, key_in, value_in, pair_of, is_one_of}
 use Rattle.script_text.specs.Faults.{when, kind_tests, colour_fields, key_field, pair_field}

@@ -9,11 +9,13 @@ use Rattle.script_text.specs.declared.script.Object.{Object}
 use Rattle.script_text.specs.declared.item.Item.{Item}
 use Rattle.script_text.specs.declared.item.Item.TheVariants as items
 use Rattle.script_text.specs.declared.known.Known.{Known}
+use Rattle.script_text.specs.declared.limits.TheConstants.{VERSION_1}
 use Rattle.script_text.specs.Pieces.{is_name, is_among, is_between}
 use Rattle.script_text.specs.Items.{last_said, is_stop, may_come, client_names, objects, object_names}
 use Rattle.script_text.specs.Grammar.{are_new_names, may_follow, is_region}
 use Rattle.script_text.specs.Table.{sort_text, sort_of}
 use Rattle.script_text.specs.Known.{known_of, known_after, with_item, stops_in, stopped_in, IsSmall}
+use Rattle.script_text.proofs.LimitLemmas.{limits_within}
 use Rattle.script_text.proofs.ReadLaws.{held_push}
 
 last_or-push : {A : Type 0} (o : Option A) (xs : List A) (x : A) → last_or o (xs ++ x ∷ []) ≡ Some x
@@ -68,22 +70,22 @@ new_push earlier (first ∷ names) name all one =
     let later = new_push (earlier ++ first ∷ []) names name p.1 (subst (λ xs. are_new_names xs (name ∷ []) ≡ true) (sym (append_assoc earlier (first ∷ []) names)) one) in
     rw (p.0, later) refl
 
-client_lawful : (known : Known) (name : List ℕ) (home : ℕ) → IsLawful known → length known.script.clients < 16 → are_new_names known.script.clients (name ∷ []) ≡ true → IsLawful (known_after known (items.Client name home))
+client_lawful : (known : Known) (name : List ℕ) (home : ℕ) → IsLawful known → length known.script.clients < VERSION_1.clients → are_new_names known.script.clients (name ∷ []) ≡ true → IsLawful (known_after known (items.Client name home))
 client_lawful known name home l few fresh = record {
   regions = l.regions;
   colours = l.colours;
   clients = new_push [] known.script.clients name l.clients fresh;
   objects = l.objects;
-  small = record { regions = l.small.regions; colours = l.small.colours; clients = omega (arith, length-append known.script.clients (name ∷ []), few); objects = l.small.objects };
+  small = record { regions = l.small.regions; colours = l.small.colours; clients = omega (arith, length-append known.script.clients (name ∷ []), few, limits_within.clients); objects = l.small.objects };
 }
 
-object_lawful : (known : Known) (object : Object) → IsLawful known → length known.script.objects < 16 → are_new_names (map (λ (o : Object). o.name) known.script.objects) (object.name ∷ []) ≡ true → IsLawful (known_after known (items.Declared object))
+object_lawful : (known : Known) (object : Object) → IsLawful known → length known.script.objects < VERSION_1.objects → are_new_names (map (λ (o : Object). o.name) known.script.objects) (object.name ∷ []) ≡ true → IsLawful (known_after known (items.Declared object))
 object_lawful known object l few fresh = record {
   regions = l.regions;
   colours = l.colours;
   clients = l.clients;
   objects = rw map-append (new_push [] (map (λ (o : Object). o.name) known.script.objects) object.name l.objects fresh);
-  small = record { regions = l.small.regions; colours = l.small.colours; clients = l.small.clients; objects = omega (arith, length-append known.script.objects (object ∷ []), few) };
+  small = record { regions = l.small.regions; colours = l.small.colours; clients = l.small.clients; objects = omega (arith, length-append known.script.objects (object ∷ []), few, limits_within.objects) };
 }
 
 as_before : (known : Known) (item : Item) → IsLawful known → with_item known.script item ≡ known.script → IsLawful (known_after known item)
@@ -98,26 +100,26 @@ as_before known item l same = record {
 pub lawful_after : (before : List Item) (item : Item) → IsLawful (known_of before) → may_follow before item ≡ true → IsLawful (known_after (known_of before) item)
 lawful_after before items.Version l h = as_before (known_of before) items.Version l refl
 lawful_after before (items.Regions names) l h =
-    let a = and_parts (may_come before (codes "regions") && is_between 1 4 (length names)) (are_new_names [] names) h in
-    let b = and_parts (may_come before (codes "regions")) (is_between 1 4 (length names)) a.0 in
-    let few = leb-true (length names) 4 (and_parts (leb 1 (length names)) (leb (length names) 4) b.1).1 in
+    let a = and_parts (may_come before (codes "regions") && is_between 1 VERSION_1.regions (length names)) (are_new_names [] names) h in
+    let b = and_parts (may_come before (codes "regions")) (is_between 1 VERSION_1.regions (length names)) a.0 in
+    let few = leb-true (length names) VERSION_1.regions (and_parts (leb 1 (length names)) (leb (length names) VERSION_1.regions) b.1).1 in
     record {
       regions = a.1;
       colours = l.colours;
       clients = l.clients;
       objects = l.objects;
-      small = record { regions = omega (arith, few); colours = l.small.colours; clients = l.small.clients; objects = l.small.objects };
+      small = record { regions = omega (arith, few, limits_within.regions); colours = l.small.colours; clients = l.small.clients; objects = l.small.objects };
     }
 lawful_after before (items.Colours names) l h =
-    let a = and_parts (may_come before (codes "colours") && is_between 1 16 (length names)) (are_new_names [] names) h in
-    let b = and_parts (may_come before (codes "colours")) (is_between 1 16 (length names)) a.0 in
-    let few = leb-true (length names) 16 (and_parts (leb 1 (length names)) (leb (length names) 16) b.1).1 in
+    let a = and_parts (may_come before (codes "colours") && is_between 1 VERSION_1.colours (length names)) (are_new_names [] names) h in
+    let b = and_parts (may_come before (codes "colours")) (is_between 1 VERSION_1.colours (length names)) a.0 in
+    let few = leb-true (length names) VERSION_1.colours (and_parts (leb 1 (length names)) (leb (length names) VERSION_1.colours) b.1).1 in
     record {
       regions = l.regions;
       colours = a.1;
       clients = l.clients;
       objects = l.objects;
-      small = record { regions = l.small.regions; colours = few; clients = l.small.clients; objects = l.small.objects };
+      small = record { regions = l.small.regions; colours = omega (arith, few, limits_within.colours); clients = l.small.clients; objects = l.small.objects };
     }
 lawful_after before (items.Rows number) l h = record {
   regions = l.regions;
@@ -127,15 +129,15 @@ lawful_after before (items.Rows number) l h = record {
   small = record { regions = l.small.regions; colours = l.small.colours; clients = l.small.clients; objects = l.small.objects };
 }
 lawful_after before (items.Client name home) l h =
-    let a = and_parts (may_come before (codes "client") && ltb (length (client_names before)) 16 && are_new_names (client_names before) (name ∷ [])) (is_region before home) h in
-    let b = and_parts (may_come before (codes "client") && ltb (length (client_names before)) 16) (are_new_names (client_names before) (name ∷ [])) a.0 in
-    let few = ltb-true (length (client_names before)) 16 (and_parts (may_come before (codes "client")) (ltb (length (client_names before)) 16) b.0).1 in
+    let a = and_parts (may_come before (codes "client") && ltb (length (client_names before)) VERSION_1.clients && are_new_names (client_names before) (name ∷ [])) (is_region before home) h in
+    let b = and_parts (may_come before (codes "client") && ltb (length (client_names before)) VERSION_1.clients) (are_new_names (client_names before) (name ∷ [])) a.0 in
+    let few = ltb-true (length (client_names before)) VERSION_1.clients (and_parts (may_come before (codes "client")) (ltb (length (client_names before)) VERSION_1.clients) b.0).1 in
     client_lawful (known_of before) name home l few b.1
 lawful_after before (items.Declared object) l h =
     let come = may_come before (sort_text (sort_of object.kind)) in
-    let few = ltb (length (objects before)) 16 in
+    let few = ltb (length (objects before)) VERSION_1.objects in
     let a = and_parts (come && few) (are_new_names (object_names before) (object.name ∷ [])) h in
-    object_lawful (known_of before) object l (ltb-true (length (objects before)) 16 (and_parts come few a.0).1) a.1
+    object_lawful (known_of before) object l (ltb-true (length (objects before)) VERSION_1.objects (and_parts come few a.0).1) a.1
 lawful_after before items.Begin l h = as_before (known_of before) items.Begin l refl
 lawful_after before (items.Asks command) l h = record {
   regions = l.regions;

@@ -249,10 +249,10 @@ below_all (n ∷ ns) most q h e =
 pub few_numbers : (ns : List ℕ) (most : ℕ) → are_new_numbers [] ns ≡ true → list_all (λ n. ltb n most) ns ≡ true → length ns ≤ most
 few_numbers ns most fresh below = length-le_from_distinct_below ns most (distinct [] ns nothing fresh) (λ q e. below_all ns most q below e)
 
-pub few_colours : (names fields : List (List ℕ)) (ns : List ℕ) → length names ≤ 16 → colours_at names fields ≡ Ok ns → length ns ≤ 16
-few_colours names fields ns few e =
+pub few_colours : (names fields : List (List ℕ)) (ns : List ℕ) → colours_at names fields ≡ Ok ns → length ns ≤ length names
+few_colours names fields ns e =
     let c = colours_ok names [] fields ns e in
-    omega (arith, few_numbers ns (length names) c.1 c.2)
+    few_numbers ns (length names) c.1 c.2
 
 pub any_in : (p : List ℕ → Bool) (fields : List (Bor (List ℕ))) → list_any (λ (o : Bor (List ℕ)). p o.now) fields ≡ list_any p (fields_in fields)
 any_in p [] = refl

@@ -5,6 +5,7 @@ use Rattle.script_text.specs.declared.table.Sort.{Sort}
 use Rattle.script_text.specs.declared.table.Sort.TheVariants as sorts
 use Rattle.script_text.specs.declared.item.Item.{Item}
 use Rattle.script_text.specs.declared.item.Item.TheVariants as items
+use Rattle.script_text.specs.declared.limits.TheConstants.{VERSION_1}
 use Rattle.script_text.specs.Table.{row_fields, nothing, sort_text, sort_fields, sort_of}
 use Rattle.script_text.specs.Words.{word_of}
 use Rattle.script_text.specs.Pieces.{is_between}
@@ -27,20 +28,20 @@ sort_full sorts.Queue = refl
 pub says_full : (before : List Item) (number : ℕ) (fields : List (List ℕ)) (item : Item) → IsLawful (known_of before) → Follows before number fields item → any_empty fields ≡ false
 says_full before number fields items.Version l f = rw f.says refl
 says_full before number fields (items.Regions names) l f =
-    let a = and_parts (may_come before (codes "regions") && is_between 1 4 (length names)) (are_new_names [] names) f.may in
+    let a = and_parts (may_come before (codes "regions") && is_between 1 VERSION_1.regions (length names)) (are_new_names [] names) f.may in
     rw (f.says, names_full [] names a.1) refl
 says_full before number fields (items.Colours names) l f =
-    let a = and_parts (may_come before (codes "colours") && is_between 1 16 (length names)) (are_new_names [] names) f.may in
+    let a = and_parts (may_come before (codes "colours") && is_between 1 VERSION_1.colours (length names)) (are_new_names [] names) f.may in
     rw (f.says, names_full [] names a.1) refl
 says_full before number fields (items.Rows rows) l f = rw (f.says.2, number_full 10 f.says.0 f.says.1.digits) refl
 says_full before number fields (items.Client name home) l f =
-    let a = and_parts (may_come before (codes "client") && ltb (length (client_names before)) 16 && are_new_names (client_names before) (name ∷ [])) (is_region before home) f.may in
-    let b = and_parts (may_come before (codes "client") && ltb (length (client_names before)) 16) (are_new_names (client_names before) (name ∷ [])) a.0 in
+    let a = and_parts (may_come before (codes "client") && ltb (length (client_names before)) VERSION_1.clients && are_new_names (client_names before) (name ∷ [])) (is_region before home) f.may in
+    let b = and_parts (may_come before (codes "client") && ltb (length (client_names before)) VERSION_1.clients) (are_new_names (client_names before) (name ∷ [])) a.0 in
     rw (f.says, name_full name (new_parts (client_names before) [] name b.1).0, region_full before home l a.1) refl
 says_full before number fields (items.Declared object) l f =
     let sort = sort_of object.kind in
     let fresh = are_new_names (object_names before) (object.name ∷ []) in
-    let a = and_parts (may_come before (sort_text sort) && ltb (length (objects before)) 16) fresh f.may in
+    let a = and_parts (may_come before (sort_text sort) && ltb (length (objects before)) VERSION_1.objects) fresh f.may in
     let s = f.says.1 in
     rw (f.says.2, sort_full sort, name_full object.name (new_parts (object_names before) [] object.name a.1).0, all_full before (sort_fields sort) f.says.0 nothing s.given l s.spelled) refl
 says_full before number fields items.Begin l f = rw f.says refl

@@ -1,104 +1,65 @@
 -- The set of the colours that a line names, made name by name.
-use Rattle.std.proofs.Common.{◌≡◌, ℕ, ◌^◌, ◌<◌, ◌≢◌, inl, inr, Bool, true, false, ◌||◌, eqb, ltb, ◌+◌, ◌≤◌, List, [], ◌∷◌, ◌++◌, length, length-append, Option, Some, None, Ok, bit_or, get_or, refl, sym, ap, subst, ◌∙◌, arith}
+use Rattle.std.proofs.Common.{◌≡◌, ℕ, ◌^◌, ◌<◌, ◌≢◌, inl, inr, true, eqb, ltb, ◌+◌, ◌≤◌, List, [], ◌∷◌, ◌++◌, length, length-append, Option, Some, None, Ok, bit_or, get_or, refl, sym, ap, subst, ◌∙◌, arith}
 use Rattle.std.specs.List.{list_any, list_all, fold, range_with_len}
-use Rattle.std.specs.Int.{bit_at}
 use Rattle.std.specs.Str.{bytes_eq}
 use Rattle.std.proofs.Math.Pow.{pow-lt}
-use Rattle.std.proofs.lemmas.Bool.{cases_Bool, and_parts, eqb-true, eqb-false, eq-eqb, ltb-true, ne_eqb, both_ways}
+use Rattle.std.proofs.lemmas.Bool.{cases_Bool, and_parts, eqb-true, eq-eqb, ltb-true, ne_eqb, both_ways}
 use Rattle.std.proofs.lemmas.Nat.{or_lt, pow_pos}
-use Rattle.std.proofs.lemmas.Nat.Bits.{bit_at_or, bit_at-zero, bit_at-lt, bit_at-pow_same, bit_at-pow_other}
 use Rattle.std.proofs.lemmas.List.Folds.{list_any_at}
 use Rattle.std.proofs.lemmas.List.FromFn.{length-range_with_len, get_or-range_with_len}
-use Rattle.std.proofs.lemmas.List.Sums.{fold_push}
 use Rattle.std.proofs.lemmas.Map.Made.{length-le_from_is_member}
 use Rattle.std.proofs.lemmas.Map.Views.{any-filter_same}
 use Rattle.std.proofs.lemmas.Slice.Eq.{bytes_eq-Decides}
 use Rattle.log_node.specs.declared.ids.Colours.{Colours}
-use Rattle.log_node.specs.Sets.{has, members}
+use Rattle.log_node.specs.declared.limits.TheConstants.{MAX_COLOURS}
+use Rattle.log_node.specs.Sets.{has, members, with_colour, set_of}
+use Rattle.log_node.proofs.CallerLemmas.{has-set_of, set_of-more}
 use Rattle.script_text.specs.declared.fault.Fault.{Fault}
 use Rattle.script_text.specs.declared.fault.Fault.TheVariants as faults
 use Rattle.script_text.specs.declared.script.Reason.TheVariants as reasons
 use Rattle.script_text.specs.Pieces.{names_in, is_among, number_of}
-use Rattle.script_text.specs.Items.{set_of}
 use Rattle.script_text.specs.Grammar.{are_new_numbers}
 use Rattle.script_text.specs.Readings.{Fails, number_at, each_at, colour_at, fresh_colour_at, colours_at, colours_set_at}
 use Rattle.script_text.proofs.EachLemmas.{with_front, each_step, fails_on, done_on}
 use Rattle.script_text.proofs.NameLemmas.{number_found, found_ok, colour_ok, any_turned, eqb_equivalence, nothing, distinct, below_all, few_colours}
 
-abbrev pub put : ℕ → ℕ → ℕ
-put set c = bit_or set (2 ^ c)
-
 -- ---- members
 
-one_more : (a m c : ℕ) → eqb (bit_at (put a m) c) 1 ≡ (eqb (bit_at a c) 1 || eqb m c)
-one_more a m c = elim (cases_Bool (eqb m c)) [
-  | inl same ↦
-      let e = eqb-true m c same in
-      let one : bit_at (put a m) c ≡ 1 = let lt = bit_at-lt a c in let p : bit_at (2 ^ m) c ≡ 1 = rw e (bit_at-pow_same c) in omega (arith, bit_at_or a (2 ^ m) c, p, lt) in
-      rw (one, same) (or_true (eqb (bit_at a c) 1))
-  | inr apart ↦
-      let zero : bit_at (2 ^ m) c ≡ 0 = bit_at-pow_other m c (λ e. eqb-false m c apart (sym e)) in
-      let as_before : bit_at (put a m) c ≡ bit_at a c = omega (arith, bit_at_or a (2 ^ m) c, zero) in
-      rw (as_before, apart) (or_false (eqb (bit_at a c) 1))
-] where
-  or_true : (b : Bool) → true ≡ (b || true)
-  or_true true = refl
-  or_true false = refl
-
-  or_false : (b : Bool) → b ≡ (b || false)
-  or_false true = refl
-  or_false false = refl
-
-or_group : (x y z : Bool) → ((x || y) || z) ≡ (x || (y || z))
-or_group true y z = refl
-or_group false y z = refl
-
-all_more : (order : List ℕ) (a c : ℕ) → eqb (bit_at (fold put a order) c) 1 ≡ (eqb (bit_at a c) 1 || list_any (λ m. eqb m c) order)
-all_more [] a c = or_false (eqb (bit_at a c) 1) where
-  or_false : (b : Bool) → b ≡ (b || false)
-  or_false true = refl
-  or_false false = refl
-all_more (m ∷ order) a c =
-    all_more order (put a m) c ∙ ap (λ b. b || list_any (λ m. eqb m c) order) (one_more a m c) ∙ or_group (eqb (bit_at a c) 1) (eqb m c) (list_any (λ m. eqb m c) order)
-
-pub has_set : (order : List ℕ) (c : ℕ) → has (set_of order) c ≡ list_any (λ m. eqb m c) order
-has_set order c = all_more order 0 c ∙ rw (bit_at-zero c) refl
-
 -- what a set of small numbers has is among its members
-among_members : (set : Colours) (q : ℕ) → q < 64 → has set q ≡ true → list_any (eqb q) (members set) ≡ true
+among_members : (set : Colours) (q : ℕ) → q < MAX_COLOURS → has set q ≡ true → list_any (eqb q) (members set) ≡ true
 among_members set q few is =
     let same : (k : ℕ) → eqb q k ≡ true → has set k ≡ true =
     λ k e. subst (λ (n : ℕ). has set n ≡ true) (eqb-true q k e) is in
-    let at : get_or (range_with_len 0 64) q 0 ≡ q = get_or-range_with_len 0 64 q 0 few ∙ from_zero q in
-    let here = list_any_at (eqb q) (range_with_len 0 64) q 0 (length_is q few) (eq-eqb q _ (sym at)) in
-    any-filter_same (eqb q) (has set) true same (range_with_len 0 64) ∙ here where
-      length_is : (q : ℕ) → q < 64 → q < length (range_with_len 0 64)
-      length_is q few = let all = length-range_with_len 0 64 in omega (arith, all, few)
+    let at : get_or (range_with_len 0 MAX_COLOURS) q 0 ≡ q = get_or-range_with_len 0 MAX_COLOURS q 0 few ∙ from_zero q in
+    let here = list_any_at (eqb q) (range_with_len 0 MAX_COLOURS) q 0 (length_is q few) (eq-eqb q _ (sym at)) in
+    any-filter_same (eqb q) (has set) true same (range_with_len 0 MAX_COLOURS) ∙ here where
+      length_is : (q : ℕ) → q < MAX_COLOURS → q < length (range_with_len 0 MAX_COLOURS)
+      length_is q few = let all = length-range_with_len 0 MAX_COLOURS in omega (arith, all, few)
 
       from_zero : (q : ℕ) → 0 + q ≡ q
       from_zero q = omega arith
 
--- distinct colours below 64 are no more than the members of their set
-pub many_members : (order : List ℕ) (most : ℕ) → most ≤ 64 → are_new_numbers [] order ≡ true
+-- distinct colours below the limit are no more than the members of their set
+pub many_members : (order : List ℕ) (most : ℕ) → most ≤ MAX_COLOURS → are_new_numbers [] order ≡ true
     → list_all (λ n. ltb n most) order ≡ true → length order ≤ length (members (set_of order))
 many_members order most few new below =
     length-le_from_is_member eqb_equivalence order (members (set_of order)) (distinct [] order nothing new)
     (λ q e. let lt = below_all order most q below e in
-    among_members (set_of order) q (omega (arith, lt, few)) (has_set order q ∙ any_turned q order ∙ e))
+    among_members (set_of order) q (omega (arith, lt, few)) (has-set_of order q ∙ any_turned q order ∙ e))
 
 -- and the bits of their set are few
-few_bits : (order : List ℕ) (most : ℕ) → most ≤ 64 → (bits : ℕ) → bits < 2 ^ 64
-    → list_all (λ n. ltb n most) order ≡ true → fold put bits order < 2 ^ 64
+few_bits : (order : List ℕ) (most : ℕ) → most ≤ MAX_COLOURS → (bits : ℕ) → bits < 2 ^ MAX_COLOURS
+    → list_all (λ n. ltb n most) order ≡ true → fold (λ set k. bit_or set (2 ^ k)) bits order < 2 ^ MAX_COLOURS
 few_bits [] most few bits lt below = lt
 few_bits (c ∷ order) most few bits lt below =
     let p = and_parts (ltb c most) (list_all (λ n. ltb n most) order) below in
     let low = ltb-true c most p.0 in
-    let small : c < 64 = omega (arith, low, few) in
-    few_bits order most few (put bits c) (or_lt 64 bits (2 ^ c) lt (pow-lt small)) p.1
+    let small : c < MAX_COLOURS = omega (arith, low, few) in
+    few_bits order most few (bit_or bits (2 ^ c)) (or_lt MAX_COLOURS bits (2 ^ c) lt (pow-lt small)) p.1
 
-pub bits_few : (order : List ℕ) (most : ℕ) → most ≤ 64 → list_all (λ n. ltb n most) order ≡ true
-    → (set_of order).0 < 2 ^ 64
-bits_few order most few below = few_bits order most few 0 (pow_pos 64) below
+pub bits_few : (order : List ℕ) (most : ℕ) → most ≤ MAX_COLOURS → list_all (λ n. ltb n most) order ≡ true
+    → (set_of order).0 < 2 ^ MAX_COLOURS
+bits_few order most few below = few_bits order most few 0 (pow_pos MAX_COLOURS) below
 
 -- ---- names and their numbers
 
@@ -144,7 +105,7 @@ new_colour_is names earlier order field h = by (number_of names field) refl wher
   by : (o : Option ℕ) → number_of names field ≡ o
       → fresh_colour_at names (set_of order) field ≡ colour_at names earlier field
   by None e = rw e refl
-  by (Some c) e = rw (e, has_set order c, among_numbers names earlier order field c h e) refl
+  by (Some c) e = rw (e, has-set_of order c, among_numbers names earlier order field c h e) refl
 
 -- ---- one step of the loop
 
@@ -169,26 +130,24 @@ module _ (names : List (List ℕ)) (cols rest : List ℕ) (set : Colours) (count
       rw (sym h.so_far ∙ ap (λ fields. with_front h.order (each_at (colour_at names) h.earlier fields)) cut ∙ fails_on (colour_at names) h.earlier h.order field later why (sym (reads field) ∙ e)) refl
 
   -- the set with the colour of the next name
-  abbrev set_with : ℕ → Colours
-  set_with colour = record { 0 = put set.0 colour }
+  set_more : (colour : ℕ) → with_colour set colour ≡ set_of (h.order ++ colour ∷ [])
+  set_more colour = ap (λ (s : Colours). with_colour s colour) h.set_is ∙ set_of-more h.order colour
 
   number_is : (field : List ℕ) (colour : ℕ) → fresh_colour_at names set field ≡ Ok colour → number_of names field ≡ Some colour
   unfolding number_at
   number_is field colour e = found_ok reasons.UnknownColour (number_of names field) colour (colour_ok names h.earlier field colour (sym (reads field) ∙ e)).0
 
   -- the name is read, and the others are read on
-  pub goes_on : (field later : List ℕ) (colour : ℕ) → names_in rest ≡ field ∷ names_in later → fresh_colour_at names set field ≡ Ok colour → IsRead names cols later (set_with colour) (count + 1)
+  pub goes_on : (field later : List ℕ) (colour : ℕ) → names_in rest ≡ field ∷ names_in later → fresh_colour_at names set field ≡ Ok colour → IsRead names cols later (with_colour set colour) (count + 1)
   goes_on field later colour cut e = record {
     earlier = h.earlier ++ field ∷ [];
     order = h.order ++ colour ∷ [];
     so_far = sym (each_step (colour_at names) h.earlier h.order field (names_in later) colour (sym (reads field) ∙ e))
         ∙ ap (λ fields. with_front h.order (each_at (colour_at names) h.earlier fields)) (sym cut) ∙ h.so_far;
     numbered = numbered_more names h.earlier h.order field colour h.numbered (number_is field colour e);
-    set_is = rw h.set_is (ap (λ (s : ℕ). as_set s) (sym (fold_push put 0 h.order colour)));
+    set_is = set_more colour;
     count_is = omega (arith, length-append h.order (colour ∷ []), h.count_is);
-  } where
-    as_set : ℕ → Colours
-    as_set s = record { 0 = s }
+  }
 
   -- the last name is read
   pub ends : (field : List ℕ) (colour : ℕ) → names_in rest ≡ field ∷ [] → fresh_colour_at names set field ≡ Ok colour
@@ -198,13 +157,12 @@ module _ (names : List (List ℕ)) (cols rest : List ℕ) (set : Colours) (count
       ∙ each_step (colour_at names) h.earlier h.order field [] colour (sym (reads field) ∙ e) ∙ done_on (colour_at names) (h.earlier ++ field ∷ []) (h.order ++ colour ∷ [])
 
   pub gives : (field : List ℕ) (colour : ℕ) → names_in rest ≡ field ∷ [] → fresh_colour_at names set field ≡ Ok colour
-      → colours_set_at names (names_in cols) ≡ Ok (set_with colour, count + 1)
+      → colours_set_at names (names_in cols) ≡ Ok (with_colour set colour, count + 1)
   unfolding colours_set_at
   gives field colour cut e =
-      let n : count + 1 ≡ length (h.order ++ colour ∷ []) = omega (arith, length-append h.order (colour ∷ []), h.count_is) in
-      let s : put set.0 colour ≡ fold put 0 (h.order ++ colour ∷ []) = rw h.set_is (sym (fold_push put 0 h.order colour)) in
-      rw (ends field colour cut e, n, s) refl
+      let n : length (h.order ++ colour ∷ []) ≡ count + 1 = omega (arith, length-append h.order (colour ∷ []), h.count_is) in
+      rw (ends field colour cut e, n) (ap (λ (s : Colours). Ok (s, count + 1)) (sym (set_more colour)))
 
-  pub few : (field : List ℕ) (colour : ℕ) → length names ≤ 16 → names_in rest ≡ field ∷ [] → fresh_colour_at names set field ≡ Ok colour → count + 1 ≤ 16
-  few field colour small cut e =
-      omega (arith, few_colours names (names_in cols) (h.order ++ colour ∷ []) small (ends field colour cut e), length-append h.order (colour ∷ []), h.count_is)
+  pub few : (field : List ℕ) (colour : ℕ) → names_in rest ≡ field ∷ [] → fresh_colour_at names set field ≡ Ok colour → count + 1 ≤ length names
+  few field colour cut e =
+      omega (arith, few_colours names (names_in cols) (h.order ++ colour ∷ []) (ends field colour cut e), length-append h.order (colour ∷ []), h.count_is)

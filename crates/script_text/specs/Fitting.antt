@@ -3,6 +3,7 @@ use Rattle.std.specs.Prelude.{◌≡◌, Bool, true, false, IsTrue, ℕ, ◌+◌
 use Rattle.std.specs.List.{All}
 use Rattle.log_node.specs.declared.node.Shape.{Shape}
 use Rattle.log_node.specs.declared.ids.Colours.{Colours}
+use Rattle.log_node.specs.declared.limits.TheConstants.{MAX_COLOURS}
 use Rattle.log_node.specs.Sets.{members}
 use Rattle.script_text.specs.declared.script.Kind.{Kind}
 use Rattle.script_text.specs.declared.script.Kind.TheVariants as kinds
@@ -29,10 +30,10 @@ pub record IsShape (shape : Shape) : Type 0 where
 abbrev pub AreBelow : ℕ → Colours → Type 0
 AreBelow count colours = All (λ c. c < count) (members colours)
 
--- a set with so many colours at least, of the 64 that a set may have
+-- a set with so many colours at least, of those that a set may have
 pub record HasColours (least : ℕ) (set : Colours) : Type 0 where
   pub many : least ≤ length (members set)
-  pub bits : set.0 < 2 ^ 64
+  pub bits : set.0 < 2 ^ MAX_COLOURS
 
 -- The colours and regions that a command names are among so many. An append and a scan name a colour at least; a stop
 -- names two, and no more steps than its append has.

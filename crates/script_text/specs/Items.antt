@@ -1,7 +1,6 @@
 -- What the lines of a script say one by one, and what they say together.
-use Rattle.std.specs.Prelude.{Bool, true, false, ℕ, ◌^◌, ◌==◌, bit_or, not, ◌&&◌, ◌||◌, List, [], ◌∷◌, length, map, Option, Some, None, codes, if◌then◌else◌}
+use Rattle.std.specs.Prelude.{Bool, true, false, ℕ, ◌==◌, not, ◌&&◌, ◌||◌, List, [], ◌∷◌, length, map, Option, Some, None, codes, if◌then◌else◌}
 use Rattle.std.specs.List.{filter_map, list_any, fold, last_or}
-use Rattle.log_node.specs.declared.ids.Colours.{Colours}
 use Rattle.script_text.specs.declared.script.Object.{Object}
 use Rattle.script_text.specs.declared.script.Command.{Command}
 use Rattle.script_text.specs.declared.script.What.{What}
@@ -126,10 +125,6 @@ script_of said = record {
   objects = objects said;
   commands = commands said;
 }
-
--- the set of these colours
-abbrev pub set_of : List ℕ → Colours
-set_of colours = record { 0 = fold (λ set c. bit_or set (2 ^ c)) 0 colours }
 
 abbrev pub is_stop : What → Bool
 is_stop (whats.Append _ _) = false

@@ -1,6 +1,7 @@
 -- What is known of the lines so far, which later lines read.
 use Rattle.std.specs.Prelude.{◌≡◌, false, ◌≤◌, ℕ, List, [], ◌∷◌, ◌++◌, length, Option, Some, None, if◌then◌else◌}
 use Rattle.std.specs.List.{filter_map}
+use Rattle.log_node.specs.declared.limits.TheConstants.{MAX_REGIONS, MAX_COLOURS, MAX_CLIENTS}
 use Rattle.script_text.specs.declared.script.Command.{Command}
 use Rattle.script_text.specs.declared.script.What.{What}
 use Rattle.script_text.specs.declared.script.Script.{Script}
@@ -8,7 +9,6 @@ use Rattle.script_text.specs.declared.item.Item.{Item}
 use Rattle.script_text.specs.declared.item.Item.TheVariants as items
 use Rattle.script_text.specs.declared.known.Known.{Known}
 use Rattle.script_text.specs.declared.reads.HeldRead.{HeldRead}
-use Rattle.script_text.specs.declared.limits.TheConstants.{VERSION_1}
 use Rattle.script_text.specs.Items.{stage_of, stage_after, script_of, commands, is_stop}
 use Rattle.script_text.specs.Reads.{reads_after, held_after}
 
@@ -61,9 +61,9 @@ pub record IsPlain (what : What) : Type 0 where
   pub goes-on : is_stop what ≡ false
   pub reads-none : (held : List HeldRead) (client : ℕ) → reads_after held client what ≡ held
 
--- names are few enough to be numbered by a byte
+-- names are few enough for the log, and to be numbered by a byte
 pub record IsSmall (known : Known) : Type 0 where
-  pub regions : length known.script.regions ≤ VERSION_1.regions
-  pub colours : length known.script.colours ≤ VERSION_1.colours
-  pub clients : length known.script.clients ≤ VERSION_1.clients
-  pub objects : length known.script.objects ≤ VERSION_1.objects
+  pub regions : length known.script.regions ≤ MAX_REGIONS
+  pub colours : length known.script.colours ≤ MAX_COLOURS
+  pub clients : length known.script.clients ≤ MAX_CLIENTS
+  pub objects : length known.script.objects ≤ 256

@@ -1,7 +1,7 @@
 // The command lines.
 ghost use Rattle.std.specs.Prelude.{◌≡◌, ◌≤◌, ◌==◌};
 ghost use Rattle.std.specs.List.{list_any};
-ghost use Rattle.script_text.specs.declared.limits.TheConstants.{VERSION_1};
+ghost use Rattle.log_node.specs.declared.limits.TheConstants.{MAX_COLOURS};
 ghost use Rattle.script_text.specs.Known.{IsSmall};
 ghost use Rattle.script_text.specs.Readings.{Gives, Takes, fields_in};
 ghost use Rattle.script_text.specs.CommandReadings.{ended_well, what_at, worded_at, asked_at, caller_at, command_at};
@@ -19,7 +19,7 @@ use std::alloc::Global;
 /// The tests after the fields.
 #[tactic(auto, unfolding(crate::specs::CommandReadings::ended_well))]
 fn ended_well(known: &Known, client: u8, last: Last, given: &Given) -> Result<(), Fault>
-    requires { given.now.count ≤ VERSION_1.colours }
+    requires { given.now.count ≤ MAX_COLOURS }
     ensures { Takes result given.now (ended_well known.now client last given.now) }
 {
     match last {

@@ -1,6 +1,6 @@
 // What the fields after a command's word give.
 ghost use Rattle.std.specs.Prelude.{◌≡◌, ◌≤◌, IfOk};
-ghost use Rattle.script_text.specs.declared.limits.TheConstants.{VERSION_1};
+ghost use Rattle.log_node.specs.declared.limits.TheConstants.{MAX_COLOURS};
 ghost use Rattle.script_text.specs.declared.script.Word.TheVariants as words;
 ghost use Rattle.script_text.specs.Known.{IsSmall};
 ghost use Rattle.script_text.specs.Table.{nothing, what_of, kind_of};
@@ -52,7 +52,7 @@ impl Given {
     {
         Given {
             number: 0,
-            colours: Colours(0),
+            colours: Colours::NONE,
             count: 0,
             colour: 0,
             region: 0,
@@ -76,9 +76,9 @@ impl Given {
         own: &[&[u8]],
     ) -> Result<(), Fault>
         requires small { IsSmall known.now }
-        requires few { self.old.count ≤ VERSION_1.colours }
+        requires few { self.old.count ≤ MAX_COLOURS }
         ensures given { Takes result self.new (taken_at known.now field (fields_in own.now) self.old) }
-        ensures few { self.new.count ≤ VERSION_1.colours }
+        ensures few { self.new.count ≤ MAX_COLOURS }
     {
         match field {
             Field::Steps => self.number = steps_at(first(own))?,
@@ -114,9 +114,9 @@ impl Given {
         args: &[&[u8]],
     ) -> Result<(), Fault>
         requires small { IsSmall known.now }
-        requires few { self.old.count ≤ VERSION_1.colours }
+        requires few { self.old.count ≤ MAX_COLOURS }
         ensures given { Takes result self.new (given_at known.now fields.now (fields_in args.now) self.old) }
-        ensures few { self.new.count ≤ VERSION_1.colours }
+        ensures few { self.new.count ≤ MAX_COLOURS }
     {
         match fields {
             [] => Ok(()),
@@ -137,7 +137,7 @@ impl Given {
     ) -> Result<Given, Fault>
         requires { IsSmall known.now }
         ensures given { Gives result (given_at known.now fields.now (fields_in args.now) nothing) }
-        ensures few { IfOk result (λ given. given.count ≤ VERSION_1.colours) }
+        ensures few { IfOk result (λ given. given.count ≤ MAX_COLOURS) }
     {
         let mut given = Given::new(alloc);
         given.take_all(alloc, known, fields, args)?;

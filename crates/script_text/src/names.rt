@@ -1,6 +1,6 @@
 // Names in a line: new ones, and those that the header has named.
 ghost use Rattle.std.specs.Prelude.{◌≡◌, ◌≤◌, ◌<◌, [], length, IfOk};
-ghost use Rattle.script_text.specs.declared.limits.TheConstants.{VERSION_1};
+ghost use Rattle.log_node.specs.declared.limits.TheConstants.{MAX_COLOURS};
 ghost use Rattle.script_text.specs.Pieces.{is_among, names_in};
 ghost use Rattle.script_text.specs.Readings.{Gives, fields_in, number_at, new_name_at, new_names_at, colour_at, fresh_colour_at, colours_at, colours_set_at, text_at};
 
@@ -85,7 +85,7 @@ pub fn colour_numbers(alloc: Global, names: &[Text], fields: &[&[u8]]) -> Result
 /// The number of a colour that is not in the set.
 #[tactic(auto, unfolding(crate::specs::Readings::fresh_colour_at))]
 fn new_colour(names: &[Text], set: Colours, field: &[u8]) -> Result<u8, Fault>
-    requires { length names.now ≤ VERSION_1.colours }
+    requires { length names.now ≤ MAX_COLOURS }
     ensures value { Gives result (fresh_colour_at names.now set field.now) }
     ensures below { IfOk result (λ c. c < length names.now) }
 {
@@ -100,17 +100,17 @@ fn new_colour(names: &[Text], set: Colours, field: &[u8]) -> Result<u8, Fault>
 #[tactic(auto, unfolding(crate::specs::Readings::colours_set_at))]
 #[inline]
 pub fn colour_set(names: &[Text], cols: &[u8]) -> Result<(Colours, usize), Fault>
-    requires { length names.now ≤ VERSION_1.colours }
+    requires { length names.now ≤ MAX_COLOURS }
     ensures value { Gives result (colours_set_at names.now (names_in cols.now)) }
-    ensures few { IfOk result (λ s. s.1 ≤ VERSION_1.colours) }
+    ensures few { IfOk result (λ s. s.1 ≤ MAX_COLOURS) }
 {
-    let mut set = Colours(0);
+    let mut set = Colours::NONE;
     let mut count = 0;
     let mut rest = cols;
     loop {
         let end = comma_front(rest);
         let colour = new_colour(names, set, &rest[..end])?;
-        set = Colours(set.0 | 1 << colour);
+        set = set.with(colour);
         count += 1;
         if end >= rest.len() {
             return Ok((set, count));

@@ -1,6 +1,5 @@
 // The objects that commands name.
 ghost use Rattle.std.specs.Prelude.{◌≡◌, ◌≤◌, length};
-ghost use Rattle.script_text.specs.declared.limits.TheConstants.{VERSION_1};
 ghost use Rattle.script_text.specs.Table.{is_of};
 ghost use Rattle.script_text.specs.Readings.{Gives, object_at};
 
@@ -22,7 +21,7 @@ fn is_of(kinds: Kinds, kind: &Kind) -> bool
 
 /// The number of the object with this name, which is of one of these kinds.
 pub fn object_at(kinds: Kinds, objects: &[Object], field: &[u8]) -> Result<u8, Fault>
-    requires { length objects.now ≤ VERSION_1.objects }
+    requires { length objects.now ≤ 256 }
     ensures { Gives result (object_at kinds objects.now field.now) }
 {
     for (number, object) in objects.iter().enumerate() {

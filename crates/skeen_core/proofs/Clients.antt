@@ -1,10 +1,10 @@
 -- A board whose rows of one client have changed.
-use Rattle.std.proofs.Common.{◌≡◌, ℕ, zero, suc, ◌<◌, ◌≤◌, List, [], ◌∷◌, length, get_or, set, refl, sym, ap, subst}
+use Rattle.std.proofs.Common.{◌≡◌, ℕ, zero, suc, ◌<◌, List, [], ◌∷◌, length, get_or, set, refl, sym, ap, subst}
 use Rattle.std.proofs.Common.{◌∙◌, true, Some, None, arith, inl, inr}
 use Rattle.std.specs.Prelude.{map, replicate, slice_get, Option}
 use Rattle.std.proofs.lemmas.List.{map-set, get_or-map, length-map, get_or_past}
 use Rattle.std.proofs.lemmas.Bool.{cases_lt, false≢true}
-use Rattle.skeen_core.specs.declared.board_row.BoardRow.{BoardRow}
+use Rattle.skeen_core.specs.Boards.{BoardRow}
 use Rattle.log_node.specs.declared.ids.Row.{Row}
 use Rattle.skeen_core.specs.Boards.{Board, RowsOfClient, begun_at, has_in}
 

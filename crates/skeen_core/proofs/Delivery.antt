@@ -1,11 +1,9 @@
 -- The line and the queue of entries, where those in front are final and the first behind them is open.
-use Rattle.std.proofs.Common.{◌≡◌, ℕ, ◌+◌, ◌-◌, ◌<◌, ◌≤◌, Bool, true, false, List, [], ◌∷◌, ◌++◌, length, take}
-use Rattle.std.proofs.Common.{drop, refl, sym, ap, subst, ◌∙◌, arith, append-nil, append_assoc, length-append}
-use Rattle.std.proofs.Common.{length-drop}
-use Rattle.std.specs.Prelude.{map, not, ◌&&◌, ◌||◌}
+use Rattle.std.proofs.Common.{◌≡◌, Bool, true, false, List, [], ◌∷◌, ◌++◌}
+use Rattle.std.proofs.Common.{refl, ap, ◌∙◌, append-nil}
+use Rattle.std.specs.Prelude.{map, not, ◌||◌}
 use Rattle.std.specs.List.{AllByRecursion, filter, list_all}
 use Rattle.std.proofs.lemmas.Bool.{or_right, or_from, and_right, not_from_true, not_from_false, false_from_ne_true}
-use Rattle.std.proofs.lemmas.List.{map-append, take_at, drop_at, length-map}
 use Rattle.std.proofs.lemmas.List.Elements.{filter-append}
 use Rattle.std.proofs.lemmas.List.Folds.{list_all-append}
 use Rattle.log_node.specs.declared.ids.Key.{Key}
@@ -13,7 +11,7 @@ use Rattle.log_node.specs.Order.{key_below}
 use Rattle.skeen_core.specs.declared.waiting.Waiting.{Waiting}
 use Rattle.log_node.specs.Standings.{Standing, is_delivered, line_of, queue_of}
 use Rattle.skeen_core.specs.Queues.{standing_of}
-use Rattle.skeen_core.specs.Inside.{final_at, all_entries, all_stored, with_things, StartsOpen, IsRising, AreEntries}
+use Rattle.skeen_core.specs.Inside.{final_at, all_entries, StartsOpen, IsRising}
 use Rattle.skeen_core.proofs.Lists.{each-weaker, each-append, each-map, each-of_map, filter-all, filter-none}
 use Rattle.skeen_core.proofs.Lists.{list_all-each}
 use Rattle.log_node.proofs.CallerLemmas.{key-asym, key-irrefl}

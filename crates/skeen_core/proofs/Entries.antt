@@ -1,14 +1,14 @@
 -- Entries in rising key: what one more, one less and a filter leave true, and where a new one stands.
-use Rattle.std.proofs.Common.{◌≡◌, ℕ, ◌+◌, ◌<◌, ◌≤◌, max, Bool, true, false, cond, List, [], ◌∷◌, ◌++◌, refl, sym}
+use Rattle.std.proofs.Common.{◌≡◌, ℕ, ◌≤◌, Bool, true, false, List, [], ◌∷◌, ◌++◌, refl}
 use Rattle.std.proofs.Common.{ap, ◌∙◌, arith}
-use Rattle.std.specs.Prelude.{map, not, Option, Some, None}
-use Rattle.std.specs.List.{AllByRecursion, filter, list_all}
-use Rattle.std.proofs.lemmas.Bool.{cond_both, cond-true, cond-false, not-true, false≢true, both_ways}
+use Rattle.std.specs.Prelude.{not}
+use Rattle.std.specs.List.{AllByRecursion, filter}
+use Rattle.std.proofs.lemmas.Bool.{cond_both, cond-false, not-true, both_ways}
 use Rattle.log_node.specs.declared.ids.Id.{Id}
 use Rattle.log_node.specs.Order.{same_id, key_below}
 use Rattle.log_node.specs.Standings.{Standing, with_entry, without_id}
 use Rattle.skeen_core.specs.Inside.{IsRising, AreApart, AreEntries}
-use Rattle.skeen_core.proofs.Lists.{each-weaker, each-append, each-left, each-right, each-both, each-filter}
+use Rattle.skeen_core.proofs.Lists.{each-weaker, each-right, each-both, each-filter}
 use Rattle.skeen_core.proofs.Lists.{each-filtered}
 use Rattle.log_node.proofs.CallerLemmas.{key-trans, key-asym, key-total, same_id-sym}
 

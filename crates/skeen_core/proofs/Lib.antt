@@ -8,6 +8,6 @@ mod Adding
 mod Settling
 mod Settled
 mod RowMarks
-mod Marking
+mod KeptRows
 mod Clients
 pub mod CallerLemmas

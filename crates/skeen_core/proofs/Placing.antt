@@ -1,19 +1,18 @@
 -- Where an entry stands among stored entries in rising key.
-use Rattle.std.proofs.Common.{◌≡◌, ℕ, zero, suc, ◌+◌, ◌<◌, ◌≤◌, Bool, true, false, cond, List, [], ◌∷◌, ◌++◌}
-use Rattle.std.proofs.Common.{length, get_or, take, drop, refl, sym, ap, subst, ◌∙◌, arith, inl, inr}
+use Rattle.std.proofs.Common.{◌≡◌, ℕ, zero, suc, ◌<◌, ◌≤◌, true, false, List, [], ◌∷◌}
+use Rattle.std.proofs.Common.{length, get_or, refl, sym, ap, ◌∙◌, arith, inl, inr}
 use Rattle.std.specs.Prelude.{map, not}
 use Rattle.std.specs.List.{AllByRecursion, AllWithin, insert, remove}
 use Rattle.std.specs.List.Sorted.{IsPartitionedBy}
-use Rattle.std.proofs.lemmas.Bool.{cond-true, cond-false, not-true, not-false, not_from_false, cases_lt}
+use Rattle.std.proofs.lemmas.Bool.{cond-true, cond-false, not-true, not_from_false, cases_lt}
 use Rattle.std.proofs.lemmas.Bool.{false_from_ne_true, false≢true}
-use Rattle.std.proofs.lemmas.List.{get_or-map}
 use Rattle.log_node.specs.declared.ids.Key.{Key}
 use Rattle.log_node.specs.Order.{key_below}
 use Rattle.skeen_core.specs.declared.waiting.Waiting.{Waiting}
 use Rattle.log_node.specs.Standings.{Standing}
 use Rattle.skeen_core.specs.Queues.{standing_of, with_stored}
-use Rattle.skeen_core.specs.Inside.{IsRising, IsRisingStored}
-use Rattle.skeen_core.proofs.Lists.{each-at, each-map, each-left, each-right}
+use Rattle.skeen_core.specs.Inside.{IsRisingStored}
+use Rattle.skeen_core.proofs.Lists.{each-at, each-map}
 use Rattle.log_node.proofs.CallerLemmas.{key-trans}
 
 module _ {T : Type 0} where

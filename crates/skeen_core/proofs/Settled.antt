@@ -1,7 +1,7 @@
 -- Settling an open id among those that wait settles it among all entries and all stored ones.
-use Rattle.std.proofs.Common.{◌≡◌, ℕ, ◌+◌, ◌-◌, ◌<◌, ◌≤◌, max, Bool, true, false, List, [], ◌∷◌, ◌++◌, cond, length}
+use Rattle.std.proofs.Common.{◌≡◌, ℕ, ◌-◌, ◌≤◌, max, Bool, true, false, List, [], ◌∷◌, ◌++◌, cond, length}
 use Rattle.std.proofs.Common.{drop, refl, sym, ap, subst, ◌∙◌, arith}
-use Rattle.std.specs.Prelude.{map, not, Option, Some, None}
+use Rattle.std.specs.Prelude.{map, not, Some}
 use Rattle.std.specs.List.{AllByRecursion, filter, find, list_any}
 use Rattle.std.proofs.lemmas.Bool.{not_from_false, cond-false}
 use Rattle.std.proofs.lemmas.List.Elements.{filter-append}
@@ -21,7 +21,7 @@ use Rattle.skeen_core.specs.Inside.{ready_keys, ready_things, left}
 use Rattle.skeen_core.proofs.Lists.{each-weaker, each-both, each-map, each-of_map, each-drop, filter-all}
 use Rattle.skeen_core.proofs.Lists.{filter-map, find-skip, find-some, find-map, cond-map}
 use Rattle.log_node.proofs.CallerLemmas.{key-asym, key-raise, same_id-sym}
-use Rattle.skeen_core.proofs.Entries.{AllBelow, HasOwnId, LacksId, with_entry-front, entries-filter, entries-with}
+use Rattle.skeen_core.proofs.Entries.{AllBelow, HasOwnId, with_entry-front, entries-filter, entries-with}
 use Rattle.skeen_core.proofs.Entries.{entries-clock, lacks-without, below-over, apart-over}
 use Rattle.skeen_core.proofs.Delivering.{queue-delivered, queued-delivered}
 use Rattle.skeen_core.proofs.Settling.{opens, opens-parts}

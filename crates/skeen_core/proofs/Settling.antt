@@ -1,31 +1,25 @@
 -- Settling an open id among those that wait settles it among all entries.
-use Rattle.std.proofs.Common.{◌≡◌, ℕ, zero, suc, ◌+◌, ◌-◌, ◌<◌, ◌≤◌, max, Bool, true, false, cond, List, [], ◌∷◌}
-use Rattle.std.proofs.Common.{◌++◌, length, get_or, take, drop, refl, sym, ap, subst, ◌∙◌, arith, inl, inr, ◌⊎◌}
-use Rattle.std.specs.Prelude.{map, not, ◌&&◌, ◌||◌, Option, Some, None, nat_lt}
-use Rattle.std.specs.List.{AllByRecursion, filter, find, list_any, position, position_or_len, prefix_len, remove}
-use Rattle.std.proofs.lemmas.Bool.{cond_both, cond-true, cond-false, cases_Bool, and_parts, not-true, not-false}
-use Rattle.std.proofs.lemmas.Bool.{ltb-false, or_right, not_from_true, not_from_false, both_ways, and_left}
+use Rattle.std.proofs.Common.{◌≡◌, ℕ, zero, suc, ◌+◌, ◌<◌, ◌≤◌, Bool, true, false, List, [], ◌∷◌}
+use Rattle.std.proofs.Common.{length, get_or, refl, sym, ap, subst, ◌∙◌, arith, inl, inr}
+use Rattle.std.specs.Prelude.{map, not, ◌||◌, Some, None, nat_lt}
+use Rattle.std.specs.List.{AllByRecursion, list_any, position, position_or_len, remove}
+use Rattle.std.proofs.lemmas.Bool.{cond_both, cond-true, cond-false, cases_Bool, and_parts, not-true}
+use Rattle.std.proofs.lemmas.Bool.{ltb-false, not_from_true, not_from_false}
 use Rattle.std.proofs.lemmas.List.Quantifiers.{position-Some}
-use Rattle.std.proofs.lemmas.List.Elements.{filter-append}
 use Rattle.std.proofs.lemmas.List.Folds.{list_any_at, list_any-append}
 use Rattle.log_node.specs.declared.ids.Id.{Id}
 use Rattle.log_node.specs.declared.ids.Key.{Key}
-use Rattle.log_node.specs.Order.{same_id, key_below}
-use Rattle.log_node.specs.declared.marks.Outcome.{Outcome}
-use Rattle.log_node.specs.declared.marks.Outcome.TheVariants.{Open, Gone, Final}
+use Rattle.log_node.specs.Order.{same_id}
+use Rattle.log_node.specs.declared.marks.Outcome.TheVariants.{Final}
 use Rattle.skeen_core.specs.declared.waiting.Waiting.{Waiting}
-use Rattle.log_node.specs.Outcomes.{final_number}
-use Rattle.log_node.specs.Standings.{Standing, with_entry, without_id, settled_entries, is_open_id, open_entry}
-use Rattle.skeen_core.specs.Queues.{Queued, standing_of, has_open, final_entry, with_stored, stored_without}
-use Rattle.skeen_core.specs.Queues.{with_found, settled_stored, settled_queue, MaySettle}
-use Rattle.skeen_core.specs.Inside.{final_at, all_entries, all_stored, with_things, queued, AreEntries, AreApart}
-use Rattle.skeen_core.specs.Inside.{IsRising}
-use Rattle.skeen_core.proofs.Lists.{each-weaker, each-both, each-at, each-map, each-of_map, each-drop, filter-all}
-use Rattle.skeen_core.proofs.Lists.{filter-map, find-skip, find-at, find-some, find-map, list_any-none}
-use Rattle.skeen_core.proofs.Lists.{list_any-map, cond-map}
-use Rattle.log_node.proofs.CallerLemmas.{key-asym, key-raise, same_id-is, same_id-refl, same_id-sym}
-use Rattle.skeen_core.proofs.Entries.{AllBelow, LacksId, with_entry-front, entries-filter, entries-with}
-use Rattle.skeen_core.proofs.Entries.{entries-clock, lacks-without, below-over, apart-over}
+use Rattle.log_node.specs.Standings.{is_open_id}
+use Rattle.skeen_core.specs.Queues.{standing_of, has_open, final_entry, with_stored, stored_without}
+use Rattle.skeen_core.specs.Queues.{with_found, settled_stored}
+use Rattle.skeen_core.specs.Inside.{final_at, all_entries, AreApart}
+use Rattle.skeen_core.proofs.Lists.{each-weaker, each-at, each-map, filter-all}
+use Rattle.skeen_core.proofs.Lists.{find-at, list_any-none}
+use Rattle.skeen_core.proofs.Lists.{list_any-map}
+use Rattle.log_node.proofs.CallerLemmas.{same_id-is, same_id-refl, same_id-sym}
 
 module _ {T : Type 0} where
   -- the entry is open, and has this id

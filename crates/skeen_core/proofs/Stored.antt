@@ -1,16 +1,22 @@
 -- Keys joined with their things, and what the stored entries of a queue are.
-use Rattle.std.proofs.Common.{◌≡◌, ℕ, zero, suc, ◌+◌, ◌-◌, ◌<◌, ◌≤◌, max, Bool, true, false, cond, List, [], ◌∷◌}
-use Rattle.std.proofs.Common.{◌++◌, length, take, drop, refl, sym, ap, subst, ◌∙◌, arith, append-nil, append_assoc}
-use Rattle.std.proofs.Common.{length-append, length-drop}
-use Rattle.std.specs.Prelude.{map}
-use Rattle.std.specs.List.{AllByRecursion}
-use Rattle.std.proofs.lemmas.List.{take_at, drop_at, drop-append-le, drop-drop}
+use Rattle.std.proofs.Common.{◌≡◌, ℕ, zero, suc, ◌+◌, ◌-◌, ◌≤◌, max, Bool, true, List, [], ◌∷◌}
+use Rattle.std.proofs.Common.{◌++◌, length, take, drop, refl, sym, ap, subst, ◌∙◌, arith}
+use Rattle.std.proofs.Common.{length-drop}
+use Rattle.std.specs.Prelude.{map, not}
+use Rattle.std.specs.List.{filter}
+use Rattle.std.proofs.lemmas.List.{take_at, drop_at, drop-append-le, drop-drop, length-map}
+use Rattle.std.proofs.lemmas.List.Elements.{filter-append}
 use Rattle.log_node.specs.declared.ids.Key.{Key}
 use Rattle.skeen_core.specs.declared.waiting.Waiting.{Waiting}
-use Rattle.skeen_core.specs.Queues.{Queued, kept_entries, waiting_entries}
-use Rattle.log_node.specs.Standings.{line_of}
-use Rattle.skeen_core.specs.Inside.{all_stored, all_entries, with_things, queued, IsQueue}
+use Rattle.skeen_core.specs.Queues.{Queued, standing_of, kept_entries, waiting_entries}
+use Rattle.log_node.specs.Standings.{Standing, line_of}
+use Rattle.skeen_core.specs.Inside.{final_at, all_stored, all_entries, with_things, queued, IsQueue}
 use Rattle.skeen_core.proofs.Delivery.{line-is}
+use Rattle.skeen_core.proofs.Lists.{filter-map}
+
+none-open : (line : List Key) → filter (λ (e : Standing). not e.settled) (map final_at line) ≡ []
+none-open [] = refl
+none-open (k ∷ ks) = none-open ks
 
 module _ {T : Type 0} where
   pub length-with_things : (ks : List Key) (ts : List T) → length ks ≡ length ts →
@@ -91,6 +97,16 @@ module _ {T : Type 0} where
   waiting-queued {line} {kept} {waiting} q =
       ap (λ ks. drop (length ks - (length line - length kept)) (all_stored line kept waiting)) (line-queued q)
       ∙ waiting-behind line kept waiting q.fewer
+
+  -- each open entry waits
+  pub open-waits : (line : List Key) (waiting : List (Waiting T)) →
+      length (filter (λ e. not e.settled) (all_entries line waiting)) ≡ length (filter (λ w. not w.settled) waiting)
+  open-waits line waiting =
+      let p : Standing → Bool = λ e. not e.settled in
+      ap length (filter-append p (map final_at line) (map standing_of waiting)
+      ∙ ap (λ es. es ++ filter p (map standing_of waiting)) (none-open line)
+      ∙ filter-map p standing_of waiting)
+      ∙ length-map (filter (λ w. not w.settled) waiting) standing_of
 
   -- fewer things are kept
   pub stored-drop : (n : ℕ) (line : List Key) (kept : List T) (waiting : List (Waiting T)) →

@@ -1,7 +1,7 @@
 -- What contracts see of a stamp board, and what its calls make of it.
-use Rattle.std.specs.Prelude.{◌≡◌, ◌<◌, ℕ, ◌-◌, Bool, true, false, Option, Some, None}
+use Rattle.std.specs.Prelude.{◌≡◌, ◌<◌, ℕ, Bool, true, false, Option, Some, None}
 use Rattle.std.specs.Prelude.{List, [], ◌∷◌, ◌++◌, replicate, map, length, slice_get, slice_index_or, slice_set}
-use Rattle.std.specs.List.{All, filter, range_with_len}
+use Rattle.std.specs.List.{All}
 use Rattle.log_node.specs.declared.ids.Id.{Id}
 use Rattle.log_node.specs.declared.ids.Colours.{Colours}
 use Rattle.log_node.specs.declared.ids.Row.{Row}
@@ -12,10 +12,17 @@ use Rattle.log_node.specs.declared.marks.Mark.TheVariants as marks
 use Rattle.log_node.specs.declared.marks.Marked.{Marked}
 use Rattle.log_node.specs.declared.marks.Marked.TheVariants.{Set, Already}
 use Rattle.log_node.specs.declared.marks.Outcome.{Outcome}
-use Rattle.log_node.specs.declared.marks.Outcome.TheVariants.{Open, Gone, Final}
+use Rattle.log_node.specs.declared.marks.Outcome.TheVariants.{Open}
 use Rattle.log_node.specs.declared.limits.TheConstants.{MAX_COLOURS}
-use Rattle.skeen_core.specs.declared.board_row.BoardRow.{BoardRow}
-use Rattle.log_node.specs.Outcomes.{outcome_of, is_missing}
+use Rattle.log_node.specs.Outcomes.{outcome_of}
+
+-- a begun row: the id and the colours of its node, a mark for every colour that there may be, and the outcome that is kept for it;
+-- Open as long as none is
+pub record BoardRow : Type 0 where
+  pub id : Id
+  pub colours : Colours
+  pub marks : List Mark
+  pub last : Outcome
 
 -- a board: its numbers of colours and of rows for each client, and the begun rows of each client in their order
 pub record Board : Type 0 where
@@ -27,17 +34,14 @@ pub record Board : Type 0 where
 abbrev pub mark_at : BoardRow → ℕ → Mark
 mark_at row colour = slice_index_or row.marks colour marks.None
 
--- the marks of the row's colours from one on
-unfoldable pub marks_above : BoardRow → ℕ → List Mark
-marks_above row from = map (mark_at row) (filter (has row.colours) (range_with_len from (MAX_COLOURS - from)))
-
 -- the marks of the row's colours, the smallest colour first
 unfoldable pub row_marks : BoardRow → List Mark
 row_marks row = map (mark_at row) (members row.colours)
 
--- the begun rows of one client, and how many it may begin
+-- the begun rows of one client, for so many colours, and how many it may begin
 pub record RowsOfClient : Type 0 where
   pub begun : List BoardRow
+  pub colours : ℕ
   pub rows : ℕ
 
 -- a client's begun rows
@@ -81,6 +85,10 @@ IsBegunWith board row colour = has_in (begun_at board row) colour ≡ true
 abbrev pub mark_in : Option BoardRow → ℕ → Mark
 mark_in None colour = marks.None
 mark_in (Some r) colour = mark_at r colour
+
+-- the marks of a set of colours, the smallest colour first
+abbrev pub marks_in : Option BoardRow → Colours → List Mark
+marks_in row set = map (mark_in row) (members set)
 
 -- a row that is not begun is open
 abbrev pub outcome_in : Option BoardRow → Outcome
@@ -140,6 +148,6 @@ fresh_row_of node = fresh_row node.id node.colours
 abbrev pub empty_board : ℕ → ℕ → ℕ → Board
 empty_board clients colours rows = record { colours = colours; rows = rows; begun = replicate clients [] }
 
--- each client may begin so many rows
-abbrev pub HaveRows : ℕ → List RowsOfClient → Type 0
-HaveRows rows clients = All (λ c. c.rows ≡ rows) clients
+-- each client has marks for so many colours, and may begin so many rows
+abbrev pub HaveRows : ℕ → ℕ → List RowsOfClient → Type 0
+HaveRows colours rows clients = All (λ c. (c.colours ≡ colours) × (c.rows ≡ rows)) clients

@@ -1,8 +1,9 @@
 // The delivery queue of one destination. Its clock is that of Lamport, "Time, Clocks, and the Ordering of Events in a
 // Distributed System" (1978); stamps and delivery are those of Skeen's multicast, as in Birman and Joseph, "Reliable
 // Communication in the Presence of Failures" (1987). That things can be dropped and keys stay is this project's own.
-ghost use Rattle.std.specs.Prelude.{◌≡◌, ◌+◌, ◌-◌, ◌<◌, ◌≤◌, ◌&&◌, max, nat_lt, false, true, [], ◌∷◌, ◌++◌};
+ghost use Rattle.std.specs.Prelude.{◌≡◌, ◌+◌, ◌-◌, ◌<◌, ◌≤◌, ◌&&◌, max, nat_lt, not, false, true, [], ◌∷◌, ◌++◌};
 ghost use Rattle.std.specs.Prelude.{map, drop, length, vec_len, vec_capacity, if◌then◌else◌, IfOk, IfErr, OnOk, OnErr};
+ghost use Rattle.std.specs.List.{filter};
 ghost use Rattle.log_node.specs.Standings.{line_of, queue_of};
 ghost use Rattle.skeen_core.specs.Queues.{Queued, standing_of, entry_under, has_id, has_open, is_decided, IsContinued};
 ghost use Rattle.skeen_core.specs.Queues.{stamp_after, HasStamp, IsAtEnd, MaySettle};
@@ -11,7 +12,7 @@ ghost use Rattle.skeen_core.specs.Inside.{ready_keys, ready_things, left};
 
 use crate::outcomes::final_number;
 use crate::stamps::StampEnd;
-use crate::waiting::{Waiting, final_front, put, settle_entry};
+use crate::waiting::{Waiting, final_front, open_in, put, settle_entry};
 use log_node::{Id, Key, MAX_STAMP, Outcome};
 use std::alloc::{AllocError, Global};
 use std::marker::Model;
@@ -250,6 +251,13 @@ impl<T: Drop> Queue<T> {
         ensures entries { map standing_of result.now ≡ queue_of self.now.entries }
     {
         self.waiting.as_slice()
+    }
+
+    /// How many entries are open.
+    pub fn open_count(&self) -> u64
+        ensures { result ≡ length (filter (λ e. not e.settled) self.now.entries) }
+    {
+        open_in(self.waiting.as_slice()) as u64
     }
 
     /// Drops the things of the line below a base; no base falls.

@@ -5,7 +5,6 @@ ghost use Rattle.skeen_core.specs.Boards.{Board, begun_at, next_of, HasRow, IsFu
 ghost use Rattle.skeen_core.specs.Boards.{mark_in, outcome_in, last_in, first_mark, marked};
 ghost use Rattle.skeen_core.specs.Boards.{with_mark, decided, with_changed, with_begun, fresh_row_of, empty_board};
 
-use crate::board_row::{BoardRow, MARKS};
 use crate::client_rows::ClientRows;
 use log_node::{Full, MAX_CLIENTS, MAX_COLOURS, MAX_ROWS, Mark, Marked, Node, Outcome, Row, Why};
 use std::alloc::{AllocError, Global};
@@ -29,7 +28,7 @@ impl Model for Rows {
 
     ghost view = { λ a. record { colours = a.colours; rows = a.rows; begun = map (λ c. c.begun) a.clients.items } };
 
-    ghost invariant = { λ a. (a.colours ≤ MAX_COLOURS) × HaveRows a.rows a.clients.items };
+    ghost invariant = { λ a. (a.colours ≤ MAX_COLOURS) × HaveRows a.colours a.rows a.clients.items };
 }
 
 impl Rows {
@@ -42,7 +41,7 @@ impl Rows {
     {
         let mut all = Vec::with_capacity(alloc, clients as usize)?;
         for _ in 0..clients {
-            all.push(ClientRows::open(alloc, rows)?)?;
+            all.push(ClientRows::open(alloc, colours, rows)?)?;
         }
         Ok(Rows {
             colours,
@@ -78,13 +77,7 @@ impl Rows {
         ensures err { OnErr result (self.new ≡ self.old) }
     {
         let row = self.next_row(client)?;
-        let begun = BoardRow {
-            id: node.id,
-            colours: node.colours,
-            marks: [Mark::None; MARKS],
-            last: Outcome::Open,
-        };
-        self.clients[client as usize].begin(begun);
+        self.clients[client as usize].begin(node.id, node.colours);
         Ok(row)
     }
 
@@ -142,10 +135,7 @@ impl Rows {
         requires colour { colour < self.now.colours }
         ensures { result ≡ mark_in (begun_at self.now row) colour }
     {
-        match self.clients[row.client as usize].get(row.number) {
-            None => Mark::None,
-            Some(begun) => begun.marks[colour as usize],
-        }
+        self.clients[row.client as usize].read(row.number, colour)
     }
 
     /// The outcome that is kept for a row; open where none is. `_client` is the reader.
@@ -153,9 +143,6 @@ impl Rows {
         requires { IsRow self.now row }
         ensures { result ≡ last_in (begun_at self.now row) }
     {
-        match self.clients[row.client as usize].get(row.number) {
-            None => Outcome::Open,
-            Some(begun) => begun.last,
-        }
+        self.clients[row.client as usize].last(row.number)
     }
 }

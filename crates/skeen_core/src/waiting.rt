@@ -1,7 +1,7 @@
 // Entries that wait in a delivery queue, and the steps on their list, which is in rising key.
-ghost use Rattle.std.specs.Prelude.{◌≡◌, ◌<◌, ◌≤◌, ◌&&◌, ◌++◌, ◌∷◌, []};
+ghost use Rattle.std.specs.Prelude.{◌≡◌, ◌<◌, ◌≤◌, ◌&&◌, ◌++◌, ◌∷◌, [], not};
 ghost use Rattle.std.specs.Prelude.{if◌then◌else◌, map, length, slice_index_or, vec_len, vec_capacity};
-ghost use Rattle.std.specs.List.{list_any, position, remove};
+ghost use Rattle.std.specs.List.{filter, list_any, position, remove};
 ghost use Rattle.log_node.specs.Standings.{is_open_id};
 ghost use Rattle.skeen_core.specs.Queues.{standing_of, final_entry, with_stored, settled_stored, is_decided};
 ghost use Rattle.skeen_core.specs.Inside.{IsRisingStored, AreApart, ready};
@@ -38,6 +38,13 @@ pub(crate) fn final_front<T>(waiting: &[Waiting<T>]) -> usize
     ensures bound { result ≤ length waiting.now }
 {
     waiting.iter().take_while(|entry| entry.settled).count()
+}
+
+// How many entries are open.
+pub(crate) fn open_in<T>(waiting: &[Waiting<T>]) -> usize
+    ensures { result ≡ length (filter (λ w. not w.settled) waiting.now) }
+{
+    waiting.iter().filter(|entry| !entry.settled).count()
 }
 
 // At the end of a vector that has room.

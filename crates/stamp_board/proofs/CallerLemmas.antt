@@ -1,10 +1,11 @@
 -- What is known stays known, and lists of two seats: for those who carry seats from call to call.
-use Rattle.std.proofs.Common.{◌≡◌, ℕ, ◌+◌, ◌<◌, ◌≤◌, sym, refl, ◌∙◌, subst, arith, inl, inr}
+use Rattle.std.proofs.Common.{◌≡◌, ℕ, ◌+◌, ◌*◌, ◌<◌, ◌≤◌, sym, refl, ◌∙◌, subst, arith, inl, inr, mul-le-mul}
 use Rattle.std.proofs.lemmas.Bool.{cases_eq}
 use Rattle.log_node.specs.declared.ids.Row.{Row}
 use Rattle.log_node.specs.declared.node.Node.{Node}
 use Rattle.log_node.specs.declared.marks.Mark.{Mark}
 use Rattle.log_node.specs.declared.marks.Outcome.{Outcome}
+use Rattle.stamp_board.specs.declared.view.TheConstants.{MAX_WORDS}
 use Rattle.stamp_board.specs.declared.view.Size.{Size}
 use Rattle.stamp_board.specs.declared.view.View.{View}
 use Rattle.stamp_board.specs.Words.{row_at, word_at}
@@ -12,6 +13,16 @@ use Rattle.stamp_board.specs.declared.seats.Seat.{Seat}
 use Rattle.stamp_board.specs.Views.{Has, Grows, Learns, KnowsBegun, KnowsMark, KnowsOutcome}
 use Rattle.stamp_board.specs.Seats.{IsLater, Begins, AreRowsBelow, next_row_of, seen}
 pub use Rattle.stamp_board.proofs.Pairs.{last_two, two_colours}
+
+-- a board that is within some limits has no more words than one of these limits
+pub words_within : (clients rows colours most_clients most_rows most_colours : ℕ) → clients ≤ most_clients → rows ≤ most_rows
+    → colours ≤ most_colours → most_clients * most_rows * (most_colours + 2) ≤ MAX_WORDS
+    → clients * rows * (colours + 2) ≤ MAX_WORDS
+words_within clients rows colours most_clients most_rows most_colours few_clients few_rows few_colours few =
+    let width : colours + 2 ≤ most_colours + 2 = omega (arith, few_colours) in
+    let all : clients * rows * (colours + 2) ≤ most_clients * most_rows * (most_colours + 2) =
+    mul-le-mul (mul-le-mul few_clients few_rows) width in
+    omega (arith, all, few)
 
 pub Learns-refl : (v : View) → Learns v v
 Learns-refl v = record { known = λ _ _ h. h; begun = λ _ _ h. h }

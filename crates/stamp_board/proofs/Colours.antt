@@ -7,6 +7,7 @@ use Rattle.std.specs.Int.{bit_at}
 use Rattle.std.proofs.lemmas.Nat.Bits.{bit_at-zero}
 use Rattle.std.proofs.lemmas.List.{append-nil, map-append}
 use Rattle.std.proofs.lemmas.List.Elements.{filter-append, filter_passes}
+use Rattle.log_node.specs.declared.limits.TheConstants.{MAX_COLOURS}
 use Rattle.log_node.specs.declared.ids.Colours.{Colours}
 use Rattle.log_node.specs.Sets.{has, members}
 use Rattle.log_node.specs.declared.marks.Mark.{Mark}
@@ -50,14 +51,14 @@ none_from set bound a (suc n) within le =
     ∙ none_from set bound (a + 1) n within (omega arith)
 
 -- no colour from the bound on is a member
-pub members_below : (set : Colours) (n : ℕ) → n ≤ 64 → Within set n
+pub members_below : (set : Colours) (n : ℕ) → n ≤ MAX_COLOURS → Within set n
     → members set ≡ filter (has set) (range_with_len 0 n)
 members_below set n few within =
-    let e : n + (64 - n) ≡ 64 = omega arith in
-    ap (λ (z : ℕ). filter (has set) (range_with_len 0 z)) (sym e) ∙ ap (filter (has set)) (range_split 0 n (64 - n))
-    ∙ filter-append (has set) (range_with_len 0 n) (range_with_len (0 + n) (64 - n))
+    let e : n + (MAX_COLOURS - n) ≡ MAX_COLOURS = omega (arith, few) in
+    ap (λ (z : ℕ). filter (has set) (range_with_len 0 z)) (sym e) ∙ ap (filter (has set)) (range_split 0 n (MAX_COLOURS - n))
+    ∙ filter-append (has set) (range_with_len 0 n) (range_with_len (0 + n) (MAX_COLOURS - n))
     ∙ ap (λ (l : List ℕ). filter (has set) (range_with_len 0 n) ++ l)
-    (none_from set n (0 + n) (64 - n) within (omega arith))
+    (none_from set n (0 + n) (MAX_COLOURS - n) within (omega arith))
     ∙ append-nil (filter (has set) (range_with_len 0 n))
 
 module _ {A : Type 0} where
@@ -88,7 +89,7 @@ module _ {A : Type 0} where
       ∙ (λ i. below_filter f bits n i ++ last (p (0 + n)) i)
       ∙ ap (λ (b : Bool). below f bits n ++ (if b then f n ∷ [] else [])) same
 
-  pub below_members : (f : ℕ → A) (set : Colours) (n : ℕ) → n ≤ 64 → Within set n
+  pub below_members : (f : ℕ → A) (set : Colours) (n : ℕ) → n ≤ MAX_COLOURS → Within set n
       → map f (members set) ≡ below f set.0 n
   below_members f set n few within = ap (map f) (members_below set n few within) ∙ below_filter f set.0 n
 
@@ -108,7 +109,7 @@ module _ {A : Type 0} where
 abbrev pub marks_below : Size → List ℕ → ℕ → ℕ → ℕ → List Mark
 marks_below k ws r bits n = below (λ c. mark_from (get_or ws (word_at k r (1 + c)) 0)) bits n
 
-pub marks_are_below : (k : Size) (ws : List ℕ) (r : ℕ) (set : Colours) → k.colours ≤ 64 → Within set k.colours
+pub marks_are_below : (k : Size) (ws : List ℕ) (r : ℕ) (set : Colours) → k.colours ≤ MAX_COLOURS → Within set k.colours
     → marks_at k ws r set ≡ marks_below k ws r set.0 k.colours
 marks_are_below k ws r set few within = below_members (λ c. mark_from (get_or ws (word_at k r (1 + c)) 0)) set
     k.colours few within
@@ -119,7 +120,7 @@ first_of p (x ∷ xs) some all = (x, all 0 x (omega arith))
 
 -- a set with a member has a colour
 pub some_colour : (set : Colours) → 0 < length (members set) → (c : ℕ) × (has set c ≡ true)
-some_colour set some = first_of (has set) (members set) some (filter_passes (has set) (range_with_len 0 64))
+some_colour set some = first_of (has set) (members set) some (filter_passes (has set) (range_with_len 0 MAX_COLOURS))
 
 -- the empty set has none
 pub not_empty : (set : Colours) → 0 < length (members set) → set.0 ≢ 0

@@ -7,6 +7,7 @@ use Rattle.std.proofs.Math.Seq.{take-suc-set}
 use Rattle.std.proofs.lemmas.List.{append-nil, length-append}
 use mathlib.Core.Logic.{dite}
 use native.Mathlib.Decide.{ℕ_discrete}
+use Rattle.log_node.specs.declared.limits.TheConstants.{MAX_COLOURS}
 use Rattle.log_node.specs.declared.ids.Row.{Row}
 use Rattle.log_node.specs.declared.node.Node.{Node}
 use Rattle.log_node.specs.Sets.{members}
@@ -21,12 +22,12 @@ use Rattle.std.proofs.lemmas.List.{length-map}
 use Rattle.log_node.specs.Outcomes.{outcome_of, is_missing, is_stamp_end_fence, is_memory_fence, number_of, greatest}
 use Rattle.stamp_board.specs.declared.view.Size.{Size}
 use Rattle.stamp_board.specs.declared.view.View.{View}
-use Rattle.stamp_board.specs.Words.{row_at, word_at, mark_from, outcome_from}
+use Rattle.stamp_board.specs.Words.{width, row_at, word_at, mark_from, outcome_from}
 use Rattle.stamp_board.specs.Rows.{AreColours, marks_at, outcome_at}
 use Rattle.stamp_board.specs.Views.{Has, at, Grows, KnowsAll, KnowsOutcome}
 use Rattle.stamp_board.specs.Law.{Fits, Lawful, Told, heard, AreSet}
 use Rattle.stamp_board.proofs.CallerLemmas.{Grows-trans}
-use Rattle.stamp_board.proofs.Colours.{has_bit, marks_below, marks_are_below}
+use Rattle.stamp_board.proofs.Colours.{Within, has_bit, marks_below, marks_are_below}
 use Rattle.stamp_board.proofs.Knowing.{if_yes, if_no, heard_grows, heard_mine, heard_size, heard_knows}
 use Rattle.stamp_board.proofs.Outcomes.{open_if_missing, open_if_unbegun}
 use Rattle.stamp_board.proofs.Fitting.{fits_heard, fits_before, fits_there, mark_from-good, good_append}
@@ -53,8 +54,11 @@ module _ (k : Size) (v : View) (i n : ℕ) (is : v.size ≡ k) (told : Told v i 
   pub told_fits : Fits k told.0 (heard v i n)
   told_fits = fits_heard k told.0 v i n (subst (λ (z : Size). Fits z told.0 v) is told.2) told.3
 
-  pub told_small : n < 2 ^ 62 + 2
-  told_small = let P : ℕ → Type 0 = λ z. z < 2 ^ 62 + 2 in subst P told.3 (told_law.small i)
+  -- a mark or a final word keeps its bound
+  pub told_small : (r p : ℕ) → i ≡ word_at k r p → 0 < p → p < width k → n < 2 ^ 62 + 2
+  told_small r p here pos part =
+      let there : get_or told.0 (word_at k r p) 0 ≡ n = ap (λ (z : ℕ). get_or told.0 z 0) (sym here) ∙ told.3 in
+      let bound = told_law.small r p pos part in omega (arith, there, bound)
 
 pub starts : (k : Size) (v : View) (i n r : ℕ) → v.size ≡ k → i ≡ word_at k r 0 → Told v i n → n ≢ 0
     → Taken k v (heard v i n) r n 0 0 []
@@ -71,17 +75,6 @@ starts k v i n r is here told ne = record {
   few = omega arith;
   many = refl;
 }
-
--- a row that is not begun is open
-pub unbegun : (k : Size) (v : View) (i n r : ℕ) → v.size ≡ k → i ≡ word_at k r 0 → Told v i n → n ≡ 0
-    → (ws : List ℕ) × Lawful k ws × Fits k ws (heard v i n) × (outcome_at k ws r ≡ Open)
-unbegun k v i n r is here told none = (
-  told.0,
-  told_law k v i n is told,
-  told_fits k v i n is told,
-  open_if_unbegun k
-      told.0 r (ap (λ (z : ℕ). get_or told.0 z 0) (sym here) ∙ told.3 ∙ none),
-)
 
 module _ (k : Size) (u v : View) (r bits c count : ℕ) (taken : List Mark) (t : Taken k u v r bits c count taken) where
   -- the colour c is not the row's
@@ -103,6 +96,17 @@ module _ (k : Size) (u v : View) (r bits c count : ℕ) (taken : List Mark) (t :
 
   module _ (i n : ℕ) (is : v.size ≡ k) (here : i ≡ word_at k r (1 + c)) (bit : has_bit bits c ≡ true)
       (told : Told v i n) where
+    colours_then : Within record { 0 = get_or told.0 (word_at k r 0) 0 } k.colours
+    colours_then =
+        let old : Fits k told.0 v = subst (λ (z : Size). Fits z told.0 v) is told.2 in
+        let nonzero : get_or told.0 (word_at k r 0) 0 ≢ 0 = λ z. t.began (sym (t.first told.0 old) ∙ z) in
+        ((told_law k v i n is told).colours r nonzero).within
+
+    bit_then : has_bit (get_or told.0 (word_at k r 0) 0) c ≡ true
+    bit_then =
+        let old : Fits k told.0 v = subst (λ (z : Size). Fits z told.0 v) is told.2 in
+        subst (λ (z : ℕ). has_bit z c ≡ true) (sym (t.first told.0 old)) bit
+
     -- its mark was found
     pub takes : n ≢ 0 → Taken k u (heard v i n) r bits (suc c) (count + 1) (taken ++ mark_from n ∷ [])
     takes ne = record {
@@ -116,25 +120,21 @@ module _ (k : Size) (u v : View) (r bits c count : ℕ) (taken : List Mark) (t :
       marks = λ ws f. let there : get_or ws (word_at k r (1 + c)) 0 ≡ n = ap (λ (z : ℕ). get_or ws z 0) (sym here)
           ∙ fits_there k ws v i n ne f in
           λ j. t.marks ws (fits_before k ws v i n f) j ++ (if bit j then mark_from (there j) ∷ [] else []);
-      good = good_append taken (mark_from n ∷ []) t.good
-          (mark_from-good n (omega arith) (told_small k v i n is told), tt);
+      good = let low = colours_then c bit_then in good_append taken (mark_from n ∷ []) t.good
+          (mark_from-good n (omega arith) (told_small k v i n is told r (1 + c) here (omega arith) (omega (arith, low))), tt);
       few = let e = t.few in omega arith;
       many = length-append taken (mark_from n ∷ []) ∙ ap (λ (z : ℕ). z + 1) t.many;
     }
 
     -- its mark is missing
-    pub misses : k.colours ≤ 64 → n ≡ 0
+    pub misses : k.colours ≤ MAX_COLOURS → n ≡ 0
         → (ws : List ℕ) × Lawful k ws × Fits k ws (heard v i n) × (outcome_at k ws r ≡ Open)
     misses few none =
-        let ws : List ℕ = told.0 in
-        let old : Fits k ws v = subst (λ (z : Size). Fits z ws v) is told.2 in
-        let law = told_law k v i n is told in
-        let nonzero : get_or ws (word_at k r 0) 0 ≢ 0 = λ z. t.began (sym (t.first ws old) ∙ z) in (
+        let ws : List ℕ = told.0 in (
           ws,
-          law,
+          told_law k v i n is told,
           told_fits k v i n is told,
-          open_if_missing k ws r c few (law.colours r nonzero).within
-              (subst (λ (z : ℕ). has_bit z c ≡ true) (sym (t.first ws old)) bit)
+          open_if_missing k ws r c few colours_then bit_then
               (ap (λ (z : ℕ). get_or ws z 0) (sym here) ∙ told.3 ∙ none),
         )
 
@@ -151,7 +151,7 @@ known_outcome k v row o is knows ws law f =
     sym (law.finals (row_at k row) (λ z. omega arith)) ∙ ap outcome_from word ∙ knows.2
 
 pub ended_marks : (k : Size) (u v : View) (r bits count : ℕ) (taken : List Mark)
-    → Taken k u v r bits k.colours count taken → k.colours ≤ 64
+    → Taken k u v r bits k.colours count taken → k.colours ≤ MAX_COLOURS
     → (ws : List ℕ) → Lawful k ws → Fits k ws v → outcome_at k ws r ≡ outcome_of taken
 ended_marks k u v r bits count taken t few ws law f =
     let now : ℕ = get_or ws (word_at k r 0) 0 in
@@ -164,7 +164,7 @@ ended_marks k u v r bits count taken t few ws law f =
 
 -- a begun row has a mark
 pub ended_some : (k : Size) (u v : View) (r bits count : ℕ) (taken : List Mark)
-    → Taken k u v r bits k.colours count taken → k.colours ≤ 64 → count ≢ 0
+    → Taken k u v r bits k.colours count taken → k.colours ≤ MAX_COLOURS → count ≢ 0
 ended_some k u v r bits count taken t few z =
     let ws : List ℕ = t.words in
     let now : ℕ = get_or ws (word_at k r 0) 0 in
@@ -258,7 +258,7 @@ not_open xs here e =
     no (list_any is_stamp_end_fence xs) (list_any is_memory_fence xs) (sym o ∙ e)
 
 -- where the seat knew the row as begun and all its marks, no words that fit leave it open
-pub never_open : (k : Size) (v w : View) (row : Row) → v.size ≡ k → k.colours ≤ 64 → Grows v w → KnowsAll v row
+pub never_open : (k : Size) (v w : View) (row : Row) → v.size ≡ k → k.colours ≤ MAX_COLOURS → Grows v w → KnowsAll v row
     → (ws : List ℕ) → Lawful k ws → Fits k ws w → outcome_at k ws (row_at k row) ≢ Open
 never_open k v w row is few grows all ws law f e =
     let r : ℕ = row_at k row in

@@ -12,6 +12,7 @@ use lib.ListN.{get_elem?}
 use prog.Atomic.{either}
 use Rattle.atomic_table.specs.Table.{State, Me, Step, step, keeps, Allows, Splits, Joins, Enters, opening}
 use Rattle.atomic_table.proofs.Lists.{at_set, exchanged}
+use Rattle.log_node.specs.declared.limits.TheConstants.{MAX_COLOURS}
 use Rattle.log_node.specs.declared.node.Node.{Node}
 use Rattle.log_node.specs.declared.ids.Id.{Id}
 use Rattle.log_node.specs.declared.ids.Row.{Row}
@@ -278,13 +279,15 @@ module _ (k : Size) where
         ap outcome_from val ∙ law.finals q was
         ∙ outcome_same k ws after q (λ ne. (law.colours q ne).within) (λ o le. sym (away o (omega arith))))
 
-    pub law_set : n < 2 ^ 62 + 2 → (p ≡ 0 → AreColours k record { 0 = n })
+    pub law_set : (p ≢ 0 → n < 2 ^ 62 + 2) → (p ≡ 0 → AreColours k record { 0 = n })
         → (p ≡ k.colours + 1 → outcome_from n ≡ outcome_at k ws r) → (p ≢ k.colours + 1 → outcome_at k ws r ≡ Open)
         → Lawful k after
     law_set small spans ends undone = record {
-      small = λ j. dite (ℕ_discrete j (word_at k r p)) (λ e. let P : ℕ → Type 0 = λ z. get_or after z 0 < 2 ^ 62 + 2 in
-          subst P (sym e) (let Q : ℕ → Type 0 = λ z. z < 2 ^ 62 + 2 in subst Q (sym after_same) small))
-          (λ ne. let Q : ℕ → Type 0 = λ z. z < 2 ^ 62 + 2 in subst Q (sym (after_else j ne)) (law.small j));
+      small = λ q o pos lt. let j : ℕ = word_at k q o in dite (ℕ_discrete j (word_at k r p))
+          (λ e. let mine : p ≢ 0 = λ z. let d : o ≡ p = same_part k q o r p lt part e in omega (arith, pos, d, z) in
+          let now : get_or after j 0 ≡ n = ap (λ (z : ℕ). get_or after z 0) e ∙ after_same in
+          let bound = small mine in omega (arith, now, bound))
+          (λ ne. let still = after_else j ne in let bound = law.small q o pos lt in omega (arith, still, bound));
       colours = λ q set_now. let j : ℕ = word_at k q 0 in dite (ℕ_discrete j (word_at k r p))
           (λ e. let first : p ≡ 0 = sym (same_part k q 0 r p (omega arith) part e) in
           subst (λ (z : ℕ). AreColours k record { 0 = z }) (sym (ap (λ (z : ℕ). get_or after z 0) e
@@ -385,7 +388,7 @@ module _ (k : Size) where
   -- the mark of a colour that the row has is set to n, by the seat of the colour
   pub marks : (slots id : ℕ) (me : Me Node View) (r c n : ℕ) (x : Node) → me.0.size ≡ k
       → word_at k r (1 + c) < words_of k → c < k.colours → Plays me.0 (owner_of k (word_at k r (1 + c)))
-      → Has me.0.begun r x → has x.colours c ≡ true → 0 < n → n < 2 ^ 62 + 2 → k.colours ≤ 64
+      → Has me.0.begun r x → has x.colours c ≡ true → 0 < n → n < 2 ^ 62 + 2 → k.colours ≤ MAX_COLOURS
       → Allows (IsLawfulState k) slots id me (word_at k r (1 + c)) (λ m. either (eqb m 0) n m)
       (Turns marked (step slots (word_at k r (1 + c)) 0 n none) me)
   marks slots id me r c n x is inside colour plays knows bit pos small few =
@@ -400,7 +403,7 @@ module _ (k : Size) where
       let nonzero : get_or s.words (word_at k r 0) 0 ≢ 0 = λ z. let p = begun.0 in let e = begun.1 in omega arith in
       let undone = open_if_missing k s.words r c few (holds.lawful.colours r nonzero).within bit_now free in
       holds_set s holds id me.0 (wrote me.0 i n) i n holds.nodes here free
-      (law_set s.words r (1 + c) n within part holds.lawful small (λ z. absurd (omega arith))
+      (law_set s.words r (1 + c) n within part holds.lawful (λ _. small) (λ z. absurd (omega arith))
       (λ z. absurd (omega arith)) (λ _. undone))
       (λ _ _ e. e)
       (named_else s holds r (1 + c) n part (λ z. omega arith))
@@ -428,7 +431,7 @@ module _ (k : Size) where
       subst (λ (z : View). IsLawfulState k record { words = set s.words i n; homes = s.homes; views = set s.views id z })
       (sym (heard_some me.0 i n (λ z. omega arith)))
       (holds_set s holds id me.0 record me.0 { known = (i, n) ∷ me.0.known } i n holds.nodes here free
-      (law_set s.words r p n within part holds.lawful small (λ z. absurd (omega arith))
+      (law_set s.words r p n within part holds.lawful (λ _. small) (λ z. absurd (omega arith))
       (λ _. known s.words holds.lawful (fits s holds id me.0 here)) (λ ne. absurd (ne refl)))
       (λ _ _ e. e)
       (named_else s holds r p n part (λ z. omega arith))
@@ -477,11 +480,11 @@ module _ (k : Size) where
   -- word 0 of a row is set, by the seat of the row's client, which has not set it before
   pub begins : (slots id : ℕ) (me : Me Node View) (r : ℕ) (x : Node) → me.0.size ≡ k → word_at k r 0 < words_of k
       → Plays me.0 (owner_of k (word_at k r 0))
-      → x.colours.0 < 2 ^ 62 + 2 → AreColours k x.colours
+      → AreColours k x.colours
       → x.id.client ≡ r / k.rows → IsNewTo me.0 x.id.client x.id
       → Allows (IsLawfulState k) slots id me (word_at k r 0) (λ m. either (eqb m 0) x.colours.0 m)
       (Turns began (step slots (word_at k r 0) 0 x.colours.0 (some x)) me)
-  begins slots id me r x is inside plays small spans client new =
+  begins slots id me r x is inside plays spans client new =
       let n : ℕ = x.colours.0 in
       let many = spans.many in
       let filled : n ≢ 0 = not_empty x.colours (omega arith) in
@@ -507,7 +510,7 @@ module _ (k : Size) where
             (wrote me.0 i n) { begun = (z, x) ∷ me.0.begun };
       }) (sym row)
       (holds_set s holds id me.0 record (wrote me.0 i n) { begun = (r, x) ∷ me.0.begun } i n nodes' here free
-      (law_set s.words r 0 n within part holds.lawful small (λ _. spans) (λ z. absurd (omega arith))
+      (law_set s.words r 0 n within part holds.lawful (λ ne. absurd (ne refl)) (λ _. spans) (λ z. absurd (omega arith))
       (λ _. open_if_unbegun k s.words r free))
       more
       (λ q y e. dite (ℕ_discrete q r)
@@ -670,7 +673,7 @@ module _ (k : Size) where
   module _ (key : Size) (same : key ≡ k) (slots id : ℕ) (me : Me Node View) (is : me.0.size ≡ k) where
     pub sets_mark : (i r c n : ℕ) (x : Node) → i ≡ word_at k r (1 + c) → i < words_of k → c < k.colours
         → me.0.low ≡ 1 + k.clients + c → me.0.high ≡ me.0.low + 1
-        → Has me.0.begun r x → has x.colours c ≡ true → 0 < n → n < 2 ^ 62 + 2 → k.colours ≤ 64
+        → Has me.0.begun r x → has x.colours c ≡ true → 0 < n → n < 2 ^ 62 + 2 → k.colours ≤ MAX_COLOURS
         → Allows (IsLawfulState key) slots id me i (λ m. either (eqb m 0) n m) (Turns marked (step slots i 0 n none) me)
     sets_mark i r c n x e inside colour low high knows bit pos small few =
         let plays : Plays me.0 (owner_of k (word_at k r (1 + c))) = subst (Plays me.0)
@@ -694,10 +697,10 @@ module _ (k : Size) where
 
     pub begins_at : (i n : ℕ) (r : Row) (x : Node) → i ≡ word_at k (row_at k r) 0 → i < words_of k
         → r.number < k.rows → me.0.low ≡ 1 + r.client → me.0.high ≡ me.0.low + 1
-        → n ≡ x.colours.0 → n < 2 ^ 62 + 2 → AreColours k x.colours
+        → n ≡ x.colours.0 → AreColours k x.colours
         → x.id.client ≡ r.client → IsNewTo me.0 r.client x.id
         → Allows (IsLawfulState key) slots id me i (λ m. either (eqb m 0) n m) (Turns began (step slots i 0 n (some x)) me)
-    begins_at i n r x e inside row low high bits small spans client new =
+    begins_at i n r x e inside row low high bits spans client new =
         let plays : Plays me.0 (owner_of k (word_at k (row_at k r) 0)) = subst (Plays me.0)
         (sym (owner_of_row k r row)) (omega arith, omega arith, omega arith) in
         let P : ℕ → Type 0 = λ z. Allows (IsLawfulState k) slots id me i (λ m. either (eqb m 0) z m)
@@ -708,7 +711,7 @@ module _ (k : Size) where
         (Turns began (step slots i 0 n (some x)) me)) (sym same)
         (subst P (sym bits) (subst Q (sym e)
         (begins slots id me (row_at k r) x is (subst (λ (z : ℕ). z < words_of k) e inside) plays
-        (subst (λ (z : ℕ). z < 2 ^ 62 + 2) bits small) spans (client ∙ sym (client_of_row k r row))
+        spans (client ∙ sym (client_of_row k r row))
         (subst (λ (z : ℕ). IsNewTo me.0 z x.id) (sym client) new))))
 
   pub began_view : (slots : ℕ) (me me' : Me Node View) (i n m r : ℕ) (x : Node) → me.0.size ≡ k → i ≡ word_at k r 0
@@ -768,7 +771,7 @@ opens k n high is =
     record {
       long = length-replicate n 0 ∙ is;
       lawful = record {
-        small = λ i. let P : ℕ → Type 0 = λ z. z < 2 ^ 62 + 2 in subst P (sym (blank i)) (omega arith);
+        small = λ r p _ _. let none = blank (word_at k r p) in omega (arith, none);
         colours = λ r ne. absurd (ne (blank (word_at k r 0)));
         finals = λ r ne. absurd (ne (blank (word_at k r (k.colours + 1))));
       };

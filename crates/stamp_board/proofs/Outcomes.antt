@@ -4,6 +4,7 @@ use Rattle.std.proofs.Common.{[], ◌∷◌, get_or, sym, refl, ap, ◌∙◌, s
 use Rattle.std.specs.Prelude.{if◌then◌else◌, ◌==◌}
 use mathlib.Core.Logic.{dite}
 use native.Mathlib.Decide.{ℕ_discrete}
+use Rattle.log_node.specs.declared.limits.TheConstants.{MAX_COLOURS}
 use Rattle.log_node.specs.declared.marks.Mark.{Mark}
 use Rattle.log_node.specs.declared.marks.Why.TheVariants.{Memory, StampEnd}
 use Rattle.log_node.specs.declared.marks.Outcome.TheVariants.{Open, Gone, Final}
@@ -35,7 +36,7 @@ outcome_same k ws ws' r within same =
     let first : bits ≡ get_or ws' (word_at k r 0) 0 = same 0 (omega arith) in
     let at_bits : bits ≢ 0 → marks_at k ws r record { 0 = bits } ≡ marks_at k ws' r record { 0 = bits }
     = λ ne. same_members (λ c. mark_from (get_or ws (word_at k r (1 + c)) 0))
-    (λ c. mark_from (get_or ws' (word_at k r (1 + c)) 0)) (has_bit bits) (range_with_len 0 64)
+    (λ c. mark_from (get_or ws' (word_at k r (1 + c)) 0)) (has_bit bits) (range_with_len 0 MAX_COLOURS)
     (λ c h. let lt : c < k.colours = within ne c h in ap mark_from (same (1 + c) (omega arith))) in
     let moved : outcome_at k ws r ≡ (if bits == 0 then Open else outcome_of (marks_at k ws' r record { 0 = bits }))
     = dite (ℕ_discrete bits 0) (λ z. if_yes bits 0 Open _ z
@@ -65,7 +66,7 @@ missing_one k ws r bits c (suc n) h bit none =
     (missing_one k ws r bits c n (omega arith) bit none))
 
 -- a row of which a mark is missing is open
-pub open_if_missing : (k : Size) (ws : List ℕ) (r c : ℕ) → k.colours ≤ 64
+pub open_if_missing : (k : Size) (ws : List ℕ) (r c : ℕ) → k.colours ≤ MAX_COLOURS
     → Within record { 0 = get_or ws (word_at k r 0) 0 } k.colours
     → has_bit (get_or ws (word_at k r 0) 0) c ≡ true → get_or ws (word_at k r (1 + c)) 0 ≡ 0 → outcome_at k ws r ≡ Open
 open_if_missing k ws r c few within bit none =

@@ -27,9 +27,6 @@ same_part k r p r' p' h h' e = sym (part_of_word k r p h) ∙ ap (λ (n : ℕ). 
 below : (a b n p : ℕ) → a < b → p < n → a * n + p < b * n
 below a b n p h h' = let m : suc a * n ≤ b * n = mul-le-mul_right n h in omega (arith, suc-mul a n)
 
-pub in_table : (k : Size) (r p : ℕ) → r < rows_of k → p < width k → word_at k r p < words_of k
-in_table k r p h h' = below r (rows_of k) (width k) p h h'
-
 pub row_in : (k : Size) (r : Row) → r.client < k.clients → r.number < k.rows → row_at k r < rows_of k
 row_in k r h h' = below r.client k.clients k.rows r.number h h'
 

@@ -11,7 +11,7 @@ use Rattle.log_node.specs.declared.marks.Outcome.TheVariants.{Open, Gone, Final}
 use Rattle.log_node.specs.Marks.{IsMark, IsOutcome}
 use Rattle.stamp_board.specs.declared.view.Size.{Size}
 use Rattle.stamp_board.specs.declared.view.View.{View}
-use Rattle.stamp_board.specs.Words.{row_at, word_at, mark_from, outcome_from}
+use Rattle.stamp_board.specs.Words.{row_at, word_at, mark_word, final_word, mark_from, outcome_from}
 use Rattle.stamp_board.specs.Views.{MayBe}
 use Rattle.stamp_board.specs.Law.{Fits, Lawful, Told, heard, IsSet, IsDecided}
 use Rattle.stamp_board.proofs.Knowing.{if_yes, if_no, heard_size}
@@ -52,8 +52,8 @@ own ws v law f = let k : Size = v.size in record {
   marks = λ row c m h. ap mark_from (f.known (word_at k (row_at k row) (1 + c)) h.0 h.1).1 ∙ h.2;
   outcomes = λ row o h. ap outcome_from (f.known (word_at k (row_at k row) (k.colours + 1)) h.0 h.1).1 ∙ h.2;
   colours = λ row ne. law.colours (row_at k row) ne;
-  stamps = λ row c. mark_from-stamp (get_or ws (word_at k (row_at k row) (1 + c)) 0)
-      (law.small (word_at k (row_at k row) (1 + c)));
+  stamps = λ row c lt. mark_from-stamp (get_or ws (word_at k (row_at k row) (1 + c)) 0)
+      (law.small (row_at k row) (1 + c) (omega arith) (omega (arith, lt)));
   decided = λ row ne. law.finals (row_at k row) (λ z. ne (ap outcome_from z));
 }
 
@@ -63,11 +63,15 @@ may_be k ws v is law f = subst (λ (z : Size). MayBe z ws v) is
 
 -- what was found is a mark, or an outcome, whose number is a stamp
 module _ (k : Size) (v : View) (i n : ℕ) (is : v.size ≡ k) (told : Told v i n) where
-  pub found_mark : (m : Mark) → m ≡ mark_from n → IsMark m
-  found_mark m e = subst IsMark (sym e) (mark_from-stamp n (told_small k v i n is told))
+  pub found_mark : (row : Row) (c : ℕ) (m : Mark) → i ≡ mark_word k row c → c < k.colours → m ≡ mark_from n → IsMark m
+  found_mark row c m here lt e =
+      subst IsMark (sym e) (mark_from-stamp n
+      (told_small k v i n is told (row_at k row) (1 + c) here (omega arith) (omega (arith, lt))))
 
-  pub found_outcome : (o : Outcome) → o ≡ outcome_from n → IsOutcome o
-  found_outcome o e = subst IsOutcome (sym e) (outcome_from-stamp n (told_small k v i n is told))
+  pub found_outcome : (row : Row) (o : Outcome) → i ≡ final_word k row → o ≡ outcome_from n → IsOutcome o
+  found_outcome row o here e =
+      subst IsOutcome (sym e) (outcome_from-stamp n
+      (told_small k v i n is told (row_at k row) (k.colours + 1) here (omega arith) (omega arith)))
 
 -- the board may have the word that was found
 pub found_word : (k : Size) (v w : View) (row : Row) (i n p : ℕ) → v.size ≡ k → i ≡ word_at k (row_at k row) p

@@ -49,10 +49,10 @@ pub record Fits (k : Size) (ws : List ℕ) (v : View) : Type 0 where
   pub mine : (i : ℕ) → Plays v (owner_of k i) → at v.mine i ≡ slice_index ws i
   pub own : (i : ℕ) → at v.mine i ≢ 0 → Plays v (owner_of k i)
 
--- each number keeps its bound, each begun row has two colours or more, and each final word has the outcome of its
--- row's marks
+-- the number of each mark and of each final word keeps its bound, each begun row has two colours or more, and each final
+-- word has the outcome of its row's marks
 pub record Lawful (k : Size) (ws : List ℕ) : Type 0 where
-  pub small : (i : ℕ) → slice_index ws i < 2 ^ 62 + 2
+  pub small : (r p : ℕ) → 0 < p → p < width k → slice_index ws (word_at k r p) < 2 ^ 62 + 2
   pub colours : (r : ℕ) → slice_index ws (word_at k r 0) ≢ 0
       → AreColours k record { 0 = slice_index ws (word_at k r 0) }
   pub finals : (r : ℕ) → slice_index ws (word_at k r (k.colours + 1)) ≢ 0

@@ -1,5 +1,6 @@
 -- What the words of a board say of its rows: their colours, marks and outcomes.
-use Rattle.std.specs.Prelude.{◌≡◌, ◌≢◌, ℕ, ◌+◌, ◌<◌, ◌≤◌, ◌==◌, true, if◌then◌else◌, List, map, length, slice_index}
+use Rattle.std.specs.Prelude.{◌≡◌, ◌≢◌, ℕ, ◌+◌, ◌*◌, ◌<◌, ◌≤◌, ◌==◌, true, if◌then◌else◌, List, map, length, slice_index}
+use Rattle.log_node.specs.declared.limits.TheConstants.{MAX_CLIENTS, MAX_COLOURS, MAX_ROWS}
 use Rattle.log_node.specs.declared.ids.Row.{Row}
 use Rattle.log_node.specs.declared.ids.Colours.{Colours}
 use Rattle.log_node.specs.Sets.{has, members}
@@ -8,12 +9,19 @@ use Rattle.log_node.specs.declared.marks.ColourMark.{ColourMark}
 use Rattle.log_node.specs.declared.marks.Outcome.{Outcome}
 use Rattle.log_node.specs.declared.marks.Outcome.TheVariants.{Open}
 use Rattle.log_node.specs.Outcomes.{outcome_of}
+use Rattle.stamp_board.specs.declared.view.TheConstants.{MAX_WORDS}
 use Rattle.stamp_board.specs.declared.view.Size.{Size}
 use Rattle.stamp_board.specs.Words.{row_at, word_at, row_word, mark_word, final_word, mark_from, outcome_from}
 
--- at most 16 clients, 16 colours and 4,096 rows of each client, and one of each at least
-abbrev pub IsSize : Size → Type 0
-IsSize k = (0 < k.clients) × (k.clients ≤ 16) × (0 < k.colours) × (k.colours ≤ 16) × (0 < k.rows) × (k.rows ≤ 4096)
+-- one client, one colour and one row of each client at least, and of each no more than the limits say; and no more words
+pub record IsSize (k : Size) : Type 0 where
+  pub some_clients : 0 < k.clients
+  pub few_clients : k.clients ≤ MAX_CLIENTS
+  pub some_colours : 0 < k.colours
+  pub few_colours : k.colours ≤ MAX_COLOURS
+  pub some_rows : 0 < k.rows
+  pub few_rows : k.rows ≤ MAX_ROWS
+  pub few_words : k.clients * k.rows * (k.colours + 2) ≤ MAX_WORDS
 
 -- the row is one of the board's
 abbrev pub IsRow : Size → Row → Type 0

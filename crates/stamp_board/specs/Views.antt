@@ -1,5 +1,5 @@
 -- What a seat knows of its board.
-use Rattle.std.specs.Prelude.{◌≡◌, ◌≢◌, ◌⊎◌, ℕ, ◌+◌, ◌==◌, true, if◌then◌else◌, List, [], ◌∷◌}
+use Rattle.std.specs.Prelude.{◌≡◌, ◌≢◌, ◌⊎◌, ℕ, ◌+◌, ◌<◌, ◌==◌, true, if◌then◌else◌, List, [], ◌∷◌}
 use Rattle.log_node.specs.declared.ids.Row.{Row}
 use Rattle.log_node.specs.declared.node.Node.{Node}
 use Rattle.log_node.specs.Sets.{has}
@@ -90,7 +90,7 @@ pub record MayBe (k : Size) (ws : List ℕ) (v : View) : Type 0 where
   pub marks : (row : Row) (c : ℕ) (m : Mark) → KnowsMark v row c m → mark_in k ws row c ≡ m
   pub outcomes : (row : Row) (o : Outcome) → KnowsOutcome v row o → decided_in k ws row ≡ o
   pub colours : (row : Row) → IsBegun k ws row → AreColours k (colours_in k ws row)
-  pub stamps : (row : Row) (c : ℕ) → IsMark (mark_in k ws row c)
+  pub stamps : (row : Row) (c : ℕ) → c < k.colours → IsMark (mark_in k ws row c)
   pub decided : (row : Row) → decided_in k ws row ≢ Open → decided_in k ws row ≡ outcome_in k ws row
 
 -- P holds of some board that may be, by all that the seat knows

@@ -1,5 +1,5 @@
 // The outcome of a row, in its final word.
-ghost use Rattle.std.specs.Prelude.{◌≡◌, ◌≢◌, ℕ, ◌+◌, ◌^◌, ◌<◌, ◌≤◌, List, length, take};
+ghost use Rattle.std.specs.Prelude.{◌≡◌, ◌≢◌, ◌+◌, ◌^◌, ◌<◌, ◌≤◌, length, take};
 ghost use Rattle.log_node.specs.Outcomes.{outcome_of};
 ghost use Rattle.log_node.specs.Marks.{IsOutcome};
 ghost use Rattle.stamp_board.specs.Words.{outcome_from};
@@ -38,10 +38,10 @@ impl Board {
     fn take_marks(&self, seat: &mut Inner, row: Row, marks: &mut [Mark]) -> usize
         requires seat { IsOf self.now seat.old }
         requires row { IsRow self.now.size row }
-        requires marks { length marks.old ≡ 16 }
+        requires marks { length marks.old ≡ MAX_COLOURS }
         ensures seat { Stays seat.old seat.new }
         ensures view { Grows seat.old.me.0 seat.new.me.0 × (seat.new.me.0.mine ≡ seat.old.me.0.mine) }
-        ensures count { result ≤ 16 }
+        ensures count { result ≤ MAX_COLOURS }
         ensures none { let k = self.now.size in
             result ≡ 0 → OnceIn k seat.new.me.0 (λ ws. outcome_in k ws row ≡ Outcome.Open) }
         ensures some { let k = self.now.size in

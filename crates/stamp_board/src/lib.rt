@@ -22,4 +22,4 @@ mod words;
 pub use board::Board;
 pub use rows::{ClosedRow, ClosedRows};
 pub use seats::{ColumnSeat, ColumnSeats, Seat, Seats};
-pub use view::{Size, View};
+pub use view::{MAX_WORDS, Size, View};

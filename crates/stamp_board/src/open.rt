@@ -1,12 +1,12 @@
 // A board with its seats.
-ghost use Rattle.std.specs.Prelude.{◌≡◌, ◌+◌, ◌<◌, ◌≤◌, [], length, IfOk};
+ghost use Rattle.std.specs.Prelude.{◌≡◌, ◌+◌, ◌<◌, [], length, replicate, IfOk};
 ghost use Rattle.stamp_board.specs.Words.{words_of};
 ghost use Rattle.stamp_board.specs.Rows.{IsSize};
 ghost use Rattle.stamp_board.specs.Law.{PlaysOne};
 ghost use Rattle.stamp_board.specs.Seats.{AreFreshClients, AreFreshColumns};
 ghost use Rattle.stamp_board.specs.Inside.{HasParts};
 
-use crate::blank::blank_words;
+use crate::blank::{BLANK_WORDS, blank_words};
 use crate::board::Board;
 use crate::seats::{ColumnSeat, ColumnSeats, Seat, Seats};
 use crate::steps::Inner;
@@ -43,12 +43,34 @@ fn column_seat(colour: u8, inner: Inner) -> ColumnSeat
 }
 
 impl Board {
+    // A board of these words.
+    fn over(alloc: Global, size: Size, blank: &[u64]) -> Result<(Board, Inner), AllocError>
+        requires size { IsSize size }
+        requires blank { blank.now ≡ replicate (words_of size) 0 }
+        ensures { IfOk result (λ b. (b.0.size ≡ size) × HasParts b.0 b.1 1) }
+    {
+        let (table, first) = Table::of_words(alloc, blank, &size)?;
+        Ok((Board { table, size }, first))
+    }
+
+    // A board of words that are made for it.
+    fn over_list(alloc: Global, size: Size) -> Result<(Board, Inner), AllocError>
+        requires { IsSize size }
+        ensures { IfOk result (λ b. (b.0.size ≡ size) × HasParts b.0 b.1 1) }
+    {
+        let blank = Vec::from_elem(alloc, 0, words(size))?;
+        Board::over(alloc, size, blank.as_slice())
+    }
+
     fn with_words(alloc: Global, size: Size) -> Result<(Board, Inner), AllocError>
         requires { IsSize size }
         ensures { IfOk result (λ b. (b.0.size ≡ size) × HasParts b.0 b.1 1) }
     {
-        let (table, first) = Table::of_words(alloc, blank_words(words(size)), &size)?;
-        Ok((Board { table, size }, first))
+        let count = words(size);
+        if count > BLANK_WORDS {
+            return Board::over_list(alloc, size);
+        }
+        Board::over(alloc, size, blank_words(count))
     }
 
     fn client_seats(&self, alloc: Global, first: &mut Inner) -> Result<Seats, AllocError>

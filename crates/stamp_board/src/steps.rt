@@ -74,7 +74,7 @@ impl Board {
         ensures told { Told seat.old.me.0 (row_word self.now.size row) result }
     {
         let word = self.word(row, 0);
-        let bits = bits_of(node.colours.0);
+        let bits = bits_of(node.colours);
         self.table
             .shared
             .compare_exchange_with::<Begins>(seat, word, 0, bits, node)

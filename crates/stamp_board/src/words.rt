@@ -1,11 +1,11 @@
 // What the words mean, and where they lie.
-ghost use Rattle.std.specs.Prelude.{◌≡◌, ◌+◌, ◌^◌, ◌<◌, ◌≤◌};
+ghost use Rattle.std.specs.Prelude.{◌≡◌, ◌+◌, ◌<◌};
 ghost use Rattle.stamp_board.specs.Words.{mark_from, outcome_from, row_at, word_at, words_of, width};
 ghost use Rattle.stamp_board.specs.Rows.{IsRow, IsSize};
 
 use crate::board::Board;
 use crate::view::Size;
-use log_node::{Mark, Outcome, Row, Why};
+use log_node::{Colours, Mark, Outcome, Row, Why};
 
 pub(crate) fn mark_of(n: u64) -> Mark
     ensures { result ≡ mark_from n }
@@ -67,9 +67,8 @@ pub(crate) fn word_of_why(why: Why) -> u64
     }
 }
 
-pub(crate) fn bits_of(bits: u16) -> u64
-    ensures same { result ≡ bits }
-    ensures small { result < 65536 }
+pub(crate) fn bits_of(set: Colours) -> u64
+    ensures { result ≡ set.0 }
 {
-    u64::from(bits)
+    u64::from(set.0)
 }

@@ -9,12 +9,12 @@ use Rattle.log_node.specs.declared.forms.Form.TheVariants as forms
 use Rattle.log_node.specs.Texts.{IsTextLength}
 use Rattle.object_form.specs.Forms.{IsForm, form_text, equals, is_letter_or_digit, is_word}
 use Rattle.object_form.specs.Readings.{before, after, form_of}
+use Rattle.object_form.proofs.CallerLemmas.{before_cut, after_cut, cut_back}
 use Rattle.tree_fold.specs.declared.change.Change.{Change}
 use Rattle.tree_fold.specs.declared.change.Change.TheVariants.{Make, Remove, Move}
 use Rattle.tree_fold.specs.Paths.{Path, is_below_root, path_text}
 use Rattle.tree_fold.specs.Changes.{arrow, change_text, IsChange, HasText, IsReading}
 use Rattle.tree_fold.specs.Readings.{below_root_of, make_of, remove_of, move_of, change_after, change_of}
-use Rattle.tree_fold.proofs.CutLemmas.{before_sign, after_sign, about_sign}
 use Rattle.tree_fold.proofs.PathLaws.{below_parts, below_read, below_back, path_lacks, text_some, text_size}
 
 word_size : (bs : List ℕ) → is_word bs ≡ true → (1 ≤ length bs) × (length bs ≤ 16)
@@ -30,7 +30,7 @@ front_read : (sign : ℕ) (path : Path) (rest : List ℕ) → is_letter_or_digit
     → (below_root_of (before sign (path_text path ++ sign ∷ rest)) ≡ Some path) × (after sign (path_text path ++ sign ∷ rest) ≡ rest)
 front_read sign path rest fails other h =
     let lacks = path_lacks sign path fails other (below_parts path h).1 in
-    (ap below_root_of (before_sign sign (path_text path) rest lacks) ∙ below_read path h, after_sign sign (path_text path) rest lacks)
+    (ap below_root_of (before_cut sign (path_text path) rest lacks) ∙ below_read path h, after_cut sign (path_text path) rest lacks)
 
 pub reads_back : (change : Change) → IsChange change → change_of (change_text change) ≡ Some change
 reads_back (Make path value) h =
@@ -56,7 +56,7 @@ make_fits (Some path) bytes e change read = elim (cases_Bool (is_word (after equ
       let back = below_back (before equals bytes) path e in
       let some : 0 < length (after equals bytes) = omega (arith, (word_size (after equals bytes) word).0) in
       let P : Change → Type 0 = λ c. HasText c (107 ∷ 58 ∷ bytes) in
-      subst P is ((back.0, word), ap (λ t. 107 ∷ 58 ∷ t) (ap (λ t. t ++ equals ∷ after equals bytes) back.1 ∙ about_sign equals bytes some))
+      subst P is ((back.0, word), ap (λ t. 107 ∷ 58 ∷ t) (ap (λ t. t ++ equals ∷ after equals bytes) back.1 ∙ cut_back equals bytes some))
   | inr other ↦ let found = rw other at read in absurd cc
 ]
 
@@ -77,7 +77,7 @@ move_fits (Some source) (Some target) bytes e f change read =
     let to = below_back (after arrow bytes) target f in
     let some : 0 < length (after arrow bytes) = let P : List ℕ → Type 0 = λ t. 0 < length t in subst P to.1 (text_some target) in
     let P : Change → Type 0 = λ c. HasText c (118 ∷ 58 ∷ bytes) in
-    let text : path_text source ++ arrow ∷ path_text target ≡ bytes = rw (from.1, to.1) (about_sign arrow bytes some) in
+    let text : path_text source ++ arrow ∷ path_text target ≡ bytes = rw (from.1, to.1) (cut_back arrow bytes some) in
     subst P is ((from.0, to.0), ap (λ t. 118 ∷ 58 ∷ t) text)
 
 -- by the letter

@@ -1,4 +1,3 @@
-mod CutLemmas
 mod PathLaws
 mod ChangeLaws
 mod OrderLemmas

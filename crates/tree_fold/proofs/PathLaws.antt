@@ -6,9 +6,9 @@ use Rattle.std.proofs.lemmas.List.{append-nil}
 use Rattle.std.proofs.lemmas.List.Elements.{All-from_recursion}
 use Rattle.std.proofs.lemmas.List.Splits.{slice_split_none, slice_split_at, join_with_byte-slice_split, length-slice_split}
 use Rattle.object_form.specs.Forms.{is_letter_or_digit}
+use Rattle.object_form.proofs.CallerLemmas.{Lacks, lacks_append, lacks_by}
 use Rattle.tree_fold.specs.Paths.{Path, slash, is_name, is_path, is_below_root, path_text, HasPathText}
 use Rattle.tree_fold.specs.Readings.{names_in, path_behind, path_of, below_root, below_root_of}
-use Rattle.tree_fold.proofs.CutLemmas.{Lacks, lacks_both, lacks_tested}
 
 -- ---- names
 
@@ -44,12 +44,12 @@ names_split : (name : List ℕ) (names : Path) → list_all is_name (name ∷ na
 names_split name [] all =
     let P : ℕ → Type 0 = λ b. eqb b slash ≡ false in
     let one = (and_parts (is_name name) true all).0 in
-    slice_split_none (λ b. eqb b slash) name (All-from_recursion P name (lacks_tested is_letter_or_digit slash name refl (name_parts name one).signs))
+    slice_split_none (λ b. eqb b slash) name (All-from_recursion P name (lacks_by is_letter_or_digit slash refl name (name_parts name one).signs))
 names_split name (other ∷ names) all =
     let P : ℕ → Type 0 = λ b. eqb b slash ≡ false in
     let each = and_parts (is_name name) (list_all is_name (other ∷ names)) all in
     slice_split_at (λ b. eqb b slash) name slash (join_with_byte slash (other ∷ names))
-    (All-from_recursion P name (lacks_tested is_letter_or_digit slash name refl (name_parts name each.0).signs)) refl
+    (All-from_recursion P name (lacks_by is_letter_or_digit slash refl name (name_parts name each.0).signs)) refl
     ∙ ap (λ ns. name ∷ ns) (names_split other names each.1)
 
 -- of some bytes
@@ -132,7 +132,7 @@ names_lack : (sign : ℕ) (names : Path) → is_letter_or_digit sign ≡ false �
 names_lack sign [] fails other all = tt
 names_lack sign (name ∷ names) fails other all =
     let each = and_parts (is_name name) (list_all is_name names) all in
-    (other, lacks_both sign name (flat_map (λ n. slash ∷ n) names) (lacks_tested is_letter_or_digit sign name fails (name_parts name each.0).signs) (names_lack sign names fails other each.1))
+    (other, lacks_append sign name (flat_map (λ n. slash ∷ n) names) (lacks_by is_letter_or_digit sign fails name (name_parts name each.0).signs) (names_lack sign names fails other each.1))
 
 pub path_lacks : (sign : ℕ) (path : Path) → is_letter_or_digit sign ≡ false → eqb slash sign ≡ false → is_path path ≡ true → Lacks sign (path_text path)
 path_lacks sign [] fails other h = (other, tt)

@@ -9,7 +9,6 @@ mod laws;
 mod moving;
 mod path;
 mod reading;
-mod signs;
 mod told;
 mod writing;
 

@@ -5,8 +5,8 @@ ghost use Rattle.object_form.specs.Readings.{pieces_in};
 ghost use Rattle.tree_fold.specs.Paths.{is_name, is_path, path_text, HasPathText, HasPathCause};
 ghost use Rattle.tree_fold.specs.Readings.{path_behind, path_of, names_in};
 
-use crate::signs::are_letters_or_digits;
 use log_node::{ListOf, Names, Text};
+use object_form::are_letters_or_digits;
 use std::alloc::{AllocError, Global};
 use std::marker::Model;
 

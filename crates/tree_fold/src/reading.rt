@@ -1,20 +1,13 @@
 // The change of a text.
 ghost use Rattle.std.specs.Prelude.{◌≡◌, IfOk};
-ghost use Rattle.object_form.specs.Forms.{is_word};
 ghost use Rattle.tree_fold.specs.Changes.{IsReading};
 ghost use Rattle.tree_fold.specs.Readings.{below_root_of, make_of, remove_of, move_of, change_after, change_of};
 
 use crate::change::Change;
 use crate::path::Path;
-use crate::signs::{are_letters_or_digits, cut};
 use log_node::Text;
+use object_form::{cut, is_word};
 use std::alloc::{AllocError, Global};
-
-fn is_word(bytes: &[u8]) -> bool
-    ensures { result ≡ is_word bytes.now }
-{
-    1 <= bytes.len() && bytes.len() <= 16 && are_letters_or_digits(bytes)
-}
 
 // The path with this text, if there is one and it is not the root.
 fn below_root_of(alloc: Global, bytes: &[u8]) -> Result<Option<Path>, AllocError>

@@ -5,6 +5,7 @@ mod cell;
 mod closing;
 mod history;
 mod pass;
+mod rest;
 mod rule;
 mod sleepers;
 #[cfg(test)]
@@ -15,5 +16,6 @@ mod view;
 pub use cell::Cell;
 pub use history::HasHistory;
 pub use pass::{Pass, Passes};
+pub use rest::Rest;
 pub use turn::Turn;
 pub use view::{Maker, Stage, View};

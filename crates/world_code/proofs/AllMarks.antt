@@ -1,16 +1,13 @@
 -- The marks of a row's colours, set one after another.
-use Rattle.std.proofs.Common.{◌≡◌, ℕ, zero, suc, ◌+◌, ◌<◌, ◌≤◌, Bool, true, false, List, [], ◌∷◌, ◌++◌, take, refl, ap}
-use Rattle.std.proofs.Common.{sym, subst, ◌∙◌, arith}
-use Rattle.std.proofs.Common.{inl, inr}
-use Rattle.std.specs.Prelude.{◌-◌, ◌^◌, ◌==◌, ◌||◌, if◌then◌else◌}
-use Rattle.std.specs.List.{filter, range_with_len, list_any}
+use Rattle.std.proofs.Common.{◌≡◌, ℕ, ◌+◌, ◌<◌, Bool, true, false, List, [], ◌∷◌, ◌++◌, take, refl, ap}
+use Rattle.std.proofs.Common.{sym, subst, ◌∙◌, arith, append_assoc}
+use Rattle.std.specs.Prelude.{◌-◌, ◌==◌, if◌then◌else◌}
+use Rattle.std.specs.List.{list_any}
 use Rattle.std.proofs.lemmas.List.{append-nil}
-use Rattle.std.proofs.lemmas.Bool.{ltb-true, lt-ltb, cond-true, cond-false, cases_Bool, eq-eqb, eqb-true, or_left}
+use Rattle.std.proofs.lemmas.Bool.{ltb-true, lt-ltb, cond-true, cond-false, eq-eqb, eqb-true, or_left}
 use Rattle.std.proofs.lemmas.Bool.{or_right, and_parts, and_from, true≢false, false_from_ne_true}
 use Rattle.log_node.specs.declared.ids.Row.{Row}
 use Rattle.log_node.specs.declared.node.Node.{Node}
-use Rattle.log_node.specs.Sets.{has}
-use Rattle.log_node.proofs.CallerLemmas.{members-low}
 use Rattle.log_node.specs.Outcomes.{is_missing}
 use Rattle.col_core.proofs.CallerLemmas.{choice}
 use Rattle.world_laws.specs.declared.steps.Step.{Step}
@@ -22,8 +19,7 @@ use Rattle.world_laws.specs.Completing.{mark_step, mark_steps, colours_of}
 use Rattle.world_laws.proofs.CallerLemmas.{run_grows}
 use Rattle.world_code.specs.declared.completing.Taken.{Taken}
 use Rattle.world_code.specs.Completed.{done_count, AreTaken, IsMarkStep}
-use Rattle.world_code.proofs.Ranges.{range_with, range_without}
-use Rattle.world_code.proofs.Sets.{member_is}
+use Rattle.world_code.proofs.Sets.{is_there, not_before}
 use Rattle.world_code.proofs.AllowedSteps.{taken_none, taken_more, taken_no_more, take-all}
 
 -- a step of the definition, and its reply, by the bit of its colour alone
@@ -81,18 +77,22 @@ mark_steps-append w by row f (c ∷ cs) ds =
       s : Step
       s = mark_step w by row f c
 
--- the colours of the row's node below a number
-abbrev pub colours_below : World → Row → ℕ → List ℕ
-colours_below w row n = filter (has (row_of w row).node.colours) (range_with_len 0 n)
-
--- the marks of the colours below a number, as far as steps are allowed
-pub record AreMarked (w : World) (by : ℕ) (row : Row) (limit n : ℕ) (w' : World) (taken : Taken) : Type 0 where
+-- The marks of the first of these colours are set, as far as steps are allowed; the others are left.
+pub record AreMarked (w : World) (by : ℕ) (row : Row) (limit : ℕ) (left colours : List ℕ) (w' : World) (taken : Taken)
+    : Type 0 where
+  pub first : List ℕ
+  pub apart : first ++ left ≡ colours
   pub found : ℕ → Bool
-  pub are_taken : AreTaken w (mark_steps w by row found (colours_below w row n)) limit w' taken
+  pub are_taken : AreTaken w (mark_steps w by row found first) limit w' taken
 
-pub marked_none : (w : World) (by : ℕ) (row : Row) (limit : ℕ)
-    → AreMarked w by row limit 0 w (record { done = 0; left = limit })
-marked_none w by row limit = record { found = λ _. true; are_taken = taken_none w limit }
+pub marked_none : (w : World) (by : ℕ) (row : Row) (limit : ℕ) (left colours : List ℕ) → left ≡ colours
+    → AreMarked w by row limit left colours w (record { done = 0; left = limit })
+marked_none w by row limit left colours all = record {
+  first = [];
+  apart = all;
+  found = λ _. true;
+  are_taken = taken_none w limit;
+}
 
 -- what steps leave of a begun row
 pub record Stays (w w' : World) (row : Row) : Type 0 where
@@ -119,131 +119,101 @@ all_taken : (w w' : World) (steps : List Step) (limit : ℕ) (t : Taken) → Are
 all_taken w w' steps limit t a lt =
     sym (a.world ∙ ap (run_steps w) (take-all limit steps (let l = a.left in omega (arith, l, lt))))
 
-none_from : (n : ℕ) (p : ℕ → Bool) (m from : ℕ) → from + m ≤ n
-    → list_any (λ d. d == n) (filter p (range_with_len from m)) ≡ false
-none_from n p zero from le = refl
-none_from n p (suc m) from le =
-    choice (λ (l : List ℕ). list_any (λ d. d == n) l ≡ false) (p from) (from ∷ filter p (range_with_len (from + 1) m))
-    (filter p (range_with_len (from + 1) m))
-    (λ _. first (from == n) (list_any (λ d. d == n) (filter p (range_with_len (from + 1) m)))
-    (false_from_ne_true _ (λ t. let e = eqb-true from n t in let x : ⊥ = omega (arith, e, le) in x))
-    (none_from n p m (from + 1) (omega (arith, le))))
-    (λ _. none_from n p m (from + 1) (omega (arith, le))) where
-      first : (a b : Bool) → a ≡ false → b ≡ false → (a || b) ≡ false
-      first a b p q = rw (p, q) refl
-
-module _ (w : World) (by : ℕ) (row : Row) (limit n : ℕ) (w1 : World) (done left : ℕ)
-    (before : AreMarked w by row limit n w1 (record { done = done; left = left })) where
+-- the next of the colours of the row's node
+module _ (w : World) (by : ℕ) (row : Row) (limit n : ℕ) (rest : List ℕ) (w1 : World) (done left : ℕ)
+    (before : AreMarked w by row limit (n ∷ rest) (colours_of w row) w1 (record { done = done; left = left })) where
   abbrev t : Taken
   t = record { done = done; left = left }
 
   abbrev cs : List ℕ
-  cs = colours_below w row n
+  cs = before.first
 
   abbrev firsts : List Step
   firsts = mark_steps w by row before.found cs
 
-  -- no step is allowed
-  pub marked_stop : left ≡ 0 → AreMarked w by row limit (n + 1) w1 t
-  marked_stop e = elim (cases_Bool (has (row_of w row).node.colours n)) [
-    | inl there ↦ record {
-      found = before.found;
-      are_taken = taken_no_more w w1 firsts (mark_steps (run_steps w firsts) by row before.found (n ∷ []))
-          (mark_steps w by row before.found (colours_below w row (n + 1))) limit done left before.are_taken e
-          (ap (mark_steps w by row before.found) (range_with (has (row_of w row).node.colours) n there)
-          ∙ mark_steps-append w by row before.found cs (n ∷ []));
-    }
-    | inr not_there ↦ record {
-      found = before.found;
-      are_taken = subst (λ (l : List ℕ). AreTaken w (mark_steps w by row before.found l) limit w1 t)
-          (sym (range_without (has (row_of w row).node.colours) n not_there)) before.are_taken;
-    }
-  ]
+  now_apart : (cs ++ n ∷ []) ++ rest ≡ colours_of w row
+  now_apart = append_assoc cs (n ∷ []) rest ∙ before.apart
 
-  module _ (b : is_begun w row ≡ true) (lt : 0 < left) (small : n < 64) where
+  -- no step is allowed
+  pub marked_stop : left ≡ 0 → AreMarked w by row limit rest (colours_of w row) w1 t
+  marked_stop e = record {
+    first = cs ++ n ∷ [];
+    apart = now_apart;
+    found = before.found;
+    are_taken = taken_no_more w w1 firsts (mark_steps (run_steps w firsts) by row before.found (n ∷ []))
+        (mark_steps w by row before.found (cs ++ n ∷ [])) limit done left before.are_taken e
+        (mark_steps-append w by row before.found cs (n ∷ []));
+  }
+
+  module _ (b : is_begun w row ≡ true) (lt : 0 < left) where
     here : run_steps w firsts ≡ w1
     here = all_taken w w1 firsts limit t before.are_taken lt
 
     stays : Stays w w1 row
     stays = taken_stays w w1 row firsts limit t b before.are_taken
 
-    member_same : is_member (row_of w1 row).node.colours n ≡ has (row_of w row).node.colours n
-    member_same =
-        ap (λ (x : Node). is_member x.colours n) stays.node ∙ member_is (row_of w row).node.colours n small
+    member : is_member (row_of w1 row).node.colours n ≡ true
+    member =
+        ap (λ (x : Node). is_member x.colours n) stays.node
+        ∙ (ap (list_any (λ d. d == n)) (sym before.apart) ∙ is_there cs rest n)
 
-    -- the colour is none of the node's, or its mark is not missing
-    pub marked_skip : may_mark w1 row n ≡ false → AreMarked w by row limit (n + 1) w1 t
-    marked_skip barred = elim (cases_Bool (has (row_of w row).node.colours n)) [
-      | inl there ↦ record {
-        found = before.found;
-        are_taken = subst (λ (l : List Step). AreTaken w l limit w1 t)
-            (sym (ap (mark_steps w by row before.found) (range_with (has (row_of w row).node.colours) n there)
-            ∙ (mark_steps-append w by row before.found cs (n ∷ [])
-            ∙ (ap (λ (v : World). firsts ++ mark_steps v by row before.found (n ∷ [])) here
-            ∙ (ap (λ (l : List Step). firsts ++ l)
-            (cond-false (is_missing ((row_of w1 row).marks n)) _ _ (not_missing there))
-            ∙ append-nil firsts))))) before.are_taken;
-      }
-      | inr not_there ↦ record {
-        found = before.found;
-        are_taken = subst (λ (l : List ℕ). AreTaken w (mark_steps w by row before.found l) limit w1 t)
-            (sym (range_without (has (row_of w row).node.colours) n not_there)) before.are_taken;
-      }
-    ] where
-      not_missing : has (row_of w row).node.colours n ≡ true → is_missing ((row_of w1 row).marks n) ≡ false
-      not_missing there = false_from_ne_true (is_missing ((row_of w1 row).marks n)) (λ miss.
+    -- its mark is not missing
+    pub marked_skip : may_mark w1 row n ≡ false → AreMarked w by row limit rest (colours_of w row) w1 t
+    marked_skip barred = record {
+      first = cs ++ n ∷ [];
+      apart = now_apart;
+      found = before.found;
+      are_taken = subst (λ (l : List Step). AreTaken w l limit w1 t)
+          (sym (mark_steps-append w by row before.found cs (n ∷ [])
+          ∙ (ap (λ (v : World). firsts ++ mark_steps v by row before.found (n ∷ [])) here
+          ∙ (ap (λ (l : List Step). firsts ++ l) (cond-false (is_missing ((row_of w1 row).marks n)) _ _ not_missing)
+          ∙ append-nil firsts)))) before.are_taken;
+    } where
+      not_missing : is_missing ((row_of w1 row).marks n) ≡ false
+      not_missing = false_from_ne_true (is_missing ((row_of w1 row).marks n)) (λ miss.
           true≢false (sym (and_from (is_begun w1 row) _ stays.begun
-          (and_from (is_member (row_of w1 row).node.colours n) _ (member_same ∙ there) miss)) ∙ barred))
+          (and_from (is_member (row_of w1 row).node.colours n) _ member miss)) ∙ barred))
 
     -- its mark is set
     pub marked_more : may_mark w1 row n ≡ true → (w2 : World) (answer : Reply)
         → IsMarkStep w1 by row n w2 answer → (d : ℕ) → d ≡ done_count answer
-        → AreMarked w by row limit (n + 1) w2 (record { done = done + d; left = left - 1 })
+        → AreMarked w by row limit rest (colours_of w row) w2 (record { done = done + d; left = left - 1 })
     marked_more may w2 answer m d de = record {
+      first = cs ++ n ∷ [];
+      apart = now_apart;
       found = found;
-      are_taken = taken_more w w1 w2 firsts (mark_steps w by row found (colours_below w row (n + 1)))
+      are_taken = taken_more w w1 w2 firsts (mark_steps w by row found (cs ++ n ∷ []))
           (mark_step w1 by row (λ _. m.found) n) limit done left before.are_taken lt steps_are m.world d
           (de ∙ ap done_count m.reply);
     } where
       found : ℕ → Bool
       found c = if c == n then m.found else before.found c
 
-      three : (is_member (row_of w1 row).node.colours n ≡ true) × (is_missing ((row_of w1 row).marks n) ≡ true)
-      three = and_parts (is_member (row_of w1 row).node.colours n) _ (and_parts (is_begun w1 row) _ may).1
-
-      there : has (row_of w row).node.colours n ≡ true
-      there = sym member_same ∙ three.0
+      missing : is_missing ((row_of w1 row).marks n) ≡ true
+      missing = (and_parts (is_member (row_of w1 row).node.colours n) _ (and_parts (is_begun w1 row) _ may).1).1
 
       firsts_same : mark_steps w by row found cs ≡ firsts
       firsts_same = mark_steps_same w by row found before.found cs
           (λ c i. cond-false (c == n) _ _ (false_from_ne_true (c == n) (λ e.
           true≢false (sym i ∙ (ap (λ (k : ℕ). list_any (λ d. d == k) cs) (eqb-true c n e)
-          ∙ none_from n (has (row_of w row).node.colours) n 0 (omega arith))))))
+          ∙ not_before (row_of w row).node.colours cs rest n before.apart)))))
 
-      steps_are : mark_steps w by row found (colours_below w row (n + 1))
-          ≡ firsts ++ mark_step w1 by row (λ _. m.found) n ∷ []
+      steps_are : mark_steps w by row found (cs ++ n ∷ []) ≡ firsts ++ mark_step w1 by row (λ _. m.found) n ∷ []
       steps_are =
-          ap (mark_steps w by row found) (range_with (has (row_of w row).node.colours) n there)
-          ∙ (mark_steps-append w by row found cs (n ∷ [])
+          mark_steps-append w by row found cs (n ∷ [])
           ∙ (ap (λ (l : List Step). l ++ mark_steps (run_steps w l) by row found (n ∷ [])) firsts_same
           ∙ (ap (λ (v : World). firsts ++ mark_steps v by row found (n ∷ [])) here
           ∙ ap (λ (l : List Step). firsts ++ l)
-          (cond-true (is_missing ((row_of w1 row).marks n)) _ _ three.1
+          (cond-true (is_missing ((row_of w1 row).marks n)) _ _ missing
           ∙ ap (λ (s : Step). s ∷ []) (mark_step_same w1 by row found (λ _. m.found) n
-          (cond-true (n == n) _ _ (eq-eqb n n refl)))))))
+          (cond-true (n == n) _ _ (eq-eqb n n refl))))))
 
--- the marks of all colours
-pub marked_all : (w : World) (by : ℕ) (row : Row) (limit n : ℕ) (w' : World) (taken : Taken)
-    → AreMarked w by row limit n w' taken → n ≡ 16 → (row_of w row).node.colours.0 < 2 ^ 16
-    → (found : ℕ → Bool) × AreTaken w (mark_steps w by row found (colours_of w row)) limit w' taken
-marked_all w by row limit n w' taken m e small = (
+-- the marks of all of them
+pub marked_all : (w : World) (by : ℕ) (row : Row) (limit : ℕ) (left colours : List ℕ) (w' : World) (taken : Taken)
+    → left ≡ [] → AreMarked w by row limit left colours w' taken
+    → (found : ℕ → Bool) × AreTaken w (mark_steps w by row found colours) limit w' taken
+marked_all w by row limit left colours w' taken none m = (
   m.found,
   subst (λ (l : List ℕ). AreTaken w (mark_steps w by row m.found l) limit w' taken)
-      (ap (colours_below w row) e ∙ members-low (row_of w row).node.colours small) m.are_taken,
+      (sym (append-nil m.first) ∙ (ap (λ (l : List ℕ). m.first ++ l) (sym none) ∙ m.apart)) m.are_taken,
 )
-
-pub marked_as : (w : World) (by : ℕ) (row : Row) (limit n : ℕ) (v v' : World) (t t' : Taken)
-    → AreMarked w by row limit n v t → v' ≡ v → t' ≡ t → AreMarked w by row limit n v' t'
-marked_as w by row limit n v v' t t' m e f =
-    subst (λ (x : Taken). AreMarked w by row limit n v' x) (sym f)
-    (subst (λ (x : World). AreMarked w by row limit n x t) (sym e) m)

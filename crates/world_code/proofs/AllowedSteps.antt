@@ -1,20 +1,14 @@
 -- Steps that are taken one after another, as many as are allowed.
 use Rattle.std.proofs.Common.{◌≡◌, ℕ, zero, suc, ◌+◌, ◌<◌, ◌≤◌, List, [], ◌∷◌, ◌++◌, length, take, refl, ap, sym, subst}
-use Rattle.std.proofs.Common.{◌∙◌, arith}
-use Rattle.std.proofs.Common.{true, false, inl, inr}
-use Rattle.std.specs.Prelude.{◌-◌, ◌^◌}
-use Rattle.std.specs.List.{filter, range_with_len}
-use Rattle.std.proofs.lemmas.Bool.{cases_Bool}
-use Rattle.log_node.specs.declared.ids.Colours.{Colours}
-use Rattle.log_node.specs.Sets.{has, members}
-use Rattle.log_node.proofs.CallerLemmas.{members-low}
+use Rattle.std.proofs.Common.{◌∙◌, arith, append_assoc}
+use Rattle.std.specs.Prelude.{◌-◌}
+use Rattle.std.proofs.lemmas.List.{append-nil}
 use Rattle.world_laws.specs.declared.steps.Step.TheVariants.{Settle}
 use Rattle.log_node.specs.declared.ids.Row.{Row}
 use Rattle.world_laws.specs.declared.steps.Step.{Step}
 use Rattle.world_laws.specs.Worlds.{World, after, reply, run_steps}
 use Rattle.world_laws.specs.Completing.{settle_steps}
 use Rattle.world_laws.proofs.CallerLemmas.{run_steps-append}
-use Rattle.world_code.proofs.Ranges.{range_with, range_without}
 use Rattle.world_code.specs.declared.completing.Taken.{Taken}
 use Rattle.world_code.specs.Completed.{done_count, steps_done, AreTaken}
 
@@ -123,47 +117,56 @@ taken_no_more w w1 xs ys zs limit done left a e is =
     (subst (λ (k : ℕ). AreTaken w xs limit w1 (record { done = done; left = k })) e a) (taken_stop w1 ys))))
 
 -- settlings of one colour more
-pub settle_steps-more : (by : ℕ) (row : Row) (cs : List ℕ) (c : ℕ)
+settle_steps-more : (by : ℕ) (row : Row) (cs : List ℕ) (c : ℕ)
     → settle_steps by row (cs ++ c ∷ []) ≡ settle_steps by row cs ++ settle_steps by row (c ∷ [])
 settle_steps-more by row [] c = refl
 settle_steps-more by row (d ∷ cs) c = ap (λ (l : List Step). (settle_steps by row (d ∷ []) ++ l))
     (settle_steps-more by row cs c)
 
-pub taken_as : (w : World) (steps : List Step) (limit : ℕ) (v v' : World) (t t' : Taken)
-    → AreTaken w steps limit v t → v' ≡ v → t' ≡ t → AreTaken w steps limit v' t'
-taken_as w steps limit v v' t t' a e f =
-    subst (λ (x : Taken). AreTaken w steps limit v' x) (sym f)
-    (subst (λ (x : World). AreTaken w steps limit x t) (sym e) a)
+-- The node is settled in the first of these colours, as far as steps are allowed; the others are left.
+pub record AreSettled (w : World) (by : ℕ) (row : Row) (limit : ℕ) (left colours : List ℕ) (w' : World) (taken : Taken)
+    : Type 0 where
+  pub first : List ℕ
+  pub apart : first ++ left ≡ colours
+  pub are_taken : AreTaken w (settle_steps by row first) limit w' taken
 
--- settlings in the members of a set below a number
-abbrev pub settles_below : ℕ → Row → Colours → ℕ → List Step
-settles_below by row set n = settle_steps by row (filter (has set) (range_with_len 0 n))
+pub settled_none : (w : World) (by : ℕ) (row : Row) (limit : ℕ) (left colours : List ℕ) → left ≡ colours
+    → AreSettled w by row limit left colours w (record { done = 0; left = limit })
+settled_none w by row limit left colours all = record { first = []; apart = all; are_taken = taken_none w limit }
 
-pub settles_with : (by : ℕ) (row : Row) (set : Colours) (n : ℕ) → has set n ≡ true
-    → settles_below by row set (n + 1) ≡ settles_below by row set n ++ Settle by row n ∷ []
-settles_with by row set n t =
-    ap (settle_steps by row) (range_with (has set) n t)
-    ∙ settle_steps-more by row (filter (has set) (range_with_len 0 n)) n
+-- the next of them
+module _ (w : World) (by : ℕ) (row : Row) (limit n : ℕ) (rest colours : List ℕ) (w1 : World) (done left : ℕ)
+    (before : AreSettled w by row limit (n ∷ rest) colours w1 (record { done = done; left = left })) where
+  abbrev firsts : List Step
+  firsts = settle_steps by row before.first
 
-pub settles_without : (by : ℕ) (row : Row) (set : Colours) (n : ℕ) → has set n ≡ false
-    → settles_below by row set (n + 1) ≡ settles_below by row set n
-settles_without by row set n f = ap (settle_steps by row) (range_without (has set) n f)
+  now_apart : (before.first ++ n ∷ []) ++ rest ≡ colours
+  now_apart = append_assoc before.first (n ∷ []) rest ∙ before.apart
 
--- where no step is allowed, none more is taken
-pub settles_stop : (w : World) (by : ℕ) (row : Row) (set : Colours) (limit n : ℕ) (w1 : World) (done left : ℕ)
-    → AreTaken w (settles_below by row set n) limit w1 (record { done = done; left = left }) → left ≡ 0
-    → AreTaken w (settles_below by row set (n + 1)) limit w1 (record { done = done; left = left })
-settles_stop w by row set limit n w1 done left a e = elim (cases_Bool (has set n)) [
-  | inl t ↦ taken_no_more w w1 (settles_below by row set n) (Settle by row n ∷ []) (settles_below by row set (n + 1))
-      limit done left a e (settles_with by row set n t)
-  | inr f ↦ subst (λ (l : List Step). AreTaken w l limit w1 (record { done = done; left = left }))
-      (sym (settles_without by row set n f)) a
-]
+  -- a step is allowed
+  pub settled_more : 0 < left → (w2 : World) → w2 ≡ after w1 (Settle by row n) → (d : ℕ)
+      → d ≡ done_count (reply w1 (Settle by row n))
+      → AreSettled w by row limit rest colours w2 (record { done = done + d; left = left - 1 })
+  settled_more lt w2 is d de = record {
+    first = before.first ++ n ∷ [];
+    apart = now_apart;
+    are_taken = taken_more w w1 w2 firsts (settle_steps by row (before.first ++ n ∷ [])) (Settle by row n) limit done left
+        before.are_taken lt (settle_steps-more by row before.first n) is d de;
+  }
 
-pub settles_all : (w : World) (by : ℕ) (row : Row) (set colours : Colours) (limit n : ℕ) (w1 : World) (t : Taken)
-    → AreTaken w (settles_below by row set n) limit w1 t → n ≡ 16 → set.0 < 2 ^ 16 → set ≡ colours
-    → AreTaken w (settle_steps by row (members colours)) limit w1 t
-settles_all w by row set colours limit n w1 t a e small is =
-    subst (λ (cs : Colours). AreTaken w (settle_steps by row (members cs)) limit w1 t) is
-    (subst (λ (l : List ℕ). AreTaken w (settle_steps by row l) limit w1 t)
-    (ap (λ (k : ℕ). filter (has set) (range_with_len 0 k)) e ∙ members-low set small) a)
+  -- none is allowed
+  pub settled_stop : left ≡ 0 → AreSettled w by row limit rest colours w1 (record { done = done; left = left })
+  settled_stop e = record {
+    first = before.first ++ n ∷ [];
+    apart = now_apart;
+    are_taken = taken_no_more w w1 firsts (settle_steps by row (n ∷ [])) (settle_steps by row (before.first ++ n ∷ [])) limit
+        done left before.are_taken e (settle_steps-more by row before.first n);
+  }
+
+-- all of them
+pub settled_all : (w : World) (by : ℕ) (row : Row) (limit : ℕ) (left colours : List ℕ) (w' : World) (taken : Taken)
+    → left ≡ [] → AreSettled w by row limit left colours w' taken
+    → AreTaken w (settle_steps by row colours) limit w' taken
+settled_all w by row limit left colours w' taken none s =
+    subst (λ (l : List ℕ). AreTaken w (settle_steps by row l) limit w' taken)
+    (sym (append-nil s.first) ∙ (ap (λ (l : List ℕ). s.first ++ l) (sym none) ∙ s.apart)) s.are_taken

@@ -11,8 +11,9 @@ use Rattle.std.proofs.lemmas.List.Elements.{All-set}
 use Rattle.std.proofs.lemmas.Option.{slice_get_within}
 use Rattle.log_node.specs.declared.ids.Colours.{Colours}
 use Rattle.log_node.specs.declared.node.Node.{Node}
+use Rattle.log_node.specs.declared.limits.TheConstants.{MAX_COLOURS}
 use Rattle.log_node.specs.Sets.{members}
-use Rattle.skeen_core.specs.declared.board_row.BoardRow.{BoardRow}
+use Rattle.skeen_core.specs.Boards.{BoardRow}
 use Rattle.log_node.specs.declared.marks.Mark.{Mark}
 use Rattle.log_node.specs.declared.marks.Mark.TheVariants as marks
 use Rattle.log_node.specs.declared.marks.Outcome.TheVariants.{Open}
@@ -83,7 +84,7 @@ row_here begun rows node same =
     ∙ (ap (λ (o : Option BoardRow). let r : RowState = record { node = node; marks = mark_in o; last = last_in o } in r)
     (slice_last rows (fresh_row_of node))
     ∙ ap (λ (m : ℕ → Mark). let r : RowState = record { node = node; marks = m; last = Open } in r)
-    (fun_ext (λ c. get_replicate 16 c marks.None))))
+    (fun_ext (λ c. get_replicate MAX_COLOURS c marks.None))))
 
 row_elsewhere : (begun : List Node) (rows : List BoardRow) (node : Node) (row : BoardRow) (n : ℕ)
     → length rows ≡ length begun → n ≢ length begun
@@ -228,7 +229,7 @@ module _ (code : WorldView) (w : IsWhole code) (client : ℕ) (colours : Colours
         ∙ ap (λ (x : Node). x.colours) (push_here old.begun its_node no_row.node))
 
     marks_are : (n : ℕ) (r : BoardRow) → (slice_get rows n ≡ Some r) ⊎ ((n ≡ length rows) × (fresh_row_of its_node ≡ r))
-        → length r.marks ≡ 16
+        → length r.marks ≡ MAX_COLOURS
     marks_are n r (inl e) = (w.rows client).marks n r e
     marks_are n r (inr e) = ap (λ (x : BoardRow). length x.marks) (sym e.1)
 
@@ -251,7 +252,7 @@ module _ (code : WorldView) (w : IsWhole code) (client : ℕ) (colours : Colours
   begin_clients : AreClients code.shape (set code.clients client new_client) new_board
   begin_clients = record {
     all = length-set code.clients client new_client ∙ w.clients;
-    colours = All-set (λ (x : ClientView). length x.played ≡ 16) code.clients client new_client
+    colours = All-set (λ (x : ClientView). length x.played ≡ MAX_COLOURS) code.clients client new_client
         (w.colours client fresh_client in_clients) w.colours;
     board_colours = w.board_colours;
     board_rows = w.board_rows;
@@ -323,15 +324,6 @@ module _ (code : WorldView) (w : IsWhole code) (client : ℕ) (colours : Colours
 
   is_one : client < length code.shape.homes → is_client (world_of code) client ≡ true
   is_one lt = lt-ltb client (length code.shape.homes) lt
-
-  pub no_row_left : client < length code.shape.homes → length (rows_of code.board client) ≡ code.board.rows
-      → false ≡ may_begin (world_of code) client colours
-  no_row_left lt full =
-      let same = (w.rows client).used in
-      let limit = w.board_rows in
-      stop used_rows (nat_lt 1 (length (members colours)) && all_colours)
-      (lt_false (length (client_at code client).begun) code.shape.rows (omega (arith, same, limit, full)))
-      ∙ sym (lead (is_client (world_of code) client) _ (is_one lt))
 
   row_left : length (rows_of code.board client) < code.board.rows → used_rows ≡ true
   row_left lt =

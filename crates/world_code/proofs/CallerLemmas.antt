@@ -1,2 +1,2 @@
 -- What callers may cite of this crate's proofs; all else there is private.
-pub use Rattle.world_code.proofs.Sets.{member_is}
+pub use Rattle.world_code.proofs.Sets.{is_there, not_before}

@@ -10,6 +10,7 @@ use Rattle.std.proofs.lemmas.List.Elements.{All-set}
 use Rattle.std.proofs.lemmas.List.{append-nil}
 use Rattle.log_node.specs.declared.node.Node.{Node}
 use Rattle.log_node.specs.declared.node.Shape.{Shape}
+use Rattle.log_node.specs.declared.limits.TheConstants.{MAX_COLOURS}
 use Rattle.skeen_core.specs.Boards.{Board, rows_of}
 use Rattle.col_core.specs.declared.Entry.{Entry}
 use Rattle.col_core.proofs.CallerLemmas.{apart}
@@ -186,7 +187,7 @@ columns_appended code clients region colour column w lr lc before new r k =
 -- all clients and their rows are there
 pub record AreClients (shape : Shape) (clients : List ClientView) (board : Board) : Type 0 where
   pub all : length clients ≡ length shape.homes
-  pub colours : All (λ c. length c.played ≡ 16) clients
+  pub colours : All (λ c. length c.played ≡ MAX_COLOURS) clients
   pub board_colours : board.colours ≡ shape.colours
   pub board_rows : board.rows ≡ shape.rows
   pub board_clients : length board.begun ≡ length shape.homes
@@ -323,11 +324,11 @@ client_shown code client c lt same begun shown =
 
 -- all clients are there, with one that has begun as many rows
 pub clients_set : (code : WorldView) (client : ℕ) (c : ClientView) → IsWhole code → client < length code.clients
-    → length c.played ≡ 16 → c.begun ≡ (client_at code client).begun
+    → length c.played ≡ MAX_COLOURS → c.begun ≡ (client_at code client).begun
     → AreClients code.shape (set code.clients client c) code.board
 clients_set code client c w lt all_colours begun = record {
   all = length-set code.clients client c ∙ w.clients;
-  colours = All-set (λ (x : ClientView). length x.played ≡ 16) code.clients client c all_colours w.colours;
+  colours = All-set (λ (x : ClientView). length x.played ≡ MAX_COLOURS) code.clients client c all_colours w.colours;
   board_colours = w.board_colours;
   board_rows = w.board_rows;
   board_clients = w.board_clients;
@@ -340,7 +341,7 @@ clients_set code client c w lt all_colours begun = record {
 
 -- the code means the world after a step that changed one client
 pub whole_client : (code : WorldView) (client : ℕ) (c : ClientView) (step : Step) → IsWhole code
-    → client < length code.clients → length c.played ≡ 16 → c.begun ≡ (client_at code client).begun
+    → client < length code.clients → length c.played ≡ MAX_COLOURS → c.begun ≡ (client_at code client).begun
     → c.nodes ≡ (client_at code client).nodes
     → world_of (record code { clients = set code.clients client c }) ≡ after (world_of code) step
     → IsWhole (record code { clients = set code.clients client c })
@@ -351,7 +352,7 @@ whole_client code client c step w lt all_colours begun nodes step_is =
     (reached_step code (world_of (record code { clients = set code.clients client c })) step w step_is)
 
 pub whole_same : (code : WorldView) (client : ℕ) (c : ClientView) → IsWhole code → client < length code.clients
-    → length c.played ≡ 16 → c.begun ≡ (client_at code client).begun → c.nodes ≡ (client_at code client).nodes
+    → length c.played ≡ MAX_COLOURS → c.begun ≡ (client_at code client).begun → c.nodes ≡ (client_at code client).nodes
     → world_of (record code { clients = set code.clients client c }) ≡ world_of code
     → IsWhole (record code { clients = set code.clients client c })
 whole_same code client c w lt all_colours begun nodes same =

@@ -10,8 +10,9 @@ use Rattle.std.proofs.lemmas.Option.{get_or_from_slice_get}
 use Rattle.log_node.specs.declared.ids.Colours.{Colours}
 use Rattle.log_node.specs.declared.ids.Row.{Row}
 use Rattle.log_node.specs.declared.node.Node.{Node}
+use Rattle.log_node.specs.declared.limits.TheConstants.{MAX_COLOURS}
 use Rattle.log_node.specs.Sets.{members}
-use Rattle.skeen_core.specs.declared.board_row.BoardRow.{BoardRow}
+use Rattle.skeen_core.specs.Boards.{BoardRow}
 use Rattle.log_node.specs.declared.marks.Mark.{Mark}
 use Rattle.log_node.specs.declared.marks.Mark.TheVariants as marks
 use Rattle.log_node.specs.declared.marks.Outcome.{Outcome}
@@ -100,7 +101,7 @@ module _ (code : WorldView) (w : IsWhole code) (row : Row) (b : Begun code row) 
   pub colours_here : b.on_board.colours ≡ (row_of (world_of code) row).node.colours
   colours_here = (w.rows row.client).colours row.number b.on_board b.board_is
 
-  pub long_marks : length b.on_board.marks ≡ 16
+  pub long_marks : length b.on_board.marks ≡ MAX_COLOURS
   long_marks = (w.rows row.client).marks row.number b.on_board b.board_is
 
   module _ (f : BoardRow → BoardRow) where
@@ -158,9 +159,9 @@ module _ (code : WorldView) (w : IsWhole code) (row : Row) (b : Begun code row) 
           ]
 
     -- the rows are still those of the nodes
-    pub board_clients : (f b.on_board).colours ≡ b.on_board.colours → length (f b.on_board).marks ≡ 16
+    pub board_clients : (f b.on_board).colours ≡ b.on_board.colours → length (f b.on_board).marks ≡ MAX_COLOURS
         → AreClients code.shape code.clients new_board
-    board_clients same_colours sixteen = record {
+    board_clients same_colours whole_marks = record {
       all = w.clients;
       colours = w.colours;
       board_colours = w.board_colours;
@@ -194,13 +195,13 @@ module _ (code : WorldView) (w : IsWhole code) (row : Row) (b : Begun code row) 
           | inr p ↦ (w.rows row.client).colours n r p
         ];
         marks = λ n r e. elim (at_place n r e) [
-          | inl p ↦ ap (λ (x : BoardRow). length x.marks) (sym p.1) ∙ sixteen
+          | inl p ↦ ap (λ (x : BoardRow). length x.marks) (sym p.1) ∙ whole_marks
           | inr p ↦ (w.rows row.client).marks n r p
         ];
       }
 
   -- a colour of the row is marked, whose mark is missing
-  pub marked_row : (colour : ℕ) (m : Mark) → colour < 16 → (row_of (world_of code) row).marks colour ≡ marks.None
+  pub marked_row : (colour : ℕ) (m : Mark) → colour < MAX_COLOURS → (row_of (world_of code) row).marks colour ≡ marks.None
       → changed_row (boards.with_mark colour m)
       ≡ record (row_of (world_of code) row) { marks = updated (row_of (world_of code) row).marks colour m }
   marked_row colour m lt none =

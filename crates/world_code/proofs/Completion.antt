@@ -1,12 +1,12 @@
 -- A begun append is completed: its marks, its decision and its settlings, one after another.
-use Rattle.std.proofs.Common.{◌≡◌, ◌≢◌, ℕ, zero, suc, ◌+◌, ◌<◌, ◌≤◌, Bool, true, List, [], ◌∷◌, length, take, ap, sym}
+use Rattle.std.proofs.Common.{◌≡◌, ◌≢◌, ℕ, suc, ◌+◌, ◌≤◌, Bool, true, List, [], ◌∷◌, length, take, ap, sym}
 use Rattle.std.proofs.Common.{subst, ◌∙◌, arith}
-use Rattle.std.specs.Prelude.{◌^◌}
-use Rattle.std.specs.List.{filter, range_with_len}
+use Rattle.std.specs.Prelude.{◌*◌}
 use Rattle.log_node.specs.declared.ids.Row.{Row}
 use Rattle.log_node.specs.declared.node.Node.{Node}
-use Rattle.log_node.specs.Sets.{has, members}
-use Rattle.log_node.proofs.CallerLemmas.{members-low}
+use Rattle.log_node.specs.declared.limits.TheConstants.{MAX_COLOURS}
+use Rattle.log_node.specs.Sets.{members}
+use Rattle.log_node.proofs.CallerLemmas.{members_few}
 use Rattle.log_node.specs.declared.marks.Outcome.{Outcome}
 use Rattle.log_node.specs.declared.marks.Outcome.TheVariants.{Open, Gone, Final}
 use Rattle.col_core.proofs.CallerLemmas.{choice}
@@ -53,13 +53,6 @@ module _ (w w1 w2 w3 : World) (by : ℕ) (row : Row) (limit : ℕ) (b : is_begun
         steps = (e ∙ (let x : t.done + t2.done + t3.done ≡ t.done + (t2.done + t3.done) = omega arith in x)) ∙ all.done;
       }
 
-filter_few : (p : ℕ → Bool) (from n : ℕ) → length (filter p (range_with_len from n)) ≤ n
-filter_few p from zero = omega arith
-filter_few p from (suc n) =
-    let r = filter_few p (from + 1) n in
-    choice (λ (l : List ℕ). length l ≤ suc n) (p from) (from ∷ filter p (range_with_len (from + 1) n))
-    (filter p (range_with_len (from + 1) n)) (λ _. omega (arith, r)) (λ _. omega (arith, r))
-
 decided_not_open : (w : World) (row : Row) (o : Outcome) → StandsAsDecided w row o → o ≢ Open
 decided_not_open w row Open s e = s
 decided_not_open w row (Gone why) s e = let x : ⊥ = cc in x
@@ -80,9 +73,9 @@ part_begun w w' by row limit n b p =
 
 -- with room for all steps
 pub all_completed : (w w' : World) (by : ℕ) (row : Row) (n : ℕ) (outcome : Outcome) → is_begun w row ≡ true
-    → CanComplete w → IsPartCompleted w by row 33 w' n → (row_of w row).node.colours.0 < 2 ^ 16
+    → CanComplete w → IsPartCompleted w by row (2 * MAX_COLOURS + 1) w' n
     → outcome ≡ (row_of w' row).last → IsCompleted w by row w' (record { outcome = outcome; steps = n })
-all_completed w w' by row n outcome b can p small is = record {
+all_completed w w' by row n outcome b can p is = record {
   found = p.found;
   world = same;
   outcome = is;
@@ -97,12 +90,9 @@ all_completed w w' by row n outcome b can p small is = record {
   c : Completes w row p.found steps
   c = can by row p.found b
 
-  sixteen : length (colours_of w row) ≤ 16
-  sixteen = subst (λ (l : List ℕ). length l ≤ 16) (members-low (row_of w row).node.colours small)
-      (filter_few (has (row_of w row).node.colours) 0 16)
-
-  all : take 33 steps ≡ steps
-  all = take-all 33 steps (let l = c.few in let s = sixteen in omega (arith, l, s))
+  all : take (2 * MAX_COLOURS + 1) steps ≡ steps
+  all = take-all (2 * MAX_COLOURS + 1) steps
+      (let l = c.few in let s = members_few (row_of w row).node.colours in omega (arith, l, s))
 
   same : w' ≡ run_steps w steps
   same = p.world ∙ ap (run_steps w) all

@@ -8,8 +8,9 @@ use mathlib.Core.Path.{fun_ext}
 use Rattle.log_node.specs.declared.ids.Counts.{Counts}
 use Rattle.log_node.specs.declared.node.Node.{Node}
 use Rattle.log_node.specs.declared.node.Shape.{Shape}
+use Rattle.log_node.specs.declared.limits.TheConstants.{MAX_COLOURS}
 use Rattle.log_node.specs.Vectors.{zeros}
-use Rattle.skeen_core.specs.declared.board_row.BoardRow.{BoardRow}
+use Rattle.skeen_core.specs.Boards.{BoardRow}
 use Rattle.skeen_core.specs.Boards.{empty_board, rows_of}
 use Rattle.col_core.specs.declared.Entry.{Entry}
 use Rattle.column.specs.Columns.{ColumnState, new_column}
@@ -44,7 +45,7 @@ fresh_world shape = record {
 }
 
 fresh_is_new : client_of fresh_client ≡ new_client
-fresh_is_new = ap (λ (f : ℕ → Counts). with_played f) (fun_ext (λ c. get_replicate 16 c zeros)) where
+fresh_is_new = ap (λ (f : ℕ → Counts). with_played f) (fun_ext (λ c. get_replicate MAX_COLOURS c zeros)) where
   with_played : (ℕ → Counts) → ClientState
   with_played f = record { count = 0; floor = 0; used = 0; played = f }
 
@@ -87,7 +88,7 @@ all_replicate P zero x h i d lt = absurd (let e : ⊥ = omega (arith, lt) in e)
 all_replicate P (suc n) x h zero d lt = h
 all_replicate P (suc n) x h (suc i) d lt = all_replicate P n x h i d (omega (arith, lt))
 
-pub fresh_whole : (shape : Shape) → shape.regions ≤ 4 → shape.colours ≤ 16
+pub fresh_whole : (shape : Shape) → shape.regions ≤ 4 → shape.colours ≤ MAX_COLOURS
     → All (λ home. home < shape.regions) shape.homes
     → IsWhole (fresh_world shape)
 fresh_whole shape few few_colours homes = record {
@@ -101,8 +102,8 @@ fresh_whole shape few few_colours homes = record {
   placed = λ r c in_r in_c. subst (λ (x : ColumnState). IsPlaced x r c shape.regions) (sym (there r c in_r in_c))
       (record { in_region = refl; of_colour = refl; of_regions = refl });
   clients = length_replicate (length shape.homes) fresh_client;
-  colours = all_replicate (λ (c : ClientView). length c.played ≡ 16) (length shape.homes) fresh_client
-      (length_replicate 16 zeros);
+  colours = all_replicate (λ (c : ClientView). length c.played ≡ MAX_COLOURS) (length shape.homes) fresh_client
+      (length_replicate MAX_COLOURS zeros);
   board_colours = refl;
   board_rows = refl;
   board_clients = length_replicate (length shape.homes) [];

@@ -13,7 +13,6 @@ mod BeginSteps
 mod ChangedRows
 mod MarkSteps
 mod SettleSteps
-mod Ranges
 mod DecideSteps
 mod MayMark
 mod AllowedSteps

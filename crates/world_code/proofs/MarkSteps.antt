@@ -6,17 +6,18 @@ use Rattle.log_node.specs.declared.ids.Row.{Row}
 use Rattle.log_node.specs.declared.ids.Colours.{Colours}
 use Rattle.log_node.specs.declared.ids.Counts.{Counts}
 use Rattle.log_node.specs.declared.node.Node.{Node}
+use Rattle.log_node.specs.declared.limits.TheConstants.{MAX_COLOURS}
 use Rattle.log_node.specs.Sets.{has}
-use Rattle.skeen_core.specs.declared.board_row.BoardRow.{BoardRow}
+use Rattle.skeen_core.specs.Boards.{BoardRow}
 use Rattle.log_node.specs.declared.marks.Why.{Why}
 use Rattle.log_node.specs.declared.marks.Mark.TheVariants as marks
-use Rattle.skeen_core.specs.Boards.{Board, begun_at, with_changed, has_in}
+use Rattle.skeen_core.specs.Boards.{begun_at, with_changed, has_in}
 use Rattle.skeen_core.specs.Boards as boards
 use Rattle.col_core.specs.declared.Event.TheVariants as events
 use Rattle.col_core.specs.declared.Entry.{Entry}
 use Rattle.col_core.specs.Keeping.{updated_at}
 use Rattle.col_core.specs.Rows.{node_wants}
-use Rattle.column.specs.Columns.{ColumnState, with_room, stamp_for}
+use Rattle.column.specs.Columns.{ColumnState, with_room}
 use Rattle.column.specs.Columns as columns
 use Rattle.world_laws.specs.declared.steps.Step.TheVariants as steps
 use Rattle.world_laws.specs.Worlds.{RowState, home_of, row_of, row_history, is_member}
@@ -72,11 +73,11 @@ module _ (code : WorldView) (w : IsWhole code) (row : Row) (colour : ℕ)
       (row_node code w row its_row).within colour
       (subst (λ (n : Node). is_member n.colours colour ≡ true) (node_here code w row its_row) g.has)
 
-  pub small : colour < 16
+  pub small : colour < MAX_COLOURS
   small = let n = w.few_colours in let lt = colour_there in omega (arith, n, lt)
 
   pub has_it : has its_node.colours colour ≡ true
-  has_it = sym (member_is its_node.colours colour (let lt = small in omega (arith, lt))) ∙ g.has
+  has_it = sym (member_is its_node.colours colour small) ∙ g.has
 
   pub in_columns : colour < length (get_or code.columns home [])
   in_columns = let n = its_columns code w row its_row in let lt = colour_there in omega (arith, n, lt)

@@ -5,6 +5,7 @@ use Rattle.std.proofs.lemmas.Bool.{false_from_ne_true}
 use Rattle.std.proofs.lemmas.Option.{get_or_from_slice_get}
 use Rattle.log_node.specs.declared.ids.Row.{Row}
 use Rattle.log_node.specs.declared.node.Node.{Node}
+use Rattle.log_node.specs.declared.limits.TheConstants.{MAX_COLOURS}
 use Rattle.log_node.specs.Sets.{has}
 use Rattle.log_node.specs.Outcomes.{is_missing}
 use Rattle.world_laws.specs.Worlds.{no_row, row_of, is_begun, is_member, may_mark}
@@ -32,10 +33,10 @@ module _ (code : WorldView) (w : IsWhole code) (row : Row) (colour : ℕ) (node 
       let lt = (w.begun row.client row.number node node_is).within colour t in
       let x : ⊥ = omega (arith, lt, le) in x))
 
-  pub not_has : colour < 64 → has node.colours colour ≡ false → false ≡ may_mark (world_of code) row colour
+  pub not_has : colour < MAX_COLOURS → has node.colours colour ≡ false → false ≡ may_mark (world_of code) row colour
   not_has lt f = member_false (member_is node.colours colour lt ∙ f)
 
-  pub by_mark : colour < 64 → has node.colours colour ≡ true → missing ≡ may_mark (world_of code) row colour
+  pub by_mark : colour < MAX_COLOURS → has node.colours colour ≡ true → missing ≡ may_mark (world_of code) row colour
   by_mark lt t =
       both (is_begun (world_of code) row) (is_member (row_of (world_of code) row).node.colours colour) missing begun
       (ap (λ (n : Node). is_member n.colours colour) its_node ∙ (member_is node.colours colour lt ∙ t)) where

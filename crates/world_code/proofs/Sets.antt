@@ -1,12 +1,13 @@
 -- Members of sets of colours.
-use Rattle.std.proofs.Common.{◌≡◌, ℕ, zero, suc, ◌+◌, ◌<◌, ◌≤◌, Bool, true, false, List, [], ◌∷◌, refl, ap, sym, ◌∙◌}
+use Rattle.std.proofs.Common.{◌≡◌, ℕ, zero, suc, ◌+◌, ◌<◌, ◌≤◌, Bool, true, false, List, [], ◌∷◌, ◌++◌, refl, ap, sym, ◌∙◌}
 use Rattle.std.proofs.Common.{inl, inr, arith}
-use Rattle.std.specs.Prelude.{◌&&◌, ◌||◌, ◌==◌, ◌^◌, not, nat_lt}
+use Rattle.std.specs.Prelude.{◌&&◌, ◌||◌, ◌==◌}
 use Rattle.std.specs.List.{list_any, list_all, filter, range_with_len}
-use Rattle.std.proofs.lemmas.Bool.{and_parts, eq-eqb, eqb-true, or_left, or_right, or_cases, cases_eq, cases_lt}
+use Rattle.std.proofs.lemmas.Bool.{and_parts, eq-eqb, eqb-true, or_left, or_right, or_cases, cases_eq, cases_lt, true≢false}
+use Rattle.std.proofs.lemmas.Bool.{false_from_ne_true}
 use Rattle.log_node.specs.declared.ids.Colours.{Colours}
+use Rattle.log_node.specs.declared.limits.TheConstants.{MAX_COLOURS}
 use Rattle.log_node.specs.Sets.{has, members}
-use Rattle.log_node.proofs.CallerLemmas.{members-low}
 use Rattle.col_core.proofs.CallerLemmas.{choice}
 use Rattle.world_laws.specs.Worlds.{is_member}
 
@@ -50,30 +51,54 @@ any_range c from (suc n) le lt = elim (cases_eq from c) [
     | inr over ↦ absurd (ne (omega (arith, le, over)))
   ]
 
-pub member_is : (set : Colours) (c : ℕ) → c < 64 → is_member set c ≡ has set c
+pub member_is : (set : Colours) (c : ℕ) → c < MAX_COLOURS → is_member set c ≡ has set c
 member_is set c lt =
-    any_filter (has set) c (range_with_len 0 64)
-    ∙ (ap (λ (b : Bool). has set c && b) (any_range c 0 64 (omega arith) (omega (arith, lt))) ∙ same (has set c)) where
-      same : (b : Bool) → (b && true) ≡ b
-      same true = refl
-      same false = refl
+    any_filter (has set) c (range_with_len 0 MAX_COLOURS)
+    ∙ (ap (λ (b : Bool). has set c && b) (any_range c 0 MAX_COLOURS (omega arith) (omega (arith, lt))) ∙ same (has set c))
+  where
+    same : (b : Bool) → (b && true) ≡ b
+    same true = refl
+    same false = refl
 
-pub all_filter : (p q : ℕ → Bool) (xs : List ℕ) → list_all (λ c. not (q c) || p c) xs ≡ list_all p (filter q xs)
-all_filter p q [] = refl
-all_filter p q (x ∷ xs) =
-    choice (λ (l : List ℕ). ((not (q x) || p x) && list_all (λ c. not (q c) || p c) xs) ≡ list_all p l) (q x)
-    (x ∷ filter q xs) (filter q xs)
-    (λ t. ap (λ (b : Bool). (not b || p x) && list_all (λ c. not (q c) || p c) xs) t
-    ∙ ap (λ (b : Bool). p x && b) (all_filter p q xs))
-    (λ f. ap (λ (b : Bool). (not b || p x) && list_all (λ c. not (q c) || p c) xs) f ∙ all_filter p q xs)
+-- what stands between others is there
+pub is_there : (xs ys : List ℕ) (c : ℕ) → list_any (λ d. d == c) (xs ++ c ∷ ys) ≡ true
+is_there [] ys c = or_left (c == c) _ (eq-eqb c c refl)
+is_there (x ∷ xs) ys c = or_right (x == c) _ (is_there xs ys c)
 
--- all members pass
-pub all_members : (set : Colours) (limit : ℕ) → set.0 < 2 ^ 16
-    → list_all (λ c. not (has set c) || nat_lt c limit) (range_with_len 0 16)
-    ≡ list_all (λ c. nat_lt c limit) (members set)
-all_members set limit small =
-    all_filter (λ c. nat_lt c limit) (has set) (range_with_len 0 16)
-    ∙ ap (list_all (λ c. nat_lt c limit)) (members-low set small)
+-- a number of a range is not below its first
+range_above : (c from n : ℕ) → list_any (λ d. d == c) (range_with_len from n) ≡ true → from ≤ c
+range_above c from zero t = absurd (true≢false (sym t))
+range_above c from (suc n) t = elim (or_cases (from == c) _ t) [
+  | inl e ↦ let same = eqb-true from c e in omega (arith, same)
+  | inr i ↦ let le = range_above c (from + 1) n i in omega (arith, le)
+]
+
+none_before : (p : ℕ → Bool) (from n : ℕ) (xs ys : List ℕ) (c : ℕ) → filter p (range_with_len from n) ≡ xs ++ c ∷ ys
+    → list_any (λ d. d == c) xs ≡ false
+none_before p from n [] ys c is = refl
+none_before p from zero (x ∷ xs) ys c is = absurd (let f : ⊥ = cc in f)
+none_before p from (suc n) (x ∷ xs) ys c is =
+    choice (λ (l : List ℕ). l ≡ x ∷ (xs ++ c ∷ ys) → list_any (λ d. d == c) (x ∷ xs) ≡ false) (p from) (from ∷ others) others
+    (λ _ e. let first : from ≡ x = cc in let rest : others ≡ xs ++ c ∷ ys = cc in
+    neither (x == c) (list_any (λ d. d == c) xs)
+    (false_from_ne_true (x == c) (λ t. let same = eqb-true x c t in let le = above rest in
+    let f : ⊥ = omega (arith, first, same, le) in f))
+    (none_before p (from + 1) n xs ys c rest))
+    (λ _ e. none_before p (from + 1) n (x ∷ xs) ys c e) is where
+      others : List ℕ
+      others = filter p (range_with_len (from + 1) n)
+
+      above : others ≡ xs ++ c ∷ ys → from + 1 ≤ c
+      above e = range_above c (from + 1) n
+          (and_parts (p c) _ (sym (any_filter p c (range_with_len (from + 1) n))
+          ∙ (ap (list_any (λ d. d == c)) e ∙ is_there xs ys c))).1
+
+      neither : (a b : Bool) → a ≡ false → b ≡ false → (a || b) ≡ false
+      neither a b s t = rw (s, t) refl
+
+-- the members of a set are each there once: none is among those before it
+pub not_before : (set : Colours) (xs ys : List ℕ) (c : ℕ) → xs ++ c ∷ ys ≡ members set → list_any (λ d. d == c) xs ≡ false
+not_before set xs ys c is = none_before (has set) 0 MAX_COLOURS xs ys c (sym is)
 
 -- a member of a list that passes
 pub all_pass : (p : ℕ → Bool) (xs : List ℕ) (c : ℕ) → list_all p xs ≡ true → list_any (λ d. d == c) xs ≡ true

@@ -3,6 +3,7 @@ use Rattle.std.proofs.Common.{◌≡◌, ℕ, ◌<◌, ◌≤◌, true, false, L
 use Rattle.std.proofs.Common.{sym, subst, ◌∙◌, arith, get_or-set_same}
 use Rattle.std.specs.Prelude.{Some}
 use Rattle.log_node.specs.declared.node.Node.{Node}
+use Rattle.log_node.specs.declared.limits.TheConstants.{MAX_COLOURS}
 use Rattle.log_node.specs.Sets.{has}
 use Rattle.col_core.specs.History.{last_stamp, has_entered}
 use Rattle.column.specs.Columns.{ColumnState, with_room, stamp_for}
@@ -63,9 +64,6 @@ module _ {code : WorldView} {client colour home : ℕ} {row : List ColumnState} 
   call_colour = let n = ap length row_same in let lt = colour_in code w client colour node.text may in
       omega (arith, n, lt)
 
-  pub call_home : home < length code.columns
-  call_home = let lt = home_in code w client colour node.text may in omega (arith, lt, call.home_is)
-
   pub call_client : client < length code.clients
   call_client = client_in code w client colour node.text may
 
@@ -87,7 +85,7 @@ module _ {code : WorldView} {client colour home : ℕ} {row : List ColumnState} 
       ap (λ (n : Node). has n.colours (get_or row colour no_column).colour) node_same
       ∙ (ap (λ (c : ColumnState). has its.colours c.colour) column_same
       ∙ (ap (has its.colours) (w.placed region colour may.in_regions may.in_colours).of_colour
-      ∙ has_alone colour (let n = w.few_colours in let lt = may.in_colours in omega (arith, n, lt))))
+      ∙ has_alone colour))
 
   pub call_floor : node.floor ≤ last_stamp
   call_floor = subst (λ (n : Node). n.floor ≤ last_stamp) (sym node_same) ((is_held code w).floors client)
@@ -159,7 +157,7 @@ room_there code client lt =
 
 -- a client has something played of each colour
 pub played_of : (code : WorldView) (client colour : ℕ) → IsWhole code → MaySingle code client colour
-    → (client < length code.clients) × (colour < 16) × (colour < length (client_at code client).played)
+    → (client < length code.clients) × (colour < MAX_COLOURS) × (colour < length (client_at code client).played)
 played_of code client colour w may =
     let n = w.clients in
     let lt = may.is_client in

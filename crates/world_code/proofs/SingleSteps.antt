@@ -1,12 +1,13 @@
 -- A client's node enters its region's column: what that makes of the world.
-use Rattle.std.proofs.Common.{◌≡◌, ℕ, zero, suc, ◌<◌, true, false, List, [], ◌∷◌, ◌++◌, length, get_or, set, refl, ap}
+use Rattle.std.proofs.Common.{◌≡◌, ℕ, ◌<◌, true, false, List, [], ◌∷◌, ◌++◌, length, get_or, set, refl, ap}
 use Rattle.std.proofs.Common.{sym, ◌∙◌, arith, eq-eqb}
-use Rattle.std.specs.Prelude.{◌^◌, ◌==◌, nat_lt}
-use Rattle.std.proofs.lemmas.Bool.{and_parts, ltb-true, cond-true, not-true}
-use Rattle.log_node.specs.declared.ids.Colours.{Colours}
+use Rattle.std.specs.Prelude.{◌==◌, nat_lt}
+use Rattle.std.proofs.lemmas.Bool.{and_parts, ltb-true, cond-true, not-true, or_left}
 use Rattle.log_node.specs.declared.ids.Counts.{Counts}
 use Rattle.log_node.specs.declared.node.Node.{Node}
-use Rattle.log_node.specs.Sets.{has, members}
+use Rattle.log_node.specs.declared.limits.TheConstants.{MAX_COLOURS}
+use Rattle.log_node.specs.Sets.{has, set_of}
+use Rattle.log_node.proofs.CallerLemmas.{has-set_of, members-one}
 use Rattle.log_node.specs.Vectors.{zeros}
 use Rattle.col_core.specs.declared.Event.TheVariants as events
 use Rattle.col_core.specs.declared.Entry.{Entry}
@@ -27,51 +28,15 @@ use Rattle.world_laws.proofs.CallerLemmas.{slice_last}
 use Rattle.std.specs.Prelude.{slice_get}
 use Rattle.std.proofs.Common.{get_or-set_same}
 
--- a fact of each of sixteen numbers
-up_to_16 : (P : ℕ → Type 0) → P 0 → P 1 → P 2 → P 3 → P 4 → P 5 → P 6 → P 7 → P 8 → P 9 → P 10 → P 11 → P 12 → P 13
-    → P 14
-    → P 15 → (n : ℕ) → n < 16 → P n
-up_to_16 P a b c d e f g h i j k l m o p q zero lt = a
-up_to_16 P a b c d e f g h i j k l m o p q (suc zero) lt = b
-up_to_16 P a b c d e f g h i j k l m o p q (suc (suc zero)) lt = c
-up_to_16 P a b c d e f g h i j k l m o p q (suc (suc (suc zero))) lt = d
-up_to_16 P a b c d e f g h i j k l m o p q (suc (suc (suc (suc zero)))) lt = e
-up_to_16 P a b c d e f g h i j k l m o p q (suc (suc (suc (suc (suc zero))))) lt = f
-up_to_16 P a b c d e f g h i j k l m o p q (suc (suc (suc (suc (suc (suc zero)))))) lt = g
-up_to_16 P a b c d e f g h i j k l m o p q (suc (suc (suc (suc (suc (suc (suc zero))))))) lt = h
-up_to_16 P a b c d e f g h i j k l m o p q (suc (suc (suc (suc (suc (suc (suc (suc zero)))))))) lt = i
-up_to_16 P a b c d e f g h i j k l m o p q (suc (suc (suc (suc (suc (suc (suc (suc (suc zero))))))))) lt = j
-up_to_16 P a b c d e f g h i j k l m o p q (suc (suc (suc (suc (suc (suc (suc (suc (suc (suc zero)))))))))) lt = k
-up_to_16 P a b c d e f g h i j k l m o p q (suc (suc (suc (suc (suc (suc (suc (suc (suc (suc (suc zero))))))))))) lt = l
-up_to_16 P a b c d e f g h i j k l m o p q
-    (suc (suc (suc (suc (suc (suc (suc (suc (suc (suc (suc (suc zero)))))))))))) lt = m
-up_to_16 P a b c d e f g h i j k l m o p q
-    (suc (suc (suc (suc (suc (suc (suc (suc (suc (suc (suc (suc (suc zero))))))))))))) lt = o
-up_to_16 P a b c d e f g h i j k l m o p q
-    (suc (suc (suc (suc (suc (suc (suc (suc (suc (suc (suc (suc (suc (suc zero)))))))))))))) lt = p
-up_to_16 P a b c d e f g h i j k l m o p q
-    (suc (suc (suc (suc (suc (suc (suc (suc (suc (suc (suc (suc (suc (suc (suc zero))))))))))))))) lt = q
-up_to_16 P a b c d e f g h i j k l m o p q
-    (suc (suc (suc (suc (suc (suc (suc (suc (suc (suc (suc (suc (suc (suc (suc (suc n)))))))))))))))) lt =
-    absurd (let x : ⊥ = omega (arith, lt) in x)
-
-abbrev alone : ℕ → Colours
-alone colour = record { 0 = 2 ^ colour }
-
--- a set of one colour
-members_alone : (colour : ℕ) → colour < 16 → members (alone colour) ≡ colour ∷ []
-members_alone = up_to_16 (λ colour. members (alone colour) ≡ colour ∷ []) refl refl refl refl refl refl refl refl refl
-    refl refl refl refl refl refl refl
-
-pub has_alone : (colour : ℕ) → colour < 16 → has (alone colour) colour ≡ true
-has_alone = up_to_16 (λ colour. has (alone colour) colour ≡ true) refl refl refl refl refl refl refl refl refl refl
-    refl refl refl refl refl refl
+-- a set of one colour has it
+pub has_alone : (colour : ℕ) → has (set_of (colour ∷ [])) colour ≡ true
+has_alone colour = has-set_of (colour ∷ []) colour ∙ or_left (colour == colour) false (eq-eqb colour colour refl)
 
 -- the node wants of its colour what the client has played of it
-wants_alone : (c : ClientView) (client home colour : ℕ) (text : List ℕ) → colour < 16
+wants_alone : (c : ClientView) (client home colour : ℕ) (text : List ℕ) → colour < MAX_COLOURS
     → node_wants (next_single c client home colour text) colour ≡ get_or c.played colour zeros
 wants_alone c client home colour text lt =
-    ap (λ (cs : List ℕ). wants_of cs (get_or c.played colour zeros ∷ []) colour) (members_alone colour lt)
+    ap (λ (cs : List ℕ). wants_of cs (get_or c.played colour zeros ∷ []) colour) (members-one colour lt)
     ∙ cond-true (colour == colour) _ _ (eq-eqb colour colour refl)
 
 -- what a single asks for
@@ -126,7 +91,7 @@ module _ (code : WorldView) (w : IsWhole code) (client colour : ℕ) (text : Lis
   pub colour_in : colour < length (get_or code.columns home [])
   colour_in = let n = w.wide home [] home_in in let lt = may.in_colours in omega (arith, n, lt)
 
-  small : colour < 16
+  small : colour < MAX_COLOURS
   small = let n = w.few_colours in let lt = may.in_colours in omega (arith, n, lt)
 
   entry_is : ◌≡◌ {A = List Entry} new_column.journal

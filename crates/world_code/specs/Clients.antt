@@ -1,9 +1,10 @@
 -- What contracts see of a client.
-use Rattle.std.specs.Prelude.{ℕ, ◌+◌, ◌-◌, ◌^◌, max, List, [], ◌∷◌, ◌++◌, None, Some, replicate, map, length}
+use Rattle.std.specs.Prelude.{ℕ, ◌+◌, ◌-◌, max, List, [], ◌∷◌, ◌++◌, None, Some, replicate, map, length}
 use Rattle.std.specs.Prelude.{slice_index_or}
 use Rattle.log_node.specs.declared.ids.Colours.{Colours}
 use Rattle.log_node.specs.declared.ids.Counts.{Counts}
-use Rattle.log_node.specs.Sets.{members}
+use Rattle.log_node.specs.declared.limits.TheConstants.{MAX_COLOURS}
+use Rattle.log_node.specs.Sets.{members, set_of}
 use Rattle.log_node.specs.declared.node.Node.{Node}
 use Rattle.log_node.specs.Vectors.{zeros}
 
@@ -19,7 +20,7 @@ pub record ClientView : Type 0 where
 
 -- nothing used, seen or played
 abbrev pub fresh_client : ClientView
-fresh_client = record { count = 0; floor = 0; played = replicate 16 zeros; nodes = []; begun = []; spare = 0 }
+fresh_client = record { count = 0; floor = 0; played = replicate MAX_COLOURS zeros; nodes = []; begun = []; spare = 0 }
 
 -- with memory for one node more
 abbrev pub with_spare : ClientView → ClientView
@@ -64,7 +65,7 @@ abbrev pub next_single : ClientView → ℕ → ℕ → ℕ → List ℕ → Nod
 next_single c client home colour text = record {
   id = record { client = client; count = c.count };
   region = home;
-  colours = record { 0 = 2 ^ colour };
+  colours = set_of (colour ∷ []);
   text = text;
   floor = c.floor;
   wants = slice_index_or c.played colour zeros ∷ [];

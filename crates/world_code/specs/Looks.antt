@@ -1,17 +1,13 @@
 -- What a client's look shows, and the row that stands in the way of a key.
-use Rattle.std.specs.Prelude.{◌≡◌, ◌<◌, ◌-◌, ◌&&◌, not, true, ℕ, List, [], ◌∷◌, Some, map, take, drop, length}
+use Rattle.std.specs.Prelude.{◌≡◌, ◌<◌, ◌-◌, true, ℕ, List, [], ◌∷◌, Some, map, take, drop, length}
 use Rattle.std.specs.Prelude.{slice_get}
 use Rattle.std.specs.Prelude.{slice_index_or}
-use Rattle.std.specs.List.{filter}
 use Rattle.log_node.specs.declared.ids.Key.{Key}
 use Rattle.log_node.specs.declared.ids.Row.{Row}
-use Rattle.log_node.specs.Order.{key_below}
 use Rattle.log_node.specs.Seen.{PlacedNode}
 use Rattle.log_node.specs.Vectors.{at}
 use Rattle.log_node.specs.Standings.{Standing}
-use Rattle.col_core.specs.declared.Entry.{Entry}
 pub use Rattle.col_core.specs.Ids.{open_below}
-use Rattle.col_core.specs.History.{entries}
 use Rattle.col_core.specs.declared.view.View.{View}
 use Rattle.column.specs.Columns.{greater}
 use Rattle.world_laws.specs.Worlds.{World, home_of, home_history, row_of, is_begun, chains_after, base_after, played_cut}

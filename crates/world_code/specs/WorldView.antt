@@ -5,8 +5,9 @@ use Rattle.std.specs.List.{All, AllByRecursion, range_with_len}
 use Rattle.log_node.specs.declared.ids.Id.{Id}
 use Rattle.log_node.specs.declared.node.Node.{Node}
 use Rattle.log_node.specs.declared.node.Shape.{Shape}
+use Rattle.log_node.specs.declared.limits.TheConstants.{MAX_COLOURS}
 use Rattle.log_node.specs.Vectors.{zeros}
-use Rattle.skeen_core.specs.declared.board_row.BoardRow.{BoardRow}
+use Rattle.skeen_core.specs.Boards.{BoardRow}
 use Rattle.skeen_core.specs.Boards.{Board, rows_of, mark_in, last_in}
 use Rattle.column.specs.Columns.{ColumnState, new_column, copy_of}
 use Rattle.world_laws.specs.Worlds.{World, ClientState, RowState, no_row, is_member}
@@ -83,7 +84,7 @@ pub record AreRows (begun : List Node) (rows : List BoardRow) : Type 0 where
   pub used : length rows ≡ length begun
   pub colours : (n : ℕ) (r : BoardRow) → slice_get rows n ≡ Some r
       → r.colours ≡ (slice_index_or begun n no_row.node).colours
-  pub marks : (n : ℕ) (r : BoardRow) → slice_get rows n ≡ Some r → length r.marks ≡ 16
+  pub marks : (n : ℕ) (r : BoardRow) → slice_get rows n ≡ Some r → length r.marks ≡ MAX_COLOURS
 
 -- the node of a client's row of this number, in a log of so many colours
 pub record IsRowNode (home client number colours : ℕ) (node : Node) : Type 0 where
@@ -103,14 +104,14 @@ pub record HasAppended (clients : List ClientView) (column : ColumnState) : Type
 -- all clients, rows and columns of the shape are there, and steps have made the world
 pub record IsWhole (code : WorldView) : Type 0 where
   pub few_regions : code.shape.regions ≤ 4
-  pub few_colours : code.shape.colours ≤ 16
+  pub few_colours : code.shape.colours ≤ MAX_COLOURS
   pub homes : All (λ home. home < code.shape.regions) code.shape.homes
   pub regions : length code.columns ≡ code.shape.regions
   pub wide : All (λ columns. length columns ≡ code.shape.colours) code.columns
   pub placed : (region colour : ℕ) → region < code.shape.regions → colour < code.shape.colours
       → IsPlaced (column_at code.columns region colour) region colour code.shape.regions
   pub clients : length code.clients ≡ length code.shape.homes
-  pub colours : All (λ c. length c.played ≡ 16) code.clients
+  pub colours : All (λ c. length c.played ≡ MAX_COLOURS) code.clients
   pub board_colours : code.board.colours ≡ code.shape.colours
   pub board_rows : code.board.rows ≡ code.shape.rows
   pub board_clients : length code.board.begun ≡ length code.shape.homes

@@ -13,7 +13,7 @@ ghost use Rattle.world_code.specs.Replies.{placed_reply, begun_reply};
 use crate::replies::{NewRow, Placed};
 use crate::world::World;
 use column::ColumnFault;
-use log_node::{Colours, MAX_COLOURS, MAX_STAMP, Node, Row, Text};
+use log_node::{Colours, MAX_STAMP, Node, Row, Text};
 use std::alloc::{AllocError, Global};
 use std::sync::Arc;
 use world_laws::{Reply, Step};
@@ -182,9 +182,8 @@ impl World {
     fn has_colours(&self, colours: Colours) -> bool
         ensures { result ≡ list_all (λ c. nat_lt c self.now.shape.colours) (members colours) }
     {
-        let _bits = colours.0;
         let limit = self.shape.colours;
-        (0..MAX_COLOURS).all(|colour| !colours.has(colour) || colour < limit)
+        colours.members().all(|colour| colour < limit)
     }
 
     // The row is begun, for the client's next node.

@@ -157,13 +157,10 @@ impl Client {
         requires { length self.now.played ≡ MAX_COLOURS }
         ensures { IfOk result (λ wants. wants ≡ played_of self.now (members colours)) }
     {
-        let _bits = colours.0;
         let mut wants = Wants::new(alloc);
-        for colour in 0..MAX_COLOURS {
-            if colours.has(colour) {
-                let played = self.played(colour);
-                wants.push(played)?;
-            }
+        for colour in colours.members() {
+            let played = self.played(colour);
+            wants.push(played)?;
         }
         Ok(wants)
     }
@@ -218,7 +215,7 @@ impl Client {
                 count: self.count(),
             },
             region: home,
-            colours: Colours(1 << colour),
+            colours: Colours::of(&[colour]),
             text,
             floor: self.floor,
             wants,

@@ -49,7 +49,6 @@ impl World {
     {
         can_complete();
         let _whole = &self.shape;
-        let _bits = self.row_colours(row).0;
         let steps = self.complete_first(by, row, 2 * MAX_COLOURS + 1);
         Completed {
             outcome: self.last(row),
@@ -102,14 +101,12 @@ impl World {
             (world_of self.new) result }
         ensures few { result.done + result.left ≤ limit }
     {
-        let colours = self.row_colours(row);
-        let _bits = colours.0;
         let mut taken = Taken {
             done: 0,
             left: limit,
         };
-        for colour in 0..MAX_COLOURS {
-            if taken.left > 0 && self.lacks_mark(row, colours, colour) {
+        for colour in self.row_colours(row).members() {
+            if taken.left > 0 && self.may_mark(row, colour) {
                 let reply = self.mark_colour(by, row, colour);
                 taken.done += done_count(&reply);
                 taken.left -= 1;
@@ -140,14 +137,12 @@ impl World {
             (world_of self.new) result }
         ensures few { result.done + result.left ≤ limit }
     {
-        let colours = self.row_colours(row);
-        let _bits = colours.0;
         let mut taken = Taken {
             done: 0,
             left: limit,
         };
-        for colour in 0..MAX_COLOURS {
-            if taken.left > 0 && colours.has(colour) {
+        for colour in self.row_colours(row).members() {
+            if taken.left > 0 {
                 let reply = place_reply(self.settle(by, row, colour));
                 taken.done += done_count(&reply);
                 taken.left -= 1;

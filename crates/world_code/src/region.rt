@@ -11,7 +11,7 @@ ghost use Rattle.world_code.specs.WorldView.{column_in, fresh_columns};
 
 use crate::replies::{Placed, number_of};
 use column::{Column, ColumnFault, Given};
-use log_node::{At, Counts, Id, MAX_STAMP, Node, Outcome, Shape};
+use log_node::{At, Counts, Id, MAX_COLOURS, MAX_STAMP, Node, Outcome, Shape};
 use std::alloc::{AllocError, Global};
 use std::marker::Model;
 use std::sync::Arc;
@@ -35,7 +35,7 @@ impl RegionColumns {
     /// A region's columns with nothing in them.
     pub fn open(alloc: Global, region: u8, shape: &Shape) -> Result<RegionColumns, AllocError>
         requires region { region < 4 }
-        requires colours { shape.now.colours ≤ 16 }
+        requires colours { shape.now.colours ≤ MAX_COLOURS }
         requires regions { shape.now.regions ≤ 4 }
         ensures { IfOk result (λ columns. columns ≡ fresh_columns region shape.now) }
     {

@@ -12,7 +12,7 @@ ghost use Rattle.world_code.specs.Replies.{placed_reply, place_reply, marked_rep
 use crate::replies::{Placed, decided_outcome, event_at};
 use crate::world::World;
 use column::ColumnFault;
-use log_node::{Colours, Id, MAX_COLOURS, MAX_STAMP, Mark, Node, Outcome, Row, Why};
+use log_node::{Id, MAX_STAMP, Mark, Node, Outcome, Row, Why};
 use std::alloc::AllocError;
 use std::sync::Arc;
 use world_laws::{Step, is_lawful};
@@ -80,18 +80,6 @@ impl World {
     {
         is_lawful();
         self.board.read(row.client, row, colour)
-    }
-
-    // Whether the mark of a begun row's colour may be set; these are the colours of its node.
-    pub(crate) fn lacks_mark(&self, row: Row, colours: Colours, colour: u8) -> bool
-        requires colours { colours ≡ (row_of (world_of self.now) row).node.colours }
-        requires colour { colour < MAX_COLOURS }
-        ensures { result ≡ may_mark (world_of self.now) row colour }
-    {
-        if !colours.has(colour) {
-            return false;
-        }
-        self.may_mark(row, colour)
     }
 
     // Whether no stamp is left in the colour's column for the row's node.

@@ -15,7 +15,7 @@ use crate::replies::{
     begun_reply, decided_reply, marked_reply, place_reply, placed_reply, played_reply,
 };
 use column::Column;
-use log_node::{MAX_CLIENTS, MAX_ROWS, MAX_STAMP, Shape};
+use log_node::{MAX_CLIENTS, MAX_COLOURS, MAX_ROWS, MAX_STAMP, Shape};
 use skeen_core::Rows;
 use std::alloc::{AllocError, Global};
 use std::marker::Model;
@@ -55,7 +55,7 @@ impl Model for World {
 // The columns of all regions of a shape, with nothing in them.
 fn fresh_regions(alloc: Global, shape: &Shape) -> Result<Vec<RegionColumns>, AllocError>
     requires regions { shape.now.regions ≤ 4 }
-    requires colours { shape.now.colours ≤ 16 }
+    requires colours { shape.now.colours ≤ MAX_COLOURS }
     ensures { IfOk result (λ regions. regions.items ≡
         map (λ region. fresh_columns region shape.now) (range_with_len 0 shape.now.regions)) }
 {
@@ -88,7 +88,7 @@ impl World {
     /// The world of a shape before the first step.
     pub fn open(alloc: Global, shape: Shape) -> Result<World, AllocError>
         requires regions { shape.regions ≤ 4 }
-        requires colours { shape.colours ≤ 16 }
+        requires colours { shape.colours ≤ MAX_COLOURS }
         requires homes { All (λ home. home < shape.regions) shape.homes }
         requires clients { length shape.homes ≤ MAX_CLIENTS }
         requires rows { shape.rows ≤ MAX_ROWS }

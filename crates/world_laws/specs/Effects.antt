@@ -1,11 +1,11 @@
 -- What each step makes of the world, where it may be done.
-use Rattle.std.specs.Prelude.{ℕ, ◌+◌, ◌^◌, max, List, [], ◌∷◌, ◌++◌, Some, None, map, take, drop}
+use Rattle.std.specs.Prelude.{ℕ, ◌+◌, max, List, [], ◌∷◌, ◌++◌, Some, None, map, take, drop}
 use Rattle.log_node.specs.declared.ids.Row.{Row}
 use Rattle.log_node.specs.declared.ids.Colours.{Colours}
 use Rattle.log_node.specs.declared.ids.Counts.{Counts}
 use Rattle.log_node.specs.declared.node.Head.{Head}
 use Rattle.log_node.specs.declared.node.Node.{Node}
-use Rattle.log_node.specs.Sets.{members}
+use Rattle.log_node.specs.Sets.{members, set_of}
 use Rattle.log_node.specs.declared.marks.Mark.{Mark}
 use Rattle.log_node.specs.declared.marks.Mark.TheVariants as marks
 use Rattle.log_node.specs.declared.marks.Outcome.TheVariants.{Open}
@@ -101,7 +101,7 @@ abbrev pub single_node : World → ℕ → ℕ → List ℕ → Node
 single_node w client colour text = record {
   id = next_id w client;
   region = home_of w client;
-  colours = record { 0 = 2 ^ colour };
+  colours = set_of (colour ∷ []);
   text = text;
   floor = (w.clients client).floor;
   wants = (w.clients client).played colour ∷ [];

@@ -1,5 +1,5 @@
 -- The laws of every world that steps have made, whoever took them and in whatever order.
-use Rattle.std.specs.Prelude.{◌≡◌, ◌≢◌, IsTrue, ℕ, ◌+◌, ◌^◌, ◌<◌, ◌≤◌, ◌==◌, List, [], ◌∷◌}
+use Rattle.std.specs.Prelude.{◌≡◌, ◌≢◌, IsTrue, ℕ, ◌+◌, ◌<◌, ◌≤◌, ◌==◌, List, [], ◌∷◌}
 use Rattle.std.specs.Prelude.{Some, None, slice_get, map, take, length, if◌then◌else◌}
 use Rattle.std.specs.List.{Contains, flat_map, range_with_len}
 use mathlib.Core.List.{IsPrefix}
@@ -8,6 +8,7 @@ use Rattle.log_node.specs.declared.ids.Row.{Row}
 use Rattle.log_node.specs.declared.ids.Counts.{Counts}
 use Rattle.log_node.specs.declared.node.Node.{Node}
 use Rattle.log_node.specs.declared.node.Shape.{Shape}
+use Rattle.log_node.specs.Sets.{set_of}
 use Rattle.log_node.specs.Vectors.{at, zeros, IsWithin}
 use Rattle.log_node.specs.declared.marks.Mark.TheVariants as marks
 use Rattle.log_node.specs.declared.marks.Outcome.TheVariants.{Open}
@@ -114,7 +115,7 @@ pub record HasSingleNode (w : World) (region colour by : ℕ) (id : Id) (floor :
   pub listed : slice_get (w.nodes id.client) id.count ≡ Some node
   pub maker : by ≡ id.client
   pub in_region : node.region ≡ region
-  pub of_colour : node.colours ≡ record { 0 = 2 ^ colour }
+  pub of_colour : node.colours ≡ set_of (colour ∷ [])
   pub floor_is : node.floor ≡ floor
   pub wants_is : node.wants ≡ wants ∷ []
   pub no_row : node.row ≡ None

@@ -79,7 +79,7 @@ module _ (run : LawfulRun a_hidden_raise_to_nothing.script a_hidden_raise_to_not
       → 0 ∷ [] ≡ after.made 0 0 → ⊥
   found_none after nothing made = cc (made)
   found_none after (gone colours text places asks is) made = asks
-  found_none after (gave region colour too_low gives pull low few all) made = cc (pull)
+  found_none after (gave region colour looked too_low gives pull g) made = cc (pull)
   found_none after (hidden other hides) made = hides_none other hides made
 
 pub hidden_raise : IsUnlawful a_hidden_raise_to_nothing
@@ -117,7 +117,7 @@ module _ (run : LawfulRun a_hidden_look_at_nothing.script a_hidden_look_at_nothi
       → at (after.starts 0) 0 ≡ 0
   starts_none after nothing = refl
   starts_none after (gone colours text places asks is) = absurd asks
-  starts_none after (gave region colour too_low gives pull low few all) = absurd (let f : ⊥ = cc (pull) in f)
+  starts_none after (gave region colour looked too_low gives pull g) = absurd (let f : ⊥ = cc (pull) in f)
   starts_none after (hidden other hides) = by hides where
     by : HidesRead run.log (caller_of a_hidden_look_at_nothing.script 0) nothing_kept (0 ∷ []) other
         → at (other.starts 0) 0 ≡ 0

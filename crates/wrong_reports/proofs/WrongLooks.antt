@@ -1,8 +1,9 @@
 -- Syncs, reads, pulls and trims that look elsewhere or at another time than they may.
-use Rattle.std.proofs.Common.{◌≡◌, inl, inr, ℕ, ◌<◌, ◌≤◌, List, [], ◌∷◌, ◌++◌, length, take, Some, None, refl, ap, sym, subst}
+use Rattle.std.proofs.Common.{◌≡◌, inl, inr, ℕ, ◌<◌, ◌≤◌, List, [], ◌∷◌, ◌++◌, length, length-append, map, take, Some, None, refl, ap, sym, subst}
 use Rattle.std.proofs.Common.{◌∙◌, arith, lit<, slice_get, codes}
 use Rattle.std.proofs.Math.Nat.{le-max_right}
-use Rattle.std.specs.Prelude.{max, slice_index}
+use Rattle.std.proofs.lemmas.Bool.{eqb-true}
+use Rattle.std.specs.Prelude.{◌+◌, ◌==◌, max, slice_index, slice_index_or}
 use Rattle.std.specs.List.{All, AllZip}
 use Rattle.log_node.specs.declared.ids.Id.{Id}
 use Rattle.log_node.specs.declared.ids.Key.{Key}
@@ -10,24 +11,33 @@ use Rattle.log_node.specs.declared.ids.Counts.{Counts}
 use Rattle.log_node.specs.declared.ids.Colours.{Colours}
 use Rattle.object_fold.specs.Maps.{shard_value}
 use Rattle.log_node.specs.declared.node.Node.{Node}
+use Rattle.log_node.specs.declared.node.At.{At}
+use Rattle.log_node.specs.declared.node.At.TheVariants.{Event, Look}
+use Rattle.log_node.specs.Vectors.{IsWithin, zeros}
 use Rattle.col_core.specs.declared.Event.TheVariants.{Single, Give, Trim, Raise}
 use Rattle.col_core.specs.declared.Entry.{Entry}
 use Rattle.col_core.specs.History.{line}
 use Rattle.col_core.specs.RegionOrder.{IsRegionOrder}
 use Rattle.col_core.specs.Log.{Log, places_of}
-use Rattle.col_core.specs.Keeping.{Kept, with_read}
+use Rattle.col_core.specs.Cuts.{base}
+use Rattle.col_core.specs.Computed.{dated}
+use Rattle.col_core.specs.Keeping.{Kept, nothing_kept, updated, updated_at, with_read}
+use Rattle.col_core.proofs.CallerLemmas.{choice}
+use Rattle.report_text.specs.declared.report.RaisePiece.{RaisePiece}
+use Rattle.report_text.specs.declared.report.SyncPiece.{SyncPiece}
 use Rattle.script_text.specs.declared.script.Kind.TheVariants as kinds
 use Rattle.script_text.specs.declared.script.What.TheVariants as whats
 use Rattle.lawful_run.specs.Callers.{Caller, caller_of, node_of}
 use Rattle.col_core.specs.Ids.{IsStepOf}
 use Rattle.lawful_run.specs.Asks.{kind_of}
-use Rattle.lawful_run.specs.Reads.{HidesRead, ShowsKey}
+use Rattle.lawful_run.specs.Reads.{HidesRead, ShowsKey, Syncs, RaisesAt, kept_after_place, Raises, ClearSyncs}
 use Rattle.lawful_run.specs.Refusals.{FindsNoMemory, nothing, gone, gave, hidden}
 use Rattle.wrong_reports.specs.Cases.{IsUnlawful, a, b, e, x, id, by, counts, enters}
 use Rattle.wrong_reports.specs.Rows.{proposed}
 use Rattle.wrong_reports.specs.Naming.{one_node, trim, trimmed}
 use Rattle.wrong_reports.specs.Shown.{shown}
 use Rattle.wrong_reports.specs.Looks.{a_sync_behind_an_own_later_step}
+use Rattle.wrong_reports.specs.Looks.{a_refused_read_that_tells_a_later_colour, a_refused_read_that_raises_the_floor}
 use Rattle.wrong_reports.specs.Looks.{a_sync_of_another_colour, a_scan_of_another_text, a_scan_under_another_stamp}
 use Rattle.wrong_reports.specs.Looks.{a_trim_told_as_a_raise, a_raise_behind_what_was_seen, a_raise_that_was_seen}
 use Rattle.wrong_reports.specs.Looks.{a_read_that_leaves_the_floor, a_trim_told_as_a_look, a_give_told_as_a_look, a_sync_answered_as_a_trim}
@@ -151,6 +161,102 @@ leaves_floor run =
     let le = le-max_right r.synced.floor 1 in
     omega (arith, floor, f, le)
 
+-- raises leave the floor and the starts, and no less is seen after them
+record RaisesLeave (own : ℕ) (kept after : Kept) : Type 0 where
+  pub floor : after.floor ≡ kept.floor
+  pub starts : after.starts ≡ kept.starts
+  pub seen : (c : ℕ) → kept.seen own c ≤ after.seen own c
+
+more_seen : (kept : Kept) (own colour n c : ℕ) → kept.seen own colour ≤ n
+    → kept.seen own c ≤ updated_at kept.seen own colour n own c
+more_seen kept own colour n c le =
+    choice (λ (f : ℕ → ℕ). kept.seen own c ≤ f c) (own == own) (updated (kept.seen own) colour n) (kept.seen own)
+    (λ _. choice (λ (m : ℕ). kept.seen own c ≤ m) (c == colour) n (kept.seen own c)
+    (λ t. subst (λ d. kept.seen own d ≤ n) (sym (eqb-true c colour t)) le) (λ _. omega arith)) (λ _. omega arith)
+
+raise_leaves : (log : Log) (caller : Caller) (stamp : ℕ) (kept : Kept) (colour : ℕ) (at : At)
+    → RaisesAt log caller kept stamp colour at
+    → RaisesLeave caller.own kept (kept_after_place kept caller.own colour at)
+raise_leaves log caller stamp kept colour (Event place) r = record {
+  floor = refl;
+  starts = refl;
+  seen = λ c. let low = r.0 in more_seen kept caller.own colour (place + 1) c (omega (arith, low));
+}
+raise_leaves log caller stamp kept colour (Look events) r =
+    record { floor = refl; starts = refl; seen = λ c. more_seen kept caller.own colour events c r.0 }
+
+raises_leave : (log : Log) (caller : Caller) (stamp : ℕ) (kept : Kept) (raises : List RaisePiece) (after : Kept)
+    → Raises log caller stamp kept raises after → RaisesLeave caller.own kept after
+raises_leave log caller stamp kept [] after r = record {
+  floor = ap (λ (k : Kept). k.floor) r;
+  starts = ap (λ (k : Kept). k.starts) r;
+  seen = λ c. let e = ap (λ (k : Kept). k.seen caller.own c) r in omega (arith, e);
+}
+raises_leave log caller stamp kept (one ∷ raises) after r =
+    let first = raise_leaves log caller stamp kept one.colour one.at r.0 in
+    let more = raises_leave log caller stamp (kept_after_place kept caller.own one.colour one.at) raises after r.1 in
+    record {
+      floor = more.floor ∙ first.floor;
+      starts = more.starts ∙ first.starts;
+      seen = λ c. let x = first.seen c in let y = more.seen c in omega (arith, x, y);
+    }
+
+-- what is synced before y is x
+synced_first : (syncs : List SyncPiece) (behind : List ℕ)
+    → map (λ (s : SyncPiece). s.colour) syncs ++ 1 ∷ behind ≡ 0 ∷ 1 ∷ []
+    → (s : SyncPiece) × (rest : List SyncPiece) × (syncs ≡ s ∷ rest) × (s.colour ≡ 0)
+synced_first [] behind e = absurd (let f : 1 ≡ 0 = ap (λ l. slice_index_or l 0 0) e in omega (arith, f))
+synced_first (s ∷ rest) behind e = (s, rest, refl, ap (λ l. slice_index_or l 0 0) e)
+
+-- what was trimmed of x when a had seen three events could not be synced
+pub later_colour : IsUnlawful a_refused_read_that_tells_a_later_colour
+later_colour run =
+    let t = two run.log _ _ _ _ _ _ (run.clients 0 _ refl).explained in
+    let k = (stood_says run.log _ _ _ _ _ _ _ _ _ _ _ t.first).1 in
+    let r = t.second.explained.2 in
+    let caller = caller_of a_refused_read_that_tells_a_later_colour.script 0 in
+    let of_x = synced_first r.syncs r.behind r.synced_before in
+    let left = raises_leave run.log caller r.stamp t.kept r.raises r.raised r.raising in
+    let synced = (subst (λ ss. ClearSyncs run.log caller r.stamp r.raised ss t.second.answered) of_x.2 r.syncing).0 in
+    let s = subst (λ c. Syncs run.log caller r.raised c of_x.0.events of_x.0.counts) of_x.3 synced in
+    let h = (column_at a_refused_read_that_tells_a_later_colour run 0 _ refl).history in
+    let l : 3 ≡ length (run.log.histories 0 0) = ap (λ (es : List Entry). length es) h in
+    let seen = ap (λ (kept : Kept). kept.seen 0 0) k in
+    let more = left.seen 0 in
+    let unseen = s.unseen in
+    let there = s.there in
+    let n : of_x.0.events ≡ 3 = omega (arith, l, seen, more, unseen, there) in
+    let starts : r.raised.starts 0 ≡ zeros = ap (λ (f : ℕ → Counts). f 0) (left.starts ∙ ap (λ (kept : Kept). kept.starts) k) in
+    let f = subst (λ v. IsWithin (base 0 1 (dated 0 (take 3 (run.log.histories 0 0)))) v) starts
+    (subst (λ m. IsWithin (base 0 1 (dated 0 (take m (run.log.histories 0 0)))) (r.raised.starts 0)) n s.not_trimmed) in
+    let g = subst (λ (es : List Entry). IsWithin (base 0 1 (dated 0 (take 3 es))) zeros) (sym h) f in
+    cc (g)
+
+-- nothing is synced before the one colour
+none_synced : (syncs : List SyncPiece) (behind : List ℕ)
+    → map (λ (s : SyncPiece). s.colour) syncs ++ 0 ∷ behind ≡ 0 ∷ [] → syncs ≡ []
+none_synced [] behind e = refl
+none_synced (s ∷ rest) behind e =
+    let many = length-append (map (λ (s : SyncPiece). s.colour) rest) (0 ∷ behind) in
+    let one = ap (λ (l : List ℕ). length l) e in
+    absurd (let f : ⊥ = omega (arith, many, one) in f)
+
+pub floor_stays : IsUnlawful a_refused_read_that_raises_the_floor
+floor_stays run =
+    let t = two run.log _ _ _ _ _ _ (run.clients 0 _ refl).explained in
+    let r = t.first.explained.2 in
+    let caller = caller_of a_refused_read_that_raises_the_floor.script 0 in
+    let left = raises_leave run.log caller r.stamp nothing_kept r.raises r.raised r.raising in
+    let is : t.first.answered ≡ r.raised =
+    subst (λ ss. ClearSyncs run.log caller r.stamp r.raised ss t.first.answered)
+    (none_synced r.syncs r.behind r.synced_before) r.syncing in
+    let floor : t.kept.floor ≡ 0 = ap (λ (k : Kept). k.floor) (t.first.after_is ∙ is) ∙ left.floor in
+    let s = (stood_says run.log _ _ _ _ _ _ _ _ _ _ _ t.second).0.entered in
+    let h = (column_at a_refused_read_that_raises_the_floor run 0 _ refl).history in
+    let same = some_same (enters a (id a 0) 1 2) _ (ap (λ (es : List Entry). slice_get es 2) h ∙ s) in
+    let f : 1 ≡ t.kept.floor = single_floor _ _ _ _ _ _ (ap (λ (en : Entry). en.event) same) in
+    omega (arith, floor, f)
+
 -- PULLS AND TRIMS
 pub trim_as_look : IsUnlawful a_trim_told_as_a_look
 trim_as_look run =
@@ -265,7 +371,7 @@ reads_none : (log : Log) (caller : Caller) (kept after : Kept) (keys : List (Lis
     → FindsNoMemory log caller kept (whats.Read 0 keys) after → after.reads 0 ≡ None
 reads_none log caller kept after keys none nothing = none
 reads_none log caller kept after keys none (gone colours text places asks is) = absurd asks
-reads_none log caller kept after keys none (gave region colour too_low gives pull low few all) =
+reads_none log caller kept after keys none (gave region colour looked too_low gives pull g) =
     absurd (let f : ⊥ = cc (pull) in f)
 reads_none log caller kept after keys none (hidden other hides) = by other _ hides where
   by : (other : Kept) (colours : List ℕ) → HidesRead log caller kept colours other → other.reads 0 ≡ None

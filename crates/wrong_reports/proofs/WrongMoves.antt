@@ -23,6 +23,7 @@ use Rattle.wrong_reports.specs.Moves.{a_base_that_is_not_there, a_trim_beyond_th
 use Rattle.wrong_reports.specs.Moves.{pulled, given_from, carried_one, another_region_taken_for_its_own}
 use Rattle.wrong_reports.specs.Moves.{a_pull_that_leaves_a_node, a_pull_of_more_nodes, a_pull_that_asks_again}
 use Rattle.wrong_reports.specs.Moves.{a_sync_of_what_was_trimmed, a_pull_that_gives_twice, trimmed_in_another_colour}
+use Rattle.wrong_reports.specs.Moves.{a_give_of_more_than_was_held}
 use Rattle.wrong_reports.proofs.Tools.{only, same_end, column_at, some_same}
 use Rattle.wrong_reports.proofs.Told.{two, trim_says}
 
@@ -53,7 +54,7 @@ beyond_snapshot run =
 
 pub nothing_trimmed : IsUnlawful trimmed_where_nothing_is
 nothing_trimmed run =
-    let t = (only run.log _ _ _ _ (run.clients 0 _ refl).explained).explained.3.below in
+    let t = (only run.log _ _ _ _ (run.clients 0 _ refl).explained).explained.2.1.below in
     cc (t)
 
 -- PULLS
@@ -107,7 +108,7 @@ more_carried run =
       carried_heads : (r s i j : ℕ) (hs gs : List Head) → made.Carry r i hs ≡ made.Carry s j gs → hs ≡ gs
       carried_heads r s i j hs gs e = cc (e)
 
-given_number : (r s from other : ℕ) → made.Give r from ≡ made.Give s other → from ≡ other
+pub given_number : (r s from other : ℕ) → made.Give r from ≡ made.Give s other → from ≡ other
 given_number r s from other e = cc (e)
 
 pub asks_again : IsUnlawful a_pull_that_asks_again
@@ -121,11 +122,30 @@ asks_again run =
     let from : 0 ≡ p.from = given_number _ _ _ _ (ap (λ (en : Entry). en.event) same) in
     let l : 1 ≡ length (line (take 2 (run.log.histories 0 0))) =
     ap (λ (es : List Entry). length (line (take 2 es))) of_e in
-    let m : length (chain 1 (first run.log 1 0 (t.kept.seen 1 0)) 0) ≡ 1 =
-    ap (λ n. length (chain 1 (first run.log 1 0 n) 0)) k
+    let asks = p.asks in
+    let seen = asks.1 in
+    let until = asks.2 in
+    let looked : asks.0 ≡ 1 = omega (arith, k, seen, until) in
+    let m : length (chain 1 (first run.log 1 0 asks.0) 0) ≡ 1 =
+    ap (λ n. length (chain 1 (first run.log 1 0 n) 0)) looked
     ∙ ap (λ (es : List Entry). length (chain 1 (dated 1 (take 1 es)) 0)) (sym of_w) in
-    let n = p.asks_on in
-    omega (arith, from, l, m, n)
+    let is = asks.3 in
+    omega (arith, from, l, m, is)
+
+-- the client b of w asks for one node when it has none
+pub more_than_held : IsUnlawful a_give_of_more_than_was_held
+more_than_held run =
+    let p = (pull_says run.log _ _ _ _ _ _ _ _ _ (only run.log _ _ _ _ (run.clients 1 _ refl).explained)).says in
+    let of_e = (column_at a_give_of_more_than_was_held run 0 _ refl).history in
+    let same = some_same (given_from 1) _ (ap (λ (es : List Entry). slice_get es 1) of_e ∙ p.gives) in
+    let from : 1 ≡ p.from = given_number _ _ _ _ (ap (λ (en : Entry). en.event) same) in
+    let asks = p.asks in
+    let until = asks.2 in
+    let looked : asks.0 ≡ 0 = omega (arith, until) in
+    let none : length (chain 1 (first run.log 1 0 asks.0) 0) ≡ 0 =
+    ap (λ n. length (chain 1 (first run.log 1 0 n) 0)) looked in
+    let is = asks.3 in
+    omega (arith, from, none, is)
 
 pub trimmed_away : IsUnlawful a_sync_of_what_was_trimmed
 trimmed_away run =
@@ -144,13 +164,13 @@ gives_twice run =
     ∙ ap (λ (k : Kept). k.made 0 0) p.after_is in
     let low : 1 ∷ [] ≡ p.too_low = (same_end (1 ∷ []) p.too_low 2 2 places).0 in
     let caller = caller_of a_pull_that_gives_twice.script 1 in
-    let again = (subst (All (GivesTooLow run.log caller 0 0)) (sym low) p.says.made_again 0 1 (lit< tt)).2 in
+    let again = (subst (All (GivesTooLow run.log caller 0 0 0 0)) (sym low) p.says.made_again 0 1 (lit< tt)).3 in
     let none : at (base 0 2 (first run.log 0 0 1)) 0 ≡ 0 =
     ap (λ (es : List Entry). at (base 0 2 (dated 0 (take 1 es))) 0) (sym h) in
     omega (arith, again, none)
 
 pub other_colour : IsUnlawful trimmed_in_another_colour
-other_colour run = by (only run.log _ _ _ _ (run.clients 0 _ refl).explained).explained.2 where
+other_colour run = by (only run.log _ _ _ _ (run.clients 0 _ refl).explained).explained.2.0 where
   by : Contains {X = ℕ} (0 ∷ []) 1 → ⊥
   by (zero, lt, same) = omega (arith, same)
   by (suc k, lt, same) = let f : ⊥ = omega (arith, lt) in f

@@ -207,7 +207,7 @@ module _ (run : LawfulRun a_trim_made_by_an_append.script a_trim_made_by_an_appe
       let step = subst (All Steps) (sym places_are) (is.begins.steps 0) 0 0 (lit< tt) in
       let same = some_same (trims a (counts 0 0)) step.1 (ap (λ (es : List Entry). slice_get es 0) h ∙ step.2) in
       subst (λ (en : Entry). IsStepOf (id 0 0) en.event) (sym same) step.4
-  found after (gave region colour too_low gives pull low few all) made = cc (pull)
+  found after (gave region colour looked too_low gives pull g) made = cc (pull)
   found after (hidden other hides) made =
       let f : 0 ∷ [] ≡ [] = made ∙ ap (λ (k : Kept). k.made 0 0) hides in
       cc (f)

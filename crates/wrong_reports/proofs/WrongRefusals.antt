@@ -15,14 +15,14 @@ use Rattle.col_core.specs.History.{clock}
 use Rattle.log_node.specs.Reach.{IsGreatestReachable}
 use Rattle.col_core.specs.Cuts.{chain, base}
 use Rattle.col_core.specs.Computed.{dated}
-use Rattle.col_core.specs.Log.{Log, places_of}
+use Rattle.col_core.specs.Log.{Log, first, places_of}
 use Rattle.col_core.specs.Keeping.{Kept, nothing_kept, updated}
 use Rattle.script_text.specs.declared.script.Object.{Object}
 use Rattle.script_text.specs.declared.script.What.TheVariants as whats
 use Rattle.lawful_run.specs.Callers.{Caller, caller_of, node_of}
 use Rattle.lawful_run.specs.Appends.{IsSettledIn}
 use Rattle.lawful_run.specs.Reads.{RaisesAt, HidesRead, HidesSync, HidesSyncs, not_played, played}
-use Rattle.lawful_run.specs.Moves.{GivesTooLow, with_places}
+use Rattle.lawful_run.specs.Moves.{GivesHeld, GivesTooLow, OnlyGives, kept_after_giving}
 use Rattle.lawful_run.specs.Refusals.{FindsNoMemory, nothing, gone, gave, hidden}
 use Rattle.lawful_run.specs.Lawful.{LawfulRun}
 use Rattle.wrong_reports.specs.Cases.{IsUnlawful, a, x, y, by, on_x, on_both}
@@ -34,10 +34,12 @@ use Rattle.wrong_reports.specs.Hidden.{a_hidden_raise_in_another_colour, a_gets_
 use Rattle.wrong_reports.specs.Hidden.{a_dequeues_hidden_look_at_nothing, a_refused_pull_that_gives_twice}
 use Rattle.wrong_reports.specs.Hidden.{a_refused_pull_that_carries, trimmed_by_nothing, a_stop_at_once_that_is_full}
 use Rattle.wrong_reports.specs.Hidden.{the_stamps_end_of_what_is_open, a_base_behind_what_was_seen}
-use Rattle.wrong_reports.proofs.Tools.{only, ends_with, column_at, some_same}
+use Rattle.wrong_reports.specs.Hidden.{a_refused_give_of_more_than_was_held}
+use Rattle.wrong_reports.specs.Moves.{given_from}
+use Rattle.wrong_reports.proofs.Tools.{only, ends_with, same_end, column_at, some_same}
 use Rattle.wrong_reports.proofs.Told.{two, trim_says, stood_says}
 use Rattle.wrong_reports.proofs.BegunRows.{one_row}
-use Rattle.wrong_reports.proofs.WrongMoves.{trim_counts}
+use Rattle.wrong_reports.proofs.WrongMoves.{trim_counts, pull_says, given_number}
 use Rattle.wrong_reports.proofs.WrongRows.{gone_at_end}
 use Rattle.wrong_reports.proofs.WrongStops.{open_in_x}
 use Rattle.wrong_reports.proofs.WrongHidden.{too_much, reached}
@@ -71,7 +73,7 @@ raised_first : (log : Log) (kept after : Kept) (colours : Colours) (colour : ℕ
     → HiddenRaise log kept after colours colour
 raised_first log kept after colours colour none made nothing = absurd (let f : 0 ∷ [] ≡ [] = made ∙ none in cc (f))
 raised_first log kept after colours colour none made (gone set text places asks is) = absurd asks
-raised_first log kept after colours colour none made (gave region other too_low gives pull low few all) =
+raised_first log kept after colours colour none made (gave region other looked too_low gives pull g) =
     absurd (let f : ⊥ = cc (pull) in f)
 raised_first log kept after colours colour none made (hidden other hides) = by other hides made where
   by : (other : Kept) → HidesRead log (in_e []) kept (members colours) other → 0 ∷ [] ≡ other.made 0 colour
@@ -173,7 +175,7 @@ got_none : (log : Log) (after : Kept) → too_much ∷ [] ≡ log.histories 0 0
     → FindsNoMemory log (in_e the_map) nothing_kept (whats.Get 0 (codes "k")) after → at (after.starts 0) 0 ≡ 0
 got_none log after h nothing = refl
 got_none log after h (gone colours text places asks is) = absurd asks
-got_none log after h (gave region colour too_low gives pull low few all) = absurd (let f : ⊥ = cc (pull) in f)
+got_none log after h (gave region colour looked too_low gives pull g) = absurd (let f : ⊥ = cc (pull) in f)
 got_none log after h (hidden other hides) = syncs_none log the_map other h hides
 
 took_none : (log : Log) (after : Kept) → too_much ∷ [] ≡ log.histories 0 0
@@ -181,7 +183,7 @@ took_none : (log : Log) (after : Kept) → too_much ∷ [] ≡ log.histories 0 0
 took_none log after h nothing = refl
 took_none log after h (gone colours text places asks is) =
     absurd (let s = is.begins.several in let l = ap (λ (cs : List ℕ). length cs) asks.0 in omega (arith, s, l))
-took_none log after h (gave region colour too_low gives pull low few all) = absurd (let f : ⊥ = cc (pull) in f)
+took_none log after h (gave region colour looked too_low gives pull g) = absurd (let f : ⊥ = cc (pull) in f)
 took_none log after h (hidden other hides) = syncs_none log the_queue other h hides
 
 pub get_looks : IsUnlawful a_gets_hidden_look_at_nothing
@@ -208,30 +210,30 @@ dequeue_looks run =
 
 -- PULLS
 -- what a pull of the region e made, which found no memory
-made_by : (kept : Kept) (region colour own of : ℕ) (places : List ℕ) (too_low gives : List ℕ)
+made_by : (kept : Kept) (region colour looked own of : ℕ) (places : List ℕ) (too_low gives : List ℕ)
     → whats.Pull 0 0 ≡ whats.Pull region colour
-    → places ≡ (with_places (with_places kept region colour too_low) region colour gives).made own of
-    → places ≡ (with_places (with_places kept 0 0 too_low) 0 0 gives).made own of
-made_by kept region colour own of places too_low gives pull made =
+    → places ≡ (kept_after_giving kept 1 region colour looked too_low gives).made own of
+    → places ≡ (kept_after_giving kept 1 0 0 looked too_low gives).made own of
+made_by kept region colour looked own of places too_low gives pull made =
     let r : region ≡ 0 = cc (pull) in
     let c : colour ≡ 0 = cc (pull) in
-    subst (λ c. places ≡ (with_places (with_places kept 0 c too_low) 0 c gives).made own of) c
-    (subst (λ r. places ≡ (with_places (with_places kept r colour too_low) r colour gives).made own of) r made)
+    subst (λ c. places ≡ (kept_after_giving kept 1 0 c looked too_low gives).made own of) c
+    (subst (λ r. places ≡ (kept_after_giving kept 1 r colour looked too_low gives).made own of) r made)
 
 module _ (run : LawfulRun a_refused_pull_that_gives_twice.script a_refused_pull_that_gives_twice.report) where
   abbrev b_of_w : Caller
   b_of_w = caller_of a_refused_pull_that_gives_twice.script 1
 
-  two_gives : (too_low gives : List ℕ) → All (GivesTooLow run.log b_of_w 0 0) too_low → length gives ≤ 1
-      → 0 ∷ 1 ∷ [] ≡ too_low ++ gives → ⊥
-  two_gives [] gives low few made =
+  two_gives : (looked : ℕ) (too_low gives : List ℕ) → All (GivesTooLow run.log b_of_w 0 0 0 looked) too_low
+      → length gives ≤ 1 → 0 ∷ 1 ∷ [] ≡ too_low ++ gives → ⊥
+  two_gives looked [] gives low few made =
       let l : 2 ≡ length gives = ap (λ (ps : List ℕ). length ps) made in
       omega (arith, few, l)
-  two_gives (p ∷ ps) gives low few made =
+  two_gives looked (p ∷ ps) gives low few made =
       let first : 0 ≡ p = cc (made) in
       let h = (column_at a_refused_pull_that_gives_twice run 0 _ refl).history in
-      let again = (subst (λ p. GivesTooLow run.log b_of_w 0 0 p) (sym first)
-      (low 0 p (let l : 0 < length (p ∷ ps) = omega arith in l))).2 in
+      let again = (subst (λ p. GivesTooLow run.log b_of_w 0 0 0 looked p) (sym first)
+      (low 0 p (let l : 0 < length (p ∷ ps) = omega arith in l))).3 in
       let none : at (base 0 2 (dated 0 (take 0 (run.log.histories 0 0)))) 0 ≡ 0 =
       ap (λ (es : List Entry). at (base 0 2 (dated 0 (take 0 es))) 0) (sym h) in
       omega (arith, again, none)
@@ -240,12 +242,12 @@ module _ (run : LawfulRun a_refused_pull_that_gives_twice.script a_refused_pull_
       → 0 ∷ 1 ∷ [] ≡ after.made 0 0 → ⊥
   gave_twice after nothing made = cc (made)
   gave_twice after (gone colours text places asks is) made = asks
-  gave_twice after (gave region colour too_low gives pull low few all) made =
+  gave_twice after (gave region colour looked too_low gives pull g) made =
       let r : region ≡ 0 = cc (pull) in
       let c : colour ≡ 0 = cc (pull) in
-      two_gives too_low gives (subst (λ c. All (GivesTooLow run.log b_of_w 0 c) too_low) c
-      (subst (λ r. All (GivesTooLow run.log b_of_w r colour) too_low) r low)) few
-      (made_by nothing_kept region colour 0 0 _ too_low gives pull made)
+      two_gives looked too_low gives (subst (λ c. All (GivesTooLow run.log b_of_w 0 c 0 looked) too_low) c
+      (subst (λ r. All (GivesTooLow run.log b_of_w r colour 0 looked) too_low) r g.made_again)) g.once
+      (made_by nothing_kept region colour looked 0 0 _ too_low gives pull made)
   gave_twice after (hidden other hides) made =
       let f : 0 ∷ 1 ∷ [] ≡ [] = made ∙ ap (λ (k : Kept). k.made 0 0) hides in
       cc (f)
@@ -263,8 +265,8 @@ carried_none : (log : Log) (after : Kept)
     → 0 ∷ [] ≡ after.made 1 0 → ⊥
 carried_none log after nothing made = cc (made)
 carried_none log after (gone colours text places asks is) made = asks
-carried_none log after (gave region colour too_low gives pull low few all) made =
-    let f : 0 ∷ [] ≡ [] = made_by nothing_kept region colour 1 0 _ too_low gives pull made in
+carried_none log after (gave region colour looked too_low gives pull g) made =
+    let f : 0 ∷ [] ≡ [] = made_by nothing_kept region colour looked 1 0 _ too_low gives pull made in
     cc (f)
 carried_none log after (hidden other hides) made =
     let f : 0 ∷ [] ≡ [] = made ∙ ap (λ (k : Kept). k.made 1 0) hides in
@@ -278,10 +280,89 @@ carries run =
     let made = ap (places_of 1) h ∙ client.made 1 0 (lit< tt) (lit< tt) in
     carried_none run.log _ s.explained.1 (made ∙ ap (λ (k : Kept). k.made 1 0) s.after_is)
 
+-- b pulls of e twice: it gave for one node when it held none, and was refused; then it carried the node
+module _ (run : LawfulRun a_refused_give_of_more_than_was_held.script a_refused_give_of_more_than_was_held.report) where
+  abbrev b_who_pulls : Caller
+  b_who_pulls = caller_of a_refused_give_of_more_than_was_held.script 1
+
+  -- the base is never above 0
+  none_low : (seen until : ℕ) → GivesTooLow run.log b_who_pulls 0 0 seen until 1 → ⊥
+  none_low seen until g =
+      let h = (column_at a_refused_give_of_more_than_was_held run 0 _ refl).history in
+      let none : at (base 0 2 (dated 0 (take 1 (run.log.histories 0 0)))) 0 ≡ 0 =
+      ap (λ (es : List Entry). at (base 0 2 (dated 0 (take 1 es))) 0) (sym h) in
+      let low = g.3 in
+      omega (arith, low, none)
+
+  -- before any event nothing was held
+  none_held : (looked : ℕ) → looked ≤ 0 → GivesHeld run.log b_who_pulls 0 0 0 looked 1 → ⊥
+  none_held looked none g =
+      let h = (column_at a_refused_give_of_more_than_was_held run 0 _ refl).history in
+      let same = some_same (given_from 1) _ (ap (λ (es : List Entry). slice_get es 1) h ∙ g.1) in
+      let from : 1 ≡ g.0 = given_number _ _ _ _ (ap (λ (en : Entry). en.event) same) in
+      let asks = g.2 in
+      let until = asks.2 in
+      let at_first : asks.0 ≡ 0 = omega (arith, until, none) in
+      let held : length (chain 1 (first run.log 1 0 asks.0) 0) ≡ 0 =
+      ap (λ n. length (chain 1 (first run.log 1 0 n) 0)) at_first in
+      let is = asks.3 in
+      omega (arith, from, held, is)
+
+  -- with gives that were too low later, the first event is not one of this pull, or it has seen an event
+  abbrev Excludes : ℕ → ℕ → Type 0
+  Excludes region colour = (looked : ℕ) (too_low gives low : List ℕ) (seen until : ℕ)
+      → OnlyGives run.log b_who_pulls nothing_kept region colour looked too_low gives
+      → All (GivesTooLow run.log b_who_pulls 0 0 seen until) low
+      → 1 ∷ [] ≡ (kept_after_giving nothing_kept 1 region colour looked too_low gives).made 0 0 ++ low
+      → (kept_after_giving nothing_kept 1 region colour looked too_low gives).seen 1 0 ≤ 0 → ⊥
+
+  none_later : (low : List ℕ) (seen until : ℕ) → All (GivesTooLow run.log b_who_pulls 0 0 seen until) low
+      → 1 ∷ [] ≡ low → ⊥
+  none_later low seen until all is =
+      none_low seen until (subst (All (GivesTooLow run.log b_who_pulls 0 0 seen until)) (sym is) all 0 1 (lit< tt))
+
+  excluded : Excludes 0 0
+  excluded looked [] [] low seen until g all made none = none_later low seen until all made
+  excluded looked [] (p ∷ ps) low seen until g all made none =
+      let first : 1 ≡ p = cc (made) in
+      none_held looked none (subst (λ p. GivesHeld run.log b_who_pulls 0 0 0 looked p) (sym first)
+      (g.given 0 p (let l : 0 < length (p ∷ ps) = omega arith in l)))
+  excluded looked (p ∷ ps) gives low seen until g all made none =
+      let first : 1 ≡ p = cc (made) in
+      none_low 0 looked (subst (λ p. GivesTooLow run.log b_who_pulls 0 0 0 looked p) (sym first)
+      (g.made_again 0 p (let l : 0 < length (p ∷ ps) = omega arith in l)))
+
+  asked_first : (after : Kept) (low : List ℕ) (seen until : ℕ)
+      → FindsNoMemory run.log b_who_pulls nothing_kept (whats.Pull 0 0) after
+      → All (GivesTooLow run.log b_who_pulls 0 0 seen until) low → 1 ∷ [] ≡ after.made 0 0 ++ low
+      → after.seen 1 0 ≤ 0 → ⊥
+  asked_first after low seen until nothing all made none = none_later low seen until all made
+  asked_first after low seen until (gone colours text places asks is) all made none = asks
+  asked_first after low seen until (gave region colour looked too_low gives pull g) all made none =
+      let r : 0 ≡ region = cc (pull) in
+      let c : 0 ≡ colour = cc (pull) in
+      subst (λ r. Excludes r colour) r (subst (λ c. Excludes 0 c) c excluded) looked too_low gives low seen until g all
+      made none
+  asked_first after low seen until (hidden other hides) all made none =
+      none_later low seen until all (made ∙ ap (λ (k : Kept). k.made 0 0 ++ low) hides)
+
+pub more_than_held : IsUnlawful a_refused_give_of_more_than_was_held
+more_than_held run =
+    let client = run.clients 1 _ refl in
+    let t = two run.log _ _ _ _ _ _ client.explained in
+    let p = pull_says run.log _ _ _ _ _ _ _ _ _ t.second in
+    let h = (column_at a_refused_give_of_more_than_was_held run 0 _ refl).history in
+    let places : 1 ∷ 2 ∷ [] ≡ (t.kept.made 0 0 ++ p.too_low) ++ 2 ∷ [] =
+    ap (places_of 1) h ∙ client.made 0 0 (lit< tt) (lit< tt) ∙ ap (λ (k : Kept). k.made 0 0) p.after_is in
+    let made = (same_end (1 ∷ []) (t.kept.made 0 0 ++ p.too_low) 2 2 places).0 in
+    asked_first run _ p.too_low _ _ t.first.explained.1 p.says.made_again
+    (made ∙ ap (λ (k : Kept). k.made 0 0 ++ p.too_low) t.first.after_is)
+    (subst (λ (k : Kept). k.seen 1 0 ≤ 0) t.first.after_is p.says.carries.0)
+
 -- REFUSALS
 pub by_nothing : IsUnlawful trimmed_by_nothing
 by_nothing run =
-    let t = (only run.log _ _ _ _ (run.clients 0 _ refl).explained).explained.3 in
+    let t = (only run.log _ _ _ _ (run.clients 0 _ refl).explained).explained.2.1 in
     let h = (column_at trimmed_by_nothing run 0 _ refl).history in
     let l : 0 ≡ length (run.log.histories 0 0) = ap (λ (es : List Entry). length es) h in
     let there = t.there in
@@ -295,7 +376,7 @@ pub earlier_base : IsUnlawful a_base_behind_what_was_seen
 earlier_base run =
     let s = two run.log _ _ _ _ _ _ (run.clients 0 _ refl).explained in
     let k = ap (λ (k : Kept). k.seen 0 0) (stood_says run.log _ _ _ _ _ _ _ _ _ _ _ s.first).1 in
-    let t = s.second.explained.3 in
+    let t = s.second.explained.2.1 in
     let h = (column_at a_base_behind_what_was_seen run 0 _ refl).history in
     let l : 5 ≡ length (run.log.histories 0 0) = ap (λ (es : List Entry). length es) h in
     let there = t.there in

@@ -130,7 +130,7 @@ module _ (run : LawfulRun no_memory_for_what_stands.script no_memory_for_what_st
       (rows : List BegunRow). Contains rows is.outcome.0) one_begun.rows_are is.outcome.1.begun) in
       let f : Final 1 ≡ Gone Memory = ap (λ (r : BegunRow). r.last) r ∙ is.outcome.2 in
       cc (f)
-  found_none after (gave region colour too_low gives pull low few all) rows = cc (pull)
+  found_none after (gave region colour looked too_low gives pull g) rows = cc (pull)
   found_none after (hidden other hides) rows = not_begun other (ap (λ (k : Kept). k.rows) hides) rows
 
 pub without_memory : IsUnlawful no_memory_for_what_stands

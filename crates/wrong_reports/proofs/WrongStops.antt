@@ -121,7 +121,7 @@ module _ (run : LawfulRun no_memory_for_what_is_open.script no_memory_for_what_i
       let node = node_of caller nothing_kept colours text in
       open_in_x run.log caller node _ _ refl refl refl h one_begun (subst (λ c. IsSettledIn run.log caller node c) first
       (is.settled 0 0 some))
-  found after (gave region colour too_low gives pull low few all) rows = cc (pull)
+  found after (gave region colour looked too_low gives pull g) rows = cc (pull)
   found after (hidden other hides) rows = not_begun other (ap (λ (k : Kept). k.rows) hides) rows
 
 -- a stop at once leaves what was kept

@@ -74,12 +74,12 @@ start_stays log caller node stamp after (several_unshown places begins outcome s
 
 pub nothing_trimmed : IsUnlawful unread_where_nothing_is_trimmed
 nothing_trimmed run =
-    let said = (only run.log _ _ _ _ (run.clients 0 _ refl).explained).explained.3.3 in
-    let t = subst (λ v. IsFalse (is_within (counts 0 0) v)) (sym (start_stays run.log _ _ _ _ said.1)) said.2.below in
+    let said = (only run.log _ _ _ _ (run.clients 0 _ refl).explained).explained.2.3 in
+    let t = subst (λ v. IsFalse (is_within (counts 0 0) v)) (sym (start_stays run.log _ _ _ _ said.1)) said.2.1.below in
     cc (t)
 
 pub other_colour : IsUnlawful unread_for_another_colour
-other_colour run = by (only run.log _ _ _ _ (run.clients 0 _ refl).explained).explained.2 where
+other_colour run = by (only run.log _ _ _ _ (run.clients 0 _ refl).explained).explained.2.3.2.0 where
   by : Contains {X = ℕ} (0 ∷ []) 1 → ⊥
   by (zero, lt, same) = omega (arith, same)
   by (suc k, lt, same) = let f : ⊥ = omega (arith, lt) in f

@@ -19,7 +19,7 @@ use Rattle.wrong_reports.specs.Cases.{replies, script, to_both, look, column, em
 use Rattle.wrong_reports.specs.Naming.{case, append, stood_at, one_node, trimmed, trimmed_at}
 use Rattle.wrong_reports.specs.Shown.{shown, two_entries, one_play}
 use Rattle.wrong_reports.specs.Rows.{row, stood, complete, proposed}
-use Rattle.wrong_reports.specs.Moves.{given_from, carried_one}
+use Rattle.wrong_reports.specs.Moves.{pulls, pulled, given_from, carried_one}
 use Rattle.wrong_reports.specs.Objects.{over, map, queue}
 use Rattle.wrong_reports.specs.Proposals.{with_z, of_z, row_of_first}
 
@@ -153,6 +153,19 @@ a_refused_pull_that_carries = record {
       (record one_node { journal = enters a (id a 0) 0 1 ∷ given_from 0 ∷ [] }
       ∷ record (empty w x) { journal = carried_one ∷ []; cut = counts 1 0 } ∷ []);
 }
+
+-- 9 pull nomemory
+-- 10 pull ok 1 give !2 carry !0
+-- column e x
+-- 0 a single a.0 floor 0 wants 0,0 stamp 1
+-- 1 b give w 1
+-- 2 b give w 0
+-- column w x
+-- 0 b carry e 0 a.0:1/0,0
+abbrev pub a_refused_give_of_more_than_was_held : Case
+a_refused_give_of_more_than_was_held =
+    pulls (replies 9 words.Pull answers.NoMemory ∷ pulled 10 1 2 (Event 0) ∷ []) (asks 10 b (whats.Pull e x) ∷ [])
+    (given_from 1 ∷ given_from 0 ∷ []) (carried_one ∷ []) (counts 1 0)
 
 -- REFUSALS
 -- 6 sync trimmed x 1

@@ -1,11 +1,13 @@
 -- Reports of syncs, reads, pulls and trims that look elsewhere or at another time than they may.
-use Rattle.std.specs.Prelude.{ℕ, List, [], ◌∷◌, codes, Some, None}
+use Rattle.std.specs.Prelude.{ℕ, ◌+◌, List, [], ◌∷◌, ◌++◌, codes, Some, None}
+use Rattle.log_node.specs.declared.ids.Colours.{Colours}
 use Rattle.log_node.specs.declared.node.At.TheVariants.{Event, Look}
 use Rattle.log_node.specs.declared.marks.Mark.TheVariants as marks
 use Rattle.log_node.specs.declared.marks.Why.TheVariants.{Memory}
 use Rattle.log_node.specs.declared.marks.Outcome.TheVariants.{Open, Gone, Final}
 use Rattle.col_core.specs.declared.Event.TheVariants as made
 use Rattle.col_core.specs.declared.Entry.{Entry}
+use Rattle.script_text.specs.declared.script.Command.{Command}
 use Rattle.script_text.specs.declared.script.What.TheVariants as whats
 use Rattle.script_text.specs.declared.script.Word.TheVariants as words
 use Rattle.report_text.specs.declared.report.Answer.{Answer}
@@ -17,7 +19,7 @@ use Rattle.script_text.specs.declared.script.Kind.TheVariants as kinds
 use Rattle.script_text.specs.declared.script.What.{What}
 use Rattle.script_text.specs.declared.script.Word.{Word}
 use Rattle.wrong_reports.specs.Cases.{Case, a, b, e, w, x, y, id, key, counts, on_x, on_y, on_both, together, apart, asks}
-use Rattle.wrong_reports.specs.Cases.{replies, script, to_both, look, column, empty, by, enters, proposes, point, shows}
+use Rattle.wrong_reports.specs.Cases.{replies, script, to_both, look, column, empty, by, enters, proposes, trims, point, shows}
 use Rattle.wrong_reports.specs.Naming.{case, append, stood_at, one_node, trim, trimmed, trimmed_at}
 use Rattle.wrong_reports.specs.Shown.{shown, one_play}
 use Rattle.wrong_reports.specs.Rows.{row, settles, stood, proposed}
@@ -25,7 +27,7 @@ use Rattle.wrong_reports.specs.Reads.{raise, scanned, scan}
 use Rattle.wrong_reports.specs.Moves.{pulled, given_from, carried_one}
 use Rattle.wrong_reports.specs.Objects.{map, queue, tx, over, one_pair, read_at}
 use Rattle.wrong_reports.specs.Points.{gives_nothing}
-use Rattle.wrong_reports.specs.Hidden.{raised, one_of}
+use Rattle.wrong_reports.specs.Hidden.{raised, one_of, shown_of_b}
 
 -- SYNCS AND SCANS
 -- 8 a sync x
@@ -156,6 +158,77 @@ a_read_that_leaves_the_floor = record {
       (row e b 0 (id b 0) (marks.Number 1) (marks.Fenced Memory) (Gone Memory) ∷ [])
       (column e x (proposes b (id b 0) 0 1 ∷ by b (made.Settle (id b 0) (Gone Memory)) 0 ∷ enters a (id a 0) 0 2 ∷ []) 2
       (key 2 (id a 0) ∷ []) [] (counts 1 0) (counts 0 0) ∷ empty e y ∷ []);
+}
+
+-- b appends to a colour, plays its node and trims it, by three lines from this one on
+abbrev pub b_trims : ℕ → ℕ → Colours → List Command
+b_trims line colour on =
+    asks line b (whats.Append on (codes "t")) ∷ asks (line + 1) b (whats.Sync colour) ∷ asks (line + 2) b (whats.Trim colour)
+    ∷ []
+
+-- and the answers, where the node has this number among those of b, and this stamp
+abbrev pub b_trimmed : ℕ → ℕ → ℕ → ℕ → List ReplyLine
+b_trimmed line colour count stamp =
+    replies line words.Append (answers.Stood stamp None (point colour 0 0 ∷ []))
+    ∷ record (replies (line + 1) words.Sync (answers.Synced (look colour 1 (counts 1 0)) 1)) {
+      nodes =
+          shown_of_b count stamp ∷ [];
+    } ∷ replies (line + 2) words.Trim (answers.Based (Event 1) (counts 1 0)) ∷ []
+
+-- 0 b single b.0 floor 0 wants 0 stamp 1
+-- 1 b trim 1
+-- 2 a single a.0 floor FLOOR wants 0 stamp 2
+-- = clock 2 line b.0:1,a.0:2 queue - cut 2 base 1
+abbrev pub a_behind_the_trim : ℕ → ColumnReport
+a_behind_the_trim floor =
+    column e x (enters b (id b 0) 0 1 ∷ trims b (counts 1 0) ∷ enters a (id a 0) floor 2 ∷ []) 2
+    (key 1 (id b 0) ∷ key 2 (id a 0) ∷ []) [] (counts 2 0) (counts 1 0)
+
+-- 8 append ok 1 x!0@0
+-- 9 sync ok x?1/1 plays 1
+-- + b.0 1 t
+-- 10 trim ok !1 base 1
+-- 11 append ok 2 y!0@0
+-- 12 sync ok y?1/1 plays 1
+-- + b.1 2 t
+-- 13 trim ok !1 base 1
+-- 14 append ok 2 x!2@1
+-- 15 scan trimmed y 1
+-- column e x
+-- 0 b single b.0 floor 0 wants 0 stamp 1
+-- 1 b trim 1
+-- 2 a single a.0 floor 0 wants 0 stamp 2
+-- = clock 2 line b.0:1,a.0:2 queue - cut 2 base 1
+-- column e y
+-- 0 b single b.1 floor 1 wants 0 stamp 2
+-- 1 b trim 1
+-- = clock 2 line b.1:2 queue - cut 1 base 1
+abbrev pub a_refused_read_that_tells_a_later_colour : Case
+a_refused_read_that_tells_a_later_colour = record {
+  script = together (b_trims 8 x on_x ++ b_trims 11 y on_y ++ append 14 ∷ asks 15 a (whats.Scan on_both) ∷ []);
+  report = shows (to_both (stood_at 14 2 2 1 ∷ replies 15 words.Scan (answers.Trimmed y (counts 1 0)) ∷ [])
+      (b_trimmed 8 x 0 1 ++ b_trimmed 11 y 1 2)) []
+      (a_behind_the_trim 0
+      ∷ column e y (enters b (id b 1) 1 2 ∷ trims b (counts 1 0) ∷ []) 2 (key 2 (id b 1) ∷ []) [] (counts 1 0) (counts 1 0)
+      ∷ []);
+}
+
+-- 8 append ok 1 x!0@0
+-- 9 sync ok x?1/1 plays 1
+-- + b.0 1 t
+-- 10 trim ok !1 base 1
+-- 11 scan trimmed x 1
+-- 12 append ok 2 x!2@1
+-- column e x
+-- 0 b single b.0 floor 0 wants 0 stamp 1
+-- 1 b trim 1
+-- 2 a single a.0 floor 1 wants 0 stamp 2
+-- = clock 2 line b.0:1,a.0:2 queue - cut 2 base 1
+abbrev pub a_refused_read_that_raises_the_floor : Case
+a_refused_read_that_raises_the_floor = record {
+  script = script 1 1 (e ∷ e ∷ []) [] (b_trims 8 x on_x ++ scan 11 ∷ append 12 ∷ []);
+  report = shows (to_both (replies 11 words.Scan (answers.Trimmed x (counts 1 0)) ∷ stood_at 12 2 2 1 ∷ [])
+      (b_trimmed 8 x 0 1)) [] (a_behind_the_trim 1 ∷ []);
 }
 
 -- PULLS AND TRIMS

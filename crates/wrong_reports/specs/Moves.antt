@@ -106,6 +106,16 @@ abbrev pub a_pull_that_gives_twice : Case
 a_pull_that_gives_twice = pulls (pulled 9 1 2 (Event 0) ∷ []) [] (given_from 0 ∷ given_from 0
     ∷ []) (carried_one ∷ []) (counts 1 0)
 
+-- 9 pull ok 1 give !1 carry !0
+-- column e x
+-- 0 a single a.0 floor 0 wants 0,0 stamp 1
+-- 1 b give w 1
+-- column w x
+-- 0 b carry e 0 a.0:1/0,0
+abbrev pub a_give_of_more_than_was_held : Case
+a_give_of_more_than_was_held = pulls (pulled 9 1 1 (Event 0) ∷ []) [] (given_from 1 ∷ []) (carried_one ∷ [])
+    (counts 1 0)
+
 -- A SYNC BELOW THE BASE: a and b of the region e; a trims what b did not play
 -- 7 append ok 1 x!0@0
 -- 8 sync ok x?1/1 plays 1

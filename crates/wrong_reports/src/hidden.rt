@@ -5,7 +5,7 @@ ghost use Rattle.wrong_reports.specs.Hidden.{a_hidden_raise_in_another_colour, a
 ghost use Rattle.wrong_reports.specs.Hidden.{a_dequeues_hidden_look_at_nothing, a_refused_pull_that_gives_twice};
 ghost use Rattle.wrong_reports.specs.Hidden.{a_refused_pull_that_carries, trimmed_by_nothing};
 ghost use Rattle.wrong_reports.specs.Hidden.{a_base_behind_what_was_seen, a_stop_at_once_that_is_full};
-ghost use Rattle.wrong_reports.specs.Hidden.{the_stamps_end_of_what_is_open};
+ghost use Rattle.wrong_reports.specs.Hidden.{the_stamps_end_of_what_is_open, a_refused_give_of_more_than_was_held};
 
 /// A read that found no memory raises to no stamp below its client's floor.
 #[tactic(auto, using(crate::proofs::WrongRefusals::below_floor))]
@@ -41,6 +41,12 @@ pub fn a_dequeues_hidden_look_at_nothing_is_unlawful()
 #[tactic(auto, using(crate::proofs::WrongRefusals::gives_twice))]
 pub fn a_refused_pull_that_gives_twice_is_unlawful()
     ensures { IsUnlawful a_refused_pull_that_gives_twice }
+{}
+
+/// A refused pull asks for no more than was held before its client's next step there.
+#[tactic(auto, using(crate::proofs::WrongRefusals::more_than_held))]
+pub fn a_refused_give_of_more_than_was_held_is_unlawful()
+    ensures { IsUnlawful a_refused_give_of_more_than_was_held }
 {}
 
 /// A refused pull carries nothing.

@@ -1,6 +1,7 @@
 // Syncs, reads, pulls and trims that look elsewhere or at another time than they may.
 ghost use Rattle.wrong_reports.specs.Cases.{IsUnlawful};
 ghost use Rattle.wrong_reports.specs.Looks.{a_sync_behind_an_own_later_step};
+ghost use Rattle.wrong_reports.specs.Looks.{a_refused_read_that_tells_a_later_colour, a_refused_read_that_raises_the_floor};
 ghost use Rattle.wrong_reports.specs.Looks.{a_sync_of_another_colour, a_scan_of_another_text};
 ghost use Rattle.wrong_reports.specs.Looks.{a_scan_under_another_stamp, a_trim_told_as_a_raise};
 ghost use Rattle.wrong_reports.specs.Looks.{a_raise_behind_what_was_seen, a_raise_that_was_seen};
@@ -16,6 +17,18 @@ ghost use Rattle.wrong_reports.specs.Looks.{a_causal_value_of_another_text};
 #[tactic(auto, using(crate::proofs::WrongLooks::sync_elsewhere))]
 pub fn a_sync_of_another_colour_is_unlawful()
     ensures { IsUnlawful a_sync_of_another_colour }
+{}
+
+/// Of several colours that refuse a read the least is told.
+#[tactic(auto, using(crate::proofs::WrongLooks::later_colour))]
+pub fn a_refused_read_that_tells_a_later_colour_is_unlawful()
+    ensures { IsUnlawful a_refused_read_that_tells_a_later_colour }
+{}
+
+/// A read that was refused for a trim leaves its client's floor to what it played.
+#[tactic(auto, using(crate::proofs::WrongLooks::floor_stays))]
+pub fn a_refused_read_that_raises_the_floor_is_unlawful()
+    ensures { IsUnlawful a_refused_read_that_raises_the_floor }
 {}
 
 /// The steps of a client's own append come after what it had seen.

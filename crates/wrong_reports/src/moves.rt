@@ -4,7 +4,7 @@ ghost use Rattle.wrong_reports.specs.Moves.{a_base_that_is_not_there, a_trim_bey
 ghost use Rattle.wrong_reports.specs.Moves.{trimmed_where_nothing_is, a_sync_of_what_was_trimmed};
 ghost use Rattle.wrong_reports.specs.Moves.{another_region_taken_for_its_own, a_pull_that_leaves_a_node};
 ghost use Rattle.wrong_reports.specs.Moves.{a_pull_of_more_nodes, a_pull_that_asks_again, a_pull_that_gives_twice};
-ghost use Rattle.wrong_reports.specs.Moves.{trimmed_in_another_colour};
+ghost use Rattle.wrong_reports.specs.Moves.{trimmed_in_another_colour, a_give_of_more_than_was_held};
 
 /// A trim tells the base.
 #[tactic(auto, using(crate::proofs::WrongMoves::base_not_there))]
@@ -52,6 +52,12 @@ pub fn a_pull_of_more_nodes_is_unlawful()
 #[tactic(auto, using(crate::proofs::WrongMoves::asks_again))]
 pub fn a_pull_that_asks_again_is_unlawful()
     ensures { IsUnlawful a_pull_that_asks_again }
+{}
+
+/// A pull asks for no more than was held before its carry.
+#[tactic(auto, using(crate::proofs::WrongMoves::more_than_held))]
+pub fn a_give_of_more_than_was_held_is_unlawful()
+    ensures { IsUnlawful a_give_of_more_than_was_held }
 {}
 
 /// A pull gives again only where what it asked for was trimmed.

@@ -1,7 +1,8 @@
 // What clients of a store do that is measured.
-ghost use Rattle.std.specs.Prelude.{◌≡◌, ◌<◌, ◌≤◌, ◌+◌, IfOk, length};
+ghost use Rattle.std.specs.Prelude.{◌≡◌, ◌<◌, ◌+◌, IfOk, length};
 ghost use Rattle.std.specs.List.{All};
 ghost use Rattle.log_node.specs.declared.limits.TheConstants.{MAX_CLIENTS};
+ghost use Rattle.log_client.specs.Appends.{AreColoursOf};
 ghost use Rattle.log_client.specs.Clients.{IsClient};
 ghost use Rattle.bench.specs.Stores.{IsBench};
 
@@ -12,9 +13,6 @@ use std::alloc::{AllocError, Global};
 use std::sync::Wait;
 use std::thread;
 use std::thread::Threads;
-
-/// The bits of a set of colours.
-pub type Bits = u16;
 
 // So many clients of the first region, and one of the second behind them.
 fn homes(alloc: Global, clients: u8) -> Result<ListOf<u8>, AllocError>
@@ -50,53 +48,58 @@ pub fn open(alloc: Global, clients: u8) -> Result<(Store, Vec<Client>, Client), 
     }
 }
 
-// The client appends a node to the colours of these bits.
-fn append_one<R: Wait>(rt: &R, alloc: Global, store: &Store, client: &mut Client, bits: Bits)
+// The set of the first colour, or of both.
+fn colours_of(both: bool) -> Colours
+    ensures { (s : Store) → IsBench s → AreColoursOf s result }
+{
+    if both {
+        return Colours::of(&[0, 1]);
+    }
+    Colours::of(&[0])
+}
+
+// The client appends a node to the first colour or to both.
+fn append_one<R: Wait>(rt: &R, alloc: Global, store: &Store, client: &mut Client, both: bool)
     requires store { IsBench store.now }
     requires client { IsClient store.now client.old }
-    requires some { 0 < bits }
-    requires within { bits ≤ 3 }
     ensures { IsClient store.now client.new }
 {
+    let colours = colours_of(both);
     let Ok(text) = Text::copied(alloc, b"text") else {
         return;
     };
-    let _answer = client.append(rt, alloc, store, &OpenGate, Colours(bits), text, None);
+    let _answer = client.append(rt, alloc, store, &OpenGate, colours, text, None);
 }
 
-// The client appends this many nodes to the colours of these bits.
+// The client appends this many nodes to the first colour or to both.
 fn append_all<R: Wait>(
     rt: &R,
     alloc: Global,
     store: &Store,
     client: &mut Client,
-    bits: Bits,
+    both: bool,
     appends: u64,
 )
     requires store { IsBench store.now }
     requires client { IsClient store.now client.old }
-    requires some { 0 < bits }
-    requires within { bits ≤ 3 }
     ensures { IsClient store.now client.new }
 {
     for _ in 0..appends {
-        append_one(rt, alloc, store, client, bits);
+        append_one(rt, alloc, store, client, both);
     }
 }
 
-/// The clients append this many nodes each to the colours of these bits, each on a thread of its own.
+/// The clients append this many nodes each, to the first colour or to both, each on a thread of its own.
 pub fn append_beside<R: Threads + Wait + Sync>(
     rt: &R,
     alloc: Global,
     store: &Store,
     clients: &mut [Client],
-    bits: Bits,
+    both: bool,
     appends: u64,
 )
     requires store { IsBench store.now }
     requires clients { All (IsClient store.now) clients.old }
-    requires some { 0 < bits }
-    requires within { bits ≤ 3 }
 {
     let threads = clients.len();
     if threads == 0 {
@@ -107,8 +110,8 @@ pub fn append_beside<R: Threads + Wait + Sync>(
         clients,
         threads,
         &|_place: usize, client: &mut Client|
-            requires { IsBench store.now × IsClient store.now client.now × (0 < bits) × (bits ≤ 3) }
-        { append_all(rt, alloc, store, client, bits, appends) },
+            requires { IsBench store.now × IsClient store.now client.now }
+        { append_all(rt, alloc, store, client, both, appends) },
     );
 }
 

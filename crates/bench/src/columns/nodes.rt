@@ -13,7 +13,7 @@ pub fn node(alloc: Global, client: u8, count: u64) -> Result<Arc<Node>, AllocErr
     let node = Node {
         id: Id { client, count },
         region: 0,
-        colours: Colours(1),
+        colours: Colours::of(&[0]),
         text: Text::empty(alloc),
         floor: 0,
         wants: Wants::new(alloc),

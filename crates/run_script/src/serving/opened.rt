@@ -8,9 +8,9 @@ use causal_map::CausalMap;
 use log_map::LogMap;
 use log_node::{ColourList, ListOf};
 use log_queue::LogQueue;
+use region_fold::{Tx, TxMap};
 use script_text::{Kind, Object};
 use std::alloc::{AllocError, Global};
-use tx_map::{Tx, TxMap};
 
 /// An object of a script, as one client has opened it; of a transactional map what its last read found, until a commit uses
 /// it up.

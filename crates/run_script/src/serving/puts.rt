@@ -11,7 +11,7 @@ use crate::serving::opened::Opened;
 use crate::serving::replies::appended;
 use fuzzy_io::Gate;
 use log_client::{Client, Store, reads_go_on};
-use log_node::{MAX_COLOURS, Pairs, Text};
+use log_node::{Pairs, Text};
 use report_text::Answer;
 use script_text::What;
 use std::alloc::Global;
@@ -75,7 +75,7 @@ pub fn put_all<R: Wait, G: Gate>(
     ensures gives { GivesFor store.now client.old client.new (kind_opened opened.old)
         (λ object. What.PutAll object pairs) result }
 {
-    let Ok(pieces) = Vec::with_capacity(alloc, MAX_COLOURS as usize) else {
+    let Ok(pieces) = Vec::with_capacity(alloc, pairs.len()) else {
         return Answer::NoMemory;
     };
     match opened {

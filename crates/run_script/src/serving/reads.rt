@@ -1,7 +1,7 @@
 // Commands that answer by an object after a stamped read.
-ghost use Rattle.std.specs.Prelude.{◌≡◌, ◌≤◌, [], IsTrue, IfOk, length, map, vec_capacity};
+ghost use Rattle.std.specs.Prelude.{◌≡◌, ◌+◌, ◌≤◌, [], Some, IsTrue, IfOk, IfSome, length, map, vec_capacity};
 ghost use Rattle.lawful_run.specs.Objects.{AreAnswers};
-ghost use Rattle.object_form.specs.Forms.{ArePairs};
+ghost use Rattle.object_form.specs.Forms.{ArePairs, AreVersions};
 ghost use Rattle.script_text.specs.Fitting.{is_map, is_tx};
 ghost use Rattle.script_text.specs.Grammar.{are_keys};
 ghost use Rattle.log_client.specs.Appends.{piece_of};
@@ -9,7 +9,7 @@ ghost use Rattle.log_client.specs.Clients.{IsClient};
 ghost use Rattle.log_client.specs.Reading.{RestsOn};
 ghost use Rattle.log_client.specs.StampedReads.{raise_piece, sync_piece};
 ghost use Rattle.run_script.specs.Opened.{kind_opened, IsKept, StaysOpen};
-ghost use Rattle.run_script.specs.Replying.{HasRoom, ShowsFew, ShowsKeys, keys_found, tx_found, commit_answer};
+ghost use Rattle.run_script.specs.Replying.{HasPlaces, HasRoomFor, ShowsKeys, ShowsNone, keys_found, tx_found, commit_answer};
 ghost use Rattle.run_script.specs.Serving.{GivesFor, GivesTo};
 
 use crate::serving::appends::pieces_of;
@@ -18,14 +18,14 @@ use crate::serving::replies::refused;
 use crate::serving::scans::{raises_shown, syncs_shown};
 use fuzzy_io::Gate;
 use log_client::{Appended, Client, ObjectFault, StampedRead, Store};
-use log_node::{Keys, ListOf, MAX_COLOURS, Pairs, Text};
+use log_node::{Keys, ListOf, Pairs, Text};
 use object_fold::{Values, Verdict};
+use region_fold::Tx;
 use report_text::{Answer, KeyAnswer, PointPiece, RaisePiece, SyncPiece};
 use script_text::What;
 use std::alloc::{AllocError, Global};
 use std::mem;
 use std::sync::Wait;
-use tx_map::Tx;
 
 /// The room for what a reply shows of a stamped read.
 #[derive(Drop)]
@@ -34,12 +34,13 @@ pub struct ReadRoom {
     syncs: Vec<SyncPiece>,
 }
 
-// Room for a stamped read of as many colours as there may be.
-fn room_for(alloc: Global) -> Result<ReadRoom, AllocError>
-    ensures { IfOk result HasRoom }
+// Room for a stamped read of so many colours.
+fn room_for(alloc: Global, colours: usize) -> Result<ReadRoom, AllocError>
+    ensures empty { IfOk result ShowsNone }
+    ensures places { IfOk result (HasPlaces colours) }
 {
-    let raises = Vec::with_capacity(alloc, MAX_COLOURS as usize)?;
-    let syncs = Vec::with_capacity(alloc, MAX_COLOURS as usize)?;
+    let raises = Vec::with_capacity(alloc, colours)?;
+    let syncs = Vec::with_capacity(alloc, colours)?;
     Ok(ReadRoom { raises, syncs })
 }
 
@@ -69,9 +70,9 @@ fn got_keys(
 ) -> Answer
     requires empty { answers.items ≡ [] }
     requires answers { length keys ≤ vec_capacity answers }
-    requires room { HasRoom room }
+    requires room { ShowsNone room }
     requires many { IfOk call (λ r. length r.0 ≡ length keys) }
-    requires few { IfOk call (λ r. ShowsFew r.1) }
+    requires few { IfOk call (λ r. HasRoomFor room r.1) }
     ensures { ShowsKeys keys call result }
 {
     match call {
@@ -108,7 +109,7 @@ pub fn get_all<R: Wait, G: Gate>(
     let Ok(answers) = Vec::with_capacity(alloc, keys.len()) else {
         return Answer::NoMemory;
     };
-    let Ok(room) = room_for(alloc) else {
+    let Ok(room) = room_for(alloc, keys.len()) else {
         return Answer::NoMemory;
     };
     match opened {
@@ -159,7 +160,7 @@ pub fn read<R: Wait, G: Gate>(
             let Ok(answers) = Vec::with_capacity(alloc, keys.len()) else {
                 return Answer::NoMemory;
             };
-            let Ok(room) = room_for(alloc) else {
+            let Ok(room) = room_for(alloc, map.colour_count()) else {
                 return Answer::NoMemory;
             };
             let (read, tx) = found_apart(map.read(rt, alloc, client, store, gate, &keys));
@@ -181,8 +182,8 @@ fn verdict_shown(
 ) -> Answer
     requires empty { pieces.items ≡ [] }
     requires points { length own.stood.points ≤ vec_capacity pieces }
-    requires room { HasRoom room }
-    requires few { ShowsFew read }
+    requires room { ShowsNone room }
+    requires few { HasRoomFor room read }
     ensures { result ≡ Answer.Ruled conflict stamp own.row (map piece_of own.stood.points) read.stamp
         (map raise_piece read.raises) (map sync_piece read.syncs) }
 {
@@ -205,8 +206,8 @@ fn ruled(
 ) -> Answer
     requires empty { pieces.items ≡ [] }
     requires points { IfOk call (λ r. length r.1.stood.points ≤ vec_capacity pieces) }
-    requires room { HasRoom room }
-    requires few { IfOk call (λ r. ShowsFew r.2) }
+    requires room { ShowsNone room }
+    requires few { IfOk call (λ r. HasRoomFor room r.2) }
     ensures { result ≡ commit_answer call }
 {
     match call {
@@ -217,6 +218,18 @@ fn ruled(
             }
         },
         Err(fault) => refused(fault),
+    }
+}
+
+// A commit stands in no more colours than it reads and writes keys.
+fn most_points(found: &Option<Tx>, pairs: &Pairs) -> usize
+    requires found { IfSome found.now (λ tx. AreVersions tx.versions) }
+    requires pairs { ArePairs 2 pairs.now }
+    ensures { (rests : Tx) → found.now ≡ Some rests → result ≡ length rests.versions + length pairs.now }
+{
+    match found {
+        Some(tx) => tx.versions.len() + pairs.len(),
+        None => 0,
     }
 }
 
@@ -242,10 +255,10 @@ pub fn commit<R: Wait, G: Gate>(
     match opened {
         Opened::Tx { map, found } => {
             let tx = mem::replace(found, None);
-            let Ok(pieces) = Vec::with_capacity(alloc, MAX_COLOURS as usize) else {
+            let Ok(pieces) = Vec::with_capacity(alloc, most_points(&tx, &pairs)) else {
                 return Answer::NoMemory;
             };
-            let Ok(room) = room_for(alloc) else {
+            let Ok(room) = room_for(alloc, map.colour_count()) else {
                 return Answer::NoMemory;
             };
             let commit = map.commit(rt, alloc, client, store, gate, tx, &pairs);

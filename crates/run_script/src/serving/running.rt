@@ -77,7 +77,7 @@ fn run_in_store<R: Threads + Wait + Sync, G: Gate>(
 /// finds no memory is answered so, and the run goes on; a client for whose replies there is no memory is served nothing.
 /// `Err` means that there was such a client, or no memory before the first starts, or none after the last command. The
 /// report is that of a lawful run; what is shown of columns in it is made on that many threads at most. The store has no
-/// more rows than the commands may begin, however many the script allows.
+/// more rows than the client may begin that may begin most, however many the script allows.
 pub fn run_beside<R: Threads + Wait + Sync, G: Gate>(
     rt: &R,
     alloc: Global,

@@ -1,4 +1,4 @@
-// What clients tell one another, and trims by a snapshot of another column.
+// What clients tell one another, and trims by a snapshot of another column or by an older one.
 ghost use Rattle.std.specs.Prelude.{◌≡◌};
 ghost use Rattle.log_client.specs.Clients.{IsClient};
 ghost use Rattle.tests_clients.specs.Stores.{IsSmall};
@@ -6,7 +6,8 @@ ghost use Rattle.tests_clients.specs.Stores.{IsSmall};
 use crate::tests::made::opened;
 use fuzzy_io::OpenGate;
 use log_client::{Client, Store, TrimFault};
-use log_node::{Colours, Text};
+use log_node::{At, Colours, Text};
+use playback::Snapshot;
 use std::alloc::Global;
 use std::process::Abort;
 use std::sync::Wait;
@@ -25,7 +26,8 @@ fn append<R: Wait>(
     ensures client { IsClient store.now client.new }
 {
     let text = Text::copied(alloc, text)?;
-    client.append(rt, alloc, store, &OpenGate, Colours(1), text, None)?;
+    let first = Colours::of(&[0]);
+    client.append(rt, alloc, store, &OpenGate, first, text, None)?;
     Ok(())
 }
 
@@ -53,6 +55,47 @@ fn told<R: Wait + Abort>(
 fn a_client_that_was_told_plays_what_the_teller_saw(rt: HostRuntime) -> Result<(), Fail> {
     let (store, mut one, mut two) = opened(rt.alloc())?;
     told(&rt, rt.alloc(), &store, &mut one, &mut two)
+}
+
+// The client trims by the snapshot, which is an event at the place, and its own nodes up to the base are then dropped.
+fn trims<R: Wait + Abort>(
+    rt: &R,
+    store: &Store,
+    client: &mut Client,
+    snapshot: &Snapshot,
+    wanted: (At, u64),
+) -> Result<(), Fail>
+    requires store { IsSmall store.now }
+    requires client { IsClient store.now client.old }
+    ensures client { IsClient store.now client.new }
+{
+    let (at, base) = client.trim(rt, store, 0, snapshot)?;
+    assert_eq!(rt; (at, base.of_region(0)), wanted);
+    Ok(())
+}
+
+// The client syncs behind each of two appends, and trims by the snapshot of the first sync and then by that of the second.
+fn trims_by_each<R: Wait + Abort>(
+    rt: &R,
+    alloc: Global,
+    store: &Store,
+    client: &mut Client,
+) -> Result<(), Fail>
+    requires store { IsSmall store.now }
+    requires client { IsClient store.now client.old }
+{
+    append(rt, alloc, store, client, b"one")?;
+    let first = client.sync(rt, alloc, store, 0)?;
+    append(rt, alloc, store, client, b"two")?;
+    let second = client.sync(rt, alloc, store, 0)?;
+    trims(rt, store, client, &first.snapshot, (At::Event(2), 1))?;
+    trims(rt, store, client, &second.snapshot, (At::Event(3), 2))
+}
+
+#[test]
+fn a_trim_by_an_older_snapshot_drops_what_that_one_has(rt: HostRuntime) -> Result<(), Fail> {
+    let (store, mut one, _two) = opened(rt.alloc())?;
+    trims_by_each(&rt, rt.alloc(), &store, &mut one)
 }
 
 #[test]

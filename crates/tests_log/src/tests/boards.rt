@@ -247,9 +247,12 @@ fn a_board_closes_with_its_open_rows_and_its_decided_ones(rt: HostRuntime) -> Re
     Ok(())
 }
 
+// With as many clients and colours as there may be, a board may have this many rows for each client.
+const MOST_ROWS: u32 = 1024;
+
 #[test]
 fn the_largest_board_opens(rt: HostRuntime) -> Result<(), Fail> {
-    let (board, seats, columns) = Board::open(rt.alloc(), MAX_CLIENTS, MAX_COLOURS, MAX_ROWS)?;
+    let (board, seats, columns) = Board::open(rt.alloc(), MAX_CLIENTS, MAX_COLOURS, MOST_ROWS)?;
     assert!(rt; board.clients() == MAX_CLIENTS);
     assert!(rt; seats.as_slice().len() == MAX_CLIENTS as usize);
     assert!(rt; columns.as_slice().len() == MAX_COLOURS as usize);

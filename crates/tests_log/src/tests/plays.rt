@@ -21,7 +21,7 @@ fn node(alloc: Global, region: u8, client: u8) -> Result<Arc<Node>, AllocError> 
     let node = Node {
         id: Id { client, count: 0 },
         region,
-        colours: Colours(1),
+        colours: Colours::of(&[0]),
         text: Text::copied(alloc, b"p")?,
         floor: 0,
         wants: Wants::new(alloc),

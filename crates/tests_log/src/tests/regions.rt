@@ -1,17 +1,19 @@
 // A region at the end of the stamps, and a client that is told of another's append.
-ghost use Rattle.std.specs.Prelude.{◌≡◌, ◌≢◌, ◌<◌, ◌≤◌, ℕ, true, length, IfOk, OnOk};
+ghost use Rattle.std.specs.Prelude.{◌≡◌, ◌≢◌, ◌<◌, ◌≤◌, ℕ, true, None, length, IfOk, OnOk};
 ghost use mathlib.Core.List.{IsPrefix};
 ghost use Rattle.log_node.specs.Sets.{has};
+ghost use Rattle.chain_store.specs.Histories.{FitsColumn};
 ghost use Rattle.chain_store.specs.Holds.{IsHold, KnowsAppend, seen_in, made_in};
 ghost use Rattle.tests_log.specs.Clients.{IsSmall, IsClient};
 
-use crate::tests::made::pair;
-use append_core::{MultiFault, Stood, multi};
+use crate::tests::made::{alone, pair};
+use append_core::{MultiFault, Stood, multi, single};
 use chain_store::{ClosedRegion, Hold, Proposed, Region};
+use column::ColumnFault;
 use fuzzy_io::OpenGate;
-use log_node::{At, Begun, ColourMark, ListOf, MAX_STAMP, Mark, Outcome, Row, Shape, Why};
+use log_node::{At, Begun, ColourMark, ListOf, MAX_STAMP, Mark, Node, Outcome, Row, Shape, Why};
 use std::alloc::{AllocError, Global};
-use std::sync::Wait;
+use std::sync::{Arc, Wait};
 use std::test::Fail;
 
 const ROW: Row = Row {
@@ -232,5 +234,53 @@ fn no_stamp_is_left_in_the_first_colour(rt: HostRuntime) -> Result<(), Fail> {
     assert!(rt; ended(&rt, rt.alloc(), &region, &mut hold)?);
     let closed = closed(&rt, rt.alloc(), region, hold, other)?;
     assert!(rt; is_gone(&closed));
+    Ok(())
+}
+
+// The first client's first node finds no stamp in the first colour.
+fn ends_alone<R: Wait>(
+    rt: &R,
+    alloc: Global,
+    region: &Region,
+    hold: &mut Hold,
+    node: &Arc<Node>,
+) -> bool
+    requires region { IsSmall 0 region.now }
+    requires hold { IsClient region.now 0 0 hold.old }
+    requires id { node.now.value.id ≡ record { client = 0; count = 0 } }
+    requires node { (node.now.value.row ≡ None) × FitsColumn 0 0 node.now.value }
+    ensures hold { result ≡ true → IsClient region.now 0 0 hold.new }
+{
+    match single(rt, alloc, region, hold, 0, node) {
+        Ok(_) => false,
+        Err(fault) => fault == ColumnFault::StampEnd { clock: MAX_STAMP },
+    }
+}
+
+// The first client's append to the first colour, in which no stamp is left, and its append to the second one then.
+fn beside_the_end<R: Wait>(
+    rt: &R,
+    alloc: Global,
+    region: &Region,
+    hold: &mut Hold,
+) -> Result<bool, AllocError>
+    requires region { IsSmall 0 region.now }
+    requires hold { IsClient region.now 0 0 hold.old }
+{
+    let node = alone(alloc)?;
+    region.raise(rt, hold, 0, MAX_STAMP)?;
+    if !ends_alone(rt, alloc, region, hold, &node) {
+        return Ok(false);
+    }
+    match single(rt, alloc, region, hold, 1, &node) {
+        Ok(stood) => Ok(stood.key.stamp == 1),
+        Err(_) => Ok(false),
+    }
+}
+
+#[test]
+fn no_stamp_is_left_in_one_colour_alone(rt: HostRuntime) -> Result<(), Fail> {
+    let (region, mut hold, _other) = opened(rt.alloc(), 0)?;
+    assert!(rt; beside_the_end(&rt, rt.alloc(), &region, &mut hold)?);
     Ok(())
 }

@@ -58,7 +58,7 @@ fn any_kind_of_step_is_done_by_its_name(rt: HostRuntime) -> Result<(), Fail> {
     let mut world = opened(alloc, 1, 1)?;
     let step = Step::Begin {
         client: 0,
-        colours: Colours(3),
+        colours: Colours::of(&[0, 1]),
         text,
     };
     let reply = Reply::Begun {
@@ -122,7 +122,7 @@ fn begun(alloc: Global, clock: u64) -> Result<World, AllocError> {
     let text = Text::copied(alloc, b"a")?;
     let mut world = opened(alloc, 1, 1)?;
     let _raised = world.raise(0, 0, 0, clock)?;
-    let _begun = world.begin(alloc, 0, Colours(3), text)?;
+    let _begun = world.begin(alloc, 0, Colours::of(&[0, 1]), text)?;
     Ok(world)
 }
 
@@ -178,7 +178,7 @@ fn proposed(alloc: Global, world: &mut World, number: u32) -> Result<Reply, Allo
     let text = Text::copied(alloc, b"a")?;
     let begin = Step::Begin {
         client: 0,
-        colours: Colours(3),
+        colours: Colours::of(&[0, 1]),
         text,
     };
     let _begun = world.step(alloc, begin)?;

@@ -11,7 +11,7 @@ use Rattle.append_core.proofs.several.multi.Goals as goal
 
 pub perform-requires-clause-few : goal.perform-requires-clause-few
 perform-requires-clause-few g c = λ κs met.
-    points_few c.args.region.now c.args.node.now.value c.in-Ok.points.items c.requires.colours
+    points_few c.args.node.now.value c.in-Ok.points.items
     (subst (λ (y : Node). ArePointsOf c.in-Ok.points.items y.colours) c.deref.ensures c.in-Ok.ensures)
 
 pub perform-requires-clause-points : goal.perform-requires-clause-points

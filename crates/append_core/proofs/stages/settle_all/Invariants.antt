@@ -1,4 +1,5 @@
 use Rattle.std.proofs.Common.{◌≡◌, ◌+◌, length}
+use Rattle.log_node.specs.declared.limits.TheConstants.{MAX_COLOURS}
 use Rattle.log_node.specs.declared.node.Node.{Node}
 use Rattle.stamp_board.specs.Seats.{IsLater}
 use Rattle.chain_store.specs.declared.hold.Hold.{Hold}
@@ -15,7 +16,7 @@ invariant-loop-n g l = record {
   hold : IsHold l.region l.hold;
   seat : IsLater l.fn.hold.seat l.hold.seat;
   goes : GoesOn (IsStepIn l.begun) l.fn.hold l.hold;
-  places : length l.places ≡ 16;
+  places : length l.places ≡ MAX_COLOURS;
   settled : (old : Hold) (x : Node) → IsNextOf l.region old x → l.begun ≡ own_append old x
       → HasDecided l.region old l.fn.hold x l.outcome l.fn.places l.course.stop
       → AreSettled l.region old l.hold x l.outcome l.places l.n;

@@ -1,5 +1,5 @@
 use Rattle.std.proofs.Common.{◌≡◌, List, ℕ, map, take}
-use Rattle.script_text.specs.Items.{set_of}
+use Rattle.log_node.specs.Sets.{set_of}
 use Rattle.object_fold.specs.Nodes.{shard_of}
 use Rattle.log_client.proofs.shard_sets.key_shards.Given as goal
 

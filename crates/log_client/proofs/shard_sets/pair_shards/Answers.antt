@@ -1,4 +1,4 @@
-use Rattle.std.proofs.Common.{List, ℕ, ◌∙◌, arith, refl, ap}
+use Rattle.std.proofs.Common.{◌∙◌, arith, refl, ap}
 use Rattle.log_node.specs.declared.forms.Pair.{Pair}
 use Rattle.object_fold.specs.Nodes.{shard_of}
 use Rattle.log_client.proofs.ObjectShards.{more_shards, all_shards}
@@ -9,12 +9,13 @@ loop-pair-init c = refl
 
 pub loop-pair-preserved : goal.loop-pair-preserved
 loop-pair-preserved c =
-    more_shards (λ (p : Pair). p.key) c.args.colours.now c.requires.some c.requires.few c.args.pairs.now c.loop-pair.pair-index
-    c.pair-item.result c.loop-pair.set c.shard_of.result c.loop-pair-test.true
+    c.with-set.ensures
+    ∙ more_shards (λ (p : Pair). p.key) c.args.colours.now c.args.pairs.now c.loop-pair.pair-index c.pair-item.result
+    c.loop-pair.set c.shard_of.result c.loop-pair-test.true
     (c.shard_of.ensures ∙ ap (shard_of c.args.colours.now) (c.as_bytes.ensures ∙ ap (λ (p : Pair). p.key) c.pair-item.is))
     c.loop-pair.invariant
 
 pub returns : goal.returns
 returns c =
-    all_shards (λ (p : Pair). p.key) c.args.colours.now c.requires.some c.requires.few c.args.pairs.now c.loop-pair.set
-    c.loop-pair.pair-index (omega (arith, c.loop-pair-test.false, c.loop-pair.auto.pair-index-end)) c.loop-pair.invariant
+    all_shards (λ (p : Pair). p.key) c.args.colours.now c.args.pairs.now c.loop-pair.set c.loop-pair.pair-index
+    (omega (arith, c.loop-pair-test.false, c.loop-pair.auto.pair-index-end)) c.loop-pair.invariant

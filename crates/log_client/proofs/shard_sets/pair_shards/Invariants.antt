@@ -1,6 +1,6 @@
-use Rattle.std.proofs.Common.{◌≡◌, List, ℕ, map, take}
+use Rattle.std.proofs.Common.{◌≡◌, map, take}
 use Rattle.log_node.specs.declared.forms.Pair.{Pair}
-use Rattle.script_text.specs.Items.{set_of}
+use Rattle.log_node.specs.Sets.{set_of}
 use Rattle.object_fold.specs.Nodes.{shard_of}
 use Rattle.log_client.proofs.shard_sets.pair_shards.Given as goal
 

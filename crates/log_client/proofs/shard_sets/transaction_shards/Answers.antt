@@ -1,7 +1,7 @@
-use Rattle.std.proofs.Common.{[], List, ℕ, ◌++◌, ◌∙◌, map, length, take, arith, refl, ap, sym, append-nil}
+use Rattle.std.proofs.Common.{List, ℕ, ◌∙◌, map, take, arith, refl, ap, sym, append-nil}
 use Rattle.log_node.specs.declared.forms.Pair.{Pair}
 use Rattle.log_node.specs.declared.forms.Version.{Version}
-use Rattle.script_text.specs.Items.{set_of}
+use Rattle.log_node.specs.Sets.{set_of}
 use Rattle.object_fold.specs.Nodes.{shard_of}
 use Rattle.lawful_run.specs.Asks.{keys_of}
 use Rattle.log_client.specs.Objects.{version_keys}
@@ -13,21 +13,23 @@ loop-version-init c = refl
 
 pub loop-version-preserved : goal.loop-version-preserved
 loop-version-preserved c =
-    more_shards (λ (v : Version). v.key) c.args.colours.now c.requires.some c.requires.few c.args.versions.now
-    c.loop-version.version-index c.version-item.result c.loop-version.set c.shard_of.result c.loop-version-test.true
+    c.with-set.ensures
+    ∙ more_shards (λ (v : Version). v.key) c.args.colours.now c.args.versions.now c.loop-version.version-index
+    c.version-item.result c.loop-version.set c.shard_of.result c.loop-version-test.true
     (c.shard_of.ensures ∙ ap (shard_of c.args.colours.now) (c.as_bytes.ensures ∙ ap (λ (v : Version). v.key) c.version-item.is))
     c.loop-version.invariant
 
 pub loop-pair-init : goal.loop-pair-init
 loop-pair-init c =
     c.loop-version.invariant
-    ∙ ap set_of (shards_all (λ (v : Version). v.key) c.args.colours.now c.requires.some c.requires.few c.args.versions.now
-    c.loop-version.version-index (omega (arith, c.loop-version-test.false))
+    ∙ ap set_of (shards_all (λ (v : Version). v.key) c.args.colours.now c.args.versions.now c.loop-version.version-index
+    (omega (arith, c.loop-version-test.false))
     ∙ sym (append-nil (map (λ (k : List ℕ). shard_of c.args.colours.now k) (version_keys c.args.versions.now))))
 
 pub loop-pair-preserved : goal.loop-pair-preserved
 loop-pair-preserved c =
-    more_behind (λ (p : Pair). p.key) c.args.colours.now c.requires.some c.requires.few c.args.pairs.now
+    c.with-set-in-loop-pair.ensures
+    ∙ more_behind (λ (p : Pair). p.key) c.args.colours.now c.args.pairs.now
     (map (λ (k : List ℕ). shard_of c.args.colours.now k) (version_keys c.args.versions.now))
     c.loop-pair.pair-index c.pair-item.result c.loop-pair.set c.shard_of-in-loop-pair.result c.loop-pair-test.true
     (c.shard_of-in-loop-pair.ensures ∙ ap (shard_of c.args.colours.now)
@@ -35,8 +37,8 @@ loop-pair-preserved c =
 
 pub returns : goal.returns
 returns c =
-    both_keys c.args.colours.now c.requires.some c.requires.few (version_keys c.args.versions.now) (keys_of c.args.pairs.now)
+    both_keys c.args.colours.now (version_keys c.args.versions.now) (keys_of c.args.pairs.now)
     (map (λ (k : List ℕ). shard_of c.args.colours.now k) (version_keys c.args.versions.now))
     (map (λ (x : Pair). shard_of c.args.colours.now x.key) (take c.loop-pair.pair-index c.args.pairs.now)) c.loop-pair.set refl
-    (shards_all (λ (p : Pair). p.key) c.args.colours.now c.requires.some c.requires.few c.args.pairs.now c.loop-pair.pair-index
+    (shards_all (λ (p : Pair). p.key) c.args.colours.now c.args.pairs.now c.loop-pair.pair-index
     (omega (arith, c.loop-pair-test.false))) c.loop-pair.invariant

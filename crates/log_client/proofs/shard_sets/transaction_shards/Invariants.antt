@@ -1,7 +1,7 @@
 use Rattle.std.proofs.Common.{◌≡◌, ◌++◌, List, ℕ, map, take}
 use Rattle.log_node.specs.declared.forms.Pair.{Pair}
 use Rattle.log_node.specs.declared.forms.Version.{Version}
-use Rattle.script_text.specs.Items.{set_of}
+use Rattle.log_node.specs.Sets.{set_of}
 use Rattle.object_fold.specs.Nodes.{shard_of}
 use Rattle.log_client.specs.Objects.{version_keys}
 use Rattle.log_client.proofs.shard_sets.transaction_shards.Given as goal

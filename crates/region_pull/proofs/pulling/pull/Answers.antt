@@ -1,11 +1,11 @@
-use Rattle.std.proofs.Common.{ℕ, [], ◌∷◌, ◌++◌, refl, sym, subst}
+use Rattle.std.proofs.Common.{ℕ, refl, sym, subst}
 use Rattle.chain_store.specs.Givens.{OfTheirHeads}
 use Rattle.chain_store.specs.Regions.{tag_at}
 use Rattle.chain_store.specs.Holds.{CarriesIn, seen_in}
 use Rattle.chain_store.proofs.CallerLemmas.{given_stamped, lawful_seen}
 use Rattle.region_pull.specs.Pulls.{before_gave}
 use Rattle.region_pull.proofs.Lists.{taken_prefix}
-use Rattle.region_pull.proofs.Steps.{carried_goes, pulled, carry_refused, carry_refused_goes, origin_kept, origin_pulled, held_asked}
+use Rattle.region_pull.proofs.Steps.{carried_goes, pulled, carry_refused, carry_refused_goes, origin_kept, origin_pulled, held_asked, held_pulled}
 use Rattle.region_pull.proofs.pulling.pull.Goals as goal
 
 pub carry-requires-clause-heads : goal.carry-requires-clause-heads
@@ -63,11 +63,11 @@ returns-in-Ok-carry-clause-held g c =
     let p = pulled c.args.from.now c.args.to.now c.args.colour c.args.from_hold.now c.ask.new.from_hold c.args.to_hold.now c.ask.new.to_hold
     c.requires.store e.from_hold e.to_hold e.looks c.carry.new.hold f.hold f.others f.same
     c.in-Ok.given c.in-Ok-carry.carry c.in-Ok-carry.nodes line c.in-Ok.give (record { nodes = c.in-Ok-carry.nodes; give = c.in-Ok.give; carry = c.in-Ok-carry.carry }) refl refl refl e.ok in
-    held_asked c.args.from.now c.args.to.now c.args.colour c.args.from_hold.now c.ask.new.from_hold c.args.to_hold.now c.carry.new.hold
+    held_pulled c.args.from.now c.args.to.now c.args.colour c.args.from_hold.now c.ask.new.from_hold c.args.to_hold.now c.carry.new.hold
     c.requires.store e.from_hold (carried_goes c.args.from.now c.args.to.now c.args.colour c.args.from_hold.now c.ask.new.from_hold c.args.to_hold.now c.ask.new.to_hold
     c.requires.store e.from_hold e.to_hold e.looks c.carry.new.hold f.hold f.others f.same
     c.in-Ok.given c.in-Ok-carry.carry c.in-Ok-carry.nodes line)
-    (p.too_low ++ p.last ∷ []) p.asks
+    (record { nodes = c.in-Ok-carry.nodes; give = c.in-Ok.give; carry = c.in-Ok-carry.carry }) p
 
 pub returns-in-Ok-clause-to_hold : goal.returns-in-Ok-clause-to_hold
 returns-in-Ok-clause-to_hold g c =

@@ -1,7 +1,8 @@
-use Rattle.std.proofs.Common.{List, [], refl, subst, ap, ◌∙◌}
-use Rattle.script_beside.specs.Begins.{begins_in}
+use Rattle.std.proofs.Common.{List, ℕ, [], map, Vec, Global, refl, subst, ap, ◌∙◌}
+use Rattle.script_beside.specs.Begins.{begins_in, IsMost}
 use Rattle.script_text.specs.declared.script.Command.{Command}
 use Rattle.script_beside.specs.Lists.{AreOwn, AreShares}
+use Rattle.script_beside.proofs.BeginLemmas.{own_counts, is_most}
 use Rattle.script_beside.proofs.ListLemmas.{later_nothing, no_shares, more_shares, all_dealt}
 use Rattle.script_beside.proofs.dealing.deal.Goals as goal
 
@@ -15,6 +16,10 @@ returns c =
     let shares = c.in_ok-shares.shares.items in
     let after = c.put_behind.new.shares in
     all_dealt c.args.script _ after _ refl (c.replace-commands.ensures.after ∙ c.new.ensures)
-    (subst (λ (n : _). AreShares n commands after.items) c.len-clients.ensures
+    (subst (λ (n : ℕ). AreShares n commands after.items) c.len-clients.ensures
     (more_shares count [] commands lists shares after.items (no_shares count shares c.in_ok-shares.ensures) own c.in_ok-put_behind.ensures))
-    (c.begins_in-begins.ensures ∙ ap begins_in c.as_slice.ensures)
+    (subst (λ (n : ℕ). IsMost n commands c.greatest.result) c.len-clients.ensures
+    (is_most count commands c.in_ok-counts.counts.items c.greatest.result
+    (own_counts count commands lists c.in_ok-counts.counts.items own
+    (c.in_ok-counts.ensures ∙ ap (map (λ (l : Vec Command Global). begins_in l.items)) c.as_slice.ensures.value))
+    (rw c.as_slice-2.ensures.value at c.greatest.ensures)))

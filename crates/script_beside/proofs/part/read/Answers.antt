@@ -1,4 +1,4 @@
-use Rattle.std.proofs.Common.{List, ℕ, ◌<◌, ap, subst, sym, ◌∙◌}
+use Rattle.std.proofs.Common.{List, ℕ, ◌<◌, map, Vec, Global, ap, subst, sym, ◌∙◌}
 use Rattle.std.specs.List.{All, list_any}
 use Rattle.script_text.specs.declared.script.Command.{Command}
 use Rattle.script_text.specs.Items.{is_stop}
@@ -18,8 +18,8 @@ own_lists-requires-clause-lines c =
 
 pub returns : goal.returns
 returns c =
-    is_read c.args.header.now c.args.cut.now c.in_ok-script.script c.has_stop-stops.result c.begins_in-begins.result c.len.result _
+    is_read c.args.header.now c.args.cut.now c.in_ok-script.script c.has_stop-stops.result c.len.result _
     (subst (λ (l : List ℕ). IsScript l c.in_ok-script.script) (c.as_slice.ensures.value ∙ c.in_ok-all.ensures) c.in_ok-script.ensures.accepted)
     c.len.ensures c.in_ok-lists.ensures
     (c.has_stop-stops.ensures ∙ ap (λ (l : List Command). list_any (λ (d : Command). is_stop d.what) l) c.as_slice-2.ensures)
-    (c.begins_in-begins.ensures ∙ ap begins_in c.as_slice-3.ensures)
+    (c.in_ok-begins.ensures ∙ ap (map (λ (l : Vec Command Global). begins_in l.items)) c.as_slice-3.ensures.value)

@@ -9,7 +9,7 @@ use Rattle.world_laws.specs.Laws.{LogGrows, IsFinal}
 use Rattle.log_node.specs.declared.ids.Id.{Id}
 use Rattle.log_node.specs.declared.ids.Row.{Row}
 use Rattle.log_node.specs.declared.marks.Why.{Why}
-use Rattle.log_node.specs.declared.marks.Why.TheVariants.{StampEnd}
+use Rattle.log_node.specs.declared.marks.Why.TheVariants.{Memory, StampEnd}
 use Rattle.log_node.specs.declared.marks.Outcome.TheVariants.{Gone, Final}
 use Rattle.std.specs.List.{fold}
 use Rattle.col_core.specs.History.{entry_key}
@@ -23,7 +23,7 @@ use Rattle.world_code.specs.WorldView.{world_of}
 use Rattle.script_in_order.specs.Points.{AreFinal, EndsAs, standing_in}
 use Rattle.script_in_order.proofs.Finals.{final_later, run_shape}
 use Rattle.script_in_order.proofs.ListsChanged.{all_placed, all_there}
-use Rattle.script_in_order.proofs.AppendsAndStops.{ends_stamps, ends_final}
+use Rattle.script_in_order.proofs.AppendsAndStops.{ends_memory, ends_stamps, ends_final}
 use Rattle.script_in_order.proofs.appends.end.Goals as goal
 
 pub unreachable-requires : goal.unreachable-requires
@@ -106,3 +106,15 @@ returns c =
     c.args.id
     (members c.args.colours) c.in-Final.stamp c.args.places.items c.with_positions.result c.args.outcome c.in-Final.is
     c.see.ensures c.clear_all.ensures.helps c.with_positions.ensures
+
+as_memory : (w : World) (row : Row) (id : Id) (colours : List ℕ) (places : List PointPiece) (outcome : Outcome) (why : Why)
+    → outcome ≡ Gone why → why ≡ Memory → EndsAs w row id colours outcome places w answers.NoMemory
+as_memory w row id colours places outcome why is reason =
+    subst (λ (o : Outcome). EndsAs w row id colours o places w answers.NoMemory) (sym (is ∙ ap Gone reason))
+    (ends_memory w row id colours places)
+
+pub returns-in-Gone-Memory : goal.returns-in-Gone-Memory
+returns-in-Gone-Memory c =
+    let why : c.in-Gone-Memory.field-0 ≡ Memory = rw c.in-Gone-Memory.is at c.in-Gone-Memory.field-0-is in
+    as_memory (world_of c.args.world.now) c.args.row c.args.id (members c.args.colours) c.args.places.items c.args.outcome
+    c.in-Gone-Memory.field-0 c.in-Gone-Memory.is why

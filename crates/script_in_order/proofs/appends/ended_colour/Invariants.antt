@@ -1,13 +1,14 @@
-use Rattle.std.proofs.Common.{◌≡◌, []}
-use Rattle.std.specs.List.{filter}
-use Rattle.log_node.specs.Outcomes.{is_stamp_end_fence}
-use Rattle.world_laws.specs.Worlds.{row_of}
+use Rattle.std.proofs.Common.{◌≡◌, ◌<◌}
+use Rattle.std.specs.List.{All}
+use Rattle.log_node.specs.Sets.{members}
 use Rattle.world_code.specs.WorldView.{world_of}
-use Rattle.script_in_order.proofs.Sets.{first_members}
+use Rattle.script_meaning.specs.Appends.{ended_colour}
 use Rattle.script_in_order.proofs.appends.ended_colour.Given as goal
 
--- none of the colours so far had no stamp left
+-- it is the least of the colours that are left
 abbrev pub invariant-loop-colour : goal.invariant-loop-colour
-invariant-loop-colour l =
-    filter (λ colour. is_stamp_end_fence ((row_of (world_of l.world) l.row).marks colour))
-    (first_members l.colours l.colour) ≡ []
+invariant-loop-colour l = record {
+  least : ended_colour (world_of l.world) l.row l.colour-iterator
+      ≡ ended_colour (world_of l.world) l.row (members l.fn.colours);
+  low : All (λ c. c < l.world.shape.colours) l.colour-iterator;
+}

@@ -3,8 +3,10 @@ use Rattle.std.specs.Prelude.{unwrap_or}
 use Rattle.log_node.specs.declared.ids.Counts.{Counts}
 use Rattle.log_node.specs.Sets.{members}
 use Rattle.log_node.specs.Vectors.{zeros}
+use Rattle.log_node.specs.declared.limits.TheConstants.{MAX_COLOURS}
+use Rattle.log_node.proofs.CallerLemmas.{members_few}
 use Rattle.col_core.specs.Rows.{wants_of}
-use Rattle.script_in_order.proofs.CausalSteps.{few_members, wants_here, wants_skip}
+use Rattle.script_in_order.proofs.CausalSteps.{wants_here, wants_skip}
 use Rattle.script_in_order.proofs.causal.wants_of.Goals as goal
 
 pub loop-other-init : goal.loop-other-init
@@ -14,8 +16,8 @@ loop-other-init c =
     c.into_iter-other-iterator.ensures.into_iter_gives ∙ c.members-other-items.ensures in
     record {
       left = ap (λ (l : List ℕ). wants_of l node.wants c.args.colour) is;
-      few = let f = few_members node.colours in
-          subst (λ (l : List ℕ). 0 + length l ≤ 64) (sym is) (omega (arith, f));
+      few = let f = members_few node.colours in
+          subst (λ (l : List ℕ). 0 + length l ≤ MAX_COLOURS) (sym is) (omega (arith, f));
     }
 
 pub returns-in-Some-get : goal.returns-in-Some-get

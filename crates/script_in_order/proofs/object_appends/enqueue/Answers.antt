@@ -1,7 +1,7 @@
 use Rattle.std.proofs.Common.{◌∙◌, Option, get_or, ap, sym, subst}
+use Rattle.log_node.specs.Sets.{set_of}
 use Rattle.script_text.specs.Fitting.{AreBelow, HasColours, is_queue}
 use Rattle.script_text.specs.declared.script.Kind.{Kind}
-use Rattle.script_text.specs.Items.{set_of}
 use Rattle.lawful_run.specs.Asks.{object_colours}
 use Rattle.object_form.specs.Forms.{IsForm}
 use Rattle.log_node.specs.declared.forms.Form.TheVariants as forms

@@ -1,5 +1,5 @@
 use Rattle.std.proofs.Common.{◌≡◌, map, take, Some}
-use Rattle.script_text.specs.Items.{set_of}
+use Rattle.log_node.specs.Sets.{set_of}
 use Rattle.object_fold.specs.Nodes.{shard_of}
 use Rattle.lawful_run.specs.Asks.{object_colours}
 use Rattle.script_in_order.proofs.object_appends.key_shards.Given as goal

@@ -2,9 +2,8 @@ use Rattle.std.proofs.Common.{◌∙◌, ◌<◌, sym, subst, ap, set, length}
 use Rattle.world_code.specs.WorldView.{world_of}
 use Rattle.script_in_order.specs.Runs.{RepliesView, IsDone, with_reply, no_replies, read_at}
 use Rattle.script_in_order.specs.Transacting.{AreFit, Transacts}
-use Rattle.script_in_order.proofs.FoldsKept.{folds_stay}
 use Rattle.script_in_order.proofs.RunReplies.{command_done, transaction_done, any_default}
-use Rattle.script_in_order.proofs.TransactionSteps.{object_there, transacted_to}
+use Rattle.script_in_order.proofs.TransactionSteps.{object_there}
 use Rattle.script_in_order.proofs.run.do_command.Goals as goal
 
 pub add-requires : goal.add-requires

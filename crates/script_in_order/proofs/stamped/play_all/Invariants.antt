@@ -1,13 +1,15 @@
-use Rattle.std.proofs.Common.{◌≡◌, None}
+use Rattle.std.proofs.Common.{◌≡◌, ◌<◌}
+use Rattle.std.specs.List.{All}
+use Rattle.log_node.specs.Sets.{members}
 use Rattle.world_code.specs.WorldView.{world_of}
 use Rattle.script_meaning.specs.Stamped.{played}
-use Rattle.script_in_order.proofs.Sets.{first_members}
 use Rattle.script_in_order.proofs.stamped.play_all.Given as goal
 
--- the plays so far
+-- the plays that are left go on from here
 abbrev pub invariant-loop-colour : goal.invariant-loop-colour
 invariant-loop-colour l = record {
-  plays : played l.client (world_of l.initial.world) (first_members l.colours l.colour)
-      ≡ record { world = world_of l.world; stopped = None };
-  shape : l.world.shape ≡ l.initial.world.shape;
+  plays : played l.client (world_of l.world) l.colour-iterator
+      ≡ played l.client (world_of l.fn.world) (members l.fn.colours);
+  low : All (λ c. c < l.fn.world.shape.colours) l.colour-iterator;
+  shape : l.world.shape ≡ l.fn.world.shape;
 }

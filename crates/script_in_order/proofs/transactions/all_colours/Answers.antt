@@ -1,16 +1,17 @@
 use Rattle.std.proofs.Common.{◌∙◌, ◌<◌, ℕ, List, Some, ap, sym, subst}
 use Rattle.std.specs.List.{All}
+use Rattle.log_node.specs.declared.limits.TheConstants.{MAX_COLOURS}
+use Rattle.log_node.specs.Sets.{set_of}
 use Rattle.script_text.specs.declared.script.Kind.{Kind}
-use Rattle.script_text.specs.Items.{set_of}
 use Rattle.script_text.specs.Fitting.{AreObjectColours}
 use Rattle.lawful_run.specs.Asks.{object_colours}
 use Rattle.script_in_order.proofs.transactions.all_colours.Goals as goal
 
-pub set_of-requires : goal.set_of-requires
-set_of-requires c =
-    subst (λ (l : List ℕ). All (λ colour. colour < 16) l) (sym c.as_slice.ensures)
-    (subst (λ (k : Kind). AreObjectColours 16 (object_colours (Some k))) c.in-Tx.is c.requires.colours).below
+pub of-requires : goal.of-requires
+of-requires c =
+    subst (λ (l : List ℕ). All (λ colour. colour < MAX_COLOURS) l) (sym c.as_slice.ensures)
+    (subst (λ (k : Kind). AreObjectColours MAX_COLOURS (object_colours (Some k))) c.in-Tx.is c.requires.colours).below
 
 pub returns : goal.returns
 returns c =
-    c.set_of.ensures ∙ (ap set_of c.as_slice.ensures ∙ ap (λ (k : Kind). set_of (object_colours (Some k))) (sym c.in-Tx.is))
+    c.of.ensures ∙ (ap set_of c.as_slice.ensures ∙ ap (λ (k : Kind). set_of (object_colours (Some k))) (sym c.in-Tx.is))

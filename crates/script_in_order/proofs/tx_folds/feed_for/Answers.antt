@@ -1,7 +1,6 @@
-use Rattle.std.proofs.Common.{◌∙◌, ◌+◌, List, ◌++◌, refl, sym, subst, map, take, Option}
+use Rattle.std.proofs.Common.{◌∙◌, ◌+◌, List, ◌++◌, refl, sym, subst, map, take}
 use Rattle.std.proofs.lemmas.List.{take_all}
 use Rattle.log_node.specs.declared.ids.Key.{Key}
-use Rattle.object_fold.specs.declared.verdict.Verdict.{Verdict}
 use Rattle.object_fold.specs.Nodes.{ObjectNode}
 use Rattle.object_fold.specs.States.{IsTxState}
 use Rattle.world_code.specs.WorldView.{world_of}

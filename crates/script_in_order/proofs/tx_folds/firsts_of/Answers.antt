@@ -1,46 +1,37 @@
-use Rattle.std.proofs.Common.{◌∙◌, ℕ, List, [], Vec, Global, ap, sym, subst, arith}
+use Rattle.std.proofs.Common.{◌∙◌}
+use Rattle.log_node.specs.Sets.{members}
 use Rattle.world_code.specs.WorldView.{world_of}
-use Rattle.script_in_order.specs.Folds.{AreRead}
-use Rattle.script_in_order.proofs.Sets.{first_members, has_below, all_first, one_more, none_more}
-use Rattle.script_in_order.proofs.TxFolds.{no_lines, line_made}
+use Rattle.script_in_order.proofs.Sets.{low_first, low_next, low_rest}
+use Rattle.script_in_order.proofs.TxFolds.{no_lines, line_made, all_lines}
 use Rattle.script_in_order.proofs.tx_folds.firsts_of.Goals as goal
-use Rattle.script_in_order.proofs.tx_folds.firsts_of.Goals.{then-has+in_ok-push, else-has}
-use Rattle.script_in_order.specs.declared.folds.FirstNodes.{FirstNodes}
-
-pub nodes_up_to-requires-clause-colour : goal.nodes_up_to-requires-clause-colour
-nodes_up_to-requires-clause-colour c =
-    has_below c.args.read.colours c.args.world.now.shape.colours c.loop-colour.colour c.requires.within (omega arith)
-    (sym c.if-has.ensures)
-
-pub returns : goal.returns
-returns c =
-    subst (λ (cs : List ℕ). AreRead (world_of c.args.world.now) c.args.read.client c.args.read.stamp cs c.loop-colour.firsts.items)
-    (all_first c.args.read.colours c.loop-colour.colour
-    (omega (arith, c.loop-colour-test.false, c.loop-colour.auto.colour-end)) (omega arith)) c.loop-colour.invariant
 
 pub loop-colour-init : goal.loop-colour-init
 loop-colour-init c =
-    subst (AreRead (world_of c.args.world.now) c.args.read.client c.args.read.stamp []) (sym c.new-firsts.ensures.items)
-    (no_lines (world_of c.args.world.now) c.args.read.client c.args.read.stamp)
+    let left = c.into_iter-colour-iterator.result in
+    let all = c.into_iter-colour-iterator.ensures.into_iter_gives ∙ c.members-colour-items.ensures in record {
+      lines = no_lines (world_of c.args.world.now) c.args.read.client c.args.read.stamp left (members c.args.read.colours)
+          c.new-firsts.result.items c.new-firsts.ensures.items all;
+      low = low_first c.args.world.now.shape.colours c.args.read.colours left all c.requires.within;
+    }
+
+pub nodes_up_to-requires-clause-colour : goal.nodes_up_to-requires-clause-colour
+nodes_up_to-requires-clause-colour c =
+    low_next c.args.world.now.shape.colours c.in-Some.colour c.loop-colour.colour-iterator c.next.new.self
+    c.in-Some.ensures.steps c.loop-colour.invariant.low
 
 pub loop-colour-preserved : goal.loop-colour-preserved
 loop-colour-preserved c =
-    let w = world_of c.args.world.now in
-    let n = c.loop-colour.colour in
-    let set = c.args.read.colours in
-    elim c.if-has.branch [
-      | then-has+in_ok-push v ↦
-          subst (λ (cs : List ℕ). AreRead w c.args.read.client c.args.read.stamp cs c.if-has.firsts.items)
-          (sym (one_more set n (sym v.if-has.ensures)))
-          (line_made w c.args.read.client c.args.read.stamp (first_members set n) n c.loop-colour.firsts.items
-          c.if-has.firsts.items v.nodes_up_to.result
-          (ap (λ (x : Vec FirstNodes Global). x.items) v.firsts-is ∙ v.in_ok-push.ensures.items)
-          v.nodes_up_to.ensures.there v.nodes_up_to.ensures.region v.nodes_up_to.ensures.colour
-          v.nodes_up_to.ensures.nodes
-          c.loop-colour.invariant)
-      | else-has v ↦
-          subst (λ (cs : List ℕ). AreRead w c.args.read.client c.args.read.stamp cs c.if-has.firsts.items)
-          (sym (none_more set n (sym v.if-has.ensures)))
-          (subst (λ (x : Vec FirstNodes Global). AreRead w c.args.read.client c.args.read.stamp (first_members set n) x.items)
-          (sym v.firsts-is) c.loop-colour.invariant)
-    ]
+    let left = c.loop-colour.colour-iterator in
+    let steps = c.in-Some.ensures.steps in
+    let its = c.nodes_up_to.ensures in record {
+      lines = line_made (world_of c.args.world.now) c.args.read.client c.args.read.stamp c.in-Some.colour left
+          c.next.new.self (members c.args.read.colours) c.loop-colour.firsts.items c.push.new.self.items
+          c.nodes_up_to.result steps c.in_ok-push.ensures.items its.there its.region its.colour its.nodes
+          c.loop-colour.invariant.lines;
+      low = low_rest c.args.world.now.shape.colours c.in-Some.colour left c.next.new.self steps c.loop-colour.invariant.low;
+    }
+
+pub returns : goal.returns
+returns c =
+    all_lines (world_of c.args.world.now) c.args.read.client c.args.read.stamp c.loop-colour.colour-iterator
+    (members c.args.read.colours) c.loop-colour.firsts.items c.in-None.ensures.steps.0 c.loop-colour.invariant.lines

@@ -1,5 +1,4 @@
 use Rattle.std.proofs.Common.{◌≡◌, ◌<◌, ◌+◌, suc, [], length, take, drop, refl, arith}
-use Rattle.std.proofs.lemmas.Nat.{one_shl}
 use Rattle.std.proofs.lemmas.List.{take_all, length-drop}
 use Rattle.std.proofs.lemmas.Result.{err_from_is_err_and}
 use Rattle.script_text.specs.Pieces.{names_in}
@@ -25,9 +24,8 @@ returns-then-end-rest-clause-value c =
     let rest = c.loop-colour.rest.now in
     let end = c.comma_front-end.ensures in
     let whole : c.comma_front-end.result ≡ length rest = omega (arith, end.within, c.if-end-rest.true) in
-    let small : c.in_ok-colour.colour < 16 = omega (arith, c.in_ok-colour.ensures.below, c.requires) in
     let read : fresh_colour_at names c.loop-colour.set rest ≡ _ = rw (whole, take_all (length rest) rest (omega arith)) at c.in_ok-colour.ensures.value in
-    rw (one_shl c.in_ok-colour.colour 16 small) (gives names c.args.cols.now rest c.loop-colour.set c.loop-colour.count c.loop-colour.invariant.read rest c.in_ok-colour.colour (comma_none rest (rw whole at end.front)) read)
+    rw c.with-set.ensures (gives names c.args.cols.now rest c.loop-colour.set c.loop-colour.count c.loop-colour.invariant.read rest c.in_ok-colour.colour (comma_none rest (rw whole at end.front)) read)
 
 pub returns-then-end-rest-clause-few : goal.returns-then-end-rest-clause-few
 returns-then-end-rest-clause-few c =
@@ -36,7 +34,11 @@ returns-then-end-rest-clause-few c =
     let end = c.comma_front-end.ensures in
     let whole : c.comma_front-end.result ≡ length rest = omega (arith, end.within, c.if-end-rest.true) in
     let read : fresh_colour_at names c.loop-colour.set rest ≡ _ = rw (whole, take_all (length rest) rest (omega arith)) at c.in_ok-colour.ensures.value in
-    few names c.args.cols.now rest c.loop-colour.set c.loop-colour.count c.loop-colour.invariant.read rest c.in_ok-colour.colour c.requires (comma_none rest (rw whole at end.front)) read
+    omega (
+      arith,
+      c.requires,
+      few names c.args.cols.now rest c.loop-colour.set c.loop-colour.count c.loop-colour.invariant.read rest c.in_ok-colour.colour (comma_none rest (rw whole at end.front)) read,
+    )
 
 pub loop-colour-preserved : goal.loop-colour-preserved
 loop-colour-preserved c =
@@ -44,7 +46,6 @@ loop-colour-preserved c =
     let i = c.comma_front-end.result in
     let end = c.comma_front-end.ensures in
     let lt : i < length rest = omega (arith, c.if-end-rest.false) in
-    let small : c.in_ok-colour.colour < 16 = omega (arith, c.in_ok-colour.ensures.below, c.requires) in
     let read = goes_on c.args.names.now c.args.cols.now rest c.loop-colour.set c.loop-colour.count c.loop-colour.invariant.read (take i rest) (drop (i + 1) rest) c.in_ok-colour.colour (comma_at rest i lt end.front (end.stop lt)) c.in_ok-colour.ensures.value in
     let shorter : length (drop (i + 1) rest) + suc i ≡ length rest = omega (arith, length-drop (i + 1) rest, lt) in
-    rw (one_shl c.in_ok-colour.colour 16 small, c.behind-rest.ensures) (record { read = read; fits = omega (arith, shorter, c.loop-colour.invariant.fits) })
+    rw (c.with-set.ensures, c.behind-rest.ensures) (record { read = read; fits = omega (arith, shorter, c.loop-colour.invariant.fits) })

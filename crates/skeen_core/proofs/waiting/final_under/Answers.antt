@@ -1,6 +1,5 @@
-use Rattle.std.proofs.Common.{◌≡◌, rules, of_calls, get_or, sym, ap, ◌∙◌, arith}
+use Rattle.std.proofs.Common.{rules, of_calls, get_or, ap, ◌∙◌, arith}
 use Rattle.std.specs.Prelude.{not}
-use Rattle.std.specs.List.{remove, AllWithin}
 use Rattle.std.proofs.lemmas.Bool.{not-true, not-false}
 use Rattle.std.proofs.lemmas.Fn.{always_returns_same}
 use Rattle.std.proofs.lemmas.List.{get_or_read}

@@ -1,8 +1,7 @@
-use Rattle.std.proofs.Common.{◌≡◌, Some, refl, sym, ap, ◌∙◌, true, false}
-use Rattle.std.specs.Prelude.{◌&&◌}
+use Rattle.std.proofs.Common.{◌≡◌, Some, refl, sym, ap, ◌∙◌, true}
 use Rattle.std.specs.List.{position, list_any}
 use Rattle.std.proofs.lemmas.Bool.{and_left, and_from}
-use Rattle.skeen_core.specs.Queues.{is_decided, settled_stored}
+use Rattle.skeen_core.specs.Queues.{is_decided}
 use Rattle.skeen_core.proofs.Settling.{opens, gone-is, final-is, found-any, none-any, any-found}
 use Rattle.skeen_core.proofs.waiting.settle_entry.Goals as goal
 

@@ -1,6 +1,9 @@
-use Rattle.std.proofs.Common.{◌∙◌, ◌<◌, ℕ, subst}
+use Rattle.std.proofs.Common.{rules, ◌^◌, ◌∙◌, ◌<◌, Option, ap}
+use Rattle.log_node.specs.declared.limits.TheConstants.{MAX_COLOURS}
+use Rattle.log_node.specs.declared.ids.Key.{Key}
 use Rattle.log_node.specs.Sets.{members}
 use Rattle.lawful_run.specs.Asks.{shards}
+use Rattle.log_client.specs.Objects.{last_after}
 use Rattle.log_client.proofs.CallerLemmas.{rests_synced}
 use Rattle.atomic_map.proofs.MapLines.{can_go_on, few_members, lines_later, of_keys, of_store}
 use Rattle.atomic_map.proofs.MapReads.{gets_all, read_hidden, read_refused}
@@ -11,7 +14,7 @@ read_on-requires-clause-colours g c =
     let colours = c.args.self.now.colours in
     of_store c.args.store.now c.args.client.now colours c.requires.client c.requires.map.colours c.args.keys.now
     c.requires.some c.key_shards-set.result
-    (subst (λ (n : ℕ). n < 65536) c.bits_of-bits.ensures c.bits_of-bits.type_inv)
+    (search rules)
     (of_keys c.key_shards-set.result c.as_slice.result.now colours c.as_slice-2.result.now c.args.keys.now
     c.key_shards-set.ensures c.as_slice.ensures c.as_slice-2.ensures)
 
@@ -31,7 +34,7 @@ values_read-requires-clause-goes g c =
     let keys = c.args.keys.now in
     let colours = c.args.self.now.colours in
     let e = c.read_on.ensures in
-    let bits = subst (λ (n : ℕ). n < 65536) c.bits_of-bits.ensures c.bits_of-bits.type_inv in
+    let bits : set.0 < 2 ^ MAX_COLOURS = search rules in
     let are = of_keys set c.as_slice.result.now colours c.as_slice-2.result.now keys c.key_shards-set.ensures
     c.as_slice.ensures c.as_slice-2.ensures in
     can_go_on s x y c.args.self.now set c.in-Ok.read.stamp c.requires.client
@@ -49,6 +52,16 @@ returns-in-Ok-values_read-clause-ok g c =
     c.as_slice.ensures c.as_slice-2.ensures)
     c.read_on.ensures.client c.args.self.now.last r.read r.ensures.ok r.ensures.held c.in-Ok-values_read.values
     c.in-Ok-values_read.ensures.values
+
+pub returns-in-Ok-values_read-clause-map : goal.returns-in-Ok-values_read-clause-map
+returns-in-Ok-values_read-clause-map g c = record {
+  colours = c.values_read.ensures.map.colours;
+  lines = c.values_read.ensures.map.lines;
+}
+
+pub returns-in-Ok-values_read-clause-last : goal.returns-in-Ok-values_read-clause-last
+returns-in-Ok-values_read-clause-last g c =
+    c.last_after-self.ensures ∙ ap (λ (l : Option Key). last_after l c.in-Ok.read.items) c.values_read.ensures.same.2
 
 pub returns-in-Ok-values_read-clause-raises : goal.returns-in-Ok-values_read-clause-raises
 returns-in-Ok-values_read-clause-raises g c =

@@ -9,7 +9,7 @@ pub returns-in_err-push-clause-opens : goal.returns-in_err-push-clause-opens
 returns-in_err-push-clause-opens c =
     let n = c.loop-place.self in
     opens_same c.args.self.now n (record { home = n.home; colours = n.colours; lines = c.push.new.self; last = n.last })
-    (refl, refl) c.in_err-push.ensures.items c.loop-place.invariant.opens
+    (refl, refl, refl) c.in_err-push.ensures.items c.loop-place.invariant.opens
 
 pub loop-place-preserved : goal.loop-place-preserved
 loop-place-preserved c =
@@ -18,7 +18,7 @@ loop-place-preserved c =
     let long = ap length c.in_ok-push.ensures.items in
     let more = length-append n.lines.items (c.new.result ∷ []) in record {
       opens = opens_more c.args.self.now n
-          (record { home = n.home; colours = n.colours; lines = c.push.new.self; last = n.last }) c.new.result (refl, refl)
+          (record { home = n.home; colours = n.colours; lines = c.push.new.self; last = n.last }) c.new.result (refl, refl, refl)
           c.in_ok-push.ensures.items c.new.ensures.count c.new.ensures.empty c.loop-place.invariant.opens;
       many = omega (arith, many, long, more);
     }

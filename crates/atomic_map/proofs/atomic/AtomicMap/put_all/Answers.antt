@@ -1,4 +1,4 @@
-use Rattle.std.proofs.Common.{◌<◌, Some, List, ℕ, IfOk, IfErr, ap, subst, ◌∙◌}
+use Rattle.std.proofs.Common.{rules, ◌<◌, Some, List, ℕ, IfOk, IfErr, ap, subst, ◌∙◌}
 use Rattle.log_node.specs.declared.forms.Form.TheVariants as forms
 use Rattle.log_node.specs.declared.forms.Pair.{Pair}
 use Rattle.log_node.specs.Sets.{members}
@@ -14,7 +14,7 @@ append_form-requires-clause-colours g c κs within =
     let colours = c.args.self.now.colours in
     of_store c.args.store.now c.args.client.now colours c.requires.client c.requires.map.colours (keys_of c.args.pairs.now)
     (keys_some c.args.pairs.now c.requires.pairs.some) c.pair_shards-set.result
-    (subst (λ (n : ℕ). n < 65536) c.bits_of-bits.ensures c.bits_of-bits.type_inv)
+    (search rules)
     (of_keys c.pair_shards-set.result c.as_slice-2.result.now colours (keys_of c.as_slice-3.result.now)
     (keys_of c.args.pairs.now) c.pair_shards-set.ensures c.as_slice-2.ensures (ap keys_of c.as_slice-3.ensures))
 

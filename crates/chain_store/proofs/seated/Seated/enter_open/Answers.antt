@@ -1,5 +1,6 @@
 use Rattle.std.proofs.Common.{ℕ, refl, ap, sym, subst, ◌∙◌, ◌≡◌, ◌≤◌, ◌<◌, arith, length, false, List, ◌+◌}
 use Rattle.std.specs.Prelude.{slice_index}
+use Rattle.log_node.specs.declared.limits.TheConstants.{MAX_CLIENTS}
 use Rattle.log_node.specs.declared.node.Node.{Node}
 use Rattle.col_core.specs.declared.Entry.{Entry}
 use Rattle.col_core.specs.History.{has_entered}
@@ -38,7 +39,7 @@ invariant_of-self c =
       above = entered_below s.column c.propose.new.self t x refl (propose_entered s.column c.propose.new.self c.args.by x same)
           s.entered c.deref.result.now.id.client c.deref-2.result.now.id.count s.above
           (let long = s.all in
-          let few = subst (λ (y : Node). y.id.client < 16) (sym c.deref.ensures) c.requires.maker.1 in omega (arith, long, few))
+          let few = subst (λ (y : Node). y.id.client < MAX_CLIENTS) (sym c.deref.ensures) c.requires.maker.1 in omega (arith, long, few))
           (c.is_new.ensures c.if-not-is_new.false) (λ other is. same_id-true other x.id is)
           (ap (λ (y : Node). y.id.client) (sym c.deref.ensures)) (ap (λ (y : Node). y.id.count) (sym c.deref-2.ensures));
     }

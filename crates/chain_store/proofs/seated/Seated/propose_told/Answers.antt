@@ -51,7 +51,7 @@ propose-step-requires-clause-colour c =
 pub propose-step-requires-clause-maker : goal.propose-step-requires-clause-maker
 propose-step-requires-clause-maker c =
     let row = c.requires.begun.1.row.0 in
-    let few = c.args.board.now.is_size.1 in
+    let few = c.args.board.now.is_size.few_clients in
     (c.requires.maker, omega (arith, row, few))
 
 pub returns-clause-step : goal.returns-clause-step

@@ -16,7 +16,7 @@ pub loop-colour-preserved : goal.loop-colour-preserved
 loop-colour-preserved c =
     wants_next c.args.self.now c.args.colours c.loop-colour.wants c.push.new.self c.loop-colour.colour-iterator
     c.next.new.self c.in-Some.colour c.snapshot.result.counts c.loop-colour.invariant c.in-Some.ensures.steps
-    c.in_ok-push.ensures.ok c.snapshot.ensures
+    c.in_ok-push.ensures.ok c.snapshot.ensures.counts
 
 pub returns : goal.returns
 returns c =

@@ -39,7 +39,7 @@ returns-in_default g c =
       held = tt;
       named = tt;
       hidden = tt;
-      err = unraised s x b c.args.colours (members c.args.colours) refl stamp e.rests e.keeps e.chosen e.floor e.above
+      err = unraised s x b (members c.args.colours) stamp e.rests e.keeps e.chosen e.floor e.above
           c.raise_all.new.self c.raise_all.ensures.rests c.in_default.ensures.err;
     }
 
@@ -71,7 +71,7 @@ returns-in_err-syncs g c =
       held = tt;
       named = tt;
       hidden = tt;
-      err = unsynced s x b c.args.colours (members c.args.colours) refl stamp e.rests e.keeps e.chosen e.floor e.above
+      err = unsynced s x b (members c.args.colours) stamp e.rests e.keeps e.chosen e.floor e.above
           r q c.in-Ok.raises.items c.raise_all.ensures.rests up.ok up.colours k.rests k.keeps k.clear
           c.sync_all.new.self c.in_err-syncs.field-0.0 c.sync_all.ensures.rests c.in_err-syncs.ensures.err;
     }
@@ -98,7 +98,7 @@ returns-in_default-items_read g c =
     let q = c.clear_up_to.new.self in
     let k = c.clear_up_to.ensures in
     let up = c.in-Ok.ensures in
-    let on = read_rests s x b c.args.colours (members c.args.colours) refl stamp e.rests e.keeps e.chosen e.floor e.above
+    let on = read_rests s x b (members c.args.colours) stamp e.rests e.keeps e.chosen e.floor e.above
     r q c.in-Ok.raises.items c.raise_all.ensures.rests up.ok up.colours k.rests k.keeps k.clear
     c.sync_all.new.self c.sync_all.ensures.rests c.in_ok-syncs.syncs.items c.in_ok-syncs.ensures.ok c.max-self.result
     c.max-self.ensures e.in_range in
@@ -115,7 +115,7 @@ returns-in_default-items_read g c =
       held = tt;
       named = tt;
       hidden = tt;
-      err = unanswered s x b c.args.colours (members c.args.colours) refl stamp e.rests e.keeps e.chosen e.floor e.above
+      err = unanswered s x b (members c.args.colours) stamp e.rests e.keeps e.chosen e.floor e.above
           r q c.in-Ok.raises.items c.raise_all.ensures.rests up.ok up.colours k.rests k.keeps k.clear
           c.sync_all.new.self c.sync_all.ensures.rests c.in_ok-syncs.syncs.items c.in_ok-syncs.ensures.ok c.max-self.result
           c.max-self.ensures e.in_range;
@@ -132,12 +132,12 @@ returns g c =
     let q = c.clear_up_to.new.self in
     let k = c.clear_up_to.ensures in
     let up = c.in-Ok.ensures in
-    let on = read_rests s x b c.args.colours (members c.args.colours) refl stamp e.rests e.keeps e.chosen e.floor e.above
+    let on = read_rests s x b (members c.args.colours) stamp e.rests e.keeps e.chosen e.floor e.above
     r q c.in-Ok.raises.items c.raise_all.ensures.rests up.ok up.colours k.rests k.keeps k.clear
     c.sync_all.new.self c.sync_all.ensures.rests c.in_ok-syncs.syncs.items c.in_ok-syncs.ensures.ok c.max-self.result
     c.max-self.ensures e.in_range in
     let ok =
-    read_answered s x b c.args.colours (members c.args.colours) refl stamp e.rests e.keeps e.chosen e.floor e.above
+    read_answered s x b (members c.args.colours) stamp e.rests e.keeps e.chosen e.floor e.above
     r q c.in-Ok.raises.items c.raise_all.ensures.rests up.ok up.colours k.rests k.keeps k.clear
     c.sync_all.new.self c.sync_all.ensures.rests c.in_ok-syncs.syncs.items c.in_ok-syncs.ensures.ok c.max-self.result
     c.max-self.ensures e.in_range
@@ -155,13 +155,13 @@ returns g c =
       syncs = ap synced_colours c.into-2.ensures ∙ c.in_ok-syncs.ensures.ok.2;
       above = e.above;
       ok = ok;
-      held = lines_held s x b c.args.colours (members c.args.colours) refl stamp e.rests e.keeps e.chosen e.floor e.above
+      held = lines_held s x b (members c.args.colours) stamp e.rests e.keeps e.chosen e.floor e.above
           r q c.in-Ok.raises.items c.raise_all.ensures.rests up.ok up.colours k.rests k.keeps k.clear
           c.sync_all.new.self c.sync_all.ensures.rests c.in_ok-syncs.syncs.items c.in_ok-syncs.ensures.ok c.max-self.result
           c.max-self.ensures e.in_range c.read_items_last.ensures;
       named = items_named s _ on.client (members c.args.colours) stamp ok.0 ok.1 (is_behind c.args.last)
           c.in-Ok-items_read.items ok.2.0;
-      hidden = unanswered s x b c.args.colours (members c.args.colours) refl stamp e.rests e.keeps e.chosen e.floor e.above
+      hidden = unanswered s x b (members c.args.colours) stamp e.rests e.keeps e.chosen e.floor e.above
           r q c.in-Ok.raises.items c.raise_all.ensures.rests up.ok up.colours k.rests k.keeps k.clear
           c.sync_all.new.self c.sync_all.ensures.rests c.in_ok-syncs.syncs.items c.in_ok-syncs.ensures.ok c.max-self.result
           c.max-self.ensures e.in_range;

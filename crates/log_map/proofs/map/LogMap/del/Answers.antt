@@ -1,4 +1,4 @@
-use Rattle.std.proofs.Common.{Some, [], ◌∷◌, ap, subst, sym, ◌∙◌, List, ℕ, IfErr}
+use Rattle.std.proofs.Common.{Some, [], ◌∷◌, ap, subst, ◌∙◌, List, ℕ, IfErr}
 use Rattle.log_node.specs.declared.forms.Form.TheVariants as forms
 use Rattle.object_form.specs.Forms.{form_text}
 use Rattle.object_fold.specs.Nodes.{shard_of}

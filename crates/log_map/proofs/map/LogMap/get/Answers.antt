@@ -2,7 +2,7 @@ use Rattle.std.proofs.Common.{ap, subst, sym, ◌∙◌, ◌<◌, List, ℕ, len
 use Rattle.object_fold.specs.Nodes.{shard_of}
 use Rattle.object_fold.specs.Maps.{shard_value}
 use Rattle.log_client.specs.Clients.{line_of, tracks_of}
-use Rattle.log_client.specs.Calls.{IsExplained}
+use Rattle.log_client.specs.Calls.{AnswersSync, IsExplained}
 use Rattle.log_client.specs.Objects.{HidesOne, SyncLeaves, object_nodes}
 use Rattle.log_client.proofs.CallerLemmas.{rests_synced, shard_in, sync_hidden, sync_leaves}
 use Rattle.log_map.specs.Maps.{Gets}
@@ -34,6 +34,12 @@ returns-in-Ok-value-clause-ok g c =
     (c.in-Ok-value.ensures.value
     ∙ ap (shard_value colours c.shard_of-colour.result (object_nodes (line_of c.sync.new.self c.shard_of-colour.result)))
     c.as_bytes-in-Ok.ensures))
+
+pub returns-in-Ok-value-clause-played : goal.returns-in-Ok-value-clause-played
+returns-in-Ok-value-clause-played g c =
+    let is = c.shard_of-colour.ensures ∙ (ap (λ (l : List ℕ). shard_of l c.as_bytes.result.now) c.as_slice.ensures
+    ∙ ap (shard_of c.args.self.now.colours) c.as_bytes.ensures) in
+    subst (λ (k : ℕ). AnswersSync c.args.client.now c.sync.new.self k c.in-Ok.synced) is c.in-Ok.ensures.answer
 
 pub returns-in-Err-value-clause-err : goal.returns-in-Err-value-clause-err
 returns-in-Err-value-clause-err g c =

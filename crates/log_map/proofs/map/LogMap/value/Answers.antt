@@ -1,4 +1,4 @@
-use Rattle.std.proofs.Common.{sym, subst, ◌∙◌, ap, ◌≡◌, List, ℕ, Some}
+use Rattle.std.proofs.Common.{sym, ◌∙◌, ap, List, ℕ}
 use Rattle.std.specs.Prelude.{slice_get}
 use Rattle.log_map.proofs.MapAnswers.{map_with, shard_folds, shard_value_is}
 use Rattle.log_map.proofs.map.LogMap.value.Goals as goal

@@ -1,9 +1,10 @@
-use Rattle.std.proofs.Common.{◌<◌, List, ℕ, ap, sym, subst, ◌∙◌}
+use Rattle.std.proofs.Common.{List, ℕ, rules, ap, sym, subst, ◌∙◌}
 use Rattle.log_node.specs.Sets.{members}
 use Rattle.lawful_run.specs.Asks.{rising}
 use Rattle.log_client.specs.Calls.{IsExplained}
+use Rattle.log_client.proofs.CallerLemmas.{shards_of_store}
 use Rattle.region_fold.specs.Reads.{AreOwn, KeepsFold, TellRefused, TellsOwn}
-use Rattle.region_fold.proofs.CallerLemmas.{colours_later, shards_of_store, shards_own}
+use Rattle.region_fold.proofs.CallerLemmas.{colours_later, shards_own}
 use Rattle.tree_fold.specs.declared.told.Told.{Told}
 use Rattle.tree_fold.specs.declared.told.Told.TheVariants.{Done}
 use Rattle.log_tree.specs.Folded.{HasTree, telling}
@@ -19,8 +20,7 @@ append_and_read-requires-clause-kept g c κs within =
 pub append_and_read-requires-clause-set : goal.append_and_read-requires-clause-set
 append_and_read-requires-clause-set g c κs within =
     shards_of_store c.args.store.now c.args.client.now c.args.self.now.colours c.requires.client c.requires.tree.colours
-    (change_keys c.args.change.now) (some_keys c.args.change.now c.requires.change) c.key_shards-set.result
-    (subst (λ (n : ℕ). n < 65536) c.bits_of-bits.ensures c.bits_of-bits.type_inv)
+    (change_keys c.args.change.now) (some_keys c.args.change.now c.requires.change) c.key_shards-set.result (search rules)
     (change_set c.key_shards-set.result c.as_slice-colours.result.now c.args.self.now.colours c.in-Ok.keys
     c.as_slice.result.now c.args.change.now c.key_shards-set.ensures c.as_slice-colours.ensures c.as_slice.ensures
     c.in-Ok.ensures)
@@ -55,20 +55,20 @@ returns-clause-tree g c =
 pub returns-in-Ok-append_and_read-clause-ok : goal.returns-in-Ok-append_and_read-clause-ok
 returns-in-Ok-append_and_read-clause-ok g c =
     subst (λ (t : Told). Changes c.args.store.now c.args.client.now c.append_and_read.new.client c.args.self.now.colours
-    c.args.change.now t c.in-Ok-append_and_read.own c.in-Ok-append_and_read.read)
+    c.args.self.now.kept.last c.args.change.now t c.in-Ok-append_and_read.own c.in-Ok-append_and_read.read)
     (sym c.unwrap_or.ensures)
     (changes c.reads_back.ensures c.args.change.now c.requires.change
-    c.args.store.now c.args.client.now c.append_and_read.new.client c.args.self.now.colours c.key_shards-set.result
+    c.args.store.now c.args.client.now c.append_and_read.new.client c.args.self.now.colours c.args.self.now.kept.last c.key_shards-set.result
     c.in-Ok-append_and_read.told (Done c.in-Ok-append_and_read.own.stood.key.stamp) c.in-Ok-append_and_read.own
     c.in-Ok-append_and_read.read
     (change_set c.key_shards-set.result c.as_slice-colours.result.now c.args.self.now.colours c.in-Ok.keys
     c.as_slice.result.now c.args.change.now c.key_shards-set.ensures c.as_slice-colours.ensures c.as_slice.ensures
     c.in-Ok.ensures)
     (subst (λ (t : List ℕ). IsExplained c.args.store.now c.args.client.now c.append_and_read.new.client
-    (TellsOwn telling c.key_shards-set.result t (rising c.args.self.now.colours) c.in-Ok-append_and_read.told
+    (TellsOwn telling c.key_shards-set.result t (rising c.args.self.now.colours) c.args.self.now.kept.last c.in-Ok-append_and_read.told
     c.in-Ok-append_and_read.own c.in-Ok-append_and_read.read)) c.in-Ok-write_change.ensures
     (subst (λ (l : List ℕ). IsExplained c.args.store.now c.args.client.now c.append_and_read.new.client
-    (TellsOwn telling c.key_shards-set.result c.in-Ok-write_change.text (rising l) c.in-Ok-append_and_read.told
+    (TellsOwn telling c.key_shards-set.result c.in-Ok-write_change.text (rising l) c.args.self.now.kept.last c.in-Ok-append_and_read.told
     c.in-Ok-append_and_read.own c.in-Ok-append_and_read.read)) c.as_slice-colours.ensures c.in-Ok-append_and_read.ensures.ok)))
 
 pub returns-in-Ok-append_and_read-clause-points : goal.returns-in-Ok-append_and_read-clause-points

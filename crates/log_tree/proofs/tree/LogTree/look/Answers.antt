@@ -31,9 +31,9 @@ returns-in-Err-clause-tree g c =
 
 pub returns-in-Ok-clause-ok : goal.returns-in-Ok-clause-ok
 returns-in-Ok-clause-ok g c =
-    reads_so c.args.store.now c.args.client.now c.read.new.client c.args.self.now.colours c.in-Ok.read
+    reads_so c.args.store.now c.args.client.now c.read.new.client c.args.self.now.colours c.args.self.now.kept.last c.in-Ok.read
     (λ nodes. HasTree c.read.new.self.state nodes × AreWriters nodes) (HasTree c.read.new.self.state) (λ nodes has. has.0)
-    (subst (λ (l : List ℕ). ReadsNodes c.args.store.now c.args.client.now c.read.new.client l c.in-Ok.read
+    (subst (λ (l : List ℕ). ReadsNodes c.args.store.now c.args.client.now c.read.new.client l c.args.self.now.kept.last c.in-Ok.read
     (λ nodes. HasTree c.read.new.self.state nodes × AreWriters nodes)) c.as_slice.ensures c.in-Ok.ensures.ok)
 
 pub returns-in-Ok-clause-raises : goal.returns-in-Ok-clause-raises

@@ -3,7 +3,7 @@ use Rattle.log_node.specs.Seen.{PlacedNode}
 use Rattle.lawful_run.specs.Asks.{rising}
 use Rattle.log_client.specs.Objects.{object_nodes}
 use Rattle.region_fold.specs.Folds.{FeedsFirst, told_of}
-use Rattle.region_fold.proofs.ReadAnswers.{answers, kept_later, kept_on, stays}
+use Rattle.region_fold.proofs.ReadAnswers.{answers, kept_later, kept_on, last_stays, stays}
 use Rattle.region_fold.proofs.kept_fold.KeptFold.read_behind.Goals as goal
 
 pub returns-in-Ok-told-clause-kept : goal.returns-in-Ok-told-clause-kept
@@ -33,6 +33,9 @@ returns-in-Ok-told-clause-ok g c =
     c.in-Ok.read c.in-Ok.ensures.ok c.args.own c.stay_before.ensures.before g.F.NodeFold.told c.in-Ok-told.told
     (λ nodes is absent. c.in-Ok-told.ensures.ok nodes is absent
     ∙ ap (λ (l : List PlacedNode). told_of g.F.NodeFold.told (nodes ++ object_nodes l) c.args.own) c.as_slice.ensures)
+    c.args.self.now.last
+    (last_stays g.F.NodeFold.Holds c.args.self.now c.stay_before.new.self c.args.own c.stay_before.ensures.same
+    c.stay_before.ensures.anew)
 
 pub returns-in-Err-clause-kept : goal.returns-in-Err-clause-kept
 returns-in-Err-clause-kept g c =

@@ -7,7 +7,7 @@ pub returns-in-Ok : goal.returns-in-Ok
 returns-in-Ok g c =
     let e = c.in-Ok.ensures in
     gives_trimmed c.args.store.now c.args.client.now c.trim.new.self e.client e.same e.goes e.grows e.finished e.idle c.args.colour
-    c.snapshot.result.counts c.in-Ok.at c.in-Ok.base c.snapshot.ensures e.ok
+    c.snapshot.result.counts c.in-Ok.at c.in-Ok.base c.snapshot.ensures.counts e.ok
 
 pub returns-in-Err-NoMemory : goal.returns-in-Err-NoMemory
 returns-in-Err-NoMemory g c =

@@ -1,6 +1,8 @@
 use Rattle.std.proofs.Common.{ℕ, List, refl, ap, sym, subst, ◌∙◌, arith}
+use Rattle.std.proofs.lemmas.List.{length-map}
 use Rattle.object_form.specs.Forms.{form_text}
 use Rattle.log_node.specs.declared.forms.Form.TheVariants as forms
+use Rattle.log_node.specs.declared.forms.Pair.{Pair}
 use Rattle.lawful_run.specs.Asks.{keys_of, shards}
 use Rattle.script_text.specs.declared.script.Kind.TheVariants as kinds
 use Rattle.script_text.specs.declared.script.What.TheVariants as whats
@@ -28,11 +30,12 @@ put_all-put-requires-clause-map g c κs within = (subst (IsKept c.args.client.no
 pub appended-requires-clause-room : goal.appended-requires-clause-room
 appended-requires-clause-room g c =
     let room = c.in-Ok.ensures.capacity in
-    let is = subst (IsKept c.args.client.now) c.in-Map.is c.requires.kept in
-    let few = shards_few c.args.client.now c.in-Map.several.colours is.1.colours (keys_of c.args.pairs) in
+    let count = c.len.ensures in
+    let many = length-map c.args.pairs (λ (p : Pair). p.key) in
+    let few = shards_few c.in-Map.several.colours (keys_of c.args.pairs) in
     points_fit c.args.store.now c.args.client.now c.put_all-put.new.client
     (shards c.in-Map.several.colours (keys_of c.args.pairs)) (form_text (forms.PutAll c.args.pairs)) c.put_all-put.result _
-    c.put_all-put.ensures.ok (omega (arith, room, few))
+    c.put_all-put.ensures.ok (omega (arith, room, count, many, few))
 
 pub returns-clause-stays : goal.returns-clause-stays
 returns-clause-stays g c =

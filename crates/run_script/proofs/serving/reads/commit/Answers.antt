@@ -1,7 +1,9 @@
 use Rattle.std.proofs.Common.{Option, None, sym, subst}
+use Rattle.std.specs.Prelude.{IfSome}
+use Rattle.object_form.specs.Forms.{AreVersions}
 use Rattle.script_text.specs.declared.script.What.TheVariants as whats
 use Rattle.report_text.specs.declared.report.Answer.TheVariants as answers
-use Rattle.tx_map.specs.declared.transactions.Tx.{Tx}
+use Rattle.region_fold.specs.declared.transactions.Tx.{Tx}
 use Rattle.run_script.specs.declared.serving.opened.Opened.{Opened}
 use Rattle.run_script.specs.declared.serving.opened.Opened.TheVariants as opened
 use Rattle.run_script.specs.Opened.{IsKept}
@@ -32,17 +34,21 @@ returns-in_default-room_for-clause-gives g c =
     (gives_uncommitted c.args.store.now c.args.client.now c.requires.client c.in-Tx.map c.in-Tx.map c.in-Tx.found
     c.args.pairs))
 
+pub most_points-requires-clause-found : goal.most_points-requires-clause-found
+most_points-requires-clause-found g c =
+    subst (λ (o : Option Tx). IfSome o (λ (t : Tx). AreVersions t.versions)) (sym c.replace-tx.ensures.value)
+    (subst (IsKept c.args.client.now) c.in-Tx.is c.requires.kept).1
+
 pub ruled-requires-clause-points : goal.ruled-requires-clause-points
 ruled-requires-clause-points g c =
-    let kept = subst (IsKept c.args.client.now) c.in-Tx.is c.requires.kept in
-    points_few c.args.client.now c.in-Tx.map.colours kept.0.colours c.commit-commit.result c.replace-tx.result c.args.pairs _
+    points_few c.in-Tx.map.colours c.commit-commit.result c.replace-tx.result c.args.pairs _ _ c.most_points.ensures
     c.in-Ok.ensures.capacity c.commit-commit.ensures.points
 
 pub ruled-requires-clause-few : goal.ruled-requires-clause-few
 ruled-requires-clause-few g c =
-    let kept = subst (IsKept c.args.client.now) c.in-Tx.is c.requires.kept in
     let e = c.commit-commit.ensures in
-    shows_few_ruled c.args.client.now c.in-Tx.map.colours kept.0.colours c.commit-commit.result e.raises e.syncs
+    shows_few_ruled c.in-Tx.map.colours c.in-Ok-room_for.room c.commit-commit.result _ c.colour_count.ensures
+    c.in-Ok-room_for.ensures.places e.raises e.syncs
 
 pub returns-clause-gives : goal.returns-clause-gives
 returns-clause-gives g c =

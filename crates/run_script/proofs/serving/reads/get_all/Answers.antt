@@ -26,9 +26,9 @@ got_keys-requires-clause-many g c = c.get_all-get.ensures.many
 
 pub got_keys-requires-clause-few : goal.got_keys-requires-clause-few
 got_keys-requires-clause-few g c =
-    let kept = subst (IsKept c.args.client.now) c.in-Map.is c.requires.kept in
     let e = c.get_all-get.ensures in
-    shows_few_all c.args.client.now c.in-Map.several.colours kept.1.colours c.get_all-get.result c.args.keys e.raises e.syncs
+    shows_few_all c.in-Map.several.colours c.in-Ok-room_for.room c.get_all-get.result c.args.keys _ c.len-2.ensures
+    c.in-Ok-room_for.ensures.places e.raises e.syncs
 
 pub returns-clause-stays : goal.returns-clause-stays
 returns-clause-stays g c =
@@ -56,4 +56,4 @@ returns-clause-gives g c =
     (subst (λ (k : Kind). GivesFor c.args.store.now c.args.client.now c.get_all-get.new.client k
     (λ object. whats.GetAll object c.args.keys) c.got_keys.result) same
     (gives_map_get_all c.args.store.now c.args.client.now c.get_all-get.new.client e.client c.got_keys.result
-    c.in-Map.several.home c.in-Map.several.colours c.args.keys c.get_all-get.result c.got_keys.ensures e.away e.ok e.err))
+    c.in-Map.several.home c.in-Map.several.colours c.in-Map.several.last c.args.keys c.get_all-get.result c.got_keys.ensures e.away e.ok e.err))

@@ -7,11 +7,11 @@ use Rattle.script_text.specs.declared.script.What.TheVariants as whats
 use Rattle.report_text.specs.declared.report.Answer.TheVariants as answers
 use Rattle.log_client.specs.declared.answers.StampedRead.{StampedRead}
 use Rattle.log_client.specs.declared.object_fault.ObjectFault.{ObjectFault}
-use Rattle.tx_map.specs.declared.transactions.Tx.{Tx}
+use Rattle.region_fold.specs.declared.transactions.Tx.{Tx}
 use Rattle.run_script.specs.declared.serving.opened.Opened.{Opened}
 use Rattle.run_script.specs.declared.serving.opened.Opened.TheVariants as opened
-use Rattle.run_script.specs.Opened.{IsKept, kind_opened}
-use Rattle.run_script.specs.Replying.{ShowsFew, ShowsKeys}
+use Rattle.run_script.specs.Opened.{kind_opened}
+use Rattle.run_script.specs.Replying.{HasRoomFor, ShowsKeys}
 use Rattle.run_script.specs.Serving.{GivesTo}
 use Rattle.run_script.proofs.FewShown.{shows_few_found, versions_found}
 use Rattle.run_script.proofs.GivingReads.{gives_read, gives_unread}
@@ -32,11 +32,11 @@ returns-in_default-room_for-clause-gives g c =
 
 pub got_keys-requires-clause-few : goal.got_keys-requires-clause-few
 got_keys-requires-clause-few g c =
-    let kept = subst (IsKept c.args.client.now) c.in-Tx.is c.requires.kept in
     let e = c.read.ensures in
-    subst (λ (call : Result (List Value × StampedRead) ObjectFault). IfOk call (λ r. ShowsFew r.1))
+    subst (λ (call : Result (List Value × StampedRead) ObjectFault). IfOk call (λ r. HasRoomFor c.in-Ok-room_for.room r.1))
     (sym c.found_apart-read.ensures.keys)
-    (shows_few_found c.args.client.now c.in-Tx.map.colours kept.0.colours c.read.result e.raises e.syncs)
+    (shows_few_found c.in-Tx.map.colours c.in-Ok-room_for.room c.read.result _ c.colour_count.ensures
+    c.in-Ok-room_for.ensures.places e.raises e.syncs)
 
 pub returns-clause-stays : goal.returns-clause-stays
 returns-clause-stays g c =

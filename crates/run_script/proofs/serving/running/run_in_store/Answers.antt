@@ -1,5 +1,8 @@
-use Rattle.std.proofs.Common.{◌≡◌, ◌∙◌, subst, arith, List, Some, Global, Vec}
+use Rattle.std.proofs.Common.{◌≡◌, ◌∙◌, ◌≤◌, subst, arith, List, length, Some, Global, Vec}
 use Rattle.std.specs.Prelude.{slice_get}
+use Rattle.log_node.specs.declared.limits.TheConstants.{MAX_CLIENTS, MAX_COLOURS, MAX_ROWS}
+use Rattle.stamp_board.proofs.CallerLemmas.{words_within}
+use Rattle.script_text.specs.declared.limits.TheConstants.{VERSION_1}
 use Rattle.script_text.specs.declared.script.Command.{Command}
 use Rattle.script_text.specs.declared.script.Object.{Object}
 use Rattle.log_client.specs.declared.client.Client.{Client}
@@ -21,14 +24,20 @@ open-requires-clause-size g c =
     let f = can.fits.shape in
     let few_clients = f.few_clients in
     let few_colours = f.few_colours in
-    let few_rows = can.rows in (
-      f.a_client,
-      (omega (arith, few_clients)),
-      f.a_colour,
-      (omega (arith, few_colours)),
-      can.some_rows,
-      (omega (arith, few_rows)),
-    )
+    let few_rows = can.rows in
+    let clients : length c.args.dealt.header.shape.homes ≤ MAX_CLIENTS = omega (arith, few_clients) in
+    let colours : c.args.dealt.header.shape.colours ≤ MAX_COLOURS = omega (arith, few_colours) in
+    let rows : c.args.dealt.header.shape.rows ≤ MAX_ROWS = omega (arith, few_rows) in record {
+      some_clients = f.a_client;
+      few_clients = clients;
+      some_colours = f.a_colour;
+      few_colours = colours;
+      some_rows = can.some_rows;
+      few_rows = rows;
+      few_words = words_within (length c.args.dealt.header.shape.homes) c.args.dealt.header.shape.rows
+          c.args.dealt.header.shape.colours VERSION_1.clients MAX_ROWS VERSION_1.colours f.few_clients rows f.few_colours
+          (omega arith);
+    }
 
 pub make_ready-requires : goal.make_ready-requires
 make_ready-requires g c =

@@ -2,6 +2,7 @@ use Rattle.std.proofs.Common.{◌≡◌, ◌<◌, ℕ, refl, ◌∙◌, ap, sym,
 use Rattle.log_node.specs.declared.ids.Counts.{Counts}
 use Rattle.log_node.specs.declared.node.Node.{Node}
 use Rattle.log_node.specs.Vectors.{at, vector, least}
+use Rattle.log_node.specs.declared.limits.TheConstants.{MAX_COLOURS}
 use Rattle.col_core.specs.Rows.{node_wants}
 use Rattle.object_fold.specs.Causal.{ChainNode}
 use Rattle.world_code.specs.WorldView.{world_of}
@@ -12,7 +13,7 @@ use Rattle.script_in_order.proofs.causal.CausalFold.feed.Goals as goal
 pub node_at-node-requires-clause-held : goal.node_at-node-requires-clause-held
 node_at-node-requires-clause-held c =
     let w = world_of c.args.world.now in
-    let low = (let few = c.is_whole.ensures.few_colours in let colour = c.requires.colour in let k : c.args.colour < 64 = omega (arith, few, colour) in k) in
+    let low = (let few = c.is_whole.ensures.few_colours in let colour = c.requires.colour in let k : c.args.colour < MAX_COLOURS = omega (arith, few, colour) in k) in
     let old = c.args.self.now in
     is_held w c.is_whole.ensures.reached c.args.own c.args.colour c.requires.own low c.args.region
     c.of_region-position.result c.requires.region
@@ -23,7 +24,7 @@ node_at-node-requires-clause-held c =
 pub returns-in_err-feed-clause-fold : goal.returns-in_err-feed-clause-fold
 returns-in_err-feed-clause-fold c =
     let w = world_of c.args.world.now in
-    let low = (let few = c.is_whole.ensures.few_colours in let colour = c.requires.colour in let k : c.args.colour < 64 = omega (arith, few, colour) in k) in
+    let low = (let few = c.is_whole.ensures.few_colours in let colour = c.requires.colour in let k : c.args.colour < MAX_COLOURS = omega (arith, few, colour) in k) in
     none_fed w c.is_whole.ensures.reached c.args.own c.args.colour c.requires.own low c.args.self.now
     (record { counts = c.args.self.now.counts; map = c.feed.new.self }) c.requires.fold refl
     (c.in_err-feed.ensures.err c.requires.fold.nodes c.requires.fold.folded)
@@ -31,7 +32,7 @@ returns-in_err-feed-clause-fold c =
 pub one_more-self-requires-clause-room : goal.one_more-self-requires-clause-room
 one_more-self-requires-clause-room c =
     let w = world_of c.args.world.now in
-    let low = (let few = c.is_whole.ensures.few_colours in let colour = c.requires.colour in let k : c.args.colour < 64 = omega (arith, few, colour) in k) in
+    let low = (let few = c.is_whole.ensures.few_colours in let colour = c.requires.colour in let k : c.args.colour < MAX_COLOURS = omega (arith, few, colour) in k) in
     let less = below w c.is_whole.ensures.reached c.args.own c.args.colour c.requires.own low c.args.self.now c.args.region
     c.requires.region c.requires.next c.requires.fold in
     let end : c.of_region-end.result ≡ at (cut_of w c.args.own c.args.colour) c.args.region =
@@ -45,7 +46,7 @@ returns-clause-fold c =
     let colour = c.args.colour in
     let region = c.args.region in
     let reached = c.is_whole.ensures.reached in
-    let low = (let few = c.is_whole.ensures.few_colours in let small = c.requires.colour in let k : colour < 64 = omega (arith, few, small) in k) in
+    let low = (let few = c.is_whole.ensures.few_colours in let small = c.requires.colour in let k : colour < MAX_COLOURS = omega (arith, few, small) in k) in
     let old = c.args.self.now in
     let fold = c.requires.fold in
     let home = c.requires.own in

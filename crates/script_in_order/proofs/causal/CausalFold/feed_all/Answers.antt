@@ -1,6 +1,7 @@
 use Rattle.std.proofs.Common.{◌≡◌, ◌<◌, ℕ, ap, sym, subst, ◌∙◌, arith}
 use Rattle.log_node.specs.declared.ids.Counts.{Counts}
 use Rattle.log_node.specs.Vectors.{at}
+use Rattle.log_node.specs.declared.limits.TheConstants.{MAX_COLOURS}
 use Rattle.column.specs.Columns.{ColumnState, cut_of as column_cut}
 use Rattle.world_laws.specs.Worlds.{cut_after}
 use Rattle.world_code.specs.WorldView.{world_of, column_at}
@@ -21,7 +22,7 @@ loop-region-smaller c =
     ∙ (ap (λ (col : ColumnState). column_cut col) c.column.ensures
     ∙ ap (λ (r : ℕ). cut_after r (column_at code.columns own colour).journal)
     (c.is_whole.ensures.placed own colour c.requires.own c.requires.colour).in_region) in
-    let low : colour < 64 = (let few = c.is_whole.ensures.few_colours in let small = c.requires.colour in let k : colour < 64 = omega (arith, few, small) in k) in
+    let low : colour < MAX_COLOURS = (let few = c.is_whole.ensures.few_colours in let small = c.requires.colour in let k : colour < MAX_COLOURS = omega (arith, few, small) in k) in
     let less = below w c.is_whole.ensures.reached own colour c.requires.own low l.self region c.in-Some.ensures.some.0
     c.in-Some.ensures.some.1 l.invariant in
     subst (λ (v : Counts). left_of c.cut-cut.result v < left_of c.cut-cut.result l.self.counts) (sym c.in_ok-feed.ensures.counts)
@@ -31,6 +32,6 @@ loop-region-smaller c =
 pub returns-clause-all : goal.returns-clause-all
 returns-clause-all c =
     let w = world_of c.args.world.now in
-    let low : c.args.colour < 64 = (let few = c.is_whole.ensures.few_colours in let small = c.requires.colour in let k : c.args.colour < 64 = omega (arith, few, small) in k) in
+    let low : c.args.colour < MAX_COLOURS = (let few = c.is_whole.ensures.few_colours in let small = c.requires.colour in let k : c.args.colour < MAX_COLOURS = omega (arith, few, small) in k) in
     none_is_next w c.is_whole.ensures.reached c.args.own c.args.colour c.requires.own low c.loop-region.self.counts
     (c.next_region.ensures.none c.in_default.is) c.loop-region.invariant.within

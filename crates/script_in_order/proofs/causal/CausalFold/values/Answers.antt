@@ -1,6 +1,7 @@
 use Rattle.std.proofs.Common.{◌≡◌, ◌<◌, ℕ, List, subst, arith}
 use Rattle.std.specs.Prelude.{IfOk}
 use Rattle.std.proofs.lemmas.Result.{IfOk-weaker}
+use Rattle.log_node.specs.declared.limits.TheConstants.{MAX_COLOURS}
 use Rattle.object_fold.specs.Causal.{IsCausalAnswer}
 use Rattle.world_code.specs.WorldView.{world_of}
 use Rattle.script_meaning.specs.CausalGets.{causal_values}
@@ -13,7 +14,7 @@ returns-clause-ok c =
     let w = world_of c.args.world.now in
     let own = c.args.own in
     let colour = c.args.colour in
-    let low : colour < 64 = (let few = c.is_whole.ensures.few_colours in let small = c.requires.colour in let k : colour < 64 = omega (arith, few, small) in k) in
+    let low : colour < MAX_COLOURS = (let few = c.is_whole.ensures.few_colours in let small = c.requires.colour in let k : colour < MAX_COLOURS = omega (arith, few, small) in k) in
     let fold = c.in_ok-feed_all.ensures.fold in
     let key = c.args.key.now in
     IfOk-weaker c.get.result (λ (values : List (List ℕ)). IsCausalAnswer fold.nodes key values)

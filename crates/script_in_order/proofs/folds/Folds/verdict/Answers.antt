@@ -1,12 +1,9 @@
 use Rattle.std.proofs.Common.{◌≡◌, List, get_or, set, refl, sym, subst}
-use Rattle.world_laws.specs.Worlds.{World}
 use Rattle.world_code.specs.WorldView.{world_of}
-use Rattle.script_text.specs.declared.script.Object.{Object}
 use Rattle.script_text.specs.declared.script.Kind.TheVariants as kinds
 use Rattle.script_in_order.specs.declared.folds.Fold.{Fold}
 use Rattle.script_in_order.specs.declared.folds.Fold.TheVariants as folds
-use Rattle.script_in_order.specs.declared.tx_folds.TxFold.{TxFold}
-use Rattle.script_in_order.specs.Folds.{IsTxFold, IsFoldOf, IsTxAt, AreFolded}
+use Rattle.script_in_order.specs.Folds.{AreFolded}
 use Rattle.script_in_order.proofs.FoldsKept.{fold_there, fold_put, tx_of, only_tx}
 use Rattle.script_in_order.proofs.folds.Folds.verdict.Goals as goal
 

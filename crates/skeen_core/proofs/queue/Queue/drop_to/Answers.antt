@@ -1,4 +1,4 @@
-use Rattle.std.proofs.Common.{◌≡◌, ◌-◌, ◌≤◌, max, length, drop, arith, sym, ap, ◌∙◌}
+use Rattle.std.proofs.Common.{◌≡◌, ◌-◌, length, arith, sym, ap, ◌∙◌}
 use Rattle.log_node.specs.Standings.{line_of}
 use Rattle.skeen_core.specs.Queues.{dropped_queue}
 use Rattle.skeen_core.proofs.Stored.{line-queued, queued-dropped}

@@ -1,12 +1,11 @@
-use Rattle.std.proofs.Common.{◌≡◌, ◌≤◌, ◌++◌, true, false, max, length, sym, ap, subst, ◌∙◌, arith}
+use Rattle.std.proofs.Common.{◌++◌, max, length, sym, ap, subst, ◌∙◌, arith}
 use Rattle.std.specs.Prelude.{◌&&◌, map}
 use Rattle.std.specs.List.{list_any}
-use Rattle.std.proofs.lemmas.Bool.{and_parts, not-true, not-false, cond-true}
+use Rattle.std.proofs.lemmas.Bool.{and_parts}
 use Rattle.log_node.specs.declared.limits.TheConstants.{MAX_STAMP}
-use Rattle.log_node.specs.Outcomes.{final_number}
 use Rattle.log_node.specs.Standings.{line_of}
-use Rattle.skeen_core.specs.Queues.{MaySettle, standing_of, has_open, is_decided, settled_stored, settled_queue}
-use Rattle.skeen_core.specs.Inside.{all_entries, final_at, IsRisingStored, ready_keys, ready_things, left}
+use Rattle.skeen_core.specs.Queues.{MaySettle, standing_of, has_open, is_decided, settled_queue}
+use Rattle.skeen_core.specs.Inside.{final_at, ready_keys, ready_things, left}
 use Rattle.skeen_core.proofs.Entries.{rising-right, apart-right}
 use Rattle.skeen_core.proofs.Settling.{opens, open-waits}
 use Rattle.skeen_core.proofs.Settled.{queue-settled, view-settled}

@@ -1,4 +1,4 @@
-use Rattle.std.proofs.Common.{◌≡◌, ◌++◌, ◌∷◌, [], Some, sym, ap, ◌∙◌, arith}
+use Rattle.std.proofs.Common.{◌++◌, ◌∷◌, [], ap, ◌∙◌, arith}
 use Rattle.skeen_core.specs.Boards.{with_begun, fresh_row}
 use Rattle.skeen_core.proofs.Clients.{board-set, clients-length}
 use Rattle.skeen_core.proofs.rows.Rows.begin.Goals as goal

@@ -1,13 +1,13 @@
-use Rattle.std.proofs.Common.{◌≡◌, ℕ, [], List, ap, ◌∙◌, arith}
-use Rattle.std.specs.Prelude.{replicate, map}
-use Rattle.skeen_core.specs.declared.board_row.BoardRow.{BoardRow}
+use Rattle.std.proofs.Common.{◌≡◌, [], List, ap, ◌∙◌, arith}
+use Rattle.std.specs.Prelude.{replicate}
+use Rattle.skeen_core.specs.Boards.{BoardRow}
 use Rattle.skeen_core.specs.Boards.{Board, RowsOfClient}
 use Rattle.skeen_core.proofs.Clients.{board_of, map-replicate}
 use Rattle.skeen_core.proofs.rows.Rows.open.Goals as goal
 
 pub returns : goal.returns
 returns c =
-    let client : RowsOfClient = record { begun = []; rows = c.args.rows } in
+    let client : RowsOfClient = record { begun = []; colours = c.args.colours; rows = c.args.rows } in
     let all : c.loop.counter ≡ c.args.clients = omega arith in
     ap (board_of c.args.colours c.args.rows) (c.loop.invariant ∙ ap (λ n. replicate n client) all)
     ∙ ap (λ (bs : List (List BoardRow)). let b : Board = record

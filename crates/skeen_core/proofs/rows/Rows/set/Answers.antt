@@ -1,7 +1,7 @@
-use Rattle.std.proofs.Common.{◌≡◌, ◌<◌, get_or, length, [], Some, sym, ap, ◌∙◌, arith}
+use Rattle.std.proofs.Common.{ap, ◌∙◌, arith}
 use Rattle.std.specs.Prelude.{slice_get}
 use Rattle.skeen_core.specs.Boards.{begun_at, changed_at, with_mark}
-use Rattle.skeen_core.proofs.Clients.{board-set, board-rows, clients-length, some-begun, some-within, client-within}
+use Rattle.skeen_core.proofs.Clients.{board-set, board-rows, some-begun, some-within, client-within}
 use Rattle.skeen_core.proofs.rows.Rows.set.Goals as goal
 
 pub mark-requires-clause-begun : goal.mark-requires-clause-begun
@@ -17,9 +17,14 @@ mark-requires-clause-begun c =
 
 pub mark-requires-clause-colour : goal.mark-requires-clause-colour
 mark-requires-clause-colour c =
-    let few = c.self.invariant.0 in
+    let i = c.self.inside in
+    let begun = some-begun (begun_at c.args.self.now c.args.row) c.args.colour c.requires.row in
+    let within = client-within i.colours i.rows i.clients.items c.args.self.now c.args.row begun.0 c.self.view_is
+    begun.1 in
+    let its = c.self.invariant.1 c.args.row.client c.index_mut.result.now within in
+    let colours = ap (λ r. r.colours) c.index_mut.ensures.value ∙ its.0 in
     let same = ap (λ b. b.colours) c.self.view_is in
-    omega (arith, few, same, c.requires.colour)
+    omega (arith, colours, same, c.requires.colour)
 
 pub returns-clause-rows : goal.returns-clause-rows
 returns-clause-rows c =

@@ -1,5 +1,6 @@
 use Rattle.std.proofs.Common.{◌≡◌, ◌≢◌, ℕ, ◌+◌, ◌<◌, ◌≤◌, List, length, take, sym, refl, ◌∙◌, subst, arith, length-take}
 use Rattle.std.specs.Prelude.{if◌then◌else◌, ◌==◌}
+use Rattle.log_node.specs.declared.limits.TheConstants.{MAX_COLOURS}
 use Rattle.log_node.specs.declared.marks.Mark.{Mark}
 use Rattle.log_node.specs.declared.marks.Outcome.{Outcome}
 use Rattle.log_node.specs.declared.marks.Outcome.TheVariants.{Open}
@@ -14,7 +15,7 @@ use Rattle.stamp_board.proofs.CallerLemmas.{Learns-from, outcome_learnt}
 use Rattle.stamp_board.proofs.Possible.{may_be, decided_is_outcome}
 use Rattle.stamp_board.proofs.board.Board.decide.Goals as goal
 
-is_decided : (n : ℕ) (marks : List Mark) (decided : Outcome) → length marks ≡ 16 → n ≤ 16 → n ≢ 0 → AreSet (take n marks)
+is_decided : (n : ℕ) (marks : List Mark) (decided : Outcome) → length marks ≡ MAX_COLOURS → n ≤ MAX_COLOURS → n ≢ 0 → AreSet (take n marks)
     → decided ≡ outcome_of (take n marks) → IsDecided decided
 is_decided n marks decided wide most ne set is =
     let len = length-take n marks in
@@ -48,7 +49,7 @@ pub returns-then-count-eq0-clause-closed : goal.returns-then-count-eq0-clause-cl
 returns-then-count-eq0-clause-closed c all _ = let b = c.args.self.now in let t = c.take_marks-count in
     let o = t.ensures.none c.if-count-eq0.true in
     never_open b.size c.args.seat.now.inner.me.0 t.new.seat.me.0 c.args.row c.requires.seat.1
-    (let few : b.size.colours ≤ 16 = b.is_size.3 in omega arith) t.ensures.view.0 all o.0 o.1 o.2 o.3
+    b.is_size.few_colours t.ensures.view.0 all o.0 o.1 o.2 o.3
 
 pub word_of_outcome-new-requires : goal.word_of_outcome-new-requires
 word_of_outcome-new-requires c = let t = c.take_marks-count in

@@ -6,6 +6,12 @@ use Rattle.stamp_board.proofs.Gathering.{got_end, got_front, gathers_one, only_c
 use Rattle.stamp_board.proofs.Gathering.{parts_low, low_of}
 use Rattle.stamp_board.proofs.board.Board.gather_all.Goals as goal
 
+pub gather-requires-clause-seat : goal.gather-requires-clause-seat
+gather-requires-clause-seat c =
+    let rest = c.pop.new.self.items in let col = c.in-Some.column in let e = c.in-Some.ensures.items in
+    let at = c.loop-column.invariant.left (length rest) col (ap (λ l. slice_get l (length rest)) e ∙ got_end rest col) in
+    c.load.ensures.seat.0 ∙ (c.requires.columns (length rest) col at).0.0
+
 pub gather-requires-clause-parts : goal.gather-requires-clause-parts
 gather-requires-clause-parts c = let i = c.loop-column.invariant in let k = c.args.self.now.size in
     let rest = c.pop.new.self.items in let col = c.in-Some.column in let e = c.in-Some.ensures.items in

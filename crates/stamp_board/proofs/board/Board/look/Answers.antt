@@ -1,5 +1,6 @@
-use Rattle.std.proofs.Common.{sym, ◌∙◌, ◌+◌, ap, subst}
+use Rattle.std.proofs.Common.{sym, ◌∙◌, ◌+◌, ◌<◌, ap, subst}
 use Rattle.stamp_board.specs.Words.{mark_from, word_at, row_at}
+use Rattle.stamp_board.specs.declared.view.Size.{Size}
 use Rattle.stamp_board.specs.declared.view.View.{View}
 use Rattle.stamp_board.specs.Law.{Told}
 use Rattle.stamp_board.proofs.Knowing.{heard_mine, heard_size}
@@ -29,4 +30,5 @@ returns-clause-value c = let k = c.args.self.now.size in let s = c.args.seat.now
 
 pub returns-clause-stamp : goal.returns-clause-stamp
 returns-clause-stamp c = found_mark c.args.self.now.size c.args.seat.now.inner.me.0 c.word-word.result c.load.result
-    c.requires.seat.1 c.load.ensures.told c.mark_of.result c.mark_of.ensures
+    c.requires.seat.1 c.load.ensures.told c.args.row c.args.seat.now.colour c.mark_of.result c.word-word.ensures.word
+    (subst (λ (z : Size). c.args.seat.now.colour < z.colours) c.requires.seat.1 c.args.seat.now.inside) c.mark_of.ensures

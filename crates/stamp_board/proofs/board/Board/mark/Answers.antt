@@ -1,4 +1,5 @@
-use Rattle.std.proofs.Common.{◌+◌, sym, ◌∙◌}
+use Rattle.std.proofs.Common.{◌+◌, ◌<◌, refl, sym, ◌∙◌, subst}
+use Rattle.stamp_board.specs.declared.view.Size.{Size}
 use Rattle.stamp_board.specs.Words.{word_at, row_at}
 use Rattle.stamp_board.proofs.Keeps.{column_set}
 use Rattle.stamp_board.proofs.Marking as m
@@ -33,7 +34,8 @@ returns-else-found-eq0-clause-value c = let k = c.args.self.now.size in let s = 
       was_set = m.was_set k v w c.args.row s.colour n t.result c.requires.seat.1 t.ensures.view own ne;
       is = c.mark_of.ensures ∙ sym (m.was k v w c.args.row s.colour n t.result c.requires.seat.1 t.ensures.view own);
       stamp = found_mark k v (word_at k (row_at k c.args.row) (1 + s.colour)) t.result c.requires.seat.1
-          t.ensures.told c.mark_of.result c.mark_of.ensures;
+          t.ensures.told c.args.row s.colour c.mark_of.result refl
+          (subst (λ (z : Size). s.colour < z.colours) c.requires.seat.1 s.inside) c.mark_of.ensures;
       none = m.all_stay k v w c.args.row s.colour n t.result c.requires.seat.1 t.ensures.view own ne;
     }
 

@@ -11,4 +11,5 @@ returns-clause-value c = let k = c.args.self.now.size in let t = c.load in
 
 pub returns-clause-stamp : goal.returns-clause-stamp
 returns-clause-stamp c = found_mark c.args.self.now.size c.args.seat.now.inner.me.0 c.word-word.result c.load.result
-    c.requires.seat.1 c.load.ensures.told c.mark_of.result c.mark_of.ensures
+    c.requires.seat.1 c.load.ensures.told c.args.row c.args.colour c.mark_of.result c.word-word.ensures.word
+    c.requires.colour c.mark_of.ensures

@@ -1,4 +1,4 @@
-use Rattle.std.proofs.Common.{sym, ◌<◌, ◌≤◌, subst, arith}
+use Rattle.std.proofs.Common.{sym, ◌<◌, subst}
 use Rattle.stamp_board.proofs.Keeps.{sets_mark}
 use Rattle.stamp_board.specs.Words.{row_at}
 use Rattle.stamp_board.proofs.board.Board.set_mark.Goals as goal
@@ -11,5 +11,5 @@ compare_exchange-requires c = let b = c.args.self.now in let s = c.args.seat.now
       c.word-word.result (row_at b.size c.args.row) c.args.colour c.args.new c.requires.begun.0
       c.word-word.ensures.word c.word-word.ensures.inside c.requires.colour c.requires.part.0 c.requires.part.1
       c.requires.begun.1 c.requires.begun.2 c.requires.new.0 c.requires.new.1
-      (let few : b.size.colours ≤ 16 = b.is_size.3 in omega arith),
+      b.is_size.few_colours,
 )

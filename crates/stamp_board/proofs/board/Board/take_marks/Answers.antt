@@ -1,4 +1,4 @@
-use Rattle.std.proofs.Common.{◌≡◌, ◌/◌, ◌%◌, ◌^◌, ◌<◌, ◌≤◌, true, false, [], length, take, sym, ap, ◌∙◌, subst}
+use Rattle.std.proofs.Common.{◌≡◌, ◌/◌, ◌%◌, ◌^◌, ◌<◌, true, false, [], length, take, sym, ap, ◌∙◌, subst}
 use Rattle.std.proofs.Common.{arith, eq-eqb, ne_eqb}
 use Rattle.stamp_board.proofs.Colours.{has_bit}
 use Rattle.stamp_board.specs.declared.view.View.{View}
@@ -27,7 +27,7 @@ returns-then-found-eq0-clause-none c _ = let k = c.args.self.now.size in let u =
     let m = misses k u l.seat.me.0 r c.load-bits.result l.colour l.count (take l.count l.marks) t c.word-word.result
     c.load-found.result (t.grows.size
     ∙ c.requires.seat.1) c.word-word.ensures.word bit c.load-found.ensures.told
-    (let few : k.colours ≤ 16 = c.args.self.now.is_size.3 in omega arith) c.if-found-eq0.true in
+    c.args.self.now.is_size.few_colours c.if-found-eq0.true in
     (m.0, m.1, subst (Fits k m.0) (sym c.load-found.ensures.view) m.2, m.3)
 
 pub loop-colour-preserved : goal.loop-colour-preserved
@@ -38,7 +38,7 @@ loop-colour-preserved c = let k = c.args.self.now.size in let u = c.args.seat.no
           let bit : has_bit c.load-bits.result l.colour ≡ true = eq-eqb (c.load-bits.result / 2 ^ l.colour % 2) 1
           w.if-bits-colour-eq1.true in
           let inside : l.count < length l.marks = (let few = t.few in let wide = l.invariant.wide in
-          let most : k.colours ≤ 16 = c.args.self.now.is_size.3 in let lt = c.loop-colour-test.true in omega arith) in
+          let most = c.args.self.now.is_size.few_colours in let lt = c.loop-colour-test.true in omega arith) in
           record {
             table = ap (λ z. z.table_id) w.seat-is ∙ w.load-found.ensures.seat.0 ∙ l.invariant.table;
             held = ap (λ z. z.me.1) w.seat-is ∙ w.load-found.ensures.seat.1 ∙ l.invariant.held;
@@ -66,7 +66,7 @@ returns-clause-none c z = let k = c.args.self.now.size in let u = c.args.seat.no
     let a = l.auto.colour-end in let b = c.loop-colour-test.false in let e : l.colour ≡ k.colours = omega arith in
     absurd (ended_some k u l.seat.me.0 r c.load-bits.result l.count (take l.count l.marks)
     (subst (λ n. Taken k u l.seat.me.0 r c.load-bits.result n l.count (take l.count l.marks)) e
-    l.invariant.taken) (let few : k.colours ≤ 16 = c.args.self.now.is_size.3 in omega arith) z)
+    l.invariant.taken) c.args.self.now.is_size.few_colours z)
 
 pub returns-clause-some : goal.returns-clause-some
 returns-clause-some c _ = let k = c.args.self.now.size in let u = c.args.seat.now.me.0 in let r = row_at k c.args.row in
@@ -74,4 +74,4 @@ returns-clause-some c _ = let k = c.args.self.now.size in let u = c.args.seat.no
     let a = l.auto.colour-end in let b = c.loop-colour-test.false in let e : l.colour ≡ k.colours = omega arith in
     ended_marks k u l.seat.me.0 r c.load-bits.result l.count (take l.count l.marks)
     (subst (λ n. Taken k u l.seat.me.0 r c.load-bits.result n l.count (take l.count l.marks)) e
-    l.invariant.taken) (let few : k.colours ≤ 16 = c.args.self.now.is_size.3 in omega arith)
+    l.invariant.taken) c.args.self.now.is_size.few_colours

@@ -1,4 +1,4 @@
-use Rattle.std.proofs.Common.{◌≡◌, ℕ, ◌/◌, ◌%◌, ◌^◌, ◌≤◌, ◌∷◌, ◌++◌, [], true, false, sym, ap, ◌∙◌}
+use Rattle.std.proofs.Common.{◌≡◌, ℕ, ◌/◌, ◌%◌, ◌^◌, ◌∷◌, ◌++◌, [], true, false, sym, ap, ◌∙◌}
 use Rattle.std.proofs.Common.{arith, eq-eqb, ne_eqb}
 use Rattle.std.specs.Mem.Slots.{slots_items}
 use Rattle.log_node.specs.declared.marks.ColourMark.{ColourMark}
@@ -32,6 +32,5 @@ pub returns : goal.returns
 returns c = let b = c.args.self.now in let k = b.size in let ws = slots_items b.closed.words in let l = c.loop-colour in
     let f = marked k ws c.args.row in
     let a = l.auto.colour-end in let d = c.loop-colour-test.false in let last : l.colour ≡ k.colours = omega arith in
-    let few : k.colours ≤ 64 = (let most = b.is_size in omega arith) in
     l.invariant ∙ (λ i. below f (c.word-bits.ensures i) (last i))
-    ∙ sym (below_members f (colours_in k ws c.args.row) k.colours few c.requires.colours.within)
+    ∙ sym (below_members f (colours_in k ws c.args.row) k.colours b.is_size.few_colours c.requires.colours.within)

@@ -6,4 +6,4 @@ use Rattle.tests_log.proofs.tests.made.pair.Goals as goal
 
 pub returns-clause-both : goal.returns-clause-both
 returns-clause-both c size two = subst (λ (z : Node). AreColours size z.colours) (sym c.in_ok-new.ensures.ok)
-    (two_colours size two)
+    (subst (AreColours size) (sym c.of.ensures) (two_colours size two))

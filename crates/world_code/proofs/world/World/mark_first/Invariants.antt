@@ -1,4 +1,5 @@
 use Rattle.std.proofs.Common.{◌≤◌, ◌+◌}
+use Rattle.world_laws.specs.Completing.{colours_of}
 use Rattle.world_code.specs.WorldView.{world_of}
 use Rattle.world_code.proofs.AllMarks.{AreMarked}
 use Rattle.world_code.proofs.world.World.mark_first.Given as goal
@@ -6,6 +7,7 @@ use Rattle.world_code.proofs.world.World.mark_first.Given as goal
 -- the marks of the colours so far
 abbrev pub invariant-loop-colour : goal.invariant-loop-colour
 invariant-loop-colour l = record {
-  marked : AreMarked (world_of l.fn.self) l.by l.row l.limit l.colour (world_of l.self) l.taken;
+  marked : AreMarked (world_of l.fn.self) l.by l.row l.limit l.colour-iterator
+      (colours_of (world_of l.fn.self) l.row) (world_of l.self) l.taken;
   few : l.taken.done + l.taken.left ≤ l.limit;
 }

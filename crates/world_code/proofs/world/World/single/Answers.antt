@@ -1,5 +1,6 @@
 use Rattle.std.proofs.Common.{◌<◌, length, ap, sym, subst, ◌∙◌}
 use Rattle.std.proofs.lemmas.Bool.{cond-true}
+use Rattle.log_node.specs.declared.limits.TheConstants.{MAX_COLOURS}
 use Rattle.log_node.specs.declared.node.Node.{Node}
 use Rattle.world_laws.specs.Worlds.{World, may_single, after_single}
 use Rattle.world_code.specs.Clients.{ClientView}
@@ -13,7 +14,7 @@ whole : (c : In-Some) → IsWhole c.args.self.now
 whole c = subst IsWhole c.self.view_is c.self.invariant
 
 -- the client is there, and has something played of the colour
-there : (c : In-Some) → (c.args.client < length c.args.self.now.clients) × (c.args.colour < 16)
+there : (c : In-Some) → (c.args.client < length c.args.self.now.clients) × (c.args.colour < MAX_COLOURS)
     × (c.args.colour < length (client_at c.args.self.now c.args.client).played)
 there c = played_of c.args.self.now c.args.client c.args.colour (whole c)
     (may_single_is c.args.self.now c.args.client c.args.colour c.in-Some.ensures.some.0)

@@ -1,2 +1,0 @@
-mod TxAnswers
-pub mod CallerLemmas
